@@ -2,9 +2,9 @@
 
 use crate::fault::DeskFault;
 use crate::ground::{best_at, board_at, go_behind};
-use crate::text::{push_company, push_words};
 use board::Board;
 use certificate::ClaimedRun;
+use desk_base::{push_company, push_words};
 use history::{Event, KeptRuling, Past, Ruling, Walk};
 use map_tables::{Place, Run};
 use order_grammar::{Order, print_number, print_order, print_round};

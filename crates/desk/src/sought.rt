@@ -1,11 +1,11 @@
 //! What was looked for as an order was refused, where it is at hand: the cash, the price, the limit.
 //! Each is added behind the rule, in brackets.
 
-use crate::text::{push_company, push_holder, push_words};
 use certs::{Holdings, market_price, tenth_price};
+use desk_base::{push_company, push_words};
 use history::{
-    LayRule, OpeningRule, Party, Past, PrivateRule, Refusal, RunRule, Shareholder, StockRule,
-    TokenRule, TrainRule,
+    Holder, LayRule, OpeningRule, Party, Past, PrivateRule, Refusal, RunRule, Shareholder,
+    StockRule, TokenRule, TrainRule,
 };
 use map_tables::{End, Lay, laid_links, neighbour};
 use order_grammar::{Condition, Order, print_number};
@@ -101,7 +101,10 @@ fn push_owner(
         return Ok(());
     };
     push_words(out, " (")?;
-    push_holder(out, sheets, holder)?;
+    match holder {
+        Holder::Seat(seat) => push_name(out, sheets, seat)?,
+        Holder::Company(company) => push_company(out, company)?,
+    }
     push_words(out, " owns it)")
 }
 

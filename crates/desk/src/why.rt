@@ -1,8 +1,7 @@
 //! Why a line was refused: the rule that it broke, and what was looked for where it is at hand.
 
-use crate::explaining::explain;
 use crate::sought::push_sought;
-use crate::text::push_words;
+use desk_base::{explain, push_words};
 use history::{KeptRuling, Past, Ruling};
 use sheets::Sheets;
 use std::alloc::AllocError;

@@ -2,7 +2,10 @@
 
 use crate::streams::StreamFault;
 use crate::task::Task;
-use desk::{DeskFault, Entry, check, entry_text, round, round_with_rules, runs, state};
+use desk::{DeskFault, round, round_with_rules, runs};
+use desk_base::{Entry, entry_text};
+use desk_check::check;
+use desk_state::state;
 use report::refusal_text;
 use sheets::FileFault;
 use std::alloc::Global;
@@ -43,7 +46,7 @@ pub(crate) fn answer_to(alloc: Global, file: &[u8], task: Task) -> Result<Answer
         } => round_with_rules(alloc, file, asked),
         Task::Check => return checked(alloc, file),
         Task::Explain(entry) => return explained(alloc, entry),
-        Task::State => state(alloc, file),
+        Task::State => return stated(alloc, file),
         Task::Runs { round: asked } => runs(alloc, file, asked),
     };
     match told {
@@ -78,6 +81,15 @@ fn refused(alloc: Global, fault: FileFault) -> Result<Answer, StreamFault> {
     })
 }
 
+/// The answer of `state`: how the game stands.
+fn stated(alloc: Global, file: &[u8]) -> Result<Answer, StreamFault> {
+    match state(alloc, file) {
+        Ok(text) => Ok(written(text)),
+        Err(FileFault::Memory) => Err(StreamFault::Memory),
+        Err(fault) => refused(alloc, fault),
+    }
+}
+
 /// The answer where the round that is asked for is not played.
 fn not_played(alloc: Global) -> Answer {
     Answer {
@@ -89,9 +101,7 @@ fn not_played(alloc: Global) -> Answer {
 
 /// The answer of `check`: its findings.
 fn checked(alloc: Global, file: &[u8]) -> Result<Answer, StreamFault> {
-    let Ok(findings) = check(alloc, file) else {
-        return Err(StreamFault::Memory);
-    };
+    let findings = check(alloc, file)?;
     let status = if findings.refused.is_some() {
         REFUSED
     } else if findings.text.is_empty() {

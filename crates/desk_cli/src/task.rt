@@ -1,7 +1,8 @@
 //! The command line.
 
 use clap::{Arg, ArgAction, ArgMatches, Command, Error};
-use desk::{Entry, explain, read_round};
+use desk::read_round;
+use desk_base::{Entry, explain};
 use std::alloc::{AllocError, Global};
 use tables::Round;
 

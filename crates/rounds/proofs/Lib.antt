@@ -1,5 +1,5 @@
 pub mod Posted
-mod Coming
+pub mod Coming
 pub mod Forward
 pub mod OneGame
 pub mod Ending
@@ -8,20 +8,20 @@ pub mod Causal
 pub mod Arrival
 pub mod Example
 pub mod StockExample
-mod Growing
+pub mod Growing
 mod PlainLines
 mod PlainTurns
-mod OpeningGrows
+pub mod OpeningGrows
 mod StockGrows
 mod OperatingGrows
-mod RoundSteps
+pub mod RoundSteps
 mod GoingOn
 mod Idle
 mod CompanyTurns
 mod WholeOperatingRound
 mod Called
 mod OneCalled
-mod InSet
+pub mod InSet
 mod InOrder
 mod Sets
 mod Trains

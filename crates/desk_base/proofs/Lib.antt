@@ -1,0 +1,3 @@
+-- What the proofs of the desk's libraries share.
+pub mod ComingLemmas
+pub mod SetLemmas

@@ -1,0 +1,18 @@
+//! What the desk's libraries share: what a code means, how many operating rounds a set has, which rounds can
+//! still come in a game, and words of a text.
+//!
+//! Reading order: `text`, `explain_table` and `explaining` (`explain`), `set_number` (`number_in_set`), `coming`
+//! (`can_come`).
+#![tactic(auto)]
+
+mod coming;
+mod explain_table;
+mod explaining;
+mod set_number;
+mod text;
+
+pub use coming::can_come;
+pub use explain_table::Entry;
+pub use explaining::{entry_text, explain};
+pub use set_number::number_in_set;
+pub use text::{push_company, push_cut, push_words};

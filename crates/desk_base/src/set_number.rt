@@ -1,0 +1,84 @@
+//! How many operating rounds the set has.
+ghost use Rattle.std.specs.Prelude.{◌≡◌};
+ghost use Rattle.desk_base.specs.SetNumber.{IsNumberPlayed, at_round, in_phase, number_in_set, set_of, set_then};
+ghost use Rattle.rounds.specs.Play.{IsTheGame};
+
+use history::{Event, History};
+use rounds::{End, Game, rounds_only_add};
+use tables::{Kind, Round, rounds_in_set};
+
+/// The phase, and how many operating rounds the set has that began last. A game begins as if a set had
+/// begun in its first phase.
+#[derive(Clone, Copy)]
+pub(crate) struct SetSoFar {
+    phase: Kind,
+    rounds: u8,
+}
+
+impl SetSoFar {
+    /// After one more event.
+    fn then(self, event: &Event) -> SetSoFar
+        ensures { result ≡ set_then self event.now }
+    {
+        self.in_phase(event.phase()).at_round(event.round())
+    }
+
+    /// Where this phase begins, if one does.
+    fn in_phase(self, begun: Option<Kind>) -> SetSoFar
+        ensures { result ≡ in_phase self begun }
+    {
+        match begun {
+            Some(phase) => SetSoFar { phase, ..self },
+            None => self,
+        }
+    }
+
+    /// Where this round begins, if one does: a stock round begins a set.
+    fn at_round(self, begun: Option<Round>) -> SetSoFar
+        ensures { result ≡ at_round self begun }
+    {
+        match begun {
+            Some(Round::Stock(_)) => SetSoFar {
+                rounds: rounds_in_set(self.phase),
+                ..self
+            },
+            _ => self,
+        }
+    }
+}
+
+/// How many operating rounds the set has that began last, or that begins with the round that is awaited: the
+/// number by which the game was played so far, and by which it goes on.
+#[tactic(auto, using(crate::proofs::SetLemmas::is_number_played))]
+pub fn number_in_set(game: &Game) -> u8
+    requires { IsTheGame game.now }
+    ensures { IsNumberPlayed game.now result }
+{
+    // A law, which does nothing when it runs: a round adds its own event, and none that begins another.
+    rounds_only_add();
+    number_after(game.history(), game.outcome())
+}
+
+/// The same by the list of events, and why play stopped.
+pub(crate) fn number_after(history: &History, end: End) -> u8
+    ensures { result ≡ number_in_set end history.now.events }
+{
+    match end {
+        End::Awaiting(Round::Stock(_)) => rounds_in_set(history.phase()),
+        _ => set_of(history.events()).rounds,
+    }
+}
+
+/// The phase and the set that a list of events has come to.
+fn set_of(events: &[Event]) -> SetSoFar
+    ensures { result ≡ set_of events.now }
+{
+    let mut set = SetSoFar {
+        phase: Kind::Two,
+        rounds: rounds_in_set(Kind::Two),
+    };
+    for event in events {
+        set = set.then(event);
+    }
+    set
+}

@@ -1,0 +1,158 @@
+-- Heads that come one after another.
+use Rattle.std.proofs.Common.{◌≡◌, ℕ, ◌+◌, List, [], ◌∷◌, ◌++◌, Option, Bool, true, false, Some, None, map, cond, is_some, refl, sym, ap, subst, ◌∙◌, append_assoc, add-one, true≢false}
+use Rattle.std.proofs.lemmas.Bool.{and_parts, eqb-true}
+use Rattle.std.proofs.lemmas.List.{append-nil, map-append}
+use Rattle.std.specs.Map.{lookup}
+use Rattle.std.specs.Option.{option_or}
+use Rattle.desk_check.specs.SheetLines.{HeadAt, ReplaceTheLast, complete_by, first_line, head_at, head_here, heads_in, last_line, later_of, post_of, same_sent}
+use Rattle.desk_check.specs.declared.check_sheets.Head.{Head}
+use Rattle.desk_check.specs.declared.check_sheets.Sent.{Sent}
+use Rattle.sheets.specs.File.{begins, post_at, same_post}
+use Rattle.sheets.specs.declared.post.Post.{Post}
+use Rattle.std.specs.Prelude.{◌==◌, if◌then◌else◌}
+use Rattle.tables.specs.Round.{same_round}
+use Rattle.tables.specs.declared.round.Round.{Round}
+use Rattle.tables.specs.declared.round.Round.TheVariants.{Opening, Stock, Operating}
+
+-- the line of a head, if it begins this sheet
+abbrev pub line_if : Post → HeadAt → Option ℕ
+line_if post head = if same_post head.post post then Some head.line else None
+
+-- the first of three choices
+or_assoc : (a b c : Option ℕ) → option_or (option_or a b) c ≡ option_or a (option_or b c)
+or_assoc None b c = refl
+or_assoc (Some x) b c = refl
+
+-- one choice
+or_none : (a : Option ℕ) → a ≡ option_or a None
+or_none None = refl
+or_none (Some x) = refl
+
+-- the last of some heads and one more
+pub last_with_one : (post : Post) (heads : List HeadAt) (head : HeadAt) →
+    last_line post (heads ++ head ∷ []) ≡ option_or (line_if post head) (last_line post heads)
+last_with_one post [] head = or_none (line_if post head)
+last_with_one post (first ∷ heads) head =
+    ap (λ o. option_or o (line_if post first)) (last_with_one post heads head)
+    ∙ or_assoc (line_if post head) (last_line post heads) (line_if post first)
+
+-- a sheet is known by its seat and its round
+same_round_is : (a b : Round) → same_round a b ≡ true → a ≡ b
+same_round_is (Opening m) (Opening n) same = ap (λ k. Opening k) (eqb-true m n same)
+same_round_is (Opening m) (Stock n) same = absurd (true≢false (sym same))
+same_round_is (Opening m) (Operating n k) same = absurd (true≢false (sym same))
+same_round_is (Stock m) (Opening n) same = absurd (true≢false (sym same))
+same_round_is (Stock m) (Stock n) same = ap (λ k. Stock k) (eqb-true m n same)
+same_round_is (Stock m) (Operating n k) same = absurd (true≢false (sym same))
+same_round_is (Operating m j) (Opening n) same = absurd (true≢false (sym same))
+same_round_is (Operating m j) (Stock n) same = absurd (true≢false (sym same))
+same_round_is (Operating m j) (Operating n k) same =
+    let parts = and_parts (m == n) (j == k) same in
+    let set : m ≡ n = eqb-true m n parts.0 in
+    let number : j ≡ k = eqb-true j k parts.1 in
+    ap (λ s. Operating s j) set ∙ ap (λ i. Operating n i) number
+
+same_post_is : (a b : Post) → same_post a b ≡ true → a ≡ b
+same_post_is a b same =
+    let parts = and_parts (a.seat.0 == b.seat.0) (same_round a.round b.round) same in
+    let seat : a.seat.0 ≡ b.seat.0 = eqb-true a.seat.0 b.seat.0 parts.0 in
+    let round : a.round ≡ b.round = same_round_is a.round b.round parts.1 in
+    λ i. record { seat = record { 0 = seat i }; round = round i }
+
+-- one more head, which replaces the last before it
+pub replaces_with_one : (before : List HeadAt) (heads : List Head) (head : Head) →
+    ReplaceTheLast before heads → head.replaces ≡ last_line (post_of head.sent) (before ++ map head_at heads)
+    → ReplaceTheLast before (heads ++ head ∷ [])
+replaces_with_one before [] head h e = (rw append-nil at e, tt)
+replaces_with_one before (first ∷ heads) head h e =
+    (h.0, replaces_with_one (before ++ head_at first ∷ []) heads head h.1 (rw append_assoc e))
+
+-- a choice that is made by a test
+or_by_test : (test : Bool) (line : ℕ) (other : Option ℕ) → cond test (Some line) other ≡ option_or (cond test (Some line) None) other
+or_by_test true line other = refl
+or_by_test false line other = refl
+
+-- the line of the last head that begins a sheet, once one more head has come
+pub last_after_insert : (key sent : Sent) (line : ℕ) (old new : List (Sent × ℕ)) (heads : List HeadAt) →
+    lookup (same_sent sent) new ≡ cond (same_sent key sent) (Some line) (lookup (same_sent sent) old)
+    → lookup (same_sent sent) old ≡ last_line (post_of sent) heads
+    → lookup (same_sent sent) new ≡ last_line (post_of sent) (heads ++ record { line = line; post = post_of key } ∷ [])
+last_after_insert key sent line old new heads put kept =
+    put ∙ ap (λ o. cond (same_sent key sent) (Some line) o) kept
+    ∙ or_by_test (same_sent key sent) line (last_line (post_of sent) heads)
+    ∙ sym (last_with_one (post_of sent) heads (record { line = line; post = post_of key }))
+
+-- the first of some heads and one more
+first_with_one : (post : Post) (heads : List HeadAt) (head : HeadAt) →
+    first_line post (heads ++ head ∷ []) ≡ option_or (first_line post heads) (line_if post head)
+first_with_one post [] head = refl
+first_with_one post (first ∷ heads) head =
+    elim (same_post first.post post) as (λ (test : Bool).
+    cond test (Some first.line) (first_line post (heads ++ head ∷ [])) ≡ option_or (cond test (Some first.line) (first_line post heads)) (line_if post head)) [
+      | true ↦ refl
+      | false ↦ first_with_one post heads head
+    ]
+
+-- a line that is there before another
+there_before : (found : Option ℕ) (test : Bool) (line : ℕ) → (test ≡ true → is_some found ≡ true) →
+    found ≡ option_or found (cond test (Some line) None)
+there_before (Some first) test line there = refl
+there_before None true line there = absurd (true≢false (sym (there refl)))
+there_before None false line there = refl
+
+-- a line that is the first
+none_before : (found : Option ℕ) (test : Bool) (line : ℕ) → (test ≡ true → found ≡ None) →
+    cond test (Some line) found ≡ option_or found (cond test (Some line) None)
+none_before None test line none = refl
+none_before (Some first) true line none = absurd (cc (none refl))
+none_before (Some first) false line none = refl
+
+module _ (key sent : Sent) (line : ℕ) (heads : List HeadAt) where
+  -- where one begins this sheet, the first stays
+  pub first_stays : (entries : List (Sent × ℕ)) → lookup (same_sent sent) entries ≡ first_line (post_of sent) heads →
+      is_some (first_line (post_of key) heads) ≡ true →
+      lookup (same_sent sent) entries ≡ first_line (post_of sent) (heads ++ record { line = line; post = post_of key } ∷ [])
+  first_stays entries kept there =
+      kept
+      ∙ there_before (first_line (post_of sent) heads) (same_sent key sent) line
+      (λ same. subst (λ (post : Post). is_some (first_line post heads) ≡ true) (same_post_is (post_of key) (post_of sent) same) there)
+      ∙ sym (first_with_one (post_of sent) heads (record { line = line; post = post_of key }))
+
+  -- where none does, this is the first
+  pub first_comes : (old new : List (Sent × ℕ)) →
+      lookup (same_sent sent) new ≡ cond (same_sent key sent) (Some line) (lookup (same_sent sent) old) →
+      lookup (same_sent sent) old ≡ first_line (post_of sent) heads → first_line (post_of key) heads ≡ None →
+      lookup (same_sent sent) new ≡ first_line (post_of sent) (heads ++ record { line = line; post = post_of key } ∷ [])
+  first_comes old new put kept none =
+      put ∙ ap (λ o. cond (same_sent key sent) (Some line) o) kept
+      ∙ none_before (first_line (post_of sent) heads) (same_sent key sent) line
+      (λ same. subst (λ (post : Post). first_line post heads ≡ None) (same_post_is (post_of key) (post_of sent) same) none)
+      ∙ sym (first_with_one (post_of sent) heads (record { line = line; post = post_of key }))
+
+-- nothing is there
+pub not_there : (found : Option ℕ) → is_some found ≡ false → found ≡ None
+not_there None none = refl
+not_there (Some line) none = absurd (true≢false none)
+
+-- the line by which one player more had a sheet
+pub complete_next : (seats : ℕ) (round : Round) (heads : List HeadAt) →
+    later_of (complete_by seats round heads) (first_line (post_at seats round) heads) ≡ complete_by (seats + 1) round heads
+complete_next seats round heads = ap (λ n. complete_by n round heads) (sym (add-one seats))
+
+-- the heads that came, once one more has come
+pub came_with_one : (heads : List Head) (head : Head) → map head_at (heads ++ head ∷ []) ≡ map head_at heads ++ head_at head ∷ []
+came_with_one heads head = map-append head_at heads (head ∷ [])
+
+-- one more line
+pub heads_step : (players : List (List ℕ)) (passed : ℕ) (old new whole : List HeadAt) (lines : List (List ℕ)) (line : List ℕ) (left : List (List ℕ)) →
+    old ++ heads_in players passed lines ≡ whole → lines ≡ line ∷ left
+    → new ≡ old ++ head_here (passed + 1) (begins players line)
+    → new ++ heads_in players (passed + 1) left ≡ whole
+heads_step players passed old new whole lines line left h e f =
+    rw (f, append_assoc) (sym (ap (λ ls. old ++ heads_in players passed ls) e) ∙ h)
+
+-- no line is left
+pub heads_end : (players : List (List ℕ)) (passed : ℕ) (heads whole : List HeadAt) (lines : List (List ℕ)) →
+    heads ++ heads_in players passed lines ≡ whole → lines ≡ [] → heads ≡ whole
+heads_end players passed heads whole lines h e =
+    sym (append-nil heads) ∙ sym (ap (λ ls. heads ++ heads_in players passed ls) e) ∙ h

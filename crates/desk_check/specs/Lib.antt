@@ -1,0 +1,8 @@
+-- What a look through an order file finds.
+pub mod FileLines
+pub mod Found
+pub mod Heads
+pub mod Replaced
+pub mod RoundsPlayed
+pub mod SheetLines
+pub mod Unplayed

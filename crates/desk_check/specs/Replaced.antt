@@ -1,0 +1,116 @@
+-- Sheets that replace others: what was there of the round at the line that replaced one, and before which line the game is
+-- looked at again, to tell what has changed since.
+use Rattle.std.specs.Prelude.{◌≡◌, ℕ, ◌-◌, ◌==◌, Bool, true, false, ◌&&◌, ◌||◌, if◌then◌else◌, List, [], ◌∷◌, ◌++◌, length, take, Option, Some, None, Err, is_some}
+use Rattle.std.specs.List.{flat_map, fold}
+use Rattle.desk_check.specs.Found.{finding}
+use Rattle.desk_check.specs.Heads.{came}
+use Rattle.desk_check.specs.RoundsPlayed.{AreRoundsOf, line_kept}
+use Rattle.desk_check.specs.SheetLines.{complete_by, is_at, is_under}
+use Rattle.desk_check.specs.declared.check_found.Finding.{Finding}
+use Rattle.desk_check.specs.declared.check_found.Lateness.{Lateness}
+use Rattle.desk_check.specs.declared.check_found.Lateness.TheVariants as lateness
+use Rattle.desk_check.specs.declared.check_found.Matter.TheVariants as matter
+use Rattle.desk_check.specs.declared.check_found.Standing.{Standing}
+use Rattle.desk_check.specs.declared.check_late.Rounds.{Rounds}
+use Rattle.desk_check.specs.declared.check_late.Turn.{Turn}
+use Rattle.desk_check.specs.declared.check_late.Turning.{Turning}
+use Rattle.desk_check.specs.declared.check_lines.FileLine.{FileLine}
+use Rattle.desk_check.specs.declared.check_sheets.Head.{Head}
+use Rattle.desk_check.specs.declared.check_sheets.Heads.{Heads}
+use Rattle.history.specs.LookBack.{round_of}
+use Rattle.rounds.specs.Play.{IsTheGame, Played}
+use Rattle.sheets.specs.File.{content_of}
+use Rattle.sheets.specs.declared.fault.FileFault.{FileFault}
+use Rattle.tables.specs.declared.round.Round.{Round}
+
+-- the line by which a round is complete
+abbrev pub complete_in : Heads → Round → Option ℕ
+complete_in heads round = complete_by heads.seats round (came heads)
+
+-- what stands in a file before a line of it
+abbrev pub before : List ℕ → FileLine → List ℕ
+before file line = take (length file - length line.from.now) file
+
+-- how far a game has come: the round that was played last, and why play stopped
+abbrev pub standing_of : Played → Standing
+standing_of played = record { last = round_of played.game.events; end = played.end }
+
+-- what stands before a line that begins a sheet, as a game: its rounds, each with the line by which every player had
+-- sheets for it and those before it, and how far it had come
+pub record IsTurn (file : List ℕ) (heads : Heads) (head : Head) (turn : Turn) : Type 0 where
+  pub played : Played
+  pub of_file : played.file ≡ before file head.line
+  pub game : IsTheGame played
+  pub line : turn.line ≡ head.line.number
+  pub rounds : AreRoundsOf heads turn.rounds played.game.events
+  pub standing : turn.standing ≡ standing_of played
+
+-- so it is with that game, or what stands before the line is refused
+abbrev pub TurnsAt : List ℕ → Heads → Head → Option Turn → Type 0
+TurnsAt file heads head None = (fault : FileFault) × (content_of (before file head.line) ≡ Err fault)
+TurnsAt file heads head (Some turn) = IsTurn file heads head turn
+
+-- a line that replaced a sheet for a round after every player had one for it and for each round before it
+abbrev pub is_late : Rounds → Head → Bool
+is_late rounds head = is_some head.replaces && is_under (line_kept rounds head.sent.round) head.line.number
+
+-- no late line has come since a line by which the last sheet for a round came
+abbrev pub is_fresh_at : Heads → Turning → Head → Bool
+is_fresh_at heads turning head = turning.is_fresh || is_at (complete_in heads head.sent.round) head.line.number
+
+-- with one more head: a late one that is fresh is where the game turns, as far as it has come
+abbrev pub turning_then : Heads → Rounds → Turning → Head → Turning
+turning_then heads rounds turning head =
+    let fresh = is_fresh_at heads turning head in
+    if is_late rounds head
+    then record { head = if fresh then Some head else turning.head; is_fresh = false }
+    else record { head = turning.head; is_fresh = fresh }
+
+-- where the game turns: of the late lines after the last line by which the last sheet for a round came the first; where
+-- there is none after that, the first of those that follow one another without such a line, the last time
+abbrev pub turning_of : Heads → Rounds → Turning
+turning_of heads rounds = fold (turning_then heads rounds) (record { head = None; is_fresh = true }) heads.heads.items
+
+-- the game before that line, if there is such a line
+abbrev pub TurnsBefore : List ℕ → Heads → Option Head → Option Turn → Type 0
+TurnsBefore file heads None turn = turn ≡ None
+TurnsBefore file heads (Some head) turn = TurnsAt file heads head turn
+
+-- the line that was kept of a round of the game before that line
+abbrev pub line_in_turn : Option Turn → Round → Option ℕ
+line_in_turn None round = None
+line_in_turn (Some turn) round = line_kept turn.rounds round
+
+-- what was there of a round when a line came: by then it was played, every player had a sheet for it, or neither
+abbrev pub lateness_of : Heads → Rounds → Option Turn → Round → ℕ → Lateness
+lateness_of heads rounds turn round line =
+    if is_under (line_kept rounds round) line || is_under (line_in_turn turn round) line
+    then lateness.Played
+    else (if is_under (complete_in heads round) line then lateness.NotReached else lateness.Open)
+
+-- how far the game had come before a line and how far it comes now, if it turns at that line
+abbrev pub turned : Option Turn → ℕ → Standing → Option (Standing × Standing)
+turned None line now = None
+turned (Some turn) line now = if turn.line == line then Some (turn.standing, now) else None
+
+-- what is told of a line that begins a sheet in place of that of another
+abbrev pub replacing : Heads → Rounds → Option Turn → Standing → Head → ℕ → Finding
+replacing heads rounds turn now head replaced =
+    finding head.line
+    (matter.Replaces replaced head.sent.round (lateness_of heads rounds turn head.sent.round head.line.number)
+    (turned turn head.line.number now))
+
+-- if it does
+abbrev pub replacing_if : Heads → Rounds → Option Turn → Standing → Head → Option ℕ → List Finding
+replacing_if heads rounds turn now head None = []
+replacing_if heads rounds turn now head (Some replaced) = replacing heads rounds turn now head replaced ∷ []
+
+-- what is told of a head
+abbrev pub told_of : Heads → Rounds → Option Turn → Standing → Head → List Finding
+told_of heads rounds turn now head = replacing_if heads rounds turn now head head.replaces
+
+-- of each sheet that replaces another it is told that it does, and what that changes
+pub record TellsReplaced (file : List ℕ) (heads : Heads) (rounds : Rounds) (now : Standing) (old new : List Finding) : Type 0 where
+  pub turn : Option Turn
+  pub turns : TurnsBefore file heads (turning_of heads rounds).head turn
+  pub told : new ≡ old ++ flat_map (told_of heads rounds turn now) heads.heads.items

@@ -1,0 +1,88 @@
+//! The lines of a file, by their numbers in the file.
+ghost use Rattle.std.specs.Prelude.{◌≡◌, ◌+◌, ◌≤◌, length};
+ghost use Rattle.sheets.specs.Limits.{file_most};
+ghost use Rattle.sheets.specs.Text.{is_blank};
+
+use order_grammar::{LINE_MOST, has_word};
+use sheets::first_line;
+
+/// A line of a file.
+#[derive(Clone, Copy)]
+pub(crate) struct FileLine<'a> {
+    /// Its number in the file, from 1, blank ones counted.
+    pub(crate) number: usize,
+    /// Its bytes, without its LF and a CR before that.
+    pub(crate) text: &'a [u8],
+    /// The file from this line on.
+    pub(crate) from: &'a [u8],
+    /// What follows it.
+    pub(crate) rest: &'a [u8],
+    ghost few: { number + length rest.now ≤ file_most },
+}
+
+/// The lines of a file that are still to come.
+#[derive(Drop)]
+pub(crate) struct FileLines<'a> {
+    /// How many came before them.
+    pub(crate) passed: usize,
+    /// Their text.
+    pub(crate) rest: &'a [u8],
+    ghost few: { passed + length rest.now ≤ file_most },
+}
+
+impl<'a> FileLines<'a> {
+    /// The lines of a file.
+    pub(crate) fn of(file: &'a [u8]) -> FileLines<'a>
+        requires { length file.now ≤ file_most }
+        ensures passed { result.passed ≡ 0 }
+        ensures rest { result.rest.now ≡ file.now }
+    {
+        FileLines {
+            passed: 0,
+            rest: file,
+        }
+    }
+
+    /// The lines behind a line.
+    pub(crate) fn behind(line: &FileLine<'a>) -> FileLines<'a>
+        ensures passed { result.passed ≡ line.now.number }
+        ensures rest { result.rest.now ≡ line.now.rest.now }
+    {
+        FileLines {
+            passed: line.number,
+            rest: line.rest,
+        }
+    }
+}
+
+impl<'a> Iterator for FileLines<'a> {
+    ghost use Rattle.std.specs.Iterator.{at_most};
+    ghost use Rattle.desk_check.specs.FileLines.{TakesFileLine};
+
+    type Item = FileLine<'a>;
+
+    ghost next_gives = { TakesFileLine };
+
+    ghost remaining = { λ lines. at_most (length lines.rest.now) };
+
+    fn next(&mut self) -> Option<FileLine<'a>> {
+        let from = self.rest;
+        let piece = first_line(from)?;
+        self.passed += 1;
+        self.rest = piece.rest;
+        Some(FileLine {
+            number: self.passed,
+            text: piece.line,
+            from,
+            rest: piece.rest,
+        })
+    }
+}
+
+/// Whether a line counts nowhere: it has no words and at most 1,024 bytes.
+#[tactic(auto, unfolding(sheets::specs::Text::is_blank))]
+pub(crate) fn is_blank(line: &[u8]) -> bool
+    ensures { result ≡ is_blank line.now }
+{
+    line.len() <= LINE_MOST && !has_word(line)
+}

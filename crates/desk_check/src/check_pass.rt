@@ -1,0 +1,153 @@
+//! One pass over the lines of a file: its SHEET lines, and what stands outside of sheets or looks like mail.
+ghost use Rattle.std.specs.Prelude.{◌≡◌, ◌≤◌, ◌++◌, IfOk, Ok, OnOk, length};
+ghost use Rattle.desk_check.specs.Heads.{AreKept, came};
+ghost use Rattle.desk_check.specs.SheetLines.{head_here, heads_in};
+ghost use Rattle.sheets.specs.File.{begins, fault_of_reading, players_of, unread_fault, version_of};
+ghost use Rattle.sheets.specs.Limits.{file_most};
+ghost use Rattle.sheets.specs.Text.{lines_of};
+
+use crate::check_found::{Found, Matter};
+use crate::check_lines::{FileLine, FileLines, is_blank};
+use crate::check_mail::is_mail;
+use crate::check_names::likeness_of;
+use crate::check_sheets::{Beginning, Heads, begun_by};
+use order_grammar::{Fault, Order, read_line_in};
+use report::name;
+use sheets::Sheets;
+use std::alloc::{AllocError, Global};
+use tables::Seat;
+
+/// How many lines that are not blank stand before the first sheet may begin: the header and the players.
+const PREAMBLE: usize = 2;
+
+/// What a pass over a file has come to.
+#[derive(Drop)]
+struct Pass<'a> {
+    /// The good SHEET lines.
+    heads: Heads<'a>,
+    /// What was found.
+    found: Found<'a>,
+    /// How many lines of the preamble have come.
+    preamble: usize,
+    /// The number of the line that begins the sheet that is open; `None` where none is.
+    open: Option<usize>,
+}
+
+/// Passes over the file of some sheets: its good SHEET lines, and what was found on the way.
+#[tactic(auto, using(crate::proofs::HeadLemmas::heads_step, crate::proofs::HeadLemmas::heads_end))]
+pub(crate) fn pass_over<'a>(
+    alloc: Global,
+    sheets: &Sheets,
+    file: &'a [u8],
+) -> Result<(Heads<'a>, Found<'a>), AllocError>
+    requires { length file.now ≤ file_most }
+    ensures heads { IfOk result (λ passed. came passed.0
+        ≡ heads_in (players_of sheets.now) 0 (lines_of file.now)) }
+    ensures seats { IfOk result (λ passed. passed.0.seats ≡ length (players_of sheets.now)) }
+    ensures kept { IfOk result (λ passed. AreKept passed.0) }
+{
+    let mut pass = Pass {
+        heads: Heads::none(alloc, sheets.seats()),
+        found: Found::nothing(alloc),
+        preamble: 0,
+        open: None,
+    };
+    for line in FileLines::of(file) {
+        pass.take(sheets, line)?;
+    }
+    Ok((pass.heads, pass.found))
+}
+
+impl<'a> Pass<'a> {
+    /// Takes the next line.
+    fn take(&mut self, sheets: &Sheets, line: FileLine<'a>) -> Result<(), AllocError>
+        requires { AreKept self.old.heads }
+        ensures heads { OnOk result (came self.new.heads ≡ came self.old.heads
+            ++ head_here line.entry.number (begins (players_of sheets.now) line.entry.text.now)) }
+        ensures seats { self.new.heads.seats ≡ self.old.heads.seats }
+        ensures kept { OnOk result (AreKept self.new.heads) }
+    {
+        match begun_by(sheets, line.text) {
+            Beginning::Sheet(sent) => {
+                self.open = Some(line.number);
+                self.heads.take(line, sent)?;
+                Ok(())
+            }
+            Beginning::Closing => {
+                self.open = None;
+                self.take_loose(sheets, &line)?;
+                Ok(())
+            }
+            Beginning::Other => {
+                self.take_other(sheets, &line)?;
+                Ok(())
+            }
+        }
+    }
+
+    /// Takes a line that is no SHEET line.
+    fn take_other(&mut self, sheets: &Sheets, line: &FileLine<'a>) -> Result<(), AllocError>
+        ensures { self.new.heads ≡ self.old.heads }
+    {
+        match self.open {
+            None => self.take_loose(sheets, line),
+            Some(sheet) if is_mail(line.text) => self.found.tell_line(line, Matter::Mail(sheet)),
+            Some(_) => Ok(()),
+        }
+    }
+
+    /// Takes a line where no sheet is open.
+    fn take_loose(&mut self, sheets: &Sheets, line: &FileLine<'a>) -> Result<(), AllocError>
+        ensures { self.new.heads ≡ self.old.heads }
+    {
+        if is_blank(line.text) {
+            return Ok(());
+        }
+        if self.preamble >= PREAMBLE {
+            let fault = unread_fault(sheets, line.text);
+            return self.found.tell_line(line, Matter::Unread(fault));
+        }
+        self.preamble += 1;
+        if self.preamble == PREAMBLE {
+            look_at_names(sheets, line, &mut self.found)?;
+        }
+        Ok(())
+    }
+}
+
+/// Looks at the names of the players, which stand on this line.
+fn look_at_names<'a>(
+    sheets: &Sheets,
+    line: &FileLine<'a>,
+    found: &mut Found<'a>,
+) -> Result<(), AllocError> {
+    for number in 0..sheets.seats() {
+        let seat = Seat::at(number);
+        if let Some(likeness) = likeness_of(name(sheets, seat)) {
+            found.tell(line, Matter::Name { seat, likeness })?;
+        }
+    }
+    Ok(())
+}
+
+/// The code of a line that is in no sheet.
+#[tactic(auto, unfolding(sheets::specs::File::unread_fault))]
+fn unread_fault(sheets: &Sheets, line: &[u8]) -> Fault
+    ensures { result ≡ unread_fault (version_of sheets.now) line.now }
+{
+    match &read_line_in(sheets.version(), line) {
+        Err(fault) => *fault,
+        Ok(line) => fault_of_order(&line.order),
+    }
+}
+
+/// The code of a line with this order that is in no sheet: it is a sheet of nobody who plays, or out
+/// of place.
+fn fault_of_order(order: &Order) -> Fault
+    ensures { result ≡ fault_of_reading (Ok order.now) }
+{
+    match order {
+        Order::Sheet { .. } => Fault::UnknownPlayer,
+        _ => Fault::OutOfPlace,
+    }
+}

@@ -1,0 +1,206 @@
+//! The SHEET lines of a file: whose sheet for which round each begins, and which it replaces.
+ghost use Rattle.std.specs.Prelude.{◌≡◌, ◌≤◌, OnOk, [], false, option_map, slice_get};
+ghost use Rattle.std.specs.Option.{option_map_or};
+ghost use Rattle.desk_check.specs.Heads.{AreKept, NotesFirst, came, with_head};
+ghost use Rattle.desk_check.specs.SheetLines.{Begins, complete_by, first_line, is_at, last_line, later_of, post_of};
+ghost use Rattle.order_grammar.specs.Line.{reading_of};
+ghost use Rattle.order_grammar.specs.Words.{same_word};
+ghost use Rattle.sheets.specs.File.{players_of, post_begun, seat_from};
+
+use crate::check_lines::FileLine;
+use order_grammar::{Name, Order, begins_with_word, read_line};
+use sheets::Sheets;
+use std::alloc::{AllocError, Global};
+use std::collections::HashMap;
+use tables::{Round, Seat};
+
+/// Whose sheet for which round.
+#[derive(Clone, Copy, PartialEq, Eq, Hash)]
+pub(crate) struct Sent {
+    pub(crate) seat: Seat,
+    pub(crate) round: Round,
+}
+
+/// A good SHEET line.
+#[derive(Clone, Copy)]
+pub(crate) struct Head<'a> {
+    /// The line.
+    pub(crate) line: FileLine<'a>,
+    /// The sheet that it begins.
+    pub(crate) sent: Sent,
+    /// The number of the line that began the same sheet last before; `None` where none did.
+    pub(crate) replaces: Option<usize>,
+}
+
+/// The good SHEET lines of a file.
+#[derive(Drop)]
+pub(crate) struct Heads<'a> {
+    /// Each of them, in the order of the file.
+    pub(crate) heads: Vec<Head<'a>>,
+    /// How many players there are.
+    pub(crate) seats: usize,
+    /// The number of the first that begins a sheet.
+    first: HashMap<Sent, usize>,
+    /// The number of the last that does.
+    last: HashMap<Sent, usize>,
+}
+
+impl<'a> Heads<'a> {
+    /// None, in a game of so many players.
+    pub(crate) fn none(alloc: Global, seats: usize) -> Heads<'a>
+        requires { seats ≤ 6 }
+        ensures none { came result ≡ [] }
+        ensures seats { result.seats ≡ seats }
+        ensures kept { AreKept result }
+    {
+        Heads {
+            heads: Vec::new(alloc),
+            seats,
+            first: HashMap::new(alloc),
+            last: HashMap::new(alloc),
+        }
+    }
+
+    /// Takes the next of them.
+    pub(crate) fn take(&mut self, line: FileLine<'a>, sent: Sent) -> Result<(), AllocError>
+        requires { AreKept self.old }
+        ensures came { OnOk result (came self.new ≡ with_head (came self.old) line.entry sent) }
+        ensures seats { self.new.seats ≡ self.old.seats }
+        ensures kept { OnOk result (AreKept self.new) }
+    {
+        self.note_first(sent, line.number)?;
+        let replaces = self.last.insert(sent, line.number)?;
+        self.heads.push(Head {
+            line,
+            sent,
+            replaces,
+        })?;
+        Ok(())
+    }
+
+    /// Notes the line with this number, which begins a sheet, if it is the first that does.
+    fn note_first(&mut self, sent: Sent, line: usize) -> Result<(), AllocError>
+        ensures first { OnOk result (NotesFirst self.old sent line self.new) }
+        ensures heads { self.new.heads ≡ self.old.heads }
+        ensures seats { self.new.seats ≡ self.old.seats }
+        ensures last { self.new.last ≡ self.old.last }
+    {
+        if self.first.contains_key(&sent) {
+            return Ok(());
+        }
+        self.first.insert(sent, line)?;
+        Ok(())
+    }
+
+    /// The number of the line by which every player had a sheet for a round; `None` where one has none.
+    pub(crate) fn complete_by(&self, round: Round) -> Option<usize>
+        requires { AreKept self.now }
+        ensures { result ≡ complete_by self.now.seats round (came self.now) }
+    {
+        let mut by = Some(0);
+        for number in 0..self.seats {
+            by = later_of(by, self.first_of(Seat::at(number), round));
+        }
+        by
+    }
+
+    /// The number of the first line that begins the sheet of a seat for a round; `None` where none does.
+    fn first_of(&self, seat: Seat, round: Round) -> Option<usize>
+        requires { AreKept self.now }
+        ensures { result ≡ first_line (record { seat = seat; round = round }) (came self.now) }
+    {
+        self.first.get(&Sent { seat, round }).copied()
+    }
+
+    /// Whether the sheet that a line begins counts: no later one replaces it.
+    pub(crate) fn counts(&self, head: &Head) -> bool
+        requires { AreKept self.now }
+        ensures { result ≡ is_at (last_line (post_of head.now.sent) (came self.now))
+            head.now.line.number }
+    {
+        match self.last.get(&head.sent) {
+            Some(last) => *last == head.line.number,
+            None => false,
+        }
+    }
+}
+
+/// The later of two lines, if there are both.
+fn later_of(a: Option<usize>, b: Option<usize>) -> Option<usize>
+    ensures { result ≡ later_of a b }
+{
+    match (a, b) {
+        (Some(a), Some(b)) => Some(a.max(b)),
+        _ => None,
+    }
+}
+
+/// What a line begins.
+#[derive(Clone, Copy)]
+pub(crate) enum Beginning {
+    /// A sheet.
+    Sheet(Sent),
+    /// Nothing, though its first word is SHEET: it closes the sheet before it.
+    Closing,
+    /// Nothing, and its first word is another.
+    Other,
+}
+
+/// What a line begins.
+#[tactic(auto, unfolding(sheets::specs::File::begins, sheets::specs::File::is_sheet_line))]
+pub(crate) fn begun_by(sheets: &Sheets, line: &[u8]) -> Beginning
+    ensures { Begins (players_of sheets.now) line.now result }
+{
+    if !begins_with_word(line, b"SHEET") {
+        return Beginning::Other;
+    }
+    match sheet_named(sheets, line) {
+        Some(sent) => Beginning::Sheet(sent),
+        None => Beginning::Closing,
+    }
+}
+
+/// The sheet that a line begins whose first word is SHEET, if it begins one. (Apart from its caller, which
+/// would else clear the room for a line that is read with each line that is not.)
+#[inline(never)]
+fn sheet_named(sheets: &Sheets, line: &[u8]) -> Option<Sent>
+    ensures { option_map post_of result
+        ≡ post_begun (players_of sheets.now) (reading_of line.now) }
+{
+    let Ok(read) = read_line(line) else {
+        return None;
+    };
+    let Order::Sheet { name, round } = &read.order else {
+        return None;
+    };
+    let seat = seat_of(sheets, name)?;
+    Some(Sent {
+        seat,
+        round: *round,
+    })
+}
+
+/// The seat of the player with a name; `None` where nobody who plays has it.
+fn seat_of(sheets: &Sheets, name: &Name) -> Option<Seat>
+    ensures { result ≡ seat_from 0 (players_of sheets.now) name.now }
+{
+    for number in 0..sheets.seats() {
+        let seat = Seat::at(number);
+        if is_named(sheets, seat, name) {
+            return Some(seat);
+        }
+    }
+    None
+}
+
+/// Whether a seat's player has this name.
+#[tactic(auto, using(crate::proofs::NameLemmas::pointwise_is_same_word))]
+fn is_named(sheets: &Sheets, seat: Seat, name: &Name) -> bool
+    ensures { result ≡ option_map_or (λ player. same_word player name.now)
+        (slice_get (players_of sheets.now) seat.0) false }
+{
+    match sheets.name(seat) {
+        Some(player) => player == name.text(),
+        None => false,
+    }
+}

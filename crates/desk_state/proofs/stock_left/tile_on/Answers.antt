@@ -1,0 +1,12 @@
+-- The lay in hand stands at the end of those that are left: it lies on the hex, or leaves what lay there.
+use Rattle.std.proofs.Common.{sym, ◌∙◌}
+use Rattle.board.proofs.Tiles.{tile_here, tile_before}
+use Rattle.desk_state.proofs.stock_left.tile_on.Goals as goal
+
+pub returns-then-same_hex : goal.returns-then-same_hex
+returns-then-same_hex c =
+    sym (c.loop-lay.invariant.2 ∙ tile_here _ _ _ _ c.in-Some.ensures.steps (sym c.same_hex.ensures ∙ c.if-same_hex.true))
+
+pub loop-lay-preserved : goal.loop-lay-preserved
+loop-lay-preserved c =
+    (tt, tt, c.loop-lay.invariant.2 ∙ tile_before _ _ _ _ c.in-Some.ensures.steps (sym c.same_hex.ensures ∙ c.if-same_hex.false))

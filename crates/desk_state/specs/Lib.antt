@@ -1,0 +1,4 @@
+-- What a game as it stands has.
+pub mod Earnings
+pub mod Stack
+pub mod StockLeft

@@ -1,0 +1,108 @@
+//! What is left: tokens of a company, trains of the bank, tiles; and what lies on the map.
+ghost use Rattle.std.specs.Prelude.{◌≡◌};
+ghost use Rattle.board.specs.LayRules.{is_tile, lying_of};
+ghost use Rattle.desk_state.specs.StockLeft.{tiles_left, tokens_left, trains_left};
+ghost use Rattle.history.specs.Operating.{tokens_of};
+ghost use Rattle.map_tables.specs.Hex.{same_hex};
+ghost use Rattle.map_tables.specs.Lying.{has_token, names, same_stop, tile_on};
+ghost use Rattle.std.specs.List.{count_by};
+
+use history::{History, Past};
+use map_tables::{Hex, Lay, Place, Stop, TileNo, hexes_stand_once, joined_stop, tile};
+use tables::{Company, Kind, tokens, train};
+
+/// How many tokens a company has not placed.
+pub(crate) fn tokens_left(past: &Past, company: Company) -> usize
+    ensures { result ≡ tokens_left past.now.events.now company }
+{
+    tokens(company).saturating_sub(past.tokens_placed(company))
+}
+
+/// How many trains of a kind the bank has not sold; `None` where their number has no limit.
+pub(crate) fn trains_left(past: &Past, kind: Kind) -> Option<usize>
+    ensures { result ≡ trains_left past.now.events.now kind }
+{
+    let number = train(kind).number?;
+    Some(usize::from(number).saturating_sub(past.trains_sold(kind)))
+}
+
+/// How many tiles of a number do not lie on the map, by the tiles that were laid.
+pub(crate) fn tiles_left(lays: &[Lay], number: TileNo) -> usize
+    ensures { result ≡ tiles_left lays.now number }
+{
+    usize::from(tile(number).count).saturating_sub(lying_of(lays, number))
+}
+
+/// How many tiles of a number lie on the map.
+#[tactic(auto, unfolding(board::specs::LayRules::lying_of))]
+fn lying_of(lays: &[Lay], number: TileNo) -> usize
+    ensures { result ≡ lying_of lays.now number }
+{
+    // A law, which does nothing when it runs: these are all hexes.
+    hexes_stand_once();
+    count_of(lays, number, &Hex::ALL)
+}
+
+/// On how many of some hexes a tile of a number lies.
+fn count_of(lays: &[Lay], number: TileNo, hexes: &[Hex]) -> usize
+    ensures { result ≡ count_by (λ hex. is_tile number (tile_on lays.now hex)) hexes.now }
+{
+    hexes
+        .iter()
+        .filter(|hex| has_tile(lays, **hex, number))
+        .count()
+}
+
+/// Whether a tile of a number lies on a hex.
+fn has_tile(lays: &[Lay], hex: Hex, number: TileNo) -> bool
+    ensures { result ≡ is_tile number (tile_on lays.now hex) }
+{
+    match tile_on(lays, hex) {
+        Some(lay) => lay.tile.index() == number.index(),
+        None => false,
+    }
+}
+
+/// The tile that lies on a hex: the last that was laid there.
+#[tactic(auto, unfolding(map_tables::specs::Lying::tile_on))]
+pub(crate) fn tile_on(lays: &[Lay], hex: Hex) -> Option<Lay>
+    ensures { result ≡ tile_on lays.now hex }
+{
+    for lay in lays.iter().rev() {
+        if same_hex(lay.hex, hex) {
+            return Some(*lay);
+        }
+    }
+    None
+}
+
+/// Whether two hexes are one.
+fn same_hex(a: Hex, b: Hex) -> bool
+    ensures { result ≡ same_hex a b }
+{
+    a.index() == b.index()
+}
+
+/// Whether a company has a token at a stop, among those that were placed.
+pub(crate) fn has_token(history: &History, stop: Stop, company: Company) -> bool
+    ensures { result ≡ has_token (tokens_of history.now.events) stop company }
+{
+    history.tokens().iter().any(|token| names(stop, token.0) && token.1.place() == company.place())
+}
+
+/// Whether a place names a stop, or a part of it.
+fn names(stop: Stop, place: Place) -> bool
+    ensures { result ≡ names stop place }
+{
+    match place.stop() {
+        Some(part) => same_stop(joined_stop(part), stop),
+        None => false,
+    }
+}
+
+/// Whether two stops are one.
+fn same_stop(a: Stop, b: Stop) -> bool
+    ensures { result ≡ same_stop a b }
+{
+    same_hex(a.hex, b.hex) && a.number.index() == b.number.index()
+}
