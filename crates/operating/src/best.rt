@@ -114,11 +114,11 @@ impl CompanyTurn {
         // Laws, which do nothing when they run: by them the greatest revenue is small.
         a_greatest_exists();
         one_greatest();
-        catch_up(&mut self.board, &self.history)?;
+        catch_up(&mut *self.board, &self.history)?;
         self.board.keeps_laws();
         let company = self.by.company;
         let trains = trains_of(self.alloc, &self.history.now(), company)?;
-        let money = runner.earn(&self.board, self.round, company, trains.as_slice())?;
+        let money = runner.earn(&*self.board, self.round, company, trains.as_slice())?;
         Ok(amount(money))
     }
 }

@@ -35,7 +35,7 @@ impl CompanyTurn {
             self.new.history) }
         ensures sound { OnOk result (IsSound self.new.history) }
     {
-        let due = is_due(&mut self.board, &self.history, self.by.company)?;
+        let due = is_due(&mut *self.board, &self.history, self.by.company)?;
         if due {
             buy_by_force(self.alloc, &mut self.history, self.by, orders)?;
             return Ok(());

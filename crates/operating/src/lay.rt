@@ -24,7 +24,7 @@ impl CompanyTurn {
             lay (state self.new)) }
         ensures order { OnOk result (GoesOn self.old self.new) }
     {
-        catch_up(&mut self.board, &self.history)?;
+        catch_up(&mut *self.board, &self.history)?;
         let order = Order::Lay(lay);
         let by = self.by;
         let asker = asker(&self.history, by.company, self.progress);
@@ -34,7 +34,7 @@ impl CompanyTurn {
                 let company = by.company;
                 let cost = amount_of(cost);
                 self.history.append(Event::Laid { company, lay, cost })?;
-                self.progress = self.progress.with_lay(&self.board, &asker, lay);
+                self.progress = self.progress.with_lay(&*self.board, &asker, lay);
                 Ok(())
             }
             Err(fault) => {

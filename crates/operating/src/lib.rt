@@ -63,7 +63,7 @@ pub use laws::{
     company_operates, company_turn_ends, home_token_lies, no_more_is_paid, obeyed_runs_are_legal,
     one_company_turn, one_list_of_turn_calls, turn_only_adds,
 };
-pub use playing::play_company;
+pub use playing::{Table, empty_board, play_company, play_on};
 pub use private_laws::closed_for_good;
 pub use sale_laws::{sellers_agree_in_turns, turns_say_no_bid};
 pub use standing::rule_standing_lines;

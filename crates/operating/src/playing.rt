@@ -13,9 +13,10 @@ use crate::operator::Operator;
 use crate::withholding::withhold;
 use certificate::{Runner, RunnerFault};
 use history::History;
+use board::Board;
 use sheets::Sheets;
-use std::alloc::Global;
-use tables::{Company, Round};
+use std::alloc::{AllocError, Global};
+use tables::{Company, Kind, Round};
 
 /// Plays the turn of a company in an operating round, with the sheets for it. The list of events
 /// must be sound, and its seats those of the sheets' players; the company has floated. It is meant
@@ -24,7 +25,7 @@ use tables::{Company, Round};
 /// refuses to answer, and the game is dropped.
 pub fn play_company<R: Runner>(
     alloc: Global,
-    mut history: History,
+    history: History,
     sheets: &Sheets,
     round: Round,
     company: Company,
@@ -40,19 +41,60 @@ pub fn play_company<R: Runner>(
     ensures sound { IfOk result IsSound }
     ensures refuses { IfErr result (λ fault. fault ≡ Refused → R.may_refuse ≡ true) }
 {
+    let table = Table {
+        board: empty_board(alloc)?,
+        history,
+    };
+    let table = play_on(alloc, table, sheets, round, company, runner)?;
+    Ok(table.history)
+}
+
+/// A game, and a board with the first of the tiles and tokens that were laid in it. It goes from
+/// the turn of one company to that of the next, so that no board is made twice.
+#[derive(Drop)]
+pub struct Table {
+    /// The game so far.
+    pub history: History,
+    /// What lies on the map, or the first of it. It stands behind a box, so that few bytes go on.
+    pub board: Box<Board>,
+}
+
+/// A board on which nothing lies. No other function has one among its locals, since it would pay
+/// for its bytes whenever it is called.
+#[inline(never)]
+pub fn empty_board(alloc: Global) -> Result<Box<Board>, AllocError>
+    ensures { IfOk result (λ board. board.value ≡ ground_of [] [] kind.Two) }
+{
+    Ok(Box::new(alloc, Board::empty(alloc, Kind::Two))?)
+}
+
+/// Plays the turn of a company as `play_company` does, from a table to the table after it.
+pub fn play_on<R: Runner>(
+    alloc: Global,
+    table: Table,
+    sheets: &Sheets,
+    round: Round,
+    company: Company,
+    runner: &mut R,
+) -> Result<Table, RunnerFault>
+{
+    let Table { mut history, board } = table;
     let president = history.president(company);
     let _few = sheets.seats();
     place_home(&mut history, company)?;
     let Some(president) = president else {
         withhold(&mut history, company, 0)?;
-        return Ok(history);
+        return Ok(Table { history, board });
     };
     let by = Operator { company, president };
-    let mut turn = CompanyTurn::begin(alloc, by, round, history);
+    let mut turn = CompanyTurn::begin(alloc, by, round, history, board);
     let mut orders = sheets.block(president, &round, company);
     let mut raises = orders.duplicate();
     turn.rule_lines(&mut orders, runner)?;
     turn.settle()?;
     turn.end(&mut raises)?;
-    Ok(turn.history)
+    Ok(Table {
+        history: turn.history,
+        board: turn.board,
+    })
 }

@@ -59,8 +59,8 @@ impl CompanyTurn {
         if let Some(rule) = rule_of_turn(&self.history, company, kind, &self.progress) {
             return Ok(Err(rule));
         }
-        catch_up(&mut self.board, &self.history)?;
-        Ok(run_on(&self.board, company, kind, run, &self.progress.runs))
+        catch_up(&mut *self.board, &self.history)?;
+        Ok(run_on(&*self.board, company, kind, run, &self.progress.runs))
     }
 
     /// Rules the order of this line, by which a train has run or which broke a rule of runs.

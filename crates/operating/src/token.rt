@@ -24,7 +24,7 @@ impl CompanyTurn {
             place (state self.new)) }
         ensures order { OnOk result (GoesOn self.old self.new) }
     {
-        catch_up(&mut self.board, &self.history)?;
+        catch_up(&mut *self.board, &self.history)?;
         let order = Order::Token(place);
         let by = self.by;
         let asker = asker(&self.history, by.company, self.progress);

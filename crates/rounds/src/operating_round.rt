@@ -15,7 +15,7 @@ use crate::fault::PlayFault;
 use certificate::Runner;
 use history::{Event, History, rulings_are_counted};
 use market::{floated_companies_in_order, operating_order};
-use operating::{company_operates, play_company, rule_standing_lines};
+use operating::{company_operates, empty_board, play_on, Table, rule_standing_lines};
 use sheets::Sheets;
 use std::alloc::{AllocError, Global};
 use tables::{Company, Round, Seat};
@@ -63,7 +63,7 @@ fn begin(history: &mut History, round: Round) -> Result<(), AllocError>
 /// bankrupt.
 fn take_turns<R: Runner>(
     alloc: Global,
-    mut history: History,
+    history: History,
     sheets: &Sheets,
     round: Round,
     runner: &mut R,
@@ -81,33 +81,26 @@ fn take_turns<R: Runner>(
     // comes to an end.
     floated_companies_in_order();
     company_operates();
-    while let Some(company) = next_company(&history) {
-        history = take_turn(alloc, history, sheets, round, company, runner)?;
+    let board = empty_board(alloc)?;
+    let mut table = Table { history, board };
+    while let Some(company) = next_company(&table.history) {
+        table = take_turn(alloc, table, sheets, round, company, runner)?;
     }
-    Ok(history)
+    Ok(table.history)
 }
 
 /// A company takes its turn.
 fn take_turn<R: Runner>(
     alloc: Global,
-    history: History,
+    table: Table,
     sheets: &Sheets,
     round: Round,
     company: Company,
     runner: &mut R,
-) -> Result<History, PlayFault>
-    requires floated { is_floated history.events company ≡ true }
-    requires sound { IsSound history }
-    requires seats { history.seats ≡ length (players_of sheets.now) }
-    ensures turn { IfOk result (IsCompanyTurn sheets.now round company history) }
-    ensures calls { Makes R.earns runner.old (CompanyCalls sheets.now round company history result)
-        runner.new }
-    ensures seats { IfOk result (λ new. new.seats ≡ history.seats) }
-    ensures sound { IfOk result IsSound }
-    ensures refuses { IfErr result (λ fault. IsRefused fault → R.may_refuse ≡ true) }
+) -> Result<Table, PlayFault>
 {
-    match play_company(alloc, history, sheets, round, company, runner) {
-        Ok(history) => Ok(history),
+    match play_on(alloc, table, sheets, round, company, runner) {
+        Ok(table) => Ok(table),
         Err(fault) => Err(PlayFault::in_turn(fault, round, company)),
     }
 }
