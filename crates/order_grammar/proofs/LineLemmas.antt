@@ -2,13 +2,12 @@
 use Rattle.std.proofs.Common.{◌≡◌, ℕ, true, false, nat_lt, inl, inr, List, [], Result, Ok, Err, length, sym, ap, subst, refl, ◌∙◌}
 use Rattle.std.specs.List.{list_all}
 use Rattle.std.proofs.lemmas.Bool.{cases_Bool}
-use Rattle.order_grammar.specs.Condition.{ordered_reading}
 use Rattle.order_grammar.specs.Form.{Row, words_reading}
 use Rattle.order_grammar.specs.Limits.{line_most}
 use Rattle.order_grammar.specs.Line.{reading_by, words_within}
-use Rattle.order_grammar.specs.Version.{reading_in}
+use Rattle.order_grammar.specs.Version.{reading_in, words_reading_in}
 use Rattle.order_grammar.specs.Words.{Placed, StandFrom, AreWordsOf, before_comment, is_printable, placed_from, texts_of}
-use Rattle.order_grammar.specs.declared.condition.Version.TheVariants.{Two}
+use Rattle.order_grammar.specs.declared.condition.Version.{Version}
 use Rattle.order_grammar.specs.declared.fault.Fault.{Fault}
 use Rattle.order_grammar.specs.declared.fault.Fault.TheVariants.{TooLong, StrayByte}
 use Rattle.order_grammar.proofs.WordLemmas.{texts_of-line, words_stand}
@@ -54,8 +53,9 @@ within_reading most rows line words e =
     let is = within most line words e in
     ap (words_reading rows) (texts_of-line line words is.are) ∙ rw (is.short, is.printable) refl
 
-pub within_ordered : (line : List ℕ) (words : List Placed) → Ok words ≡ words_within line_most line →
-    ordered_reading (texts_of words) ≡ reading_in Two line
-within_ordered line words e =
+-- in any version
+pub within_version : (version : Version) (line : List ℕ) (words : List Placed) → Ok words ≡ words_within line_most line →
+    words_reading_in version (texts_of words) ≡ reading_in version line
+within_version version line words e =
     let is = within line_most line words e in
-    ap ordered_reading (texts_of-line line words is.are) ∙ rw (is.short, is.printable) refl
+    ap (words_reading_in version) (texts_of-line line words is.are) ∙ rw (is.short, is.printable) refl

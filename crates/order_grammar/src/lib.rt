@@ -38,5 +38,7 @@ pub use order::{Offer, Order, ShareSource, TrainSource};
 pub use print::{
     print_conditional, print_conditional_order, print_line, print_number, print_order, print_round,
 };
-pub use read::{CERT_LINE_MOST, LINE_MOST, Line, read_cert_line, read_line, read_line_in};
+pub use read::{
+    CERT_LINE_MOST, LINE_MOST, Line, read_cert_line, read_line, read_line_in, read_order_in,
+};
 pub use words::{Span, Token, Words, begins_with_word, has_word};

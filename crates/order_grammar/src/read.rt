@@ -1,10 +1,10 @@
 ghost use Rattle.std.specs.Prelude.{◌≡◌, IfOk, IsTrue, None, map};
 ghost use Rattle.std.specs.List.{list_all};
+ghost use Rattle.order_grammar.specs.Condition.{put_ordered};
 ghost use Rattle.order_grammar.specs.Line.{cert_reading_of, order_of, reading_by, reading_of, words_within};
 ghost use Rattle.order_grammar.specs.Row.{is_short, row_of};
-ghost use Rattle.order_grammar.specs.Version.{ordered_of, reading_in};
-ghost use Rattle.order_grammar.specs.Words.{AreWordsOf, is_printable};
-ghost use Rattle.order_grammar.specs.declared.condition.Version.TheVariants.{Two};
+ghost use Rattle.order_grammar.specs.Version.{ordered_of, reading_in, words_reading_in};
+ghost use Rattle.order_grammar.specs.Words.{AreWordsOf, is_printable, texts_of};
 
 use crate::condition::{Condition, Version, read_ordered};
 use crate::fault::Fault;
@@ -52,25 +52,46 @@ pub fn read_line_in(version: Version, line: &[u8]) -> Result<Line<'_>, Fault>
     // The words, at their places before the comment.
     ensures words { IfOk result (λ read. AreWordsOf line.now read.words) }
 {
-    match version {
-        Version::One => read_line(line),
-        Version::Two => read_line_of_two(line),
-    }
-}
-
-/// Reads a line of version 2.
-fn read_line_of_two(line: &[u8]) -> Result<Line<'_>, Fault>
-    ensures order { ordered_of result ≡ reading_in Two line.now }
-    ensures words { IfOk result (λ read. AreWordsOf line.now read.words) }
-{
     let words = words_within(LINE_MOST, line)?;
     let mut order = Order::Blank;
-    let condition = read_ordered(&words, &mut order)?;
+    let condition = read_words(version, &words, &mut order)?;
     Ok(Line {
         condition,
         order,
         words,
     })
+}
+
+/// Reads a line as `read_line_in` does, puts its order in place of another, and gives its condition; of
+/// a line with a fault it gives that, and the order may be any.
+pub fn read_order_in(
+    version: Version,
+    line: &[u8],
+    order: &mut Order,
+) -> Result<Option<Condition>, Fault>
+    // The order with its condition, or the fault.
+    ensures { put_ordered result order.new ≡ reading_in version line.now }
+{
+    let words = words_within(LINE_MOST, line)?;
+    read_words(version, &words, order)
+}
+
+/// Puts the order that the words of a line of some version spell in place of another, and gives its
+/// condition.
+fn read_words(
+    version: Version,
+    words: &Words,
+    order: &mut Order,
+) -> Result<Option<Condition>, Fault>
+    ensures { put_ordered result order.new ≡ words_reading_in version (texts_of words.now) }
+{
+    match version {
+        Version::One => {
+            read_order(order_forms(), words, order)?;
+            Ok(None)
+        }
+        Version::Two => read_ordered(words, order),
+    }
 }
 
 /// Reads a line of the text of a certificate, without its LF and a CR before that. CERTS, CERT,

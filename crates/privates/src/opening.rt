@@ -8,7 +8,8 @@ ghost use Rattle.sheets.specs.File.{players_of};
 
 use crate::{closing, standing, turn};
 use history::History;
-use sheets::{NumberedLine, Sheets};
+use order_grammar::Order;
+use sheets::{Sheets, UnreadLine};
 use std::alloc::AllocError;
 use tables::{Round, Seat};
 use turns::{TurnRules, play_round};
@@ -29,9 +30,10 @@ impl TurnRules for OpeningTurns {
         &self,
         history: &mut History,
         seat: Seat,
-        line: &NumberedLine,
+        line: UnreadLine,
+        order: &mut Order,
     ) -> Result<(), AllocError> {
-        standing::rule_standing_line(history, seat, line)
+        standing::rule_standing_line(history, seat, line, order)
     }
 
     fn nothing(&self) -> bool {
@@ -42,10 +44,11 @@ impl TurnRules for OpeningTurns {
         &self,
         history: &mut History,
         seat: Seat,
-        line: &NumberedLine,
+        line: UnreadLine,
+        order: &mut Order,
         deeds: bool,
     ) -> Result<bool, AllocError> {
-        turn::rule_line(history, seat, line, deeds)
+        turn::rule_line(history, seat, line, order, deeds)
     }
 
     fn has_acted(&self, deeds: bool) -> bool {

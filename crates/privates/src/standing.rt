@@ -2,11 +2,11 @@ ghost use Rattle.std.specs.Prelude.{◌≡◌, OnOk};
 ghost use Rattle.turns.specs.Small.{IsSmallReading};
 ghost use Rattle.privates.specs.Standing.{after_standing_line, has_place_before as may_stand_before, standing_judgement, standing_refusal};
 ghost use Rattle.privates.specs.Underway.{IsUnderway};
-ghost use Rattle.sheets.specs.Part.{line_read};
+ghost use Rattle.sheets.specs.Part.{line_unread};
 
 use history::{History, OpeningRule, Refusal};
 use order_grammar::Order;
-use sheets::NumberedLine;
+use sheets::UnreadLine;
 use std::alloc::AllocError;
 use tables::{Company, Seat, par_square};
 use turns::Family;
@@ -30,20 +30,21 @@ impl Family for StandingLines {
     }
 }
 
-/// Rules a standing line of a seat.
+/// Rules a standing line of a seat. Its order is put in place of another.
 pub(crate) fn rule_standing_line(
     history: &mut History,
     seat: Seat,
-    line: &NumberedLine,
+    line: UnreadLine,
+    order: &mut Order,
 ) -> Result<(), AllocError>
-    requires small { IsSmallReading (line_read line.now).reading }
+    requires small { IsSmallReading (line_unread line).reading }
     requires underway { IsUnderway history.old }
     ensures seats { OnOk result (history.new.seats ≡ history.old.seats) }
     ensures events { OnOk result (history.new.events
-        ≡ after_standing_line seat history.old.events (line_read line.now)) }
+        ≡ after_standing_line seat history.old.events (line_unread line.entry)) }
     ensures underway { OnOk result (IsUnderway history.new) }
 {
-    turns::rule_line(&StandingLines, history, seat, line)?;
+    turns::rule_line(&StandingLines, history, seat, line, order)?;
     Ok(())
 }
 

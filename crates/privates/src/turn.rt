@@ -6,7 +6,7 @@ ghost use Rattle.privates.specs.Judgement.{price_of as price_asked, refusal_of};
 ghost use Rattle.privates.specs.Sale.{after_sale, settled};
 ghost use Rattle.privates.specs.Turn.{after_act, after_line};
 ghost use Rattle.privates.specs.Underway.{IsUnderway};
-ghost use Rattle.sheets.specs.Part.{line_read};
+ghost use Rattle.sheets.specs.Part.{line_unread};
 ghost use Rattle.turns.specs.RoundOfTurns.{in_turn};
 ghost use Rattle.turns.specs.Ruling.{has_place_in_group};
 ghost use Rattle.turns.specs.Small.{IsSmallOrder, IsSmallReading};
@@ -15,7 +15,7 @@ use crate::judgement::{judge, price_of};
 use crate::sale::{sell, settle_all};
 use history::{Event, History, Refusal};
 use order_grammar::Order;
-use sheets::{NumberedLine, is_of_file};
+use sheets::{UnreadLine, is_of_file};
 use std::alloc::AllocError;
 use tables::{Amount, Private, Seat};
 use turns::Family;
@@ -42,27 +42,28 @@ impl Family for TurnLines {
     }
 }
 
-/// Rules a line of a group, and does what it orders if it is obeyed. Answers whether the seat has
-/// bought or bid in its turn by then.
+/// Rules a line of a group, and does what it orders if it is obeyed. Its order is put in place of
+/// another. Answers whether the seat has bought or bid in its turn by then.
 pub(crate) fn rule_line(
     history: &mut History,
     seat: Seat,
-    line: &NumberedLine,
+    line: UnreadLine,
+    order: &mut Order,
     turn_used: bool,
 ) -> Result<bool, AllocError>
     requires few { history.old.seats ≤ 6 }
     requires at_table { seat.0 < history.old.seats }
-    requires small { IsSmallReading (line_read line.now).reading }
+    requires small { IsSmallReading (line_unread line).reading }
     requires underway { IsUnderway history.old }
     ensures seats { OnOk result (history.new.seats ≡ history.old.seats) }
     ensures turn { IfOk result (λ used. in_turn history.new.events used
         ≡ after_line history.old.seats seat (in_turn history.old.events turn_used)
-        (line_read line.now)) }
+        (line_unread line.entry)) }
     ensures underway { OnOk result (IsUnderway history.new) }
 {
-    let Some(order) = turns::rule_line(&TurnLines { turn_used }, history, seat, line)? else {
+    if !turns::rule_line(&TurnLines { turn_used }, history, seat, line, order)? {
         return Ok(turn_used);
-    };
+    }
     act(history, seat, order)?;
     Ok(true)
 }

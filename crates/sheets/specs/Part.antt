@@ -16,6 +16,7 @@ use Rattle.sheets.specs.Limits.{lines_most}
 use Rattle.sheets.specs.Reading.{order_read}
 use Rattle.sheets.specs.Sheet.{Unruled, condition_at}
 use Rattle.sheets.specs.declared.sheet.NumberedLine.{NumberedLine}
+use Rattle.sheets.specs.declared.sheet.ReadLine.{ReadLine}
 use Rattle.sheets.specs.declared.sheet.UnreadLine.{UnreadLine}
 use Rattle.tables.specs.declared.round.Round.{Round}
 use Rattle.tables.specs.declared.round.Round.TheVariants.{Operating}
@@ -52,6 +53,14 @@ line_read line =
 -- a line that is not read, where it stands
 abbrev pub line_unread : UnreadLine → Numbered
 line_unread line = numbered line.number (reading_in line.version line.text.now)
+
+-- a line that was read, where this order is put
+abbrev pub line_with : ReadLine → Order → Numbered
+line_with read order = record { number = read.number; condition = read.condition; reading = Ok order }
+
+-- the line with this number that has this fault where it stands
+abbrev pub faulty_line : ℕ → Fault → Numbered
+faulty_line number fault = record { number = number; condition = None; reading = Err fault }
 
 -- the order that opens a group
 abbrev pub is_turn : Result Order Fault → Bool
@@ -132,16 +141,11 @@ abbrev pub lines_in : Parts → ℕ
 lines_in parts = length parts.before + lines_in_groups (groups_of parts)
 
 -- the next line before the next head is taken, if there is one
-abbrev pub TakesOrdinary : Parts → Option NumberedLine → Parts → Type 0
+abbrev pub TakesOrdinary : Parts → Option UnreadLine → Parts → Type 0
 TakesOrdinary old None new = StandsAtHead old × (new ≡ old)
-TakesOrdinary old (Some line) new = old ≡ after_line (line_read line) new
-
--- the same, where the line is not read
-abbrev pub TakesUnreadOrdinary : Parts → Option UnreadLine → Parts → Type 0
-TakesUnreadOrdinary old None new = StandsAtHead old × (new ≡ old)
-TakesUnreadOrdinary old (Some line) new = old ≡ after_line (line_unread line) new
+TakesOrdinary old (Some line) new = old ≡ after_line (line_unread line) new
 
 -- the next head is taken, if there is one
-abbrev pub TakesHead : Parts → Option NumberedLine → Parts → Type 0
+abbrev pub TakesHead : Parts → Option UnreadLine → Parts → Type 0
 TakesHead old None new = (old.opened ≡ []) × (new ≡ old)
-TakesHead old (Some head) new = old ≡ after_head (line_read head) new
+TakesHead old (Some head) new = old ≡ after_head (line_unread head) new

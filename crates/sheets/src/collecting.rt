@@ -1,7 +1,6 @@
 ghost use Rattle.std.specs.Prelude.{is_some, ◌≡◌, false, ℕ, ◌+◌, ◌<◌, ◌≤◌, List, [], ◌∷◌, ◌++◌, length, IfOk, Ok, OnOk, IfErr, MatchOption, MatchResult};
 ghost use Rattle.std.specs.HashMap.{get};
-ghost use Rattle.order_grammar.specs.Line.{order_of, reading_of};
-ghost use Rattle.order_grammar.specs.Version.{ordered_of};
+ghost use Rattle.order_grammar.specs.Line.{reading_of};
 ghost use Rattle.sheets.specs.Collecting.{HasBegun, Reaches, StopsAt, StopsBy, closed};
 ghost use Rattle.sheets.specs.File.{begins, is_sheet_line, post_begun, fault_of_reading, same_post, sheet_in, unread_fault, unread_in, good_lines};
 ghost use Rattle.sheets.specs.Limits.{file_most, sheets_most};
@@ -14,7 +13,9 @@ use crate::players::Players;
 use crate::post::Post;
 use crate::sheet::Sheet;
 use crate::text::{Piece, first_written};
-use order_grammar::{Fault, Line, Order, Version, begins_with_word, read_line, read_line_in};
+use order_grammar::{
+    Fault, Order, Version, begins_with_word, read_order_in, version_one_has_no_conditions,
+};
 use std::alloc::{AllocError, Global};
 use std::collections::HashMap;
 
@@ -131,8 +132,7 @@ impl<'a> Collection<'a> {
         ensures err { IfErr result
             (StopsAt self.old.good (post_begun players.now (reading_of piece.entry.line.now))) }
     {
-        let reading = read_line(piece.line);
-        match post_begun(players, &reading) {
+        match post_begun(players, piece.line) {
             Some(post) => {
                 if self.good >= SHEETS_MOST {
                     return Err(FileFault::TooManySheets);
@@ -175,17 +175,7 @@ fn begins_sheet(players: &Players, line: &[u8]) -> bool
     requires { length players.now ≤ 6 }
     ensures { result ≡ is_some (begins players.now line.now) }
 {
-    is_sheet_line(line) && is_of_player(players, line)
-}
-
-/// Whether a line is the SHEET line of a player. (Apart from its caller, which would else clear the room
-/// for a line that is read with each line that is not.)
-#[inline(never)]
-fn is_of_player(players: &Players, line: &[u8]) -> bool
-    requires { length players.now ≤ 6 }
-    ensures { result ≡ is_some (post_begun players.now (reading_of line.now)) }
-{
-    post_begun(players, &read_line(line)).is_some()
+    is_sheet_line(line) && post_begun(players, line).is_some()
 }
 
 /// Whether the first word of a line is SHEET.
@@ -196,15 +186,27 @@ fn is_sheet_line(line: &[u8]) -> bool
     begins_with_word(line, b"SHEET")
 }
 
-/// Whose sheet for which round a line begins, if it begins one.
-fn post_begun(players: &Players, reading: &Result<Line, Fault>) -> Option<Post>
+/// Whose sheet for which round a line begins, if it begins one. (Apart from its callers, which would
+/// else clear the room for an order with each line that they do not read.)
+#[inline(never)]
+fn post_begun(players: &Players, line: &[u8]) -> Option<Post>
     requires { length players.now ≤ 6 }
-    ensures { result ≡ post_begun players.now (order_of reading.now) }
+    ensures { result ≡ post_begun players.now (reading_of line.now) }
 {
-    let Ok(line) = reading else {
-        return None;
-    };
-    let Order::Sheet { name, round } = &line.order else {
+    version_one_has_no_conditions();
+    let mut order = Order::Blank;
+    match read_order_in(Version::One, line, &mut order) {
+        Ok(_) => post_of(players, &order),
+        Err(_) => None,
+    }
+}
+
+/// Whose sheet for which round an order begins, if it begins one.
+fn post_of(players: &Players, order: &Order) -> Option<Post>
+    requires { length players.now ≤ 6 }
+    ensures { result ≡ post_begun players.now (Ok order.now) }
+{
+    let Order::Sheet { name, round } = order else {
         return None;
     };
     let seat = players.seat_of(name)?;
@@ -219,9 +221,10 @@ fn post_begun(players: &Players, reading: &Result<Line, Fault>) -> Option<Post>
 fn unread_fault(version: Version, line: &[u8]) -> Fault
     ensures { result ≡ unread_fault version line.now }
 {
-    match &read_line_in(version, line) {
-        Err(fault) => *fault,
-        Ok(line) => fault_of_order(&line.order),
+    let mut order = Order::Blank;
+    match read_order_in(version, line, &mut order) {
+        Ok(_) => fault_of_order(&order),
+        Err(fault) => fault,
     }
 }
 

@@ -1,8 +1,8 @@
-ghost use Rattle.std.specs.Prelude.{◌≡◌, []};
+ghost use Rattle.std.specs.Prelude.{◌≡◌, [], Ok};
 ghost use Rattle.sheets.specs.Block.{block_in, opens_block_of as opens_a_block_of};
-ghost use Rattle.sheets.specs.Part.{StandsAtHead, TakesHead, TakesOrdinary, TakesUnreadOrdinary, head_word as word_of_heads, line_read, line_unread, lines_in, opens_part as opens_a_part, parts_left};
+ghost use Rattle.sheets.specs.Part.{StandsAtHead, TakesHead, TakesOrdinary, head_word as word_of_heads, line_unread, lines_in, opens_part as opens_a_part, parts_left};
 
-use crate::sheet::{Lines, NumberedLine, UnreadLine};
+use crate::sheet::{Lines, UnreadLine};
 use order_grammar::{Order, begins_with_word, read_in_version_where_spelt};
 use std::marker::Model;
 use tables::{Company, Round};
@@ -47,22 +47,8 @@ impl<'a> PartsLeft<'a> {
 
     /// Takes the next line before the next head; `None` where there is none, and then nothing is
     /// taken.
-    pub fn take_line(&mut self) -> Option<NumberedLine<'a>>
+    pub fn take_line(&mut self) -> Option<UnreadLine<'a>>
         ensures { TakesOrdinary self.old result self.new }
-    {
-        let mut ahead = self.lines.duplicate();
-        let line = ahead.take_line()?;
-        if opens_part(self.round, &line) {
-            return None;
-        }
-        self.lines = ahead;
-        Some(line)
-    }
-
-    /// Takes the next line before the next head as it is written; `None` where there is none, and then
-    /// nothing is taken.
-    pub fn take_unread(&mut self) -> Option<UnreadLine<'a>>
-        ensures { TakesUnreadOrdinary self.old result self.new }
     {
         let mut ahead = self.lines.duplicate();
         let line = ahead.take_unread()?;
@@ -74,11 +60,11 @@ impl<'a> PartsLeft<'a> {
     }
 
     /// Takes the next head, which opens the lines after it; `None` where there is no head left.
-    pub fn take_head(&mut self) -> Option<NumberedLine<'a>>
+    pub fn take_head(&mut self) -> Option<UnreadLine<'a>>
         requires { StandsAtHead self.old }
         ensures { TakesHead self.old result self.new }
     {
-        self.lines.take_line()
+        self.lines.take_unread()
     }
 
     /// Takes all that is left up to the head of the next block of a company, and that head; where
@@ -87,7 +73,7 @@ impl<'a> PartsLeft<'a> {
         ensures { self.new.before ≡ block_in company self.old.opened }
     {
         while let Some(line) = self.lines.take_unread() {
-            if is_head(self.round, line) && opens_block_of(company, &line.read()) {
+            if is_head(self.round, line) && opens_block_of(company, line) {
                 break;
             }
         }
@@ -122,7 +108,7 @@ fn is_head(round: Round, line: UnreadLine) -> bool
     ensures { result ≡ opens_a_part round (line_unread line.entry).reading }
 {
     read_in_version_where_spelt();
-    begins_with_word(line.text, head_word(round)) && opens_part(round, &line.read())
+    begins_with_word(line.text, head_word(round)) && opens_part(round, line)
 }
 
 /// The word with which the lines begin that open a part of a sheet for a round.
@@ -135,22 +121,47 @@ fn head_word(round: Round) -> &'static [u8]
     }
 }
 
-/// Whether a line that was read opens a part of a sheet for a round.
-fn opens_part(round: Round, line: &NumberedLine) -> bool
-    ensures { result ≡ opens_a_part round (line_read line.now).reading }
+/// Whether a line, once it is read, opens a part of a sheet for a round. (Apart from its caller, which
+/// would else clear the room for an order with each line that it does not read.)
+#[inline(never)]
+fn opens_part(round: Round, line: UnreadLine) -> bool
+    ensures { result ≡ opens_a_part round (line_unread line.entry).reading }
+{
+    let mut order = Order::Blank;
+    match line.read_into(&mut order) {
+        Ok(_) => is_head_of(round, &order),
+        Err(_) => false,
+    }
+}
+
+/// Whether an order opens a part of a sheet for a round.
+fn is_head_of(round: Round, order: &Order) -> bool
+    ensures { result ≡ opens_a_part round (Ok order.now) }
 {
     match round {
-        Round::Opening(_) | Round::Stock(_) => matches!(line.order(), Ok(Order::Turn)),
-        Round::Operating { .. } => matches!(line.order(), Ok(Order::Company(_))),
+        Round::Opening(_) | Round::Stock(_) => matches!(order, Order::Turn),
+        Round::Operating { .. } => matches!(order, Order::Company(_)),
     }
 }
 
 /// Whether a head opens a block of a company.
-fn opens_block_of(company: Company, head: &NumberedLine) -> bool
-    ensures { result ≡ opens_a_block_of company (line_read head.now).reading }
+#[inline(never)]
+fn opens_block_of(company: Company, head: UnreadLine) -> bool
+    ensures { result ≡ opens_a_block_of company (line_unread head.entry).reading }
 {
-    match head.order() {
-        Ok(Order::Company(named)) => *named == company,
+    let mut order = Order::Blank;
+    match head.read_into(&mut order) {
+        Ok(_) => is_head_of_block(company, &order),
+        Err(_) => false,
+    }
+}
+
+/// Whether an order opens a block of a company.
+fn is_head_of_block(company: Company, order: &Order) -> bool
+    ensures { result ≡ opens_a_block_of company (Ok order.now) }
+{
+    match order {
+        Order::Company(named) => *named == company,
         _ => false,
     }
 }

@@ -1,8 +1,8 @@
 ghost use Rattle.std.specs.Prelude.{◌≡◌, Err};
-ghost use Rattle.sheets.specs.Part.{line_read};
+ghost use Rattle.sheets.specs.Part.{line_unread};
 ghost use Rattle.sheets.specs.Place.{has_no_place, is_of_file as belongs_to_file, placed};
 
-use crate::sheet::NumberedLine;
+use crate::sheet::UnreadLine;
 use order_grammar::{Fault, Order};
 
 /// Whether an order belongs to the file and its sheets, or to the text of a certificate, and is none
@@ -26,11 +26,11 @@ pub fn is_of_file(order: &Order) -> bool
 }
 
 /// The fault of a line where no order has a place: its first fault where it stands, else
-/// `OutOfPlace`.
-pub fn fault_out_of_place(line: &NumberedLine) -> Fault
-    ensures { placed has_no_place (line_read line.now).reading ≡ Err result }
+/// `OutOfPlace`. Its order is put in place of another.
+pub fn fault_out_of_place(line: UnreadLine, order: &mut Order) -> Fault
+    ensures { placed has_no_place (line_unread line.entry).reading ≡ Err result }
 {
-    match line.order() {
+    match line.read_into(order) {
         Ok(_) => Fault::OutOfPlace,
         Err(fault) => fault,
     }

@@ -3,13 +3,13 @@ ghost use Rattle.order_grammar.specs.Version.{ordered_of};
 ghost use Rattle.order_grammar.specs.Words.{AreWordsOf};
 ghost use Rattle.std.specs.Iterator.{at_most};
 ghost use Rattle.sheets.specs.Limits.{file_most};
-ghost use Rattle.sheets.specs.Part.{line_read, line_unread};
+ghost use Rattle.sheets.specs.Part.{faulty_line, line_read, line_unread, line_with};
 ghost use Rattle.sheets.specs.Sheet.{IsReadAs, TakesLine, TakesUnread, condition_at, unruled};
 ghost use Rattle.sheets.specs.Text.{written_lines};
 ghost use Rattle.order_grammar.specs.declared.condition.Version.TheVariants.{One};
 
 use crate::text::first_written;
-use order_grammar::{Condition, Fault, Line, Order, Version, read_line_in};
+use order_grammar::{Condition, Fault, Line, Order, Version, read_line_in, read_order_in};
 use std::marker::Model;
 
 /// The last line of a sheet that may be an order.
@@ -97,7 +97,35 @@ pub struct UnreadLine<'a> {
     pub text: &'a [u8],
 }
 
+/// What there is of a line that was read beside its order.
+#[derive(Clone, Copy, Debug)]
+pub struct ReadLine {
+    /// Its number in the sheet, from 1; blank lines have none.
+    pub number: u32,
+    /// The condition of its order, if that has one.
+    pub condition: Option<Condition>,
+}
+
 impl<'a> UnreadLine<'a> {
+    /// Reads the line by the version of its file, and puts its order in place of another.
+    ///
+    /// `PastLastLine`: its number is over `LINES_MOST`, whatever it says; else the first fault that
+    /// it has by itself. The order may be any then.
+    pub fn read_into(self, order: &mut Order) -> Result<ReadLine, Fault>
+        ensures { MatchResult result
+            (λ read. line_unread self.entry ≡ line_with read order.new)
+            (λ fault. line_unread self.entry ≡ faulty_line self.entry.number fault) }
+    {
+        if self.number > LINES_MOST {
+            return Err(Fault::PastLastLine);
+        }
+        let condition = read_order_in(self.version, self.text, order)?;
+        Ok(ReadLine {
+            number: self.number,
+            condition,
+        })
+    }
+
     /// The line, read by the version of its file.
     pub fn read(self) -> NumberedLine<'a>
         ensures read { IsReadAs self.entry.version self.entry.number self.entry.text.now result }

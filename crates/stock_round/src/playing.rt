@@ -7,7 +7,8 @@ ghost use Rattle.stock_round.specs.Turn.{stock_rules};
 use crate::deals::Deals;
 use crate::{closing, standing, turn};
 use history::History;
-use sheets::{NumberedLine, Sheets};
+use order_grammar::Order;
+use sheets::{Sheets, UnreadLine};
 use std::alloc::AllocError;
 use tables::{Round, Seat};
 use turns::{TurnRules, play_round};
@@ -28,9 +29,10 @@ impl TurnRules for StockTurns {
         &self,
         history: &mut History,
         seat: Seat,
-        line: &NumberedLine,
+        line: UnreadLine,
+        order: &mut Order,
     ) -> Result<(), AllocError> {
-        standing::rule_standing_line(history, seat, line)
+        standing::rule_standing_line(history, seat, line, order)
     }
 
     fn nothing(&self) -> Deals {
@@ -44,10 +46,11 @@ impl TurnRules for StockTurns {
         &self,
         history: &mut History,
         seat: Seat,
-        line: &NumberedLine,
+        line: UnreadLine,
+        order: &mut Order,
         deeds: Deals,
     ) -> Result<Deals, AllocError> {
-        turn::rule_line(history, seat, line, deeds)
+        turn::rule_line(history, seat, line, order, deeds)
     }
 
     fn has_acted(&self, deeds: Deals) -> bool {

@@ -1,27 +1,29 @@
 ghost use Rattle.std.specs.Prelude.{◌≡◌, OnOk};
 ghost use Rattle.history.specs.Sound.{IsSound};
-ghost use Rattle.sheets.specs.Part.{line_read};
+ghost use Rattle.sheets.specs.Part.{line_unread};
 ghost use Rattle.stock_round.specs.Standing.{after_standing_line};
 
 use history::History;
-use sheets::{NumberedLine, fault_out_of_place};
+use order_grammar::Order;
+use sheets::{UnreadLine, fault_out_of_place};
 use std::alloc::AllocError;
 use tables::Seat;
 use turns::record_fault;
 
 /// Rules a standing line of a seat, one before the first group of its sheet. No order has a place
-/// there.
+/// there. Its order is put in place of another.
 pub(crate) fn rule_standing_line(
     history: &mut History,
     seat: Seat,
-    line: &NumberedLine,
+    line: UnreadLine,
+    order: &mut Order,
 ) -> Result<(), AllocError>
     requires sound { IsSound history.old }
     ensures seats { OnOk result (history.new.seats ≡ history.old.seats) }
     ensures events { OnOk result (history.new.events
-        ≡ after_standing_line seat history.old.events (line_read line.now)) }
+        ≡ after_standing_line seat history.old.events (line_unread line.entry)) }
     ensures sound { OnOk result (IsSound history.new) }
 {
-    let fault = fault_out_of_place(line);
+    let fault = fault_out_of_place(line, order);
     record_fault(history, seat, line.number, fault)
 }

@@ -1,6 +1,6 @@
 ghost use Rattle.std.specs.Prelude.{◌≡◌, ◌≤◌, ◌<◌, OnOk, IfOk};
 ghost use Rattle.history.specs.Sound.{IsSound};
-ghost use Rattle.sheets.specs.Part.{line_read};
+ghost use Rattle.sheets.specs.Part.{line_unread};
 ghost use Rattle.stock_round.specs.Judgement.{refusal_of};
 ghost use Rattle.stock_round.specs.Turn.{after_line};
 ghost use Rattle.turns.specs.RoundOfTurns.{in_turn};
@@ -11,7 +11,7 @@ use crate::deals::Deals;
 use crate::judgement::judge;
 use history::{History, Refusal};
 use order_grammar::Order;
-use sheets::{NumberedLine, is_of_file};
+use sheets::{UnreadLine, is_of_file};
 use std::alloc::AllocError;
 use tables::{Company, Seat};
 use turns::Family;
@@ -38,12 +38,13 @@ impl Family for TurnLines {
     }
 }
 
-/// Rules a line of a group, and does what it orders if it is obeyed. Answers what the seat has done
-/// by then.
+/// Rules a line of a group, and does what it orders if it is obeyed. Its order is put in place of
+/// another. Answers what the seat has done by then.
 pub(crate) fn rule_line(
     history: &mut History,
     seat: Seat,
-    line: &NumberedLine,
+    line: UnreadLine,
+    order: &mut Order,
     deals: Deals,
 ) -> Result<Deals, AllocError>
     requires few { history.old.seats ≤ 6 }
@@ -52,15 +53,15 @@ pub(crate) fn rule_line(
     ensures seats { OnOk result (history.new.seats ≡ history.old.seats) }
     ensures turn { IfOk result (λ now. in_turn history.new.events now
         ≡ after_line history.old.seats seat (in_turn history.old.events deals)
-        (line_read line.now)) }
+        (line_unread line.entry)) }
     ensures sound { OnOk result (IsSound history.new) }
 {
     let lines = TurnLines {
         bought: deals.bought,
     };
-    let Some(order) = turns::rule_line(&lines, history, seat, line)? else {
+    if !turns::rule_line(&lines, history, seat, line, order)? {
         return Ok(deals);
-    };
+    }
     act(history, seat, order)?;
     Ok(deals.with(order))
 }

@@ -2,7 +2,7 @@
 -- line stands; that the condition of its order does not hold; the first rule that the order breaks. Else it is obeyed.
 -- That is recorded, and an order that is obeyed is done. Each family of lines says for itself which orders have a place
 -- in them, by which rules these are judged, and what an order brings.
-use Rattle.std.specs.Prelude.{◌≡◌, ℕ, Bool, IsTrue, not, if◌then◌else◌, List, [], ◌∷◌, ◌++◌, Option, Some, None, Result, Ok, Err}
+use Rattle.std.specs.Prelude.{◌≡◌, ℕ, Bool, true, false, IsTrue, not, if◌then◌else◌, List, [], ◌∷◌, ◌++◌, Option, Some, None, Result, Ok, Err}
 use Rattle.history.specs.Conditions.{is_met}
 use Rattle.history.specs.declared.event.Event.{Event}
 use Rattle.history.specs.declared.event.Event.TheVariants as event
@@ -62,6 +62,11 @@ pub record IsToDo (has_place : Order → Bool) (judgement : Order → Option Ref
   pub met : IsTrue (is_met events line.condition)
   pub kept : judgement order ≡ None
   pub obeyed : obeyed_by (line_ruling has_place judgement events line) ≡ Some order
+
+-- whether this order of a line is obeyed, as the list is, and is to be done: else none is
+abbrev pub IsOrderToDo : (Order → Bool) → (Order → Option Refusal) → List Event → Numbered → Order → Bool → Type 0
+IsOrderToDo has_place judgement events line order true = IsToDo has_place judgement events line order
+IsOrderToDo has_place judgement events line order false = obeyed_by (line_ruling has_place judgement events line) ≡ None
 
 -- an order of a group of lines is one of play
 abbrev pub has_place_in_group : Order → Bool

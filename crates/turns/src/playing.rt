@@ -16,6 +16,7 @@ use crate::rules::TurnRules;
 use crate::turn::take_turn;
 use arrayvec::ArrayVec;
 use history::{Event, History};
+use order_grammar::Order;
 use sheets::{PartsLeft, Sheets};
 use std::alloc::AllocError;
 use tables::{PLAYERS_MOST, Round, Seat};
@@ -103,8 +104,9 @@ fn rule_standing<T: TurnRules>(
     ensures left { OnOk result (sheet.new ≡ record { before = []; opened = sheet.old.opened }) }
     ensures underway { OnOk result (T.holds history.new) }
 {
+    let mut order = Order::Blank;
     while let Some(line) = sheet.take_line() {
-        rules.rule_standing_line(history, seat, &line)?;
+        rules.rule_standing_line(history, seat, line, &mut order)?;
     }
     Ok(())
 }

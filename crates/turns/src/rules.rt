@@ -4,14 +4,15 @@ ghost use Rattle.history.specs.Sound.{IsSound};
 ghost use Rattle.history.specs.Tell.{left_told};
 ghost use Rattle.history.specs.declared.event.Event.{Event};
 ghost use Rattle.history.specs.declared.event.Event.TheVariants as event;
-ghost use Rattle.sheets.specs.Part.{line_read};
+ghost use Rattle.sheets.specs.Part.{line_unread};
 ghost use Rattle.tables.specs.declared.round.Round.{Round};
 ghost use Rattle.tables.specs.declared.seat.Seat.{Seat};
 ghost use Rattle.turns.specs.RoundOfTurns.{RoundRules, in_turn};
 ghost use Rattle.turns.specs.Small.{IsSmallReading};
 
 use history::History;
-use sheets::NumberedLine;
+use order_grammar::Order;
+use sheets::UnreadLine;
 use std::alloc::AllocError;
 use tables::Seat;
 
@@ -30,41 +31,43 @@ pub trait TurnRules {
     /// What holds of the game from the ROUND event on.
     ghost holds: { Game → Type 0 };
 
-    /// Rules a standing line of a seat.
+    /// Rules a standing line of a seat. Its order is put in place of another.
     fn rule_standing_line(
         &self,
         history: &mut History,
         seat: Seat,
-        line: &NumberedLine,
+        line: UnreadLine,
+        order: &mut Order,
     ) -> Result<(), AllocError>
-        requires small { IsSmallReading (line_read line.now).reading }
+        requires small { IsSmallReading (line_unread line).reading }
         requires underway { holds history.old }
         ensures seats { OnOk result (history.new.seats ≡ history.old.seats) }
         ensures events { OnOk result (history.new.events
-            ≡ rules.standing seat history.old.events (line_read line.now)) }
+            ≡ rules.standing seat history.old.events (line_unread line.entry)) }
         ensures underway { OnOk result (holds history.new) };
 
     /// What a seat has done before the first line of its turn.
     fn nothing(&self) -> Self::Deeds
         ensures { result ≡ rules.nothing };
 
-    /// Rules a line of a group, and does what it orders if it is obeyed. Answers what the seat has
-    /// done in its turn by then.
+    /// Rules a line of a group, and does what it orders if it is obeyed. Its order is put in place of
+    /// another. Answers what the seat has done in its turn by then.
     fn rule_line(
         &self,
         history: &mut History,
         seat: Seat,
-        line: &NumberedLine,
+        line: UnreadLine,
+        order: &mut Order,
         deeds: Self::Deeds,
     ) -> Result<Self::Deeds, AllocError>
         requires few { history.old.seats ≤ 6 }
         requires at_table { seat.0 < history.old.seats }
-        requires small { IsSmallReading (line_read line.now).reading }
+        requires small { IsSmallReading (line_unread line).reading }
         requires underway { holds history.old }
         ensures seats { OnOk result (history.new.seats ≡ history.old.seats) }
         ensures turn { IfOk result (λ now. in_turn history.new.events now
             ≡ rules.line history.old.seats seat (in_turn history.old.events deeds)
-            (line_read line.now)) }
+            (line_unread line.entry)) }
         ensures underway { OnOk result (holds history.new) };
 
     /// Whether a seat that has done this has acted: else it passes.

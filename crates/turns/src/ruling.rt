@@ -1,19 +1,19 @@
 //! One way for a line: what becomes of it, recorded.
-ghost use Rattle.std.specs.Prelude.{◌≡◌, Bool, IfOk, MatchOption, MatchResult, None, OnOk, Option, Ok, Err, is_none};
+ghost use Rattle.std.specs.Prelude.{◌≡◌, Bool, IfOk, MatchResult, OnOk, Option, Ok, Err, is_none};
 ghost use Rattle.history.specs.LookBack.{Game, with_event};
 ghost use Rattle.history.specs.Sound.{IsSound};
 ghost use Rattle.history.specs.declared.event.Event.TheVariants as event;
 ghost use Rattle.history.specs.declared.ruling.Refusal.{Refusal as RefusalCode};
 ghost use Rattle.history.specs.declared.ruling.Ruling.TheVariants.{Faulty};
 ghost use Rattle.order_grammar.specs.declared.order.Order.{Order as OrderOfPlay};
-ghost use Rattle.sheets.specs.Part.{line_read};
+ghost use Rattle.sheets.specs.Part.{line_unread, line_with};
 ghost use Rattle.sheets.specs.Place.{placed as placed_reading};
 ghost use Rattle.tables.specs.declared.seat.Seat.{Seat as SeatNumber};
-ghost use Rattle.turns.specs.Ruling.{IsToDo, judged, line_ruling, obeyed_by, under};
+ghost use Rattle.turns.specs.Ruling.{IsOrderToDo, judged, line_ruling, under};
 
 use history::{Event, History, KeptRuling, Refusal};
 use order_grammar::{Fault, Order};
-use sheets::NumberedLine;
+use sheets::{ReadLine, UnreadLine};
 use std::alloc::AllocError;
 use tables::Seat;
 
@@ -40,49 +40,45 @@ pub trait Family {
 }
 
 /// Rules a line of a seat's sheet by its own fault, its place, its condition and its rules, in this
-/// order, and records what becomes of it. Answers its order if that is obeyed and is to be done. An
-/// `Err` comes from want of memory alone.
-pub fn rule_line<'a, F: Family>(
+/// order, and records what becomes of it. Its order is put in place of another. Answers whether that
+/// is obeyed and is to be done. An `Err` comes from want of memory alone.
+pub fn rule_line<F: Family>(
     family: &F,
     history: &mut History,
     seat: Seat,
-    line: &'a NumberedLine,
-) -> Result<Option<&'a Order>, AllocError>
+    line: UnreadLine,
+    order: &mut Order,
+) -> Result<bool, AllocError>
     requires judge { F.may_judge history.old seat }
     requires sound { IsSound history.old }
     ensures ruling { OnOk result (history.new
-        ≡ with_event history.old (event.Ruled seat line.now.number
+        ≡ with_event history.old (event.Ruled seat line.entry.number
         (line_ruling F.place (F.judgement family.now history.old seat)
-        history.old.events (line_read line.now)))) }
-    ensures order { IfOk result (λ order. MatchOption order
-        (obeyed_by (line_ruling F.place (F.judgement family.now history.old seat)
-        history.old.events (line_read line.now)) ≡ None)
-        (λ order. IsToDo F.place (F.judgement family.now history.old seat)
-        history.old.events (line_read line.now) order.now)) }
+        history.old.events (line_unread line.entry)))) }
+    ensures order { IfOk result (IsOrderToDo F.place (F.judgement family.now history.old seat)
+        history.old.events (line_unread line.entry) order.new) }
     ensures sound { OnOk result (IsSound history.new) }
 {
-    match placed(family, line) {
-        Ok(order) => {
-            let obeyed = rule_order(family, history, seat, line, order)?;
-            Ok(if obeyed { Some(order) } else { None })
-        }
+    match placed(family, line, order) {
+        Ok(read) => rule_order(family, history, seat, read, order),
         Err(fault) => {
             record_fault(history, seat, line.number, fault)?;
-            Ok(None)
+            Ok(false)
         }
     }
 }
 
-/// The order of a line, or its fault: that it has no place there is the last.
-fn placed<'a, F: Family>(family: &F, line: &'a NumberedLine) -> Result<&'a Order, Fault>
+/// Reads a line and puts its order in place of another, or tells its fault: that its order has no
+/// place there is the last.
+fn placed<F: Family>(family: &F, line: UnreadLine, order: &mut Order) -> Result<ReadLine, Fault>
     ensures placed { MatchResult result
-        (λ order. placed_reading F.place (line_read line.now).reading ≡ Ok order.now)
-        (λ fault. placed_reading F.place (line_read line.now).reading ≡ Err fault) }
-    ensures read { IfOk result (λ order. (line_read line.now).reading ≡ Ok order.now) }
+        (λ read. placed_reading F.place (line_unread line.entry).reading ≡ Ok order.new)
+        (λ fault. placed_reading F.place (line_unread line.entry).reading ≡ Err fault) }
+    ensures read { IfOk result (λ read. line_unread line.entry ≡ line_with read order.new) }
 {
-    let order = line.order()?;
+    let read = line.read_into(order)?;
     if family.has_place(order) {
-        Ok(order)
+        Ok(read)
     } else {
         Err(Fault::OutOfPlace)
     }
@@ -95,18 +91,18 @@ pub fn rule_order<F: Family>(
     family: &F,
     history: &mut History,
     seat: Seat,
-    line: &NumberedLine,
+    line: ReadLine,
     order: &Order,
 ) -> Result<bool, AllocError>
     requires judge { F.may_judge history.old seat }
     requires sound { IsSound history.old }
     ensures ruling { OnOk result (history.new
-        ≡ with_event history.old (event.Ruled seat line.now.number
-        (judged line.now.condition order.now
-        (under history.old.events line.now.condition
+        ≡ with_event history.old (event.Ruled seat line.number
+        (judged line.condition order.now
+        (under history.old.events line.condition
         (F.judgement family.now history.old seat) order.now)))) }
     ensures obeyed { IfOk result (λ obeyed. obeyed
-        ≡ is_none (under history.old.events line.now.condition
+        ≡ is_none (under history.old.events line.condition
         (F.judgement family.now history.old seat) order.now)) }
     ensures sound { OnOk result (IsSound history.new) }
 {
@@ -120,11 +116,11 @@ fn judge_under<F: Family>(
     family: &F,
     history: &History,
     seat: Seat,
-    line: &NumberedLine,
+    line: ReadLine,
     order: &Order,
 ) -> Option<Refusal>
     requires { F.may_judge history.now seat }
-    ensures { result ≡ under history.now.events line.now.condition
+    ensures { result ≡ under history.now.events line.condition
         (F.judgement family.now history.now seat) order.now }
 {
     if history.is_met(line.condition.as_ref()) {
@@ -139,14 +135,14 @@ fn judge_under<F: Family>(
 pub fn record(
     history: &mut History,
     seat: Seat,
-    line: &NumberedLine,
+    line: ReadLine,
     order: &Order,
     broken: Option<Refusal>,
 ) -> Result<bool, AllocError>
     requires { IsSound history.old }
     ensures ruling { OnOk result (history.new
-        ≡ with_event history.old (event.Ruled seat line.now.number
-        (judged line.now.condition order.now broken))) }
+        ≡ with_event history.old (event.Ruled seat line.number
+        (judged line.condition order.now broken))) }
     ensures obeyed { IfOk result (λ obeyed. obeyed ≡ is_none broken) }
     ensures sound { OnOk result (IsSound history.new) }
 {

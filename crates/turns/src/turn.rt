@@ -6,6 +6,7 @@ ghost use Rattle.turns.specs.Small.{IsReady, PartsAreSmall};
 
 use crate::rules::TurnRules;
 use history::History;
+use order_grammar::Order;
 use sheets::PartsLeft;
 use std::alloc::AllocError;
 use tables::Seat;
@@ -56,9 +57,10 @@ fn rule_lines<T: TurnRules>(
     ensures ready { OnOk result (IsReady sheet.new) }
     ensures underway { OnOk result (T.holds history.new) }
 {
+    let mut order = Order::Blank;
     let mut deeds = rules.nothing();
     while let Some(line) = sheet.take_line() {
-        deeds = rules.rule_line(history, seat, &line, deeds)?;
+        deeds = rules.rule_line(history, seat, line, &mut order, deeds)?;
     }
     Ok(deeds)
 }

@@ -3,22 +3,22 @@ use Rattle.history.specs.declared.ruling.Refusal.TheVariants.{Opening}
 use Rattle.privates.proofs.Judged.{may_act_after}
 use Rattle.privates.specs.Judgement.{judgement_of, refusal_of}
 use Rattle.privates.specs.UnderwayKept.{ruling_underway}
-use Rattle.sheets.specs.Part.{line_read}
+use Rattle.sheets.specs.Part.{line_unread}
 use Rattle.turns.proofs.Ruled.{none_as_refusal, small_ruling}
 use Rattle.turns.specs.Ruling.{IsToDo, has_place_in_group, line_ruling, obeyed_by}
 use Rattle.privates.proofs.turn.rule_line.Goals as goal
 
 pub returns-in_default-clause-underway : goal.returns-in_default-clause-underway
 returns-in_default-clause-underway c =
-    ruling_underway c.args.history.now c.rule_line.new.history c.args.seat c.args.line.now.number _ c.in_ok-order.ensures.ruling
-    (small_ruling has_place_in_group (refusal_of c.args.history.now.seats c.args.history.now.events c.args.seat c.args.turn_used) c.args.history.now.events (line_read c.args.line.now) c.requires.small)
+    ruling_underway c.args.history.now c.rule_line.new.history c.args.seat c.args.line.number _ c.in_ok-order.ensures.ruling
+    (small_ruling has_place_in_group (refusal_of c.args.history.now.seats c.args.history.now.events c.args.seat c.args.turn_used) c.args.history.now.events (line_unread c.args.line) c.requires.small)
     c.in_ok-order.ensures.sound c.requires.underway
 
 pub act-requires-clause-may : goal.act-requires-clause-may
 act-requires-clause-may c =
     let judgement = refusal_of c.args.history.now.seats c.args.history.now.events c.args.seat c.args.turn_used in
     let events = c.args.history.now.events in
-    let line = line_read c.args.line.now in
+    let line = line_unread c.args.line in
     let to_do : IsToDo has_place_in_group judgement events line c.in-Some.order.now =
     subst (λ found. MatchOption found (obeyed_by (line_ruling has_place_in_group judgement events line) ≡ None) (λ order. IsToDo has_place_in_group judgement events line order.now)) c.in-Some.is c.in_ok-order.ensures.order
     in
@@ -27,6 +27,6 @@ act-requires-clause-may c =
 
 pub act-requires-clause-underway : goal.act-requires-clause-underway
 act-requires-clause-underway c =
-    ruling_underway c.args.history.now c.rule_line.new.history c.args.seat c.args.line.now.number _ c.in_ok-order.ensures.ruling
-    (small_ruling has_place_in_group (refusal_of c.args.history.now.seats c.args.history.now.events c.args.seat c.args.turn_used) c.args.history.now.events (line_read c.args.line.now) c.requires.small)
+    ruling_underway c.args.history.now c.rule_line.new.history c.args.seat c.args.line.number _ c.in_ok-order.ensures.ruling
+    (small_ruling has_place_in_group (refusal_of c.args.history.now.seats c.args.history.now.events c.args.seat c.args.turn_used) c.args.history.now.events (line_unread c.args.line) c.requires.small)
     c.in_ok-order.ensures.sound c.requires.underway

@@ -1,6 +1,6 @@
 use Rattle.std.proofs.Common.{◌≡◌, None, MatchOption, refl, subst}
 use Rattle.history.specs.declared.ruling.Refusal.TheVariants.{Stock}
-use Rattle.sheets.specs.Part.{line_read}
+use Rattle.sheets.specs.Part.{line_unread}
 use Rattle.stock_round.proofs.Judged.{may_act_after}
 use Rattle.stock_round.specs.Judgement.{judgement_of, refusal_of}
 use Rattle.turns.proofs.Ruled.{none_as_refusal}
@@ -11,7 +11,7 @@ pub act-requires-clause-may : goal.act-requires-clause-may
 act-requires-clause-may c =
     let judgement = refusal_of c.args.history.now.seats c.args.history.now.events c.args.seat c.args.deals.bought in
     let events = c.args.history.now.events in
-    let line = line_read c.args.line.now in
+    let line = line_unread c.args.line in
     let to_do : IsToDo has_place_in_group judgement events line c.in-Some.order.now =
     subst (λ found. MatchOption found (obeyed_by (line_ruling has_place_in_group judgement events line) ≡ None) (λ order. IsToDo has_place_in_group judgement events line order.now)) c.in-Some.is c.in_ok-order.ensures.order
     in
