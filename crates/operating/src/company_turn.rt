@@ -21,12 +21,14 @@ pub(crate) struct CompanyTurn {
     pub(crate) history: History,
     /// How far the turn has come.
     pub(crate) progress: Progress,
-    /// The tiles and tokens that lie on the map, or the first of them.
+    /// The tiles and tokens that lie on the map, or the first of them: behind a box, so that few bytes
+    /// are handed on with the turn.
     pub(crate) board: Box<Board>,
 }
 
 impl CompanyTurn {
-    /// A turn that begins, once the company's home token lies.
+    /// A turn that begins, once the company's home token lies, with a board that has the first of what
+    /// lies.
     pub(crate) fn begin(
         alloc: Global,
         by: Operator,

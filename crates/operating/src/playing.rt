@@ -3,6 +3,7 @@ ghost use Rattle.certificate.specs.declared.runner.RunnerFault.TheVariants.{Refu
 ghost use Rattle.history.specs.Shares.{is_floated};
 ghost use Rattle.history.specs.Sound.{IsSound};
 ghost use Rattle.operating.specs.Calls.{Makes};
+ghost use Rattle.operating.specs.Table.{IsLaidOut, game_on};
 ghost use Rattle.operating.specs.Turn.{IsCompanyTurn};
 ghost use Rattle.operating.specs.TurnCalls.{TurnCalls};
 ghost use Rattle.sheets.specs.File.{players_of};
@@ -10,13 +11,13 @@ ghost use Rattle.sheets.specs.File.{players_of};
 use crate::company_turn::CompanyTurn;
 use crate::home::place_home;
 use crate::operator::Operator;
+use crate::table::Table;
 use crate::withholding::withhold;
 use certificate::{Runner, RunnerFault};
 use history::History;
-use board::Board;
 use sheets::Sheets;
-use std::alloc::{AllocError, Global};
-use tables::{Company, Kind, Round};
+use std::alloc::Global;
+use tables::{Company, Round};
 
 /// Plays the turn of a company in an operating round, with the sheets for it. The list of events
 /// must be sound, and its seats those of the sheets' players; the company has floated. It is meant
@@ -41,34 +42,13 @@ pub fn play_company<R: Runner>(
     ensures sound { IfOk result IsSound }
     ensures refuses { IfErr result (λ fault. fault ≡ Refused → R.may_refuse ≡ true) }
 {
-    let table = Table {
-        board: empty_board(alloc)?,
-        history,
-    };
+    let table = Table::lay_out(alloc, history)?;
     let table = play_on(alloc, table, sheets, round, company, runner)?;
     Ok(table.history)
 }
 
-/// A game, and a board with the first of the tiles and tokens that were laid in it. It goes from
-/// the turn of one company to that of the next, so that no board is made twice.
-#[derive(Drop)]
-pub struct Table {
-    /// The game so far.
-    pub history: History,
-    /// What lies on the map, or the first of it. It stands behind a box, so that few bytes go on.
-    pub board: Box<Board>,
-}
-
-/// A board on which nothing lies. No other function has one among its locals, since it would pay
-/// for its bytes whenever it is called.
-#[inline(never)]
-pub fn empty_board(alloc: Global) -> Result<Box<Board>, AllocError>
-    ensures { IfOk result (λ board. board.value ≡ ground_of [] [] kind.Two) }
-{
-    Ok(Box::new(alloc, Board::empty(alloc, Kind::Two))?)
-}
-
-/// Plays the turn of a company as `play_company` does, from a table to the table after it.
+/// Plays the turn of a company as `play_company` does, with a board that has the first of what was
+/// laid before. The board that comes back has the first of what was laid since.
 pub fn play_on<R: Runner>(
     alloc: Global,
     table: Table,
@@ -77,6 +57,16 @@ pub fn play_on<R: Runner>(
     company: Company,
     runner: &mut R,
 ) -> Result<Table, RunnerFault>
+    requires floated { is_floated table.history.events company ≡ true }
+    requires laid { IsLaidOut table }
+    requires seats { table.history.seats ≡ length (players_of sheets.now) }
+    ensures turn { IfOk result (λ next.
+        IsCompanyTurn sheets.now round company table.history next.history) }
+    ensures calls { Makes R.earns runner.old
+        (TurnCalls sheets.now round company table.history (game_on result)) runner.new }
+    ensures seats { IfOk result (λ next. next.history.seats ≡ table.history.seats) }
+    ensures laid { IfOk result IsLaidOut }
+    ensures refuses { IfErr result (λ fault. fault ≡ Refused → R.may_refuse ≡ true) }
 {
     let Table { mut history, board } = table;
     let president = history.president(company);

@@ -5,6 +5,7 @@ ghost use Rattle.history.specs.Sound.{IsSound};
 ghost use Rattle.history.specs.Tell.{with_left};
 ghost use Rattle.history.specs.declared.event.Event.TheVariants as event;
 ghost use Rattle.operating.specs.Calls.{Makes};
+ghost use Rattle.operating.specs.Table.{IsLaidOut, game_on};
 ghost use Rattle.operating.specs.Turn.{IsCompanyTurn};
 ghost use Rattle.rounds.specs.Faults.{IsRefused};
 ghost use Rattle.rounds.specs.GameCalls.{CompanyCalls, OperatingCalls, TurnsCall};
@@ -15,7 +16,7 @@ use crate::fault::PlayFault;
 use certificate::Runner;
 use history::{Event, History, rulings_are_counted};
 use market::{floated_companies_in_order, operating_order};
-use operating::{company_operates, empty_board, play_on, Table, rule_standing_lines};
+use operating::{Table, company_operates, play_on, rule_standing_lines};
 use sheets::Sheets;
 use std::alloc::{AllocError, Global};
 use tables::{Company, Round, Seat};
@@ -81,15 +82,14 @@ fn take_turns<R: Runner>(
     // comes to an end.
     floated_companies_in_order();
     company_operates();
-    let board = empty_board(alloc)?;
-    let mut table = Table { history, board };
+    let mut table = Table::lay_out(alloc, history)?;
     while let Some(company) = next_company(&table.history) {
         table = take_turn(alloc, table, sheets, round, company, runner)?;
     }
     Ok(table.history)
 }
 
-/// A company takes its turn.
+/// A company takes its turn, with a board that has the first of what lies.
 fn take_turn<R: Runner>(
     alloc: Global,
     table: Table,
@@ -98,6 +98,16 @@ fn take_turn<R: Runner>(
     company: Company,
     runner: &mut R,
 ) -> Result<Table, PlayFault>
+    requires floated { is_floated table.history.events company ≡ true }
+    requires laid { IsLaidOut table }
+    requires seats { table.history.seats ≡ length (players_of sheets.now) }
+    ensures turn { IfOk result (λ next.
+        IsCompanyTurn sheets.now round company table.history next.history) }
+    ensures calls { Makes R.earns runner.old
+        (CompanyCalls sheets.now round company table.history (game_on result)) runner.new }
+    ensures seats { IfOk result (λ next. next.history.seats ≡ table.history.seats) }
+    ensures laid { IfOk result IsLaidOut }
+    ensures refuses { IfErr result (λ fault. IsRefused fault → R.may_refuse ≡ true) }
 {
     match play_on(alloc, table, sheets, round, company, runner) {
         Ok(table) => Ok(table),
