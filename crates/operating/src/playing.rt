@@ -43,8 +43,8 @@ pub fn play_company<R: Runner>(
     ensures refuses { IfErr result (λ fault. fault ≡ Refused → R.may_refuse ≡ true) }
 {
     let table = Table::lay_out(alloc, history)?;
-    let table = play_on(alloc, table, sheets, round, company, runner)?;
-    Ok(table.history)
+    let played = play_on(alloc, table, sheets, round, company, runner)?;
+    Ok(played.history)
 }
 
 /// Plays the turn of a company as `play_company` does, with a board that has the first of what was

@@ -12,7 +12,7 @@ use Rattle.operating.proofs.Begun.{HasBegun, block_called, block_led, end_led, s
 use Rattle.operating.proofs.Blocks.{block_small}
 use Rattle.operating.proofs.Going.{after_settling}
 use Rattle.operating.proofs.Played.{paid_seats, president_there, seats_stay, turn_of_parts}
-use Rattle.operating.proofs.Tables.{end_front, home_front, idle_front}
+use Rattle.operating.proofs.Tables.{end_front, home_front}
 use Rattle.operating.proofs.TurnCalled.{end_calls, turn_broken_off, turn_calls}
 use Rattle.operating.specs.Calls.{Makes}
 use Rattle.operating.specs.CompanyTurn.{state}
