@@ -1,32 +1,33 @@
-use Rattle.std.proofs.Common.{◌≡◌, None, MatchOption, refl, subst}
+use Rattle.std.proofs.Common.{refl, subst}
 use Rattle.history.specs.declared.ruling.Refusal.TheVariants.{Opening}
 use Rattle.privates.proofs.Judged.{may_act_after}
 use Rattle.privates.specs.Judgement.{judgement_of, refusal_of}
 use Rattle.privates.specs.UnderwayKept.{ruling_underway}
 use Rattle.sheets.specs.Part.{line_unread}
 use Rattle.turns.proofs.Ruled.{none_as_refusal, small_ruling}
-use Rattle.turns.specs.Ruling.{IsToDo, has_place_in_group, line_ruling, obeyed_by}
+use Rattle.turns.specs.Ruling.{IsOrderToDo, IsToDo, has_place_in_group}
 use Rattle.privates.proofs.turn.rule_line.Goals as goal
 
-pub returns-in_default-clause-underway : goal.returns-in_default-clause-underway
-returns-in_default-clause-underway c =
-    ruling_underway c.args.history.now c.rule_line.new.history c.args.seat c.args.line.number _ c.in_ok-order.ensures.ruling
+pub returns-then-not-branch-clause-underway : goal.returns-then-not-branch-clause-underway
+returns-then-not-branch-clause-underway c =
+    ruling_underway c.args.history.now c.rule_line.new.history c.args.seat c.args.line.number _ c.in_ok-rule_line.ensures.ruling
     (small_ruling has_place_in_group (refusal_of c.args.history.now.seats c.args.history.now.events c.args.seat c.args.turn_used) c.args.history.now.events (line_unread c.args.line) c.requires.small)
-    c.in_ok-order.ensures.sound c.requires.underway
+    c.in_ok-rule_line.ensures.sound c.requires.underway
 
 pub act-requires-clause-may : goal.act-requires-clause-may
 act-requires-clause-may c =
     let judgement = refusal_of c.args.history.now.seats c.args.history.now.events c.args.seat c.args.turn_used in
     let events = c.args.history.now.events in
     let line = line_unread c.args.line in
-    let to_do : IsToDo has_place_in_group judgement events line c.in-Some.order.now =
-    subst (λ found. MatchOption found (obeyed_by (line_ruling has_place_in_group judgement events line) ≡ None) (λ order. IsToDo has_place_in_group judgement events line order.now)) c.in-Some.is c.in_ok-order.ensures.order
+    let order = c.rule_line.new.order in
+    let to_do : IsToDo has_place_in_group judgement events line order =
+    subst (IsOrderToDo has_place_in_group judgement events line order) c.if-not-branch.false c.in_ok-rule_line.ensures.order
     in
-    may_act_after c.args.history.now c.rule_line.new.history _ c.args.seat c.args.turn_used c.in-Some.order.now c.in_ok-order.ensures.ruling (record { payment = refl; ownership = refl; bidding = refl; transfer = refl; par = refl; square = refl; office = refl; float = refl; sv_price = refl; train = refl; tile = refl; token = refl })
-    (none_as_refusal Opening (judgement_of c.args.history.now.seats c.args.history.now.events c.args.seat c.args.turn_used c.in-Some.order.now) to_do.kept)
+    may_act_after c.args.history.now c.rule_line.new.history _ c.args.seat c.args.turn_used order c.in_ok-rule_line.ensures.ruling (record { payment = refl; ownership = refl; bidding = refl; transfer = refl; par = refl; square = refl; office = refl; float = refl; sv_price = refl; train = refl; tile = refl; token = refl })
+    (none_as_refusal Opening (judgement_of c.args.history.now.seats c.args.history.now.events c.args.seat c.args.turn_used order) to_do.kept)
 
 pub act-requires-clause-underway : goal.act-requires-clause-underway
 act-requires-clause-underway c =
-    ruling_underway c.args.history.now c.rule_line.new.history c.args.seat c.args.line.number _ c.in_ok-order.ensures.ruling
+    ruling_underway c.args.history.now c.rule_line.new.history c.args.seat c.args.line.number _ c.in_ok-rule_line.ensures.ruling
     (small_ruling has_place_in_group (refusal_of c.args.history.now.seats c.args.history.now.events c.args.seat c.args.turn_used) c.args.history.now.events (line_unread c.args.line) c.requires.small)
-    c.in_ok-order.ensures.sound c.requires.underway
+    c.in_ok-rule_line.ensures.sound c.requires.underway

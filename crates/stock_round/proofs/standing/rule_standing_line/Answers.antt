@@ -1,0 +1,34 @@
+use Rattle.std.proofs.Common.{◌≡◌, [], ◌∷◌, ◌++◌, Result, Ok, Err, sym, ap, ◌∙◌}
+use Rattle.std.proofs.lemmas.Result.{on_ok_weaker}
+use Rattle.history.specs.LookBack.{Game, with_event}
+use Rattle.history.specs.declared.event.Event.TheVariants as event
+use Rattle.history.specs.declared.ruling.Ruling.TheVariants.{Faulty}
+use Rattle.order_grammar.specs.declared.fault.Fault.{Fault}
+use Rattle.order_grammar.specs.declared.order.Order.{Order}
+use Rattle.sheets.specs.Part.{Numbered, line_unread}
+use Rattle.sheets.specs.Place.{has_no_place, placed}
+use Rattle.stock_round.specs.Standing.{after_standing_line, fault_of_standing}
+use Rattle.tables.specs.declared.seat.Seat.{Seat}
+use Rattle.stock_round.proofs.standing.rule_standing_line.Goals as goal
+
+-- the fault of a line where no order has a place is that of a standing line
+fault_is : (reading : Result Order Fault) (fault : Fault) → placed has_no_place reading ≡ Err fault → fault_of_standing reading ≡ fault
+fault_is (Err own) fault is = cc
+fault_is (Ok order) fault is = cc
+
+-- so its record is that of a standing line
+recorded_is : (seat : Seat) (line : Numbered) (fault : Fault) (old new : Game) → placed has_no_place line.reading ≡ Err fault →
+    new ≡ with_event old (event.Ruled seat line.number (Faulty fault)) → new.events ≡ after_standing_line seat old.events line
+recorded_is seat line fault old new is told =
+    ap (λ (game : Game). game.events) told
+    ∙ ap (λ (fault : Fault). old.events ++ event.Ruled seat line.number (Faulty fault) ∷ []) (sym (fault_is line.reading fault is))
+
+pub returns-clause-events : goal.returns-clause-events
+returns-clause-events c =
+    let line : Numbered = line_unread c.args.line in
+    let fault : Fault = c.fault_out_of_place-fault.result in
+    let old : Game = c.args.history.now in
+    let new : Game = c.record_fault.new.history in
+    on_ok_weaker {P = new ≡ with_event old (event.Ruled c.args.seat line.number (Faulty fault))}
+    {Q = new.events ≡ after_standing_line c.args.seat old.events line} c.record_fault.result
+    (recorded_is c.args.seat line fault old new c.fault_out_of_place-fault.ensures) c.record_fault.ensures.ruling
