@@ -25,6 +25,26 @@ take_turn-requires-clause-floated g c =
     first_of (is_floated events c.in-Some.company) (is_some (square_of events c.in-Some.company))
     (next_is_idle c.floated_companies_in_order.ensures events c.in-Some.company (sym c.next_company.ensures ∙ c.in-Some.is)).0
 
+-- no board, no turn: no call was made
+pub returns-in_err-table-clause-calls : goal.returns-in_err-table-clause-calls
+returns-in_err-table-clause-calls g c =
+    let told = err_from_is_err_and c.from_residual.result c.from_residual.ensures.1 in
+    let is : c.from_residual.result ≡ Err Memory = told.1 ∙ ap Err told.2 in
+    subst (λ (met : Result Game PlayFault). Makes g.R.Runner.earns c.args.runner.now (TurnsCall c.args.sheets.now c.args.round c.args.history met) c.args.runner.now) (sym is)
+    (no_more g.R.Runner.earns (NextCalls c.args.sheets.now c.args.round) (Unasked Memory AreOver) c.args.history (Err Memory) _ _ ([], (refl, refl), refl))
+
+pub loop-company-init : goal.loop-company-init
+loop-company-init g c =
+    let same = c.in_ok-table.ensures.history in
+    record {
+      companies = [];
+      turns = sym same;
+      calls = λ outcome after made.
+          subst (λ (game : Game). Makes g.R.Runner.earns c.args.runner.now (TurnsCall c.args.sheets.now c.args.round game outcome) after) same made;
+      seats = ap (λ (game : Game). game.seats) same;
+      laid = c.in_ok-table.ensures.laid;
+    }
+
 pub loop-company-preserved : goal.loop-company-preserved
 loop-company-preserved g c =
     let taken : TakesTurn c.args.sheets.now c.args.round c.in-Some.company c.loop-company.table.history c.in_ok-table-2.table.history =
