@@ -21,7 +21,7 @@ pub after_line :
 after_line old new line reading leads on =
     record {
       sound = on.sound;
-      front = front_on new.board old.history new.history (line_adds old.by (state old) line reading (state new) leads) on.front;
+      front = front_on new.board.value old.history new.history (line_adds old.by (state old) line reading (state new) leads) on.front;
     }
 
 -- and after what the company withholds by itself
@@ -29,7 +29,7 @@ pub after_settling : (old new : CompanyTurn) → state new ≡ settled old.by.co
 after_settling old new is on =
     record {
       sound = on.sound;
-      front = front_on new.board old.history new.history (settled_adds old.by.company old.history new.history old.progress new.progress is) on.front;
+      front = front_on new.board.value old.history new.history (settled_adds old.by.company old.history new.history old.progress new.progress is) on.front;
     }
 
 -- a TRAIN line, where what the company withholds by itself leaves whose turn it is

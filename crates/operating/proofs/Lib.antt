@@ -57,3 +57,4 @@ pub mod Raises
 pub mod Going
 pub mod Begun
 pub mod CallsAnswered
+pub mod Tables

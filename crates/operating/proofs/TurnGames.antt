@@ -114,7 +114,7 @@ module _ (company : Company) (R : Game → Game → Type 0) (of : OfEvents compa
       let paid = with_event game (event.Withheld company amount) in
       of.on.both paid (broken_told paid) (withheld game company amount) (of_broken paid) (of_move left_of (broken_told paid))
 
-  of_withheld : (game : Game) (amount : ℕ) → R game (withheld game company amount)
+  pub of_withheld : (game : Game) (amount : ℕ) → R game (withheld game company amount)
   of_withheld game amount =
       let its = event.Withheld company amount in
       of.on.both game (with_event game its) (withheld game company amount) (of.others game its refl refl refl refl) (after_withheld game amount)

@@ -14,6 +14,7 @@ pub mod Privates
 pub mod Forced
 pub mod Turn
 pub mod CompanyTurn
+pub mod Table
 pub mod LegalRuns
 pub mod Laws
 pub mod TrainLaws

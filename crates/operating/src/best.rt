@@ -12,7 +12,7 @@ ghost use Rattle.operating.specs.InTurn.{in_turn, told};
 ghost use Rattle.operating.specs.Runs.{position_now};
 ghost use Rattle.operating.specs.TurnCalls.{Asks, BestCalls, led_to};
 ghost use Rattle.order_grammar.specs.declared.order.Order.TheVariants as order;
-ghost use Rattle.sheets.specs.Part.{line_read};
+ghost use Rattle.sheets.specs.Part.{line_with};
 
 use crate::company_turn::CompanyTurn;
 use crate::forced::has_trains;
@@ -23,7 +23,7 @@ use certificate::{Runner, RunnerFault, a_greatest_exists, one_greatest};
 use history::{History, Past, Refusal, RunRule, TrainCount, so_many};
 use order_grammar::Order;
 use reach::Network;
-use sheets::NumberedLine;
+use sheets::ReadLine;
 use smallvec::SmallVec;
 use std::alloc::{AllocError, Global};
 use tables::{Amount, Company, Kind, Money};
@@ -41,14 +41,14 @@ impl CompanyTurn {
     /// memory.
     pub(crate) fn rule_best<R: Runner>(
         &mut self,
-        line: &NumberedLine,
+        line: ReadLine,
         runner: &mut R,
     ) -> Result<(), RunnerFault>
         requires { IsInOrder self.old }
-        ensures turn { OnOk result (BestLeads self.old.by (state self.old) (line_read line.now)
+        ensures turn { OnOk result (BestLeads self.old.by (state self.old) (line_with line order.RunBest)
             (state self.new)) }
         ensures calls { let turn = state self.old in
-            Makes R.earns runner.old (BestCalls self.old.by self.old.round (line_read line.now)
+            Makes R.earns runner.old (BestCalls self.old.by self.old.round (line_with line order.RunBest)
             (best_judgement turn self.old.by.company) turn (led_to (state self.new) result))
             runner.new }
         ensures order { OnOk result (GoesOn self.old self.new) }
@@ -64,11 +64,11 @@ impl CompanyTurn {
     }
 
     /// Tells that the order of this line to run the best breaks a rule.
-    fn refuse_best(&mut self, line: &NumberedLine, rule: RunRule) -> Result<(), AllocError>
+    fn refuse_best(&mut self, line: ReadLine, rule: RunRule) -> Result<(), AllocError>
         requires { IsInOrder self.old }
         ensures told { OnOk result (state self.new ≡ told self.old.by (state self.old)
-            (line_read line.now)
-            (Refused (refusal.Run rule) (line_read line.now).condition order.RunBest)) }
+            (line_with line order.RunBest)
+            (Refused (refusal.Run rule) line.condition order.RunBest)) }
         ensures order { OnOk result (GoesOn self.old self.new) }
     {
         let (seat, refusal) = (self.by.president, Refusal::Run(rule));
@@ -83,11 +83,11 @@ impl CompanyTurn {
     }
 
     /// Tells that the order of this line to run the best is obeyed, and what it earns.
-    fn obey_best(&mut self, line: &NumberedLine, revenue: Amount) -> Result<(), AllocError>
+    fn obey_best(&mut self, line: ReadLine, revenue: Amount) -> Result<(), AllocError>
         requires order { IsInOrder self.old }
         requires small { revenue ≤ 50000 }
         ensures told { OnOk result (state self.new
-            ≡ best_earned self.old.by (state self.old) (line_read line.now) revenue) }
+            ≡ best_earned self.old.by (state self.old) (line_with line order.RunBest) revenue) }
         ensures order { OnOk result (GoesOn self.old self.new) }
     {
         let by = self.by;
@@ -114,11 +114,12 @@ impl CompanyTurn {
         // Laws, which do nothing when they run: by them the greatest revenue is small.
         a_greatest_exists();
         one_greatest();
-        catch_up(&mut self.board, &self.history)?;
-        self.board.keeps_laws();
+        let board = &mut *self.board;
+        catch_up(board, &self.history)?;
+        board.keeps_laws();
         let company = self.by.company;
         let trains = trains_of(self.alloc, &self.history.now(), company)?;
-        let money = runner.earn(&self.board, self.round, company, trains.as_slice())?;
+        let money = runner.earn(&*board, self.round, company, trains.as_slice())?;
         Ok(amount(money))
     }
 }

@@ -1,15 +1,13 @@
 //! The turn of a company: what lasts while it operates.
-ghost use Rattle.std.specs.Prelude.{◌≡◌, []};
-ghost use Rattle.board.specs.Ground.{ground_of};
+ghost use Rattle.std.specs.Prelude.{◌≡◌};
 ghost use Rattle.operating.specs.InTurn.{at_start};
-ghost use Rattle.tables.specs.declared.rolling_stock.Kind.TheVariants as kind;
 
 use crate::operator::Operator;
 use crate::progress::Progress;
 use board::Board;
 use history::History;
 use std::alloc::Global;
-use tables::{Kind, Round};
+use tables::Round;
 
 /// The turn of a company that has a president. The runner is no part of it: RUN BEST alone asks it.
 #[derive(Drop)]
@@ -23,18 +21,26 @@ pub(crate) struct CompanyTurn {
     pub(crate) history: History,
     /// How far the turn has come.
     pub(crate) progress: Progress,
-    /// The tiles and tokens that lie on the map, or the first of them.
-    pub(crate) board: Board,
+    /// The tiles and tokens that lie on the map, or the first of them: behind a box, so that few bytes
+    /// are handed on with the turn.
+    pub(crate) board: Box<Board>,
 }
 
 impl CompanyTurn {
-    /// A turn that begins, once the company's home token lies.
-    pub(crate) fn begin(alloc: Global, by: Operator, round: Round, history: History) -> CompanyTurn
+    /// A turn that begins, once the company's home token lies, with a board that has the first of what
+    /// lies.
+    pub(crate) fn begin(
+        alloc: Global,
+        by: Operator,
+        round: Round,
+        history: History,
+        board: Box<Board>,
+    ) -> CompanyTurn
         ensures by { result.by ≡ by }
         ensures round { result.round ≡ round }
         ensures history { result.history ≡ history }
         ensures progress { result.progress ≡ at_start }
-        ensures board { result.board ≡ ground_of [] [] kind.Two }
+        ensures board { result.board ≡ board }
     {
         CompanyTurn {
             alloc,
@@ -42,7 +48,7 @@ impl CompanyTurn {
             round,
             history,
             progress: Progress::start(),
-            board: Board::empty(alloc, Kind::Two),
+            board,
         }
     }
 }

@@ -7,7 +7,7 @@ ghost use Rattle.operating.specs.Dividend.{paid_out, paid_to, pay_judgement, wit
 ghost use Rattle.history.specs.Sound.{IsSound};
 ghost use Rattle.operating.specs.CompanyTurn.{GoesOn, IsInOrder, state};
 ghost use Rattle.operating.specs.InTurn.{in_turn};
-ghost use Rattle.sheets.specs.Part.{line_read};
+ghost use Rattle.sheets.specs.Part.{line_with};
 
 use crate::company_turn::CompanyTurn;
 use crate::operator::Operator;
@@ -16,7 +16,7 @@ use crate::withholding::withhold;
 use history::{Event, History, Holder, PayRule, Refusal, Shareholder, so_many};
 use market::move_token_right;
 use order_grammar::Order;
-use sheets::NumberedLine;
+use sheets::ReadLine;
 use std::alloc::AllocError;
 use tables::{Amount, Company, Seat};
 use turns::record;
@@ -26,11 +26,11 @@ const TENTHS: Amount = 10;
 
 impl CompanyTurn {
     /// Rules an order to pay in this line, and pays if it is obeyed.
-    pub(crate) fn rule_pay(&mut self, line: &NumberedLine, order: &Order) -> Result<(), AllocError>
+    pub(crate) fn rule_pay(&mut self, line: ReadLine, order: &Order) -> Result<(), AllocError>
         requires few { self.old.history.seats ≤ 6 }
         requires order { IsInOrder self.old }
         ensures turn { OnOk result (state self.new
-            ≡ after_pay self.old.by (state self.old) (line_read line.now) order.now) }
+            ≡ after_pay self.old.by (state self.old) (line_with line order.now) order.now) }
         ensures order { OnOk result (GoesOn self.old self.new) }
     {
         self.progress = rule_pay(&mut self.history, self.by, line, order, self.progress)?;
@@ -38,14 +38,10 @@ impl CompanyTurn {
     }
 
     /// Rules an order to withhold in this line, and withholds if it is obeyed.
-    pub(crate) fn rule_withhold(
-        &mut self,
-        line: &NumberedLine,
-        order: &Order,
-    ) -> Result<(), AllocError>
+    pub(crate) fn rule_withhold(&mut self, line: ReadLine, order: &Order) -> Result<(), AllocError>
         requires { IsInOrder self.old }
         ensures turn { OnOk result (state self.new
-            ≡ after_withhold self.old.by (state self.old) (line_read line.now) order.now) }
+            ≡ after_withhold self.old.by (state self.old) (line_with line order.now) order.now) }
         ensures order { OnOk result (GoesOn self.old self.new) }
     {
         let by = self.by;
@@ -63,14 +59,14 @@ impl CompanyTurn {
 fn rule_pay(
     history: &mut History,
     by: Operator,
-    line: &NumberedLine,
+    line: ReadLine,
     order: &Order,
     progress: Progress,
 ) -> Result<Progress, AllocError>
     requires few { history.old.seats ≤ 6 }
     requires sound { IsSound history.old }
     ensures turn { IfOk result (λ now. in_turn history.new now
-        ≡ after_pay by (in_turn history.old progress) (line_read line.now) order.now) }
+        ≡ after_pay by (in_turn history.old progress) (line_with line order.now) order.now) }
     ensures sound { OnOk result (IsSound history.new) }
 {
     let broken = pay_rule(&progress).map(Refusal::Pay);

@@ -1,5 +1,5 @@
 //! The purchase that a company must make at the end of its turn.
-ghost use Rattle.std.specs.Prelude.{◌≡◌, ◌≤◌, ◌<◌, ◌↔◌, IfOk, IsTrue, OnOk, false};
+ghost use Rattle.std.specs.Prelude.{◌≡◌, ◌≤◌, ◌<◌, ◌↔◌, IfOk, IsTrue, Ok, OnOk, false};
 ghost use Rattle.std.specs.Option.{option_copied};
 ghost use Rattle.history.specs.Sound.{IsSound};
 ghost use Rattle.history.specs.Trains.{so_many as as_many};
@@ -7,7 +7,8 @@ ghost use Rattle.operating.specs.CompanyTurn.{IsInOrder};
 ghost use Rattle.operating.specs.Forced.{EndLeads, IsDue, after_forced, after_raise, after_raise_line, after_raises, cheapest as the_cheapest, concluded, falls_short as president_falls_short, first_on_sale as the_first_on_sale, first_to_sell as the_first_to_sell, has_trains as has_any_trains, lack_of, may_spell_raise, needed_rule as rule_of_needed, next_to_sell as the_next_to_sell, one_tenth, plain as plain_purchase, raise_rule as rule_of_raise, sale_rule as rule_of_sale, sold_further, sold_singly, with_aid, with_one_sold};
 ghost use Rattle.operating.specs.Ground.{IsFront};
 ghost use Rattle.operating.specs.Trains.{IsSmallPurchase};
-ghost use Rattle.sheets.specs.Part.{line_read, line_unread};
+ghost use Rattle.order_grammar.specs.declared.order.Order.TheVariants.{Raise};
+ghost use Rattle.sheets.specs.Part.{line_unread, line_with};
 
 use crate::company_turn::CompanyTurn;
 use crate::ground::catch_up;
@@ -19,7 +20,7 @@ use certificate::can_run;
 use certs::{Sale, may_sell, sell_block};
 use history::{Event, History, Party, Past, Refusal, StockRule, TrainSeller, so_many};
 use order_grammar::{Condition, Order, begins_with_word, read_in_version_where_spelt};
-use sheets::{NumberedLine, PartsLeft, UnreadLine};
+use sheets::{PartsLeft, ReadLine, UnreadLine};
 use std::alloc::{AllocError, Global};
 use tables::{Amount, Company, Kind, Money};
 use turns::record;
@@ -34,8 +35,9 @@ impl CompanyTurn {
         ensures turn { OnOk result (EndLeads self.old.by orders.old.before self.old.history
             self.new.history) }
         ensures sound { OnOk result (IsSound self.new.history) }
+        ensures front { OnOk result (IsFront self.new.board.value self.old.history.events) }
     {
-        let due = is_due(&mut self.board, &self.history, self.by.company)?;
+        let due = is_due(&mut *self.board, &self.history, self.by.company)?;
         if due {
             buy_by_force(self.alloc, &mut self.history, self.by, orders)?;
             return Ok(());
@@ -48,7 +50,8 @@ impl CompanyTurn {
 /// Whether a company must buy a train: it has none, and could run one of kind 2.
 fn is_due(board: &mut Board, history: &History, company: Company) -> Result<bool, AllocError>
     requires { IsFront board.old history.now.events }
-    ensures { IfOk result (λ due. IsTrue due ↔ IsDue history.now company) }
+    ensures due { IfOk result (λ due. IsTrue due ↔ IsDue history.now company) }
+    ensures front { OnOk result (IsFront board.new history.now.events) }
 {
     if has_trains(&history.now(), company) {
         return Ok(false);
@@ -101,7 +104,7 @@ fn rule_raises(
         ≡ after_raises due by history.old block.old.before) }
     ensures sound { OnOk result (IsSound history.new) }
 {
-    while let Some(line) = block.take_unread() {
+    while let Some(line) = block.take_line() {
         rule_if_raise(history, by, line, due)?;
     }
     Ok(())
@@ -126,7 +129,11 @@ fn rule_if_raise(
     if !may_be_raise(line.text) {
         return Ok(());
     }
-    rule_order_if_raise(history, by, &line.read(), due)
+    let mut order = Order::Blank;
+    match line.read_into(&mut order) {
+        Ok(read) => rule_order_if_raise(history, by, read, &order, due),
+        Err(_) => Ok(()),
+    }
 }
 
 /// Whether the first word of a line is one with which a RAISE begins: that word, or IF.
@@ -136,11 +143,12 @@ fn may_be_raise(line: &[u8]) -> bool
     begins_with_word(line, b"RAISE") || begins_with_word(line, b"IF")
 }
 
-/// Rules a line that was read if it is a RAISE.
+/// Rules the order of this line if it is a RAISE.
 fn rule_order_if_raise(
     history: &mut History,
     by: Operator,
-    line: &NumberedLine,
+    line: ReadLine,
+    order: &Order,
     due: bool,
 ) -> Result<(), AllocError>
     requires few { history.old.seats ≤ 6 }
@@ -148,11 +156,11 @@ fn rule_order_if_raise(
     requires sound { IsSound history.old }
     ensures seats { OnOk result (history.new.seats ≡ history.old.seats) }
     ensures after { OnOk result (history.new ≡ after_raise_line due by history.old
-        (line_read line.now) (line_read line.now).reading) }
+        (line_with line order.now) (Ok order.now)) }
     ensures sound { OnOk result (IsSound history.new) }
 {
-    match line.order() {
-        Ok(Order::Raise { company, tenths }) => {
+    match order {
+        Order::Raise { company, tenths } => {
             let (company, tenths) = (*company, *tenths);
             rule_raise(history, by, line, Sale { company, tenths }, due)?;
             Ok(())
@@ -165,7 +173,7 @@ fn rule_order_if_raise(
 fn rule_raise(
     history: &mut History,
     by: Operator,
-    line: &NumberedLine,
+    line: ReadLine,
     sale: Sale,
     due: bool,
 ) -> Result<(), AllocError>
@@ -174,7 +182,7 @@ fn rule_raise(
     requires sound { IsSound history.old }
     ensures seats { OnOk result (history.new.seats ≡ history.old.seats) }
     ensures after { OnOk result (history.new
-        ≡ after_raise due by history.old (line_read line.now) sale) }
+        ≡ after_raise due by history.old (line_with line (Raise sale.company sale.tenths)) sale) }
     ensures sound { OnOk result (IsSound history.new) }
 {
     let (company, tenths) = (sale.company, sale.tenths);

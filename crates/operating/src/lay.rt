@@ -1,7 +1,8 @@
 ghost use Rattle.std.specs.Prelude.{OnOk};
 ghost use Rattle.operating.specs.CompanyTurn.{GoesOn, IsInOrder, state};
 ghost use Rattle.operating.specs.Turn.{LayLeads};
-ghost use Rattle.sheets.specs.Part.{line_read};
+ghost use Rattle.order_grammar.specs.declared.order.Order.TheVariants as order;
+ghost use Rattle.sheets.specs.Part.{line_with};
 
 use crate::asker::asker;
 use crate::company_turn::CompanyTurn;
@@ -11,29 +12,30 @@ use board::LayFault;
 use history::{Event, Refusal};
 use map_tables::Lay;
 use order_grammar::Order;
-use sheets::NumberedLine;
+use sheets::ReadLine;
 use std::alloc::AllocError;
 use turns::record;
 
 impl CompanyTurn {
     /// Rules a LAY of this line, and lays the tile if it is obeyed.
-    pub(crate) fn rule_lay(&mut self, line: &NumberedLine, lay: Lay) -> Result<(), AllocError>
+    pub(crate) fn rule_lay(&mut self, line: ReadLine, lay: Lay) -> Result<(), AllocError>
         requires { IsInOrder self.old }
-        ensures turn { OnOk result (LayLeads self.old.by (state self.old) (line_read line.now)
+        ensures turn { OnOk result (LayLeads self.old.by (state self.old) (line_with line (order.Lay lay))
             lay (state self.new)) }
         ensures order { OnOk result (GoesOn self.old self.new) }
     {
-        catch_up(&mut self.board, &self.history)?;
+        let board = &mut *self.board;
+        catch_up(board, &self.history)?;
         let order = Order::Lay(lay);
         let by = self.by;
         let asker = asker(&self.history, by.company, self.progress);
-        match self.board.try_lay(&asker, lay) {
+        match board.try_lay(&asker, lay) {
             Ok(cost) => {
                 record(&mut self.history, by.president, line, &order, None)?;
                 let company = by.company;
                 let cost = amount_of(cost);
                 self.history.append(Event::Laid { company, lay, cost })?;
-                self.progress = self.progress.with_lay(&self.board, &asker, lay);
+                self.progress = self.progress.with_lay(board, &asker, lay);
                 Ok(())
             }
             Err(LayFault::Rule(rule)) => {

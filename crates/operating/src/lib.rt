@@ -12,7 +12,7 @@
 //!
 //! Reading order: `operator` (whose turn it is), `runs` (what its trains have done), `progress`
 //! (how far the turn has come), `company_turn` (all that lasts for the turn: the functions that rule
-//! a line are its methods), `ground` (what lies on the map), `asker` (the company as the rules of
+//! a line are its methods), `table` (the game and its board between turns), `ground` (what lies on the map), `asker` (the company as the rules of
 //! the board see it), `home`, `lay` and `token` (what orders do) with `cost`,
 //! `running`, `best`, `withholding`, `dividend`, `purchase` (the rules of trains), `discards`, `phases`
 //! (what a train brings), `train`, `private` (that it buys), `forced` (what it must buy), `turn`
@@ -47,6 +47,7 @@ mod running;
 mod runs;
 mod sale_laws;
 mod standing;
+mod table;
 mod tile_laws;
 mod token;
 mod train;
@@ -63,9 +64,10 @@ pub use laws::{
     company_operates, company_turn_ends, home_token_lies, no_more_is_paid, obeyed_runs_are_legal,
     one_company_turn, one_list_of_turn_calls, turn_only_adds,
 };
-pub use playing::play_company;
+pub use playing::{play_company, play_on};
 pub use private_laws::closed_for_good;
 pub use sale_laws::{sellers_agree_in_turns, turns_say_no_bid};
 pub use standing::rule_standing_lines;
+pub use table::Table;
 pub use tile_laws::all_tiles_are_there;
 pub use train_laws::{all_trains_are_there, phases_go_on};

@@ -3,6 +3,7 @@ ghost use Rattle.certificate.specs.declared.runner.RunnerFault.TheVariants.{Refu
 ghost use Rattle.history.specs.Shares.{is_floated};
 ghost use Rattle.history.specs.Sound.{IsSound};
 ghost use Rattle.operating.specs.Calls.{Makes};
+ghost use Rattle.operating.specs.Table.{IsLaidOut, game_on};
 ghost use Rattle.operating.specs.Turn.{IsCompanyTurn};
 ghost use Rattle.operating.specs.TurnCalls.{TurnCalls};
 ghost use Rattle.sheets.specs.File.{players_of};
@@ -10,6 +11,7 @@ ghost use Rattle.sheets.specs.File.{players_of};
 use crate::company_turn::CompanyTurn;
 use crate::home::place_home;
 use crate::operator::Operator;
+use crate::table::Table;
 use crate::withholding::withhold;
 use certificate::{Runner, RunnerFault};
 use history::History;
@@ -24,7 +26,7 @@ use tables::{Company, Round};
 /// refuses to answer, and the game is dropped.
 pub fn play_company<R: Runner>(
     alloc: Global,
-    mut history: History,
+    history: History,
     sheets: &Sheets,
     round: Round,
     company: Company,
@@ -40,19 +42,49 @@ pub fn play_company<R: Runner>(
     ensures sound { IfOk result IsSound }
     ensures refuses { IfErr result (λ fault. fault ≡ Refused → R.may_refuse ≡ true) }
 {
+    let table = Table::lay_out(alloc, history)?;
+    let played = play_on(alloc, table, sheets, round, company, runner)?;
+    Ok(played.history)
+}
+
+/// Plays the turn of a company as `play_company` does, with a board that has the first of what was
+/// laid before. The board that comes back has the first of what was laid since.
+pub fn play_on<R: Runner>(
+    alloc: Global,
+    table: Table,
+    sheets: &Sheets,
+    round: Round,
+    company: Company,
+    runner: &mut R,
+) -> Result<Table, RunnerFault>
+    requires floated { is_floated table.history.events company ≡ true }
+    requires laid { IsLaidOut table }
+    requires seats { table.history.seats ≡ length (players_of sheets.now) }
+    ensures turn { IfOk result (λ next.
+        IsCompanyTurn sheets.now round company table.history next.history) }
+    ensures calls { Makes R.earns runner.old
+        (TurnCalls sheets.now round company table.history (game_on result)) runner.new }
+    ensures seats { IfOk result (λ next. next.history.seats ≡ table.history.seats) }
+    ensures laid { IfOk result IsLaidOut }
+    ensures refuses { IfErr result (λ fault. fault ≡ Refused → R.may_refuse ≡ true) }
+{
+    let Table { mut history, board } = table;
     let president = history.president(company);
     let _few = sheets.seats();
     place_home(&mut history, company)?;
     let Some(president) = president else {
         withhold(&mut history, company, 0)?;
-        return Ok(history);
+        return Ok(Table { history, board });
     };
     let by = Operator { company, president };
-    let mut turn = CompanyTurn::begin(alloc, by, round, history);
+    let mut turn = CompanyTurn::begin(alloc, by, round, history, board);
     let mut orders = sheets.block(president, &round, company);
     let mut raises = orders.duplicate();
     turn.rule_lines(&mut orders, runner)?;
     turn.settle()?;
     turn.end(&mut raises)?;
-    Ok(turn.history)
+    Ok(Table {
+        history: turn.history,
+        board: turn.board,
+    })
 }

@@ -7,12 +7,13 @@ ghost use Rattle.operating.specs.Privates.{after_private, private_bought, privat
 ghost use Rattle.operating.specs.Privates.{is_given as is_sale_given, is_given_by as is_sale_given_by};
 ghost use Rattle.operating.specs.Privates.{is_too_dear as too_dear, is_too_early as too_early};
 ghost use Rattle.operating.specs.Privates.{is_wrong_price as wrong_price};
-ghost use Rattle.sheets.specs.Part.{line_read};
+ghost use Rattle.order_grammar.specs.declared.order.Order.TheVariants.{BuyOwnedPrivate};
+ghost use Rattle.sheets.specs.Part.{line_with};
 
 use crate::company_turn::CompanyTurn;
 use history::{Event, History, Holder, Party, Past, PrivateRule, Refusal};
 use order_grammar::{Offer, Order};
-use sheets::NumberedLine;
+use sheets::ReadLine;
 use std::alloc::AllocError;
 use tables::{Amount, Company, Kind, Money, Private, Seat, face};
 use turns::record;
@@ -22,13 +23,13 @@ impl CompanyTurn {
     /// before.
     pub(crate) fn rule_private(
         &mut self,
-        line: &NumberedLine,
+        line: ReadLine,
         private: Private,
         price: Amount,
     ) -> Result<(), AllocError>
         requires { IsInOrder self.old }
         ensures turn { OnOk result (state self.new
-            ≡ after_private self.old.by (state self.old) (line_read line.now) private price) }
+            ≡ after_private self.old.by (state self.old) (line_with line (BuyOwnedPrivate private price)) private price) }
         ensures order { OnOk result (GoesOn self.old self.new) }
     {
         let by = self.by;

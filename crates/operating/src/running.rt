@@ -8,7 +8,7 @@ ghost use Rattle.history.specs.Sound.{IsSound};
 ghost use Rattle.operating.specs.CompanyTurn.{GoesOn, IsInOrder, state};
 ghost use Rattle.operating.specs.Runs.{IsCounted, after_run, has_run, judged_run, ran_unless_fault};
 ghost use Rattle.operating.specs.Runs.{rules_of_turn, run_ruled, runs_most};
-ghost use Rattle.sheets.specs.Part.{line_read};
+ghost use Rattle.sheets.specs.Part.{line_with};
 ghost use Rattle.tables.specs.Rules.{first_broken};
 
 use crate::company_turn::CompanyTurn;
@@ -21,7 +21,7 @@ use history::{Event, History, Refusal, RunRule};
 use map_tables::Run;
 use order_grammar::Order;
 use reach::Network;
-use sheets::NumberedLine;
+use sheets::ReadLine;
 use std::alloc::AllocError;
 use tables::{Amount, Company, Kind};
 use turns::record;
@@ -30,14 +30,14 @@ impl CompanyTurn {
     /// Rules an order of this line that a train of a kind runs, and lets it run if it is obeyed.
     pub(crate) fn rule_run(
         &mut self,
-        line: &NumberedLine,
+        line: ReadLine,
         order: &Order,
         kind: Kind,
         run: &Run,
     ) -> Result<(), AllocError>
         requires { IsInOrder self.old }
         ensures turn { OnOk result (state self.new
-            ≡ after_run self.old.by (state self.old) (line_read line.now) order.now kind run.now) }
+            ≡ after_run self.old.by (state self.old) (line_with line order.now) order.now kind run.now) }
         ensures order { OnOk result (GoesOn self.old self.new) }
     {
         let judged = self.judge_run(kind, run)?;
@@ -59,21 +59,22 @@ impl CompanyTurn {
         if let Some(rule) = rule_of_turn(&self.history, company, kind, &self.progress) {
             return Ok(Err(rule));
         }
-        catch_up(&mut self.board, &self.history)?;
-        Ok(run_on(&self.board, company, kind, run, &self.progress.runs))
+        let board = &mut *self.board;
+        catch_up(board, &self.history)?;
+        Ok(run_on(board, company, kind, run, &self.progress.runs))
     }
 
     /// Rules the order of this line, by which a train has run or which broke a rule of runs.
     fn settle_run(
         &mut self,
-        line: &NumberedLine,
+        line: ReadLine,
         order: &Order,
         judged: Result<Ran, RunRule>,
     ) -> Result<(), AllocError>
         requires order { IsInOrder self.old }
         requires counted { IfOk judged (λ ran. IsCounted self.old.progress.runs ran) }
         ensures turn { OnOk result (state self.new
-            ≡ run_ruled self.old.by (state self.old) (line_read line.now) order.now judged) }
+            ≡ run_ruled self.old.by (state self.old) (line_with line order.now) order.now judged) }
         ensures order { OnOk result (GoesOn self.old self.new) }
     {
         let by = self.by;

@@ -42,8 +42,9 @@ fn rule_standing(history: &mut History, seat: Seat, sheet: &mut PartsLeft) -> Re
         ≡ after_each (after_standing_line seat) history.old.events sheet.old.before) }
     ensures sound { OnOk result (IsSound history.new) }
 {
+    let mut order = Order::Blank;
     while let Some(line) = sheet.take_line() {
-        rule_line(&StandingLines, history, seat, &line)?;
+        rule_line(&StandingLines, history, seat, line, &mut order)?;
     }
     Ok(())
 }

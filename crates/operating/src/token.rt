@@ -1,7 +1,8 @@
 ghost use Rattle.std.specs.Prelude.{OnOk};
 ghost use Rattle.operating.specs.CompanyTurn.{GoesOn, IsInOrder, state};
 ghost use Rattle.operating.specs.Turn.{TokenLeads};
-ghost use Rattle.sheets.specs.Part.{line_read};
+ghost use Rattle.order_grammar.specs.declared.order.Order.TheVariants as order;
+ghost use Rattle.sheets.specs.Part.{line_with};
 
 use crate::asker::asker;
 use crate::company_turn::CompanyTurn;
@@ -11,23 +12,24 @@ use board::TokenFault;
 use history::{Event, Refusal};
 use map_tables::Place;
 use order_grammar::Order;
-use sheets::NumberedLine;
+use sheets::ReadLine;
 use std::alloc::AllocError;
 use turns::record;
 
 impl CompanyTurn {
     /// Rules a TOKEN of this line, and places the token if it is obeyed.
-    pub(crate) fn rule_token(&mut self, line: &NumberedLine, place: Place) -> Result<(), AllocError>
+    pub(crate) fn rule_token(&mut self, line: ReadLine, place: Place) -> Result<(), AllocError>
         requires { IsInOrder self.old }
-        ensures turn { OnOk result (TokenLeads self.old.by (state self.old) (line_read line.now)
+        ensures turn { OnOk result (TokenLeads self.old.by (state self.old) (line_with line (order.Token place))
             place (state self.new)) }
         ensures order { OnOk result (GoesOn self.old self.new) }
     {
-        catch_up(&mut self.board, &self.history)?;
+        let board = &mut *self.board;
+        catch_up(board, &self.history)?;
         let order = Order::Token(place);
         let by = self.by;
         let asker = asker(&self.history, by.company, self.progress);
-        match self.board.try_token(&asker, place) {
+        match board.try_token(&asker, place) {
             Ok(cost) => {
                 record(&mut self.history, by.president, line, &order, None)?;
                 let company = by.company;

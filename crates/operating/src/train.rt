@@ -2,7 +2,7 @@ ghost use Rattle.std.specs.Prelude.{◌≡◌, OnOk};
 ghost use Rattle.operating.specs.CompanyTurn.{GoesOn, IsInOrder, state};
 ghost use Rattle.operating.specs.Trains.{IsSmallPurchase};
 ghost use Rattle.order_grammar.specs.declared.order.Order.TheVariants.{BuyTrain};
-ghost use Rattle.sheets.specs.Part.{line_read};
+ghost use Rattle.sheets.specs.Part.{line_with};
 ghost use Rattle.turns.specs.Small.{IsSmallOrder};
 ghost use Rattle.operating.specs.Turn.{after_buying, purchase_of as the_purchase_of};
 
@@ -11,7 +11,7 @@ use crate::phases::buy_train;
 use crate::purchase::{Purchase, judge_purchase};
 use history::{Refusal, TrainSeller};
 use order_grammar::{Order, TrainSource};
-use sheets::NumberedLine;
+use sheets::ReadLine;
 use std::alloc::AllocError;
 use tables::Kind;
 use turns::record;
@@ -20,14 +20,14 @@ impl CompanyTurn {
     /// Rules a TRAIN of this line, in a turn that is past its pay, and buys the train if it is obeyed.
     pub(crate) fn rule_train(
         &mut self,
-        line: &NumberedLine,
+        line: ReadLine,
         kind: Kind,
         from: TrainSource,
     ) -> Result<(), AllocError>
         requires small { IsSmallOrder (BuyTrain kind from) }
         requires order { IsInOrder self.old }
         ensures turn { OnOk result (state self.new
-            ≡ after_buying self.old.by (state self.old) (line_read line.now) kind from) }
+            ≡ after_buying self.old.by (state self.old) (line_with line (BuyTrain kind from)) kind from) }
         ensures order { OnOk result (GoesOn self.old self.new) }
         ensures board { OnOk result (self.new.board ≡ self.old.board) }
     {

@@ -8,14 +8,14 @@ ghost use Rattle.operating.specs.InTurn.{told};
 ghost use Rattle.operating.specs.Turn.{AskedLeads, LineLeads, LinesLead, OrderLeads, is_held as is_order_held, is_ruled_there as is_order_ruled_there};
 ghost use Rattle.operating.specs.TurnCalls.{AskedCalls, LineCalls, LinesCall, OrderCalls, led_to};
 ghost use Rattle.order_grammar.specs.declared.order.Order.TheVariants.{RunBest};
-ghost use Rattle.sheets.specs.Part.{line_read};
+ghost use Rattle.sheets.specs.Part.{faulty_line, line_unread, line_with};
 ghost use Rattle.turns.specs.Small.{AreSmall, IsSmallOrder, IsSmallReading};
 
 use crate::company_turn::CompanyTurn;
 use certificate::{Runner, RunnerFault};
 use history::{History, Refusal};
 use order_grammar::{Condition, Fault, Order};
-use sheets::{NumberedLine, PartsLeft};
+use sheets::{PartsLeft, ReadLine, UnreadLine};
 use std::alloc::AllocError;
 use turns::{record, record_fault};
 
@@ -37,31 +37,34 @@ impl CompanyTurn {
         ensures order { OnOk result (IsInOrder self.new) }
         ensures refuses { IfErr result (λ fault. fault ≡ Refused → R.may_refuse ≡ true) }
     {
+        let mut order = Order::Blank;
         while let Some(line) = orders.take_line() {
-            self.rule_line(&line, runner)?;
+            self.rule_line(line, &mut order, runner)?;
         }
         Ok(())
     }
 
-    /// Rules a line of the company's orders, and does what it orders if it is obeyed.
+    /// Rules a line of the company's orders, and does what it orders if it is obeyed. Its order is put
+    /// in place of another.
     fn rule_line<R: Runner>(
         &mut self,
-        line: &NumberedLine,
+        line: UnreadLine,
+        order: &mut Order,
         runner: &mut R,
     ) -> Result<(), RunnerFault>
         requires few { self.old.history.seats ≤ 6 }
-        requires small { IsSmallReading (line_read line.now).reading }
+        requires small { IsSmallReading (line_unread line).reading }
         requires order { IsInOrder self.old }
-        ensures turn { OnOk result (LineLeads self.old.by (state self.old) (line_read line.now)
+        ensures turn { OnOk result (LineLeads self.old.by (state self.old) (line_unread line.entry)
             (state self.new)) }
         ensures calls { Makes R.earns runner.old (LineCalls self.old.by self.old.round
-            (line_read line.now) (state self.old) (led_to (state self.new) result)) runner.new }
+            (line_unread line.entry) (state self.old) (led_to (state self.new) result)) runner.new }
         ensures order { OnOk result (GoesOn self.old self.new) }
         ensures refuses { IfErr result (λ fault. fault ≡ Refused → R.may_refuse ≡ true) }
     {
-        match line.order() {
-            Ok(order) => self.rule_asked(line, order, runner),
-            Err(fault) => Ok(self.rule_faulty(line, fault)?),
+        match line.read_into(order) {
+            Ok(read) => self.rule_asked(read, order, runner),
+            Err(fault) => Ok(self.rule_faulty(line.number, fault)?),
         }
     }
 
@@ -69,20 +72,20 @@ impl CompanyTurn {
     /// condition: where that is not met it is refused, and nothing else happens.
     fn rule_asked<R: Runner>(
         &mut self,
-        line: &NumberedLine,
+        line: ReadLine,
         order: &Order,
         runner: &mut R,
     ) -> Result<(), RunnerFault>
         requires few { self.old.history.seats ≤ 6 }
         requires small { IsSmallOrder order.now }
         requires order { IsInOrder self.old }
-        ensures turn { OnOk result (AskedLeads self.old.by (state self.old) (line_read line.now)
+        ensures turn { OnOk result (AskedLeads self.old.by (state self.old) (line_with line order.now)
             order.now
-            (is_order_held self.old.history.events (line_read line.now).condition order.now)
+            (is_order_held self.old.history.events line.condition order.now)
             (state self.new)) }
         ensures calls { Makes R.earns runner.old (AskedCalls self.old.by self.old.round
-            (line_read line.now) order.now
-            (is_order_held self.old.history.events (line_read line.now).condition order.now)
+            (line_with line order.now) order.now
+            (is_order_held self.old.history.events line.condition order.now)
             (state self.old) (led_to (state self.new) result)) runner.new }
         ensures order { OnOk result (GoesOn self.old self.new) }
         ensures refuses { IfErr result (λ fault. fault ≡ Refused → R.may_refuse ≡ true) }
@@ -94,9 +97,9 @@ impl CompanyTurn {
     }
 
     /// Records that the order in this line is refused because its condition is not met.
-    fn refuse_held(&mut self, line: &NumberedLine, order: &Order) -> Result<(), AllocError>
+    fn refuse_held(&mut self, line: ReadLine, order: &Order) -> Result<(), AllocError>
         requires { IsInOrder self.old }
-        ensures turn { OnOk result (AskedLeads self.old.by (state self.old) (line_read line.now)
+        ensures turn { OnOk result (AskedLeads self.old.by (state self.old) (line_with line order.now)
             order.now true (state self.new)) }
         ensures order { OnOk result (GoesOn self.old self.new) }
     {
@@ -105,31 +108,31 @@ impl CompanyTurn {
         Ok(())
     }
 
-    /// Rules this line, which has a fault of its own.
-    fn rule_faulty(&mut self, line: &NumberedLine, fault: Fault) -> Result<(), AllocError>
+    /// Rules the line with this number, which has a fault of its own.
+    fn rule_faulty(&mut self, line: u32, fault: Fault) -> Result<(), AllocError>
         requires { IsInOrder self.old }
         ensures turn { OnOk result (state self.new
-            ≡ told self.old.by (state self.old) (line_read line.now) (Faulty fault)) }
+            ≡ told self.old.by (state self.old) (faulty_line line fault) (Faulty fault)) }
         ensures order { OnOk result (GoesOn self.old self.new) }
     {
-        record_fault(&mut self.history, self.by.president, line.number, fault)
+        record_fault(&mut self.history, self.by.president, line, fault)
     }
 
     /// Rules an order in this line, which its condition does not hold up, and does it if it is obeyed.
     /// The runner is asked for the best runs alone.
     fn rule_order<R: Runner>(
         &mut self,
-        line: &NumberedLine,
+        line: ReadLine,
         order: &Order,
         runner: &mut R,
     ) -> Result<(), RunnerFault>
         requires few { self.old.history.seats ≤ 6 }
         requires small { IsSmallOrder order.now }
         requires order { IsInOrder self.old }
-        ensures turn { OnOk result (OrderLeads self.old.by (state self.old) (line_read line.now)
+        ensures turn { OnOk result (OrderLeads self.old.by (state self.old) (line_with line order.now)
             order.now (state self.new)) }
         ensures calls { Makes R.earns runner.old (OrderCalls self.old.by self.old.round
-            (line_read line.now) order.now (state self.old) (led_to (state self.new) result))
+            (line_with line order.now) order.now (state self.old) (led_to (state self.new) result))
             runner.new }
         ensures order { OnOk result (GoesOn self.old self.new) }
         ensures refuses { IfErr result (λ fault. fault ≡ Refused → R.may_refuse ≡ true) }
@@ -142,12 +145,12 @@ impl CompanyTurn {
 
     /// Rules an order other than RUN BEST. A RAISE is ruled at the end of the turn. An order that is
     /// not named here has no place.
-    fn rule_other(&mut self, line: &NumberedLine, order: &Order) -> Result<(), AllocError>
+    fn rule_other(&mut self, line: ReadLine, order: &Order) -> Result<(), AllocError>
         requires few { self.old.history.seats ≤ 6 }
         requires small { IsSmallOrder order.now }
         requires order { IsInOrder self.old }
         requires other { order.now ≢ RunBest }
-        ensures turn { OnOk result (OrderLeads self.old.by (state self.old) (line_read line.now)
+        ensures turn { OnOk result (OrderLeads self.old.by (state self.old) (line_with line order.now)
             order.now (state self.new)) }
         ensures order { OnOk result (GoesOn self.old self.new) }
     {
@@ -166,7 +169,7 @@ impl CompanyTurn {
                 self.rule_private(line, *private, *price)
             }
             Order::Raise { .. } => Ok(()),
-            _ => self.rule_faulty(line, Fault::OutOfPlace),
+            _ => self.rule_faulty(line.number, Fault::OutOfPlace),
         }
     }
 }

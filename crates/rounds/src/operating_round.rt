@@ -5,6 +5,7 @@ ghost use Rattle.history.specs.Sound.{IsSound};
 ghost use Rattle.history.specs.Tell.{with_left};
 ghost use Rattle.history.specs.declared.event.Event.TheVariants as event;
 ghost use Rattle.operating.specs.Calls.{Makes};
+ghost use Rattle.operating.specs.Table.{IsLaidOut, game_on};
 ghost use Rattle.operating.specs.Turn.{IsCompanyTurn};
 ghost use Rattle.rounds.specs.Faults.{IsRefused};
 ghost use Rattle.rounds.specs.GameCalls.{CompanyCalls, OperatingCalls, TurnsCall};
@@ -15,7 +16,7 @@ use crate::fault::PlayFault;
 use certificate::Runner;
 use history::{Event, History, rulings_are_counted};
 use market::{floated_companies_in_order, operating_order};
-use operating::{company_operates, play_company, rule_standing_lines};
+use operating::{Table, company_operates, play_on, rule_standing_lines};
 use sheets::Sheets;
 use std::alloc::{AllocError, Global};
 use tables::{Company, Round, Seat};
@@ -63,7 +64,7 @@ fn begin(history: &mut History, round: Round) -> Result<(), AllocError>
 /// bankrupt.
 fn take_turns<R: Runner>(
     alloc: Global,
-    mut history: History,
+    history: History,
     sheets: &Sheets,
     round: Round,
     runner: &mut R,
@@ -81,33 +82,35 @@ fn take_turns<R: Runner>(
     // comes to an end.
     floated_companies_in_order();
     company_operates();
-    while let Some(company) = next_company(&history) {
-        history = take_turn(alloc, history, sheets, round, company, runner)?;
+    let mut table = Table::lay_out(alloc, history)?;
+    while let Some(company) = next_company(&table.history) {
+        table = take_turn(alloc, table, sheets, round, company, runner)?;
     }
-    Ok(history)
+    Ok(table.history)
 }
 
-/// A company takes its turn.
+/// A company takes its turn, with a board that has the first of what lies.
 fn take_turn<R: Runner>(
     alloc: Global,
-    history: History,
+    table: Table,
     sheets: &Sheets,
     round: Round,
     company: Company,
     runner: &mut R,
-) -> Result<History, PlayFault>
-    requires floated { is_floated history.events company ≡ true }
-    requires sound { IsSound history }
-    requires seats { history.seats ≡ length (players_of sheets.now) }
-    ensures turn { IfOk result (IsCompanyTurn sheets.now round company history) }
-    ensures calls { Makes R.earns runner.old (CompanyCalls sheets.now round company history result)
-        runner.new }
-    ensures seats { IfOk result (λ new. new.seats ≡ history.seats) }
-    ensures sound { IfOk result IsSound }
+) -> Result<Table, PlayFault>
+    requires floated { is_floated table.history.events company ≡ true }
+    requires laid { IsLaidOut table }
+    requires seats { table.history.seats ≡ length (players_of sheets.now) }
+    ensures turn { IfOk result (λ next.
+        IsCompanyTurn sheets.now round company table.history next.history) }
+    ensures calls { Makes R.earns runner.old
+        (CompanyCalls sheets.now round company table.history (game_on result)) runner.new }
+    ensures seats { IfOk result (λ next. next.history.seats ≡ table.history.seats) }
+    ensures laid { IfOk result IsLaidOut }
     ensures refuses { IfErr result (λ fault. IsRefused fault → R.may_refuse ≡ true) }
 {
-    match play_company(alloc, history, sheets, round, company, runner) {
-        Ok(history) => Ok(history),
+    match play_on(alloc, table, sheets, round, company, runner) {
+        Ok(table) => Ok(table),
         Err(fault) => Err(PlayFault::in_turn(fault, round, company)),
     }
 }

@@ -12,7 +12,7 @@ loop-line-preserved c =
     record {
       seats = c.in_ok-rule_if_raise.ensures.seats ∙ c.loop-line.invariant.seats;
       after =
-          ap (λ (game : Game). after_raises due by game c.take_unread.new.self.before) c.in_ok-rule_if_raise.ensures.after
+          ap (λ (game : Game). after_raises due by game c.take_line.new.self.before) c.in_ok-rule_if_raise.ensures.after
           ∙ ap (after_raises due by c.loop-line.history) (sym (ap (λ (parts : Parts). parts.before) c.in-Some.ensures))
           ∙ c.loop-line.invariant.after;
       sound = c.in_ok-rule_if_raise.ensures.sound;

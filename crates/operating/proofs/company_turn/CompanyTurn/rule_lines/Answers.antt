@@ -9,7 +9,7 @@ use Rattle.operating.specs.CompanyTurn.{state}
 use Rattle.operating.specs.Turn.{LineLeads, LinesLead}
 use Rattle.operating.specs.TurnCalls.{LineCalls, LinesCall, led_to}
 use Rattle.operating.specs.declared.operator.Operator.{Operator}
-use Rattle.sheets.specs.Part.{Numbered, Parts, line_read}
+use Rattle.sheets.specs.Part.{Numbered, Parts, line_unread}
 use Rattle.tables.specs.declared.round.Round.{Round}
 use Rattle.turns.specs.Small.{AreSmall}
 use Rattle.operating.proofs.company_turn.CompanyTurn.rule_lines.Goals as goal
@@ -19,7 +19,7 @@ loop-line-preserved g c =
     let begun = c.args.self.now in
     let old = c.loop-line.self in
     let new = c.rule_line.new.self in
-    let line = line_read c.in-Some.line in
+    let line = line_unread c.in-Some.line in
     let before = c.loop-line.invariant in
     let are = ap (λ (parts : Parts). parts.before) c.in-Some.ensures in
     let on = c.in_ok-rule_line.ensures.order in
@@ -45,7 +45,7 @@ pub returns-in_err-rule_line-clause-calls : goal.returns-in_err-rule_line-clause
 returns-in_err-rule_line-clause-calls g c =
     let begun = c.args.self.now in
     let old = c.loop-line.self in
-    let line = line_read c.in-Some.line in
+    let line = line_unread c.in-Some.line in
     let before = c.loop-line.invariant in
     let told = err_from_is_err_and c.from_residual.result c.from_residual.ensures.1 in
     let is : c.from_residual.result ≡ Err c.in_err-rule_line.field-0.0 = told.1 ∙ ap Err told.2 in

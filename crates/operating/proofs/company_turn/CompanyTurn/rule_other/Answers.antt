@@ -1,10 +1,12 @@
-use Rattle.std.proofs.Common.{subst, sym, ◌∙◌}
+use Rattle.std.proofs.Common.{ap, subst, sym, ◌∙◌}
+use Rattle.std.specs.Global.{Global}
+use Rattle.std.specs.Prelude.{Box}
 use Rattle.board.specs.Ground.{Ground}
 use Rattle.operating.proofs.Going.{after_settling, train_leads_on}
 use Rattle.operating.specs.CompanyTurn.{state}
 use Rattle.operating.specs.Ground.{IsFront}
 use Rattle.turns.specs.Small.{IsSmallOrder}
-use Rattle.sheets.specs.Part.{line_read}
+use Rattle.sheets.specs.Part.{line_with}
 use Rattle.operating.proofs.company_turn.CompanyTurn.rule_other.Goals as goal
 
 pub rule_train-requires-clause-small : goal.rule_train-requires-clause-small
@@ -17,7 +19,7 @@ rule_train-requires-clause-order c =
 pub returns-in_ok-rule_train-in-BuyTrain-clause-turn :
     goal.returns-in_ok-rule_train-in-BuyTrain-clause-turn
 returns-in_ok-rule_train-in-BuyTrain-clause-turn c =
-    train_leads_on c.args.self.now.by c.settle.new.self.by (state c.args.self.now) (state c.settle.new.self) (line_read c.args.line.now) c.args.order.now _ _ (state c.rule_train.new.self) c.in-BuyTrain.is c.in_ok-settle-in-BuyTrain.ensures.order.by c.in_ok-settle-in-BuyTrain.ensures.turn c.in_ok-rule_train-in-BuyTrain.ensures.turn
+    train_leads_on c.args.self.now.by c.settle.new.self.by (state c.args.self.now) (state c.settle.new.self) (line_with c.args.line c.args.order.now) c.args.order.now _ _ (state c.rule_train.new.self) c.in-BuyTrain.is c.in_ok-settle-in-BuyTrain.ensures.order.by c.in_ok-settle-in-BuyTrain.ensures.turn c.in_ok-rule_train-in-BuyTrain.ensures.turn
 
 pub returns-in_ok-rule_train-in-BuyTrain-clause-order :
     goal.returns-in_ok-rule_train-in-BuyTrain-clause-order
@@ -28,5 +30,5 @@ returns-in_ok-rule_train-in-BuyTrain-clause-order c =
       by = bought.order.by ∙ settled.order.by;
       round = bought.order.round ∙ settled.order.round;
       sound = bought.order.sound;
-      front = subst (λ (laid : Ground). IsFront laid c.args.self.now.history.events) (sym (bought.board ∙ settled.board)) c.requires.order.front;
+      front = subst (λ (laid : Ground). IsFront laid c.args.self.now.history.events) (sym (ap (λ (board : Box Ground Global). board.value) (bought.board ∙ settled.board))) c.requires.order.front;
     }

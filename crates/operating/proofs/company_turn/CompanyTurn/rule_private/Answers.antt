@@ -3,20 +3,20 @@ use Rattle.operating.proofs.PrivateSales.{same_after_line, sold_steps}
 use Rattle.operating.proofs.Told.{kept_all, told_obeyed}
 use Rattle.operating.specs.InTurn.{in_turn}
 use Rattle.order_grammar.specs.declared.order.Order.TheVariants.{BuyOwnedPrivate}
-use Rattle.sheets.specs.Part.{line_read}
+use Rattle.sheets.specs.Part.{line_with}
 use Rattle.operating.proofs.company_turn.CompanyTurn.rule_private.Goals as goal
 
 pub buy_private-requires-clause-may : goal.buy_private-requires-clause-may
 buy_private-requires-clause-may c =
     let none : is_none c.map-broken.result ≡ true = sym c.in_ok-record.ensures.obeyed ∙ c.if-branch.true in
-    same_after_line c.args.self.now.history c.record.new.history c.args.self.now.by.president (line_read c.args.line.now) c.args.self.now.by.company c.args.private c.args.price
-    (told_obeyed c.args.self.now.history c.record.new.history c.args.self.now.by.president (line_read c.args.line.now) (BuyOwnedPrivate c.args.private c.args.price) c.map-broken.result c.in_ok-record.ensures.ruling none)
+    same_after_line c.args.self.now.history c.record.new.history c.args.self.now.by.president (line_with c.args.line (BuyOwnedPrivate c.args.private c.args.price)) c.args.self.now.by.company c.args.private c.args.price
+    (told_obeyed c.args.self.now.history c.record.new.history c.args.self.now.by.president (line_with c.args.line (BuyOwnedPrivate c.args.private c.args.price)) (BuyOwnedPrivate c.args.private c.args.price) c.map-broken.result c.in_ok-record.ensures.ruling none)
     ∙ sym c.judge_private.ensures
     ∙ kept_all c.judge_private.result c.map-broken.result none c.map-broken.ensures.variant
 
 pub returns-in_ok-buy_private-clause-turn : goal.returns-in_ok-buy_private-clause-turn
 returns-in_ok-buy_private-clause-turn c =
     let none : is_none c.map-broken.result ≡ true = sym c.in_ok-record.ensures.obeyed ∙ c.if-branch.true in
-    sold_steps c.args.self.now.by (in_turn c.args.self.now.history c.args.self.now.progress) (line_read c.args.line.now) c.args.private c.args.price (BuyOwnedPrivate c.args.private c.args.price) c.record.new.history c.buy_private.new.history refl
+    sold_steps c.args.self.now.by (in_turn c.args.self.now.history c.args.self.now.progress) (line_with c.args.line (BuyOwnedPrivate c.args.private c.args.price)) c.args.private c.args.price (BuyOwnedPrivate c.args.private c.args.price) c.record.new.history c.buy_private.new.history refl
     (sym c.judge_private.ensures ∙ kept_all c.judge_private.result c.map-broken.result none c.map-broken.ensures.variant)
-    (told_obeyed c.args.self.now.history c.record.new.history c.args.self.now.by.president (line_read c.args.line.now) (BuyOwnedPrivate c.args.private c.args.price) c.map-broken.result c.in_ok-record.ensures.ruling none) c.in_ok-buy_private.ensures.after
+    (told_obeyed c.args.self.now.history c.record.new.history c.args.self.now.by.president (line_with c.args.line (BuyOwnedPrivate c.args.private c.args.price)) (BuyOwnedPrivate c.args.private c.args.price) c.map-broken.result c.in_ok-record.ensures.ruling none) c.in_ok-buy_private.ensures.after

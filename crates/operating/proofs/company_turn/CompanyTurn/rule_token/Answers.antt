@@ -5,7 +5,8 @@ use Rattle.operating.proofs.Answered.{token_by, token_refused_steps, placed_soun
 use Rattle.operating.specs.Ground.{ground_now}
 use Rattle.operating.specs.Judgement.{asker_of}
 use Rattle.operating.specs.InTurn.{in_turn}
-use Rattle.sheets.specs.Part.{line_read}
+use Rattle.order_grammar.specs.declared.order.Order.TheVariants.{Token}
+use Rattle.sheets.specs.Part.{line_with}
 use Rattle.operating.proofs.company_turn.CompanyTurn.rule_token.Goals as goal
 
 pub amount_of-cost-requires : goal.amount_of-cost-requires
@@ -33,7 +34,7 @@ returns-in_ok-append-in-Ok-clause-turn c =
     record {
       answer = Ok cost;
       answered = answered;
-      after = placed_steps c.args.self.now.by (in_turn game c.args.self.now.progress) (line_read c.args.line.now) c.args.place cost c.record.new.history c.append.new.self _ c.amount_of-cost.result c.with_token-self.result c.in_ok-record-in-Ok.ensures.ruling refl c.in_ok-append-in-Ok.ensures.ok (c.amount_of-cost.ensures ∙ ap unsigned_abs may.kept) c.with_token-self.ensures;
+      after = placed_steps c.args.self.now.by (in_turn game c.args.self.now.progress) (line_with c.args.line (Token c.args.place)) c.args.place cost c.record.new.history c.append.new.self _ c.amount_of-cost.result c.with_token-self.result c.in_ok-record-in-Ok.ensures.ruling refl c.in_ok-append-in-Ok.ensures.ok (c.amount_of-cost.ensures ∙ ap unsigned_abs may.kept) c.with_token-self.ensures;
     }
 
 pub returns-in_ok-append-in-Ok-clause-order : goal.returns-in_ok-append-in-Ok-clause-order
@@ -45,7 +46,7 @@ returns-in_ok-append-in-Ok-clause-order c =
     record {
       by = refl;
       round = refl;
-      sound = placed_sound game c.record.new.history c.append.new.self c.args.self.now.by.company c.args.self.now.progress c.args.self.now.by.president (line_read c.args.line.now) _ c.args.place cost c.amount_of-cost.result answered c.in_ok-record-in-Ok.ensures.ruling c.in_ok-append-in-Ok.ensures.ok (c.amount_of-cost.ensures ∙ ap unsigned_abs may.kept) c.in_ok-record-in-Ok.ensures.sound;
+      sound = placed_sound game c.record.new.history c.append.new.self c.args.self.now.by.company c.args.self.now.progress c.args.self.now.by.president (line_with c.args.line (Token c.args.place)) _ c.args.place cost c.amount_of-cost.result answered c.in_ok-record-in-Ok.ensures.ruling c.in_ok-append-in-Ok.ensures.ok (c.amount_of-cost.ensures ∙ ap unsigned_abs may.kept) c.in_ok-record-in-Ok.ensures.sound;
       front = c.in_ok-catch_up.ensures.front;
     }
 
@@ -57,5 +58,5 @@ returns-in_ok-record-in-Err-Rule-clause-turn c =
     record {
       answer = Err rule;
       answered = token_by _ _ _ _ c.args.place (Err rule) c.in_ok-catch_up.ensures.ground c.asker-asker.ensures answered;
-      after = token_refused_steps c.args.self.now.by (in_turn game c.args.self.now.progress) (line_read c.args.line.now) c.args.place rule c.record-in-Err-Rule.new.history _ c.in_ok-record-in-Err-Rule.ensures.ruling refl;
+      after = token_refused_steps c.args.self.now.by (in_turn game c.args.self.now.progress) (line_with c.args.line (Token c.args.place)) c.args.place rule c.record-in-Err-Rule.new.history _ c.in_ok-record-in-Err-Rule.ensures.ruling refl;
     }
