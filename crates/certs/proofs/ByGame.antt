@@ -4,10 +4,10 @@ use std.Path.{fun_ext}
 use Rattle.certs.specs.Counted.{certificates_in, certificates_of, counted_in, counted_of, privates_owned}
 use Rattle.certs.specs.Holdings.{AreHoldingsAt, president_in, square_in, tenths_in}
 use Rattle.certs.specs.declared.holdings.Holdings.{Holdings}
+use Rattle.events.specs.declared.event.Holder.{Holder}
+use Rattle.events.specs.declared.event.Shareholder.TheVariants.{Seat as OfSeat}
 use Rattle.history.specs.LookBack.{owner_of}
 use Rattle.history.specs.Shares.{president_of, shares_of, square_of}
-use Rattle.history.specs.declared.event.Holder.{Holder}
-use Rattle.history.specs.declared.event.Shareholder.TheVariants.{Seat as OfSeat}
 use Rattle.history.specs.declared.look_back.Past.{Past}
 use Rattle.tables.specs.Roster.{companies}
 use Rattle.tables.specs.declared.roster.Company.{Company}

@@ -6,9 +6,9 @@ use Rattle.std.specs.Int.Signed.{le_z, lt_z}
 use Rattle.certs.proofs.Presidents.{most_le}
 use Rattle.certs.specs.President.{better_of, others_from, with_most}
 use Rattle.certs.specs.Sale.{one_has}
+use Rattle.events.specs.declared.event.Event.{Event}
+use Rattle.events.specs.declared.event.Shareholder.TheVariants.{Seat as OfSeat}
 use Rattle.history.specs.Shares.{shares_of}
-use Rattle.history.specs.declared.event.Event.{Event}
-use Rattle.history.specs.declared.event.Shareholder.TheVariants.{Seat as OfSeat}
 use Rattle.tables.specs.Seat.{left_of, seat_at, seats_from}
 use Rattle.tables.specs.declared.roster.Company.{Company}
 use Rattle.tables.specs.declared.seat.Seat.{Seat}

@@ -5,9 +5,9 @@ use lib.Signed.{lt_z}
 use Rattle.certs.specs.Holdings.{AreHoldingsOf, president_in}
 use Rattle.certs.specs.President.{PresidentIsSeated, better_of, others_from, presiding_in, presiding_of, seat_tenths, seat_tenths_of, successor, with_most}
 use Rattle.certs.specs.declared.holdings.Holdings.{Holdings}
+use Rattle.events.specs.declared.event.Shareholder.TheVariants.{Seat as OfSeat}
 use Rattle.history.specs.LookBack.{Game}
 use Rattle.history.specs.Shares.{president_of}
-use Rattle.history.specs.declared.event.Shareholder.TheVariants.{Seat as OfSeat}
 use Rattle.tables.specs.Seat.{left_of, seats_from}
 use Rattle.tables.specs.declared.roster.Company.{Company}
 use Rattle.tables.specs.declared.seat.Seat.{Seat}

@@ -7,16 +7,16 @@ use Rattle.certs.specs.President.{others_from}
 use Rattle.certs.specs.Sale.{is_first_stock, is_not_held, is_over_five, kept_after, leaves_none, moves_operating, must_stay, one_has, sale_judgement, sale_rules}
 use Rattle.certs.specs.SaleAct.{MaySell}
 use Rattle.certs.specs.declared.deal.Sale.{Sale}
+use Rattle.events.specs.Event.{IsQuiet}
+use Rattle.events.specs.declared.event.Event.{Event}
+use Rattle.events.specs.declared.event.Shareholder.TheVariants.{BankPool, Seat as OfSeat}
+use Rattle.events.specs.declared.ruling.StockRule.{StockRule}
+use Rattle.events.specs.declared.ruling.StockRule.TheVariants.{SaleInFirstRound, NotHeld, PoolFull, PresidentMustStay, WrongStart}
 use Rattle.history.proofs.EventAtEnd.{quiet_same}
-use Rattle.history.specs.Event.{IsQuiet}
 use Rattle.history.specs.Laws.{SaysTheSame}
 use Rattle.history.specs.LookBack.{Game, round_of, with_event}
 use Rattle.history.specs.Shares.{is_started, president_of, shares_of}
 use Rattle.history.specs.Sound.{IsSound}
-use Rattle.history.specs.declared.event.Event.{Event}
-use Rattle.history.specs.declared.event.Shareholder.TheVariants.{BankPool, Seat as OfSeat}
-use Rattle.history.specs.declared.ruling.StockRule.{StockRule}
-use Rattle.history.specs.declared.ruling.StockRule.TheVariants.{SaleInFirstRound, NotHeld, PoolFull, PresidentMustStay, WrongStart}
 use Rattle.tables.proofs.Rules.{none_broken}
 use Rattle.tables.specs.Roster.{same_company}
 use Rattle.tables.specs.Rules.{first_broken}

@@ -9,6 +9,9 @@ use Rattle.certs.specs.President.{others_from, seat_tenths_of, successor_of}
 use Rattle.certs.specs.Purchase.{market_price_of}
 use Rattle.certs.specs.Sale.{is_not_held, kept_after, leaves_none, must_stay, one_has}
 use Rattle.certs.specs.declared.deal.Sale.{Sale}
+use Rattle.events.specs.declared.event.Event.{Event}
+use Rattle.events.specs.declared.event.Event.TheVariants as event
+use Rattle.events.specs.declared.event.Shareholder.TheVariants.{Seat as OfSeat}
 use Rattle.history.proofs.EventAtEnd.{president_of_before, shares_of_at_end, shares_of_before}
 use Rattle.history.proofs.Blocks.{block_sound, block_with_succession_sound}
 use Rattle.history.specs.Laws.{block_sold}
@@ -16,9 +19,6 @@ use Rattle.history.specs.LookBack.{Game}
 use Rattle.history.specs.Shares.{is_started, president_of, square_of}
 use Rattle.history.specs.Sound.{IsLed, IsSound}
 use Rattle.history.specs.Tell.{breaks, with_broken}
-use Rattle.history.specs.declared.event.Event.{Event}
-use Rattle.history.specs.declared.event.Event.TheVariants as event
-use Rattle.history.specs.declared.event.Shareholder.TheVariants.{Seat as OfSeat}
 use Rattle.market.proofs.Tokens.{same_game}
 use Rattle.certs.proofs.Others.{another_leads}
 use Rattle.certs.specs.SaleAct.{MaySell, sold, succeeded, with_president, with_successor}

@@ -3,11 +3,11 @@ use Rattle.std.proofs.Common.{◌≡◌, ◌==◌, Bool, true, false, if◌then�
 use Rattle.certs.proofs.Presidents.{most_le}
 use Rattle.certs.specs.President.{others_from, seat_tenths_of, successor_of}
 use Rattle.certs.specs.SaleAct.{succeeded, with_president, with_successor}
+use Rattle.events.specs.declared.event.Event.TheVariants as event
 use Rattle.history.proofs.Blocks.{succession_sound as succession_law}
 use Rattle.history.specs.LookBack.{Game}
 use Rattle.history.specs.Shares.{president_of}
 use Rattle.history.specs.Sound.{IsSound}
-use Rattle.history.specs.declared.event.Event.TheVariants as event
 use Rattle.market.proofs.Tokens.{same_game}
 use Rattle.tables.specs.declared.roster.Company.{Company}
 use Rattle.tables.specs.declared.seat.Seat.{Seat}

@@ -5,10 +5,10 @@ use Rattle.std.proofs.lemmas.Bool.Decides.{nat_tests}
 use Rattle.std.proofs.lemmas.Int.{ints}
 use Rattle.std.proofs.lemmas.List.{get_or-set_same, get_or-set_other}
 use Rattle.certs.specs.Rows.{index_of}
+use Rattle.events.specs.declared.event.Shareholder.{Shareholder}
+use Rattle.events.specs.declared.event.Shareholder.TheVariants.{InitialOffering, BankPool, Seat as OfSeat}
+use Rattle.events.specs.declared.event.Transfer.{Transfer}
 use Rattle.history.specs.Shares.{brought_to, same_shareholder, taken_from}
-use Rattle.history.specs.declared.event.Shareholder.{Shareholder}
-use Rattle.history.specs.declared.event.Shareholder.TheVariants.{InitialOffering, BankPool, Seat as OfSeat}
-use Rattle.history.specs.declared.event.Transfer.{Transfer}
 use Rattle.tables.specs.Roster.{place_of_company}
 use Rattle.tables.specs.declared.roster.Company.{Company}
 

@@ -4,12 +4,12 @@
 use Rattle.std.specs.Prelude.{◌≡◌, ℕ, ◌<◌, ◌==◌, Bool, true, false, if◌then◌else◌, List, [], ◌∷◌, Option, Some, None, sum_by, ℤ, pos, ◌+ℤ◌, ◌-ℤ◌}
 use Rattle.certs.specs.Holdings.{AreHoldingsOf, president_in, square_in, tenths_in}
 use Rattle.certs.specs.declared.holdings.Holdings.{Holdings}
+use Rattle.events.specs.declared.event.Event.{Event}
+use Rattle.events.specs.declared.event.Holder.{Holder}
+use Rattle.events.specs.declared.event.Holder.TheVariants as holder
+use Rattle.events.specs.declared.event.Shareholder.TheVariants.{Seat as OfSeat}
 use Rattle.history.specs.LookBack.{Game, owner_in, owner_of}
 use Rattle.history.specs.Shares.{president_of, shares_of, square_of}
-use Rattle.history.specs.declared.event.Event.{Event}
-use Rattle.history.specs.declared.event.Holder.{Holder}
-use Rattle.history.specs.declared.event.Holder.TheVariants as holder
-use Rattle.history.specs.declared.event.Shareholder.TheVariants.{Seat as OfSeat}
 use Rattle.tables.specs.Chart.{zone_of}
 use Rattle.tables.specs.Roster.{companies, privates}
 use Rattle.tables.specs.declared.roster.Company.{Company}

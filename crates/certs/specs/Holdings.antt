@@ -3,10 +3,10 @@
 use Rattle.std.specs.Prelude.{◌≡◌, [], Option, Some, None, ℤ, pos, ◌+ℤ◌, ◌-ℤ◌, slice_index_or}
 use Rattle.certs.specs.Rows.{HasPlace, index_of}
 use Rattle.certs.specs.declared.holdings.Holdings.{Holdings}
+use Rattle.events.specs.declared.event.Shareholder.{Shareholder}
+use Rattle.events.specs.declared.event.Transfer.{Transfer}
 use Rattle.history.specs.LookBack.{Game, owner_in, owner_of}
 use Rattle.history.specs.Shares.{brought_to, president_of, shares_of, square_of, taken_from}
-use Rattle.history.specs.declared.event.Shareholder.{Shareholder}
-use Rattle.history.specs.declared.event.Transfer.{Transfer}
 use Rattle.history.specs.declared.look_back.Past.{Past}
 use Rattle.tables.specs.Roster.{place_of_company}
 use Rattle.tables.specs.declared.roster.Company.{Company}

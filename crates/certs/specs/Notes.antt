@@ -3,9 +3,9 @@
 use Rattle.std.specs.Prelude.{◌≡◌, List, [], Option, None, ℤ, pos, slice_index_or}
 use Rattle.certs.specs.Rows.{AreBounded, HasPlace, index_of}
 use Rattle.certs.specs.declared.notes.Notes.{Notes}
+use Rattle.events.specs.declared.event.Event.{Event}
+use Rattle.events.specs.declared.event.Shareholder.{Shareholder}
 use Rattle.history.specs.Shares.{president_of, shares_of, square_of}
-use Rattle.history.specs.declared.event.Event.{Event}
-use Rattle.history.specs.declared.event.Shareholder.{Shareholder}
 use Rattle.tables.specs.Roster.{place_of_company}
 use Rattle.tables.specs.declared.roster.Company.{Company}
 use Rattle.tables.specs.declared.seat.Seat.{Seat}

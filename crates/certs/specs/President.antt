@@ -4,10 +4,10 @@ use Rattle.std.specs.Prelude.{◌≡◌, ◌⊎◌, ℕ, ◌-◌, ◌<◌, ◌�
 use lib.Signed.{lt_z}
 use Rattle.certs.specs.Holdings.{AreHoldingsOf, president_in, tenths_in}
 use Rattle.certs.specs.declared.holdings.Holdings.{Holdings}
+use Rattle.events.specs.declared.event.Event.{Event}
+use Rattle.events.specs.declared.event.Shareholder.TheVariants.{Seat as OfSeat}
 use Rattle.history.specs.LookBack.{Game}
 use Rattle.history.specs.Shares.{president_of, shares_of}
-use Rattle.history.specs.declared.event.Event.{Event}
-use Rattle.history.specs.declared.event.Shareholder.TheVariants.{Seat as OfSeat}
 use Rattle.tables.specs.Seat.{left_of, seats_from}
 use Rattle.tables.specs.declared.roster.Company.{Company}
 use Rattle.tables.specs.declared.seat.Seat.{Seat}

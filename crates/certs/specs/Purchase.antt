@@ -9,13 +9,13 @@ use Rattle.std.specs.Int.Signed.{le_z, lt_z}
 use Rattle.certs.specs.Counted.{counted_of, counts_on}
 use Rattle.certs.specs.declared.deal.Purchase.{Purchase}
 use Rattle.certs.specs.declared.deal.Purchase.TheVariants.{Par, Share}
+use Rattle.events.specs.Event.{is_par_value, place_of_source}
+use Rattle.events.specs.declared.event.Event.{Event}
+use Rattle.events.specs.declared.event.Shareholder.TheVariants.{Seat as OfSeat}
+use Rattle.events.specs.declared.ruling.StockRule.{StockRule}
+use Rattle.events.specs.declared.ruling.StockRule.TheVariants.{SoldInRound, NoneThere, NoParValue, WrongStart, CashTooSmall, CertificateLimit, OverSixTenths, BoughtBefore}
 use Rattle.history.specs.Bids.{free_cash_of}
-use Rattle.history.specs.Event.{place_of_source}
-use Rattle.history.specs.Shares.{has_sold_in_round, is_par_value, is_started, par_of, shares_of, square_of}
-use Rattle.history.specs.declared.event.Event.{Event}
-use Rattle.history.specs.declared.event.Shareholder.TheVariants.{Seat as OfSeat}
-use Rattle.history.specs.declared.ruling.StockRule.{StockRule}
-use Rattle.history.specs.declared.ruling.StockRule.TheVariants.{SoldInRound, NoneThere, NoParValue, WrongStart, CashTooSmall, CertificateLimit, OverSixTenths, BoughtBefore}
+use Rattle.history.specs.Shares.{has_sold_in_round, is_started, par_of, shares_of, square_of}
 use Rattle.order_grammar.specs.declared.order.ShareSource.{ShareSource}
 use Rattle.order_grammar.specs.declared.order.ShareSource.TheVariants.{InitialOffering, BankPool}
 use Rattle.tables.specs.Chart.{price_of, zone_of}

@@ -7,10 +7,10 @@ use Rattle.certs.specs.President.{successor_of}
 use Rattle.certs.specs.Purchase.{market_price_of}
 use Rattle.certs.specs.Sale.{is_not_held, is_over_five, must_stay}
 use Rattle.certs.specs.declared.deal.Sale.{Sale}
+use Rattle.events.specs.declared.event.Event.{Event}
+use Rattle.events.specs.declared.event.Event.TheVariants as event
 use Rattle.history.specs.Shares.{is_started, president_of}
 use Rattle.history.specs.Tell.{with_broken}
-use Rattle.history.specs.declared.event.Event.{Event}
-use Rattle.history.specs.declared.event.Event.TheVariants as event
 use Rattle.market.specs.Moves.{fallen}
 use Rattle.market.specs.Token.{with_move}
 use Rattle.tables.specs.declared.roster.Company.{Company}

@@ -1,6 +1,6 @@
 ghost use Rattle.std.specs.Prelude.{◌≡◌, ◌≤ℤ◌, pos};
 ghost use Rattle.certs.specs.Rows.{AreBounded, HasPlace};
-ghost use Rattle.history.specs.declared.event.Shareholder.{Shareholder};
+ghost use Rattle.events.specs.declared.event.Shareholder.{Shareholder};
 ghost use Rattle.tables.specs.declared.roster.Company.{Company};
 
 use crate::notes::{Notes, notes_of};

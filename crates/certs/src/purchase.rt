@@ -2,8 +2,8 @@ ghost use Rattle.std.specs.Prelude.{◌≡◌, ◌≤◌, ◌<◌, ◌+ℤ◌, p
 ghost use Rattle.std.specs.Int.Signed.{le_z};
 ghost use Rattle.certs.specs.Counted.{counted_of};
 ghost use Rattle.certs.specs.Purchase.{allowed, allows_several as several, cost_of, in_zone, is_at_limit as limit_reached, is_none_there as none_there, is_no_par as no_par, is_over_six as over_six, is_second as second_purchase, is_short as short_of_cash, is_wrong_start as wrong_start, lifts_six as lifts, market_price_of, purchase_judgement, tenth_price_of};
+ghost use Rattle.events.specs.declared.event.Shareholder.TheVariants.{Seat as OfSeat};
 ghost use Rattle.history.specs.Shares.{par_of, shares_of, square_of};
-ghost use Rattle.history.specs.declared.event.Shareholder.TheVariants.{Seat as OfSeat};
 ghost use Rattle.tables.specs.Roster.{certificate_limit_of};
 
 use crate::counted::{counted_now, counts_on};

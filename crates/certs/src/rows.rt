@@ -1,6 +1,6 @@
 ghost use Rattle.std.specs.Prelude.{◌≡◌, ◌<◌, ◌≤ℤ◌, pos, slice_index_or};
 ghost use Rattle.certs.specs.Rows.{IsBounded, IsMoved, index_of};
-ghost use Rattle.history.specs.declared.event.Shareholder.{Shareholder};
+ghost use Rattle.events.specs.declared.event.Shareholder.{Shareholder};
 
 use history::{Shareholder, Tenths};
 use tables::Seat;

@@ -2,9 +2,9 @@ ghost use Rattle.std.specs.Prelude.{◌≡◌, ◌^◌, ◌≤ℤ◌, ◌+ℤ◌
 ghost use Rattle.certs.specs.Counted.{presides};
 ghost use Rattle.certs.specs.Purchase.{allowed};
 ghost use Rattle.certs.specs.Sale.{another_has as another_seat_has, is_first_stock as is_first_stock_round, is_not_held as not_held, is_over_five as over_five, kept_after, leaves_none as leaves_no_president, moves_operating as moves_presidency, must_stay as president_must_stay, sale_judgement};
+ghost use Rattle.events.specs.declared.event.Shareholder.TheVariants.{BankPool};
 ghost use Rattle.history.specs.LookBack.{round_of};
 ghost use Rattle.history.specs.Shares.{shares_of};
-ghost use Rattle.history.specs.declared.event.Shareholder.TheVariants.{BankPool};
 
 use crate::deal::Sale;
 use history::{History, Past, Shareholder, StockRule, Tenths};

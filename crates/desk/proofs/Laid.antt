@@ -4,9 +4,9 @@ use Rattle.std.proofs.lemmas.List.{append-nil}
 use Rattle.std.specs.List.{cons_option, fold}
 use Rattle.board.specs.Ground.{Ground, ground_of}
 use Rattle.desk.specs.Laid.{laid_then}
-use Rattle.history.specs.Event.{tile_laid, token_placed}
+use Rattle.events.specs.Event.{tile_laid, token_placed}
+use Rattle.events.specs.declared.event.Event.{Event}
 use Rattle.history.specs.Operating.{lays_of, tokens_of}
-use Rattle.history.specs.declared.event.Event.{Event}
 use Rattle.map_tables.specs.declared.lay.Lay.{Lay}
 use Rattle.map_tables.specs.declared.place.Place.{Place}
 use Rattle.tables.specs.declared.rolling_stock.Kind.{Kind}

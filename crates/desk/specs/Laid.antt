@@ -3,8 +3,8 @@
 use Rattle.std.specs.Prelude.{[], ◌++◌}
 use Rattle.std.specs.List.{cons_option}
 use Rattle.board.specs.Ground.{Ground, ground_of}
-use Rattle.history.specs.Event.{tile_laid, token_placed}
-use Rattle.history.specs.declared.event.Event.{Event}
+use Rattle.events.specs.Event.{tile_laid, token_placed}
+use Rattle.events.specs.declared.event.Event.{Event}
 
 abbrev pub laid_then : Ground → Event → Ground
 laid_then laid event =

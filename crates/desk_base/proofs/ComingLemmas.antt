@@ -7,11 +7,11 @@ use Rattle.desk_base.proofs.SetLemmas.{number_there}
 use Rattle.desk_base.specs.Coming.{NeverComes, can_come, is_in_time, may_come, may_follow, most_in_set, set_of}
 use Rattle.desk_base.specs.SetNumber.{number_in_set}
 use Rattle.desk_base.specs.Stopped.{StoppedAt}
-use Rattle.history.specs.Event.{tells_broken}
+use Rattle.events.specs.Event.{tells_broken}
+use Rattle.events.specs.declared.event.Event.{Event}
+use Rattle.events.specs.declared.event.Event.TheVariants as event
 use Rattle.history.specs.LookBack.{Game, broken_in}
 use Rattle.history.specs.Trains.{phase_of}
-use Rattle.history.specs.declared.event.Event.{Event}
-use Rattle.history.specs.declared.event.Event.TheVariants as event
 use Rattle.operating.proofs.Complete.{phase_kept}
 use Rattle.privates.specs.Turn.{all_sold}
 use Rattle.rounds.proofs.Coming.{OfNext, after_operating, comes_once, follows, in_set_then, no_round, of_coming}

@@ -7,11 +7,11 @@ use Rattle.std.specs.Prelude.{unwrap_or}
 use Rattle.desk_base.specs.SetNumber.{IsNumberPlayed, at_round, in_phase, number_in_set, set_of, set_then}
 use Rattle.desk_base.specs.Stopped.{StoppedAt}
 use Rattle.desk_base.specs.declared.set_number.SetSoFar.{SetSoFar}
-use Rattle.history.specs.Event.{phase_set, round_of}
+use Rattle.events.specs.Event.{phase_set, round_of}
+use Rattle.events.specs.declared.event.Event.{Event}
+use Rattle.events.specs.declared.event.Event.TheVariants as event
 use Rattle.history.specs.LookBack.{Game, bankrupt_in, last_said}
 use Rattle.history.specs.Trains.{phase_of}
-use Rattle.history.specs.declared.event.Event.{Event}
-use Rattle.history.specs.declared.event.Event.TheVariants as event
 use Rattle.operating.specs.Laws.{BeginsNoRound}
 use Rattle.rounds.specs.Begun.{AddsRound, RoundsOnlyAdd}
 use Rattle.rounds.specs.Play.{AreRounds, Between, IsRound, IsTheGame, Played, before_play, end_of, in_set_before}

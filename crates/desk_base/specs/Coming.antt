@@ -7,8 +7,8 @@ use Rattle.rounds.specs.declared.game.End.{End}
 use Rattle.rounds.specs.declared.game.End.TheVariants.{Awaiting, Bank, Bankrupt}
 use Rattle.desk_base.specs.SetNumber.{number_in_set}
 use Rattle.desk_base.specs.Stopped.{StoppedAt}
+use Rattle.events.specs.declared.event.Event.{Event}
 use Rattle.history.specs.LookBack.{broken_in}
-use Rattle.history.specs.declared.event.Event.{Event}
 use Rattle.sheets.specs.File.{IsAccepted}
 use Rattle.tables.specs.Round.{is_before, operating_most}
 use Rattle.tables.specs.declared.round.Round.{Round}

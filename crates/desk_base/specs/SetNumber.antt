@@ -3,8 +3,8 @@
 use Rattle.std.specs.Prelude.{◌≡◌, ℕ, List, Option, Some, None}
 use Rattle.std.specs.List.{fold}
 use Rattle.desk_base.specs.declared.set_number.SetSoFar.{SetSoFar}
-use Rattle.history.specs.Event.{phase_set, round_of}
-use Rattle.history.specs.declared.event.Event.{Event}
+use Rattle.events.specs.Event.{phase_set, round_of}
+use Rattle.events.specs.declared.event.Event.{Event}
 use Rattle.desk_base.specs.Stopped.{StoppedAt}
 use Rattle.rounds.specs.Play.{Between, Played, in_set_before}
 use Rattle.rounds.specs.declared.following.Next.TheVariants as next

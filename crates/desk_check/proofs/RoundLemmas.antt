@@ -10,8 +10,8 @@ use Rattle.desk_check.specs.RoundsPlayed.{AreRoundsOf, by_then, by_with, is_begu
 use Rattle.desk_check.specs.SheetLines.{HeadAt}
 use Rattle.desk_check.specs.declared.check_late.Rounds.{Rounds}
 use Rattle.desk_check.specs.declared.check_sheets.Heads.{Heads}
-use Rattle.history.specs.Event.{round_of}
-use Rattle.history.specs.declared.event.Event.{Event}
+use Rattle.events.specs.Event.{round_of}
+use Rattle.events.specs.declared.event.Event.{Event}
 use Rattle.rounds.specs.Begun.{rounds_begun, with_round}
 use Rattle.tables.specs.Round.{same_round}
 use Rattle.tables.specs.contracts.round.RoundPartialEq.TheImpl as derived

@@ -8,7 +8,7 @@ use Rattle.desk_check.specs.Heads.{came}
 use Rattle.desk_check.specs.SheetLines.{HeadAt, complete_by}
 use Rattle.desk_check.specs.declared.check_late.Rounds.{Rounds}
 use Rattle.desk_check.specs.declared.check_sheets.Heads.{Heads}
-use Rattle.history.specs.declared.event.Event.{Event}
+use Rattle.events.specs.declared.event.Event.{Event}
 use Rattle.rounds.specs.Begun.{rounds_begun}
 use Rattle.tables.specs.Round.{same_round}
 use Rattle.tables.specs.declared.round.Round.{Round}

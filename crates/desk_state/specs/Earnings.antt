@@ -3,9 +3,9 @@
 use Rattle.std.specs.Prelude.{ℕ, ◌+◌, if◌then◌else◌, true, false, List, Option, Some, None}
 use Rattle.std.specs.List.{fold}
 use Rattle.desk_state.specs.declared.earnings.Earnings.{Earnings}
-use Rattle.history.specs.Event.{round_of}
-use Rattle.history.specs.declared.event.Event.{Event}
-use Rattle.history.specs.declared.event.Event.TheVariants.{Runs, Withheld}
+use Rattle.events.specs.Event.{round_of}
+use Rattle.events.specs.declared.event.Event.{Event}
+use Rattle.events.specs.declared.event.Event.TheVariants.{Runs, Withheld}
 use Rattle.tables.specs.Roster.{same_company}
 use Rattle.tables.specs.declared.round.Round.{Round}
 use Rattle.tables.specs.declared.roster.Company.{Company}

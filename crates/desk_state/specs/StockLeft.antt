@@ -2,9 +2,9 @@
 -- lie on the map.
 use Rattle.std.specs.Prelude.{ℕ, ◌-◌, List, Option, Some, None}
 use Rattle.board.specs.LayRules.{lying_of}
+use Rattle.events.specs.declared.event.Event.{Event}
 use Rattle.history.specs.Operating.{tokens_placed}
 use Rattle.history.specs.Trains.{trains_sold}
-use Rattle.history.specs.declared.event.Event.{Event}
 use Rattle.map_tables.specs.Tile.{entry_of}
 use Rattle.map_tables.specs.declared.lay.Lay.{Lay}
 use Rattle.map_tables.specs.declared.tiles.TileNo.{TileNo}

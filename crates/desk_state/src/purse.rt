@@ -1,8 +1,8 @@
 //! What a player has: cash, certificates, and what all of it is worth.
 ghost use Rattle.std.specs.Prelude.{◌≡◌, ◌<◌};
 ghost use Rattle.certs.specs.Counted.{counted_of};
+ghost use Rattle.events.specs.Event.{party_at};
 ghost use Rattle.history.specs.Bids.{free_cash_of};
-ghost use Rattle.history.specs.Event.{party_at};
 ghost use Rattle.history.specs.LookBack.{cash_of};
 ghost use Rattle.report.specs.Worth.{worth_of};
 

@@ -3,6 +3,13 @@ use Rattle.std.proofs.Common.{◌≡◌, ℕ, ◌≤◌, inl, inr, Bool, true, f
 use Rattle.std.proofs.lemmas.Bool.{cases_eq}
 use Rattle.std.proofs.lemmas.Int.{ints}
 use Rattle.std.specs.Option.{option_flatten, option_or}
+use Rattle.events.specs.Event.{ownership_of, party_at}
+use Rattle.events.specs.declared.event.Event.{Event}
+use Rattle.events.specs.declared.event.Event.TheVariants.{Bids, Sold, Price, Revenue}
+use Rattle.events.specs.declared.event.Holder.{Holder}
+use Rattle.events.specs.declared.event.Holder.TheVariants as holder
+use Rattle.events.specs.declared.event.Party.TheVariants as party
+use Rattle.events.specs.declared.event.Shareholder.TheVariants.{InitialOffering}
 use Rattle.history.proofs.Rolling.{trains_kept}
 use Rattle.history.proofs.Choices.{chosen, passed_over}
 use Rattle.history.proofs.BidWords.{differ_after_bid, differ_after_sale, elsewhere_kept, bid_silent, sale_silent, same_private_is, seated_after_bid, seated_after_sale, small_after_bid, small_after_sale, tied_by_bid, untied_by_sale}
@@ -11,16 +18,9 @@ use Rattle.history.proofs.Soundness.{companies_kept, differ_kept, fit_kept, floa
 use Rattle.history.proofs.Owned.{owner_is_party}
 use Rattle.history.proofs.Standing.{bids_split}
 use Rattle.history.specs.Bids.{bids_elsewhere_of, free_cash_of, tied_on}
-use Rattle.history.specs.Event.{ownership_of, party_at}
 use Rattle.history.specs.Laws.{BidKeepsSound, PriceKeepsSound, RevenueKeepsSound, SaleKeepsSound, SvIsGivenAway}
 use Rattle.history.specs.LookBack.{Game, cash_of, is_closed, is_sold, last_said, owner_said, paid_by, sv_price_of, with_event}
 use Rattle.history.specs.Sound.{AreOffered, CompaniesAreSolvent, IsGivenAway, IsSvPrice, SeatsAreSolvent, least_offered}
-use Rattle.history.specs.declared.event.Event.{Event}
-use Rattle.history.specs.declared.event.Event.TheVariants.{Bids, Sold, Price, Revenue}
-use Rattle.history.specs.declared.event.Holder.{Holder}
-use Rattle.history.specs.declared.event.Holder.TheVariants as holder
-use Rattle.history.specs.declared.event.Party.TheVariants as party
-use Rattle.history.specs.declared.event.Shareholder.TheVariants.{InitialOffering}
 use Rattle.tables.specs.Roster.{same_private}
 use Rattle.tables.specs.Seat.{seat_at}
 use Rattle.tables.specs.declared.roster.Company.{Company}

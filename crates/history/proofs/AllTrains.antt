@@ -2,14 +2,14 @@
 use Rattle.std.proofs.Common.{◌≡◌, ℕ, ◌+◌, inl, inr, Bool, true, false, ◌&&◌, List, [], ◌∷◌, Option, Some, None, pos, neg_ℤ, ◌-ℤ◌, ◌+ℤ◌, refl, ap, ◌∙◌, arith}
 use Rattle.std.proofs.lemmas.Int.{ints}
 use Rattle.std.proofs.lemmas.List.Sums.{sum_by-cons}
+use Rattle.events.specs.Event.{train_moved}
+use Rattle.events.specs.declared.event.Event.{Event}
+use Rattle.events.specs.declared.event.Event.TheVariants as event
+use Rattle.events.specs.declared.event.TrainMove.{TrainMove}
+use Rattle.events.specs.declared.event.TrainPlace.{TrainPlace}
+use Rattle.events.specs.declared.event.TrainPlace.TheVariants as place
 use Rattle.history.proofs.Choices.{truth}
-use Rattle.history.specs.Event.{train_moved}
 use Rattle.history.specs.Trains.{AllTrainsStay, one_if, same_train_place, stables, train_comes, train_goes, trains_at, trains_sold, trains_together}
-use Rattle.history.specs.declared.event.Event.{Event}
-use Rattle.history.specs.declared.event.Event.TheVariants as event
-use Rattle.history.specs.declared.event.TrainMove.{TrainMove}
-use Rattle.history.specs.declared.event.TrainPlace.{TrainPlace}
-use Rattle.history.specs.declared.event.TrainPlace.TheVariants as place
 use Rattle.tables.specs.Train.{same_kind}
 use Rattle.tables.specs.declared.rolling_stock.Kind.{Kind}
 use Rattle.tables.specs.declared.roster.Company.TheVariants.{Pennsylvania, NewYorkCentral, CanadianPacific, BaltimoreOhio, ChesapeakeOhio, Erie, NewHaven, BostonMaine}

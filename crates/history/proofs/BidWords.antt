@@ -3,16 +3,16 @@ use Rattle.std.proofs.Common.{◌<◌, ◌≡◌, ℕ, ◌≤◌, ◌==◌, ◌�
 use Rattle.std.proofs.lemmas.Bool.Decides.{Decides-eqb, nat_tests}
 use Rattle.std.specs.Option.{option_flatten, option_or}
 use std.Path.{fun_ext}
+use Rattle.events.specs.Event.{bidding_of, obeyed_by, obeyed_of}
+use Rattle.events.specs.Orders.{said_by}
+use Rattle.events.specs.declared.event.Event.{Event}
+use Rattle.events.specs.declared.event.Event.TheVariants.{Bids, Ruled, Sold}
+use Rattle.events.specs.declared.ruling.Ruling.{Ruling}
+use Rattle.events.specs.declared.ruling.Ruling.TheVariants.{Faulty, Obeyed, Refused}
 use Rattle.history.proofs.EventAtEnd.{last_said_at_end, now_said_before}
 use Rattle.history.specs.Bids.{bid_of, bid_said, bids_elsewhere_of, tied_on}
-use Rattle.history.specs.Event.{bidding_of, obeyed_by, obeyed_of}
 use Rattle.history.specs.LookBack.{last_said, now_said}
-use Rattle.history.specs.Orders.{said_by}
 use Rattle.history.specs.Sound.{BiddersAreSeated, BidsAreSmall, BidsDiffer}
-use Rattle.history.specs.declared.event.Event.{Event}
-use Rattle.history.specs.declared.event.Event.TheVariants.{Bids, Ruled, Sold}
-use Rattle.history.specs.declared.ruling.Ruling.{Ruling}
-use Rattle.history.specs.declared.ruling.Ruling.TheVariants.{Faulty, Obeyed, Refused}
 use Rattle.order_grammar.specs.declared.condition.Condition.{Condition}
 use Rattle.order_grammar.specs.declared.order.Order.{Order}
 use Rattle.tables.specs.Roster.{place_of_private, privates, same_private}

@@ -2,6 +2,13 @@
 use Rattle.std.proofs.Common.{◌≡◌, ℕ, ◌<◌, ◌==◌, inl, inr, Bool, false, if◌then◌else◌, List, [], ◌∷◌, ◌++◌, Option, Some, None, is_some, unwrap_or, ℤ, pos, ◌≤ℤ◌, refl, sym, subst, ap, ◌∙◌, arith}
 use Rattle.std.proofs.lemmas.Int.{ints}
 use Rattle.std.specs.Option.{option_or}
+use Rattle.events.specs.Event.{floated_by, party_at, square_set}
+use Rattle.events.specs.declared.event.Event.{Event}
+use Rattle.events.specs.declared.event.Event.TheVariants.{Floats, Moves, President, Sells}
+use Rattle.events.specs.declared.event.Holder.TheVariants as holder
+use Rattle.events.specs.declared.event.Party.TheVariants as party
+use Rattle.events.specs.declared.event.Shareholder.TheVariants.{InitialOffering, BankPool, Seat as OfSeat}
+use Rattle.events.specs.declared.event.Transfer.{Transfer}
 use Rattle.history.proofs.Rolling.{trains_kept}
 use Rattle.history.proofs.Choices.{new_word, nothing_there, old_word, same_company_is, truth}
 use Rattle.history.proofs.EventAtEnd.{bids_of_before, cash_of_at_end, is_floated_before, last_said_at_end, par_of_before, president_of_before, shares_of_before, square_of_before}
@@ -9,17 +16,10 @@ use Rattle.history.proofs.Settled.{IsSettled, sound_of, told_same, told_settled}
 use Rattle.history.proofs.Soundness.{companies_kept, differ_kept, fit_kept, floated_kept, given_kept, held_kept, is_led_kept, least_offered_before, led_kept, offered_kept, price_kept, seated_kept, small_kept, solvent_kept, ten_kept, within_after, within_kept}
 use Rattle.history.proofs.Starts.{least_eight, president_after}
 use Rattle.history.proofs.Tenths.{held_after, moved, part, shares_after, ten_after}
-use Rattle.history.specs.Event.{floated_by, party_at, square_set}
 use Rattle.history.specs.Laws.{BlockKeepsSound, BlockWithSuccessionKeepsSound, FloatKeepsSound, MoveKeepsSound, SuccessionKeepsSound, block_sold}
 use Rattle.history.specs.LookBack.{Game, last_said, with_event}
 use Rattle.history.specs.Shares.{float_said, is_floated, par_of, president_of, shares_of, square_of, square_said}
 use Rattle.history.specs.Sound.{IsLed, IsSound}
-use Rattle.history.specs.declared.event.Event.{Event}
-use Rattle.history.specs.declared.event.Event.TheVariants.{Floats, Moves, President, Sells}
-use Rattle.history.specs.declared.event.Holder.TheVariants as holder
-use Rattle.history.specs.declared.event.Party.TheVariants as party
-use Rattle.history.specs.declared.event.Shareholder.TheVariants.{InitialOffering, BankPool, Seat as OfSeat}
-use Rattle.history.specs.declared.event.Transfer.{Transfer}
 use Rattle.tables.specs.Roster.{same_company}
 use Rattle.tables.specs.declared.roster.Company.{Company}
 use Rattle.tables.specs.declared.seat.Seat.{Seat}

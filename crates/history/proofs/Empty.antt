@@ -2,9 +2,9 @@
 use Rattle.std.proofs.Common.{◌≡◌, ℕ, zero, suc, ◌<◌, false, List, [], Option, None, pos, slice_index_or, refl, ap, ◌∙◌, arith}
 use Rattle.std.specs.Prelude.{replicate}
 use Rattle.std.proofs.lemmas.Int.{ints}
+use Rattle.events.specs.declared.event.Event.{Event}
 use Rattle.history.proofs.Tied.{none_standing}
 use Rattle.history.specs.Books.{IsCounted, IsNet, at_company, bid_in, count_at, net_at, sale_in}
-use Rattle.history.specs.declared.event.Event.{Event}
 use Rattle.tables.specs.Roster.{place_of_company}
 use Rattle.tables.specs.declared.roster.Company.{Company}
 use Rattle.tables.specs.declared.roster.Company.TheVariants as company

@@ -6,17 +6,17 @@ use Rattle.std.proofs.lemmas.List.Sums.{sum_by_push}
 use Rattle.std.specs.Option.{option_or, option_flatten}
 use std.Path.{fun_ext}
 use Rattle.std.specs.List.{flat_map}
+use Rattle.events.specs.Event.{bidding_of, floated_by, office_of, ownership_of, par_set, payment_of, square_set, sv_price_set, train_moved, transfer_of}
+use Rattle.events.specs.declared.event.Event.{Event}
+use Rattle.events.specs.declared.event.Holder.{Holder}
+use Rattle.events.specs.declared.event.Party.{Party}
+use Rattle.events.specs.declared.event.Shareholder.{Shareholder}
+use Rattle.events.specs.declared.event.TrainPlace.{TrainPlace}
 use Rattle.history.specs.Bids.{as_bid, bid_of, bid_said, bids_of, bids_on}
-use Rattle.history.specs.Event.{bidding_of, floated_by, office_of, ownership_of, par_set, payment_of, square_set, sv_price_set, train_moved, transfer_of}
 use Rattle.history.specs.Laws.{CashMoves, LastWordIsLast, QuietSaysTheSame}
 use Rattle.history.specs.LookBack.{balance, cash_of, first_unsold, is_closed, is_sold, last_said, now_said, owner_of, owner_said, paid_by, paid_to, sv_price_of}
 use Rattle.history.specs.Shares.{brought_to, float_said, is_floated, par_of, par_said, president_of, president_said, shares_of, square_of, square_said, taken_from}
 use Rattle.history.specs.Trains.{one_if, train_comes, train_goes, trains_at}
-use Rattle.history.specs.declared.event.Event.{Event}
-use Rattle.history.specs.declared.event.Holder.{Holder}
-use Rattle.history.specs.declared.event.Party.{Party}
-use Rattle.history.specs.declared.event.Shareholder.{Shareholder}
-use Rattle.history.specs.declared.event.TrainPlace.{TrainPlace}
 use Rattle.tables.specs.Roster.{face_of, privates}
 use Rattle.tables.specs.Seat.{all_seats}
 use Rattle.tables.specs.declared.rolling_stock.Kind.{Kind}

@@ -2,16 +2,16 @@
 use Rattle.std.proofs.Common.{ℕ, inl, inr, pos, ◌≤ℤ◌, refl, subst, ap, arith}
 use Rattle.std.proofs.lemmas.Bool.{cases_eq}
 use Rattle.std.proofs.lemmas.Int.{ints}
+use Rattle.events.specs.Event.{party_at, party_of_company}
+use Rattle.events.specs.declared.event.Event.TheVariants.{Aid, Bankrupt, Forced}
 use Rattle.history.proofs.Choices.{chosen, passed_over}
 use Rattle.history.proofs.EventAtEnd.{bids_of_before, cash_of_at_end}
 use Rattle.history.proofs.Rolling.{trains_kept}
 use Rattle.history.proofs.Soundness.{differ_kept, fit_kept, floated_kept, given_kept, held_kept, led_kept, offered_kept, price_kept, quiet_sound, seated_kept, small_kept, ten_kept, within_after}
 use Rattle.history.specs.Bids.{free_cash_of}
-use Rattle.history.specs.Event.{party_at, party_of_company}
 use Rattle.history.specs.Laws.{AidKeepsSound, BankruptcyKeepsSound, ForcingKeepsSound}
 use Rattle.history.specs.LookBack.{Game, with_event}
 use Rattle.history.specs.Sound.{CompaniesAreSolvent, SeatsAreSolvent}
-use Rattle.history.specs.declared.event.Event.TheVariants.{Aid, Bankrupt, Forced}
 use Rattle.tables.specs.Seat.{seat_at}
 use Rattle.tables.specs.declared.roster.Company.{Company}
 use Rattle.tables.specs.declared.seat.Seat.{Seat}

@@ -2,19 +2,19 @@
 -- president has at least as many as before, and enough are left in each initial offering, where there were.
 use Rattle.std.proofs.Common.{◌≡◌, ℕ, ◌+◌, List, [], ◌∷◌, ◌++◌, Some, None, pos, ◌≤ℤ◌, refl, sym, ◌∙◌, arith}
 use Rattle.std.proofs.lemmas.Int.{ints}
+use Rattle.events.specs.Event.{bidding_of, floated_by, office_of, ownership_of, par_set, payment_of, place_of_source, square_set, sv_price_set, tile_laid, token_placed, train_moved, transfer_of}
+use Rattle.events.specs.declared.event.Event.{Event}
+use Rattle.events.specs.declared.event.Shareholder.{Shareholder}
+use Rattle.events.specs.declared.event.Shareholder.TheVariants.{InitialOffering, BankPool, Seat as OfSeat}
+use Rattle.events.specs.declared.event.Transfer.{Transfer}
 use Rattle.history.proofs.Rolling.{trains_kept}
 use Rattle.history.proofs.EventAtEnd.{is_floated_before, par_of_before, president_of_before, square_of_before}
 use Rattle.history.proofs.Soundness.{differ_kept, fit_kept, given_kept, least_offered_before, price_kept, seated_kept, small_kept, within_after}
 use Rattle.history.proofs.Tenths.{IsAtTable, held_after, moved, part, shares_after, ten_after}
-use Rattle.history.specs.Event.{bidding_of, floated_by, office_of, ownership_of, par_set, payment_of, place_of_source, square_set, sv_price_set, tile_laid, token_placed, train_moved, transfer_of}
 use Rattle.history.specs.LookBack.{Game, with_event}
 use Rattle.history.specs.Money.{IsWithin}
 use Rattle.history.specs.Shares.{shares_of, square_of}
 use Rattle.history.specs.Sound.{AreLed, AreOffered, CompaniesAreSolvent, FloatedAreLed, IsLed, IsSound, SeatsAreSolvent, least_offered}
-use Rattle.history.specs.declared.event.Event.{Event}
-use Rattle.history.specs.declared.event.Shareholder.{Shareholder}
-use Rattle.history.specs.declared.event.Shareholder.TheVariants.{InitialOffering, BankPool, Seat as OfSeat}
-use Rattle.history.specs.declared.event.Transfer.{Transfer}
 use Rattle.order_grammar.specs.declared.order.ShareSource.{ShareSource}
 use Rattle.order_grammar.specs.declared.order.ShareSource.TheVariants as source
 use Rattle.tables.specs.declared.roster.Company.{Company}

@@ -1,21 +1,21 @@
 -- A gift of tenths keeps a list sound; so does CA's sale with its gift.
 use Rattle.std.proofs.Common.{◌≡◌, ℕ, ◌+◌, ◌<◌, inl, inr, Bool, true, if◌then◌else◌, List, None, is_some, ℤ, pos, ◌≤ℤ◌, refl, sym, subst, ap, arith}
 use Rattle.std.proofs.lemmas.Int.{ints}
+use Rattle.events.specs.Event.{ownership_of}
+use Rattle.events.specs.declared.event.Event.{Event}
+use Rattle.events.specs.declared.event.Event.TheVariants.{Given, Sold}
+use Rattle.events.specs.declared.event.Shareholder.TheVariants.{InitialOffering, Seat as OfSeat}
+use Rattle.events.specs.declared.event.Transfer.{Transfer}
 use Rattle.history.proofs.Choices.{same_company_is, truth}
 use Rattle.history.proofs.Acts.{sale_sound}
 use Rattle.history.proofs.EventAtEnd.{last_said_at_end, shares_of_before}
 use Rattle.history.proofs.Gains.{EnoughAreLeft, Gains, gain_sound}
 use Rattle.history.proofs.Soundness.{companies_kept, solvent_kept}
 use Rattle.history.proofs.Tenths.{moved}
-use Rattle.history.specs.Event.{ownership_of}
 use Rattle.history.specs.Laws.{CaIsSoldWithItsGift, GiftKeepsSound}
 use Rattle.history.specs.LookBack.{is_sold, owner_said, with_event}
 use Rattle.history.specs.Shares.{shares_of, square_of}
 use Rattle.history.specs.Sound.{AreOffered, least_offered}
-use Rattle.history.specs.declared.event.Event.{Event}
-use Rattle.history.specs.declared.event.Event.TheVariants.{Given, Sold}
-use Rattle.history.specs.declared.event.Shareholder.TheVariants.{InitialOffering, Seat as OfSeat}
-use Rattle.history.specs.declared.event.Transfer.{Transfer}
 use Rattle.tables.specs.Roster.{same_company}
 use Rattle.tables.specs.declared.roster.Company.{Company}
 use Rattle.tables.specs.declared.roster.Company.TheVariants.{Pennsylvania}

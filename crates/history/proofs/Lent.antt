@@ -1,9 +1,9 @@
 -- The books that a reader is lent, if there are any.
 use Rattle.std.proofs.Common.{◌≡◌, List, [], ◌∷◌, Bor, Option, Some, None, length, refl, ap, subst, arith}
 use Rattle.std.specs.Prelude.{MatchOption}
+use Rattle.events.specs.declared.event.Event.{Event}
 use Rattle.history.specs.Books.{AreBooksOf}
 use Rattle.history.specs.declared.books.Books.{Books}
-use Rattle.history.specs.declared.event.Event.{Event}
 
 -- there are books of these events, or there are no events
 abbrev pub AreLent : Option (Bor Books) → List Event → Type 0

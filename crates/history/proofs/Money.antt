@@ -5,15 +5,15 @@ use Rattle.std.proofs.lemmas.Bool.Decides.{nat_tests}
 use Rattle.std.proofs.lemmas.Int.{ints}
 use Rattle.std.proofs.lemmas.List.Sums.{sum_by-cons}
 use Rattle.std.specs.List.{range_with_len}
+use Rattle.events.specs.Event.{party_at, party_of_company, payment_of}
+use Rattle.events.specs.declared.event.Event.{Event}
+use Rattle.events.specs.declared.event.Holder.TheVariants as holder
+use Rattle.events.specs.declared.event.Party.{Party}
+use Rattle.events.specs.declared.event.Party.TheVariants as party
+use Rattle.events.specs.declared.event.Payment.{Payment}
 use Rattle.history.proofs.Choices.{chosen, passed_over}
-use Rattle.history.specs.Event.{party_at, party_of_company, payment_of}
 use Rattle.history.specs.LookBack.{cash_of, paid_by, paid_to, same_party}
 use Rattle.history.specs.Money.{AllMoneyStays, IsParty, IsWithin, cash_together, parties}
-use Rattle.history.specs.declared.event.Event.{Event}
-use Rattle.history.specs.declared.event.Holder.TheVariants as holder
-use Rattle.history.specs.declared.event.Party.{Party}
-use Rattle.history.specs.declared.event.Party.TheVariants as party
-use Rattle.history.specs.declared.event.Payment.{Payment}
 use Rattle.tables.specs.Roster.{bank_start_of, companies, start_money_of}
 use Rattle.tables.specs.Seat.{all_seats, seat_at}
 use Rattle.tables.specs.declared.roster.Company.{Company}

@@ -4,22 +4,22 @@ use Rattle.std.proofs.lemmas.Bool.{cases_eq}
 use Rattle.std.proofs.lemmas.Int.{ints}
 use mir.Syntax.{w128}
 use mir.Val.{to_z, of_z}
+use Rattle.events.specs.Event.{stable_of}
+use Rattle.events.specs.declared.event.Event.{Event}
+use Rattle.events.specs.declared.event.Holder.TheVariants as holder
+use Rattle.events.specs.declared.event.Party.{Party}
+use Rattle.events.specs.declared.event.Party.TheVariants as party
+use Rattle.events.specs.declared.event.Payment.{Payment}
+use Rattle.events.specs.declared.event.Shareholder.{Shareholder}
+use Rattle.events.specs.declared.event.Shareholder.TheVariants.{InitialOffering, BankPool, Seat as OfSeat}
+use Rattle.events.specs.declared.event.TrainMove.{TrainMove}
+use Rattle.events.specs.declared.event.TrainPlace.{TrainPlace}
+use Rattle.events.specs.declared.event.TrainPlace.TheVariants as train_place
+use Rattle.events.specs.declared.event.Transfer.{Transfer}
 use Rattle.history.specs.Books.{IsNet, IsSafe, net_at, party_entry, row_of, tenths_entry, train_entry, train_row}
 use Rattle.history.specs.LookBack.{IsModerate, balance, paid_by, paid_to, same_party}
 use Rattle.history.specs.Shares.{brought_to, same_shareholder, taken_from}
-use Rattle.history.specs.Event.{stable_of}
 use Rattle.history.specs.Trains.{any_comes, any_goes, one_if, same_train_place, train_comes, train_goes}
-use Rattle.history.specs.declared.event.Event.{Event}
-use Rattle.history.specs.declared.event.Holder.TheVariants as holder
-use Rattle.history.specs.declared.event.Party.{Party}
-use Rattle.history.specs.declared.event.Party.TheVariants as party
-use Rattle.history.specs.declared.event.Payment.{Payment}
-use Rattle.history.specs.declared.event.Shareholder.{Shareholder}
-use Rattle.history.specs.declared.event.Shareholder.TheVariants.{InitialOffering, BankPool, Seat as OfSeat}
-use Rattle.history.specs.declared.event.TrainMove.{TrainMove}
-use Rattle.history.specs.declared.event.TrainPlace.{TrainPlace}
-use Rattle.history.specs.declared.event.TrainPlace.TheVariants as train_place
-use Rattle.history.specs.declared.event.Transfer.{Transfer}
 use Rattle.tables.specs.Roster.{place_of_company, same_company}
 use Rattle.tables.specs.Train.{place_of_kind, same_kind}
 use Rattle.tables.specs.declared.rolling_stock.Kind.{Kind}

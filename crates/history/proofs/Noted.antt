@@ -5,21 +5,22 @@ use Rattle.std.proofs.lemmas.List.Folds.{list_any-append}
 use Rattle.std.proofs.lemmas.Int.{ints}
 use Rattle.std.specs.List.{cons_option, list_any}
 use Rattle.std.specs.Option.{option_flatten, option_map, option_or}
+use Rattle.events.specs.Event.{bidding_of, obeyed_of, round_of}
+use Rattle.events.specs.Offers.{offered_in}
+use Rattle.events.specs.Orders.{said_by}
+use Rattle.events.specs.declared.event.Bidding.{Bidding}
+use Rattle.events.specs.declared.event.Event.{Event}
 use Rattle.history.proofs.BidWords.{bid_of_at_end, now_said_at_end}
 use Rattle.history.proofs.EventAtEnd.{balance_at_end, last_said_at_end}
 use Rattle.history.proofs.InOrder.{rulings_at_end, tokens_at_end}
 use Rattle.history.proofs.Places.{last_place_at_end}
 use Rattle.history.specs.Bids.{bid_of, bid_said}
 use Rattle.history.specs.Books.{AreBooksOf, IsCounted, IsNet, flag_then, here_if}
-use Rattle.history.specs.Event.{bidding_of, obeyed_of, round_of}
 use Rattle.history.specs.LookBack.{IsModerate, in_round, last_place_from, last_said, now_said}
-use Rattle.history.specs.Offers.{AreOffersOf, is_among, is_that_offer, offered_in, tells_offer}
+use Rattle.history.specs.Offers.{AreOffersOf, is_among, is_that_offer, tells_offer}
 use Rattle.history.specs.Operating.{rulings_in_round, rulings_then, tokens_placed}
-use Rattle.history.specs.Orders.{said_by}
 use Rattle.history.specs.Trains.{one_if}
 use Rattle.history.specs.declared.books.Books.{Books}
-use Rattle.history.specs.declared.event.Bidding.{Bidding}
-use Rattle.history.specs.declared.event.Event.{Event}
 use Rattle.order_grammar.specs.declared.order.Offer.{Offer}
 use Rattle.tables.specs.declared.roster.Company.{Company}
 use Rattle.tables.specs.declared.roster.Private.{Private}

@@ -2,18 +2,18 @@
 -- company has what it pays.
 use Rattle.std.proofs.Common.{◌≡◌, ℕ, inl, inr, if◌then◌else◌, [], ◌∷◌, ◌++◌, None, pos, ◌≤ℤ◌, refl, subst, arith}
 use Rattle.std.proofs.lemmas.Int.{ints}
+use Rattle.events.specs.Event.{bidding_of, floated_by, office_of, ownership_of, par_set, party_at, party_of_company, payment_of, square_set, sv_price_set, transfer_of}
+use Rattle.events.specs.declared.event.Event.{Event}
+use Rattle.events.specs.declared.event.Event.TheVariants.{Home, Laid, Token, Withheld}
 use Rattle.history.proofs.Choices.{same_company_is, truth}
 use Rattle.history.proofs.EventAtEnd.{bids_of_before, cash_of_at_end}
 use Rattle.history.proofs.Rolling.{trains_kept}
 use Rattle.history.proofs.Soundness.{differ_kept, fit_kept, floated_kept, given_kept, held_kept, led_kept, offered_kept, price_kept, seated_kept, small_kept, ten_kept, within_after}
-use Rattle.history.specs.Event.{bidding_of, floated_by, office_of, ownership_of, par_set, party_at, party_of_company, payment_of, square_set, sv_price_set, transfer_of}
 use Rattle.history.specs.Laws.{HomeKeepsSound, LayKeepsSound, TokenKeepsSound, WithholdingKeepsSound}
 use Rattle.history.specs.LookBack.{Game, cash_of, paid_by, with_event}
 use Rattle.history.specs.Money.{IsWithin}
 use Rattle.history.specs.Sound.{CompaniesAreSolvent, IsSound, LiesFit}
 use Rattle.history.specs.Trains.{TrainsAreHeld}
-use Rattle.history.specs.declared.event.Event.{Event}
-use Rattle.history.specs.declared.event.Event.TheVariants.{Home, Laid, Token, Withheld}
 use Rattle.tables.specs.Roster.{same_company}
 use Rattle.tables.specs.declared.roster.Company.{Company}
 use Rattle.tables.specs.declared.seat.Seat.{Seat}

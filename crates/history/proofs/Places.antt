@@ -1,10 +1,10 @@
 -- The place of the last event that speaks of a thing, once one more event stands at the end.
 use Rattle.std.proofs.Common.{◌≡◌, ℕ, ◌+◌, List, [], ◌∷◌, ◌++◌, Option, length, sym, ap, ◌∙◌, arith}
 use Rattle.std.specs.Option.{option_or}
+use Rattle.events.specs.declared.event.Event.{Event}
 use Rattle.history.proofs.EventAtEnd.{option_or_assoc, option_or_none}
 use Rattle.history.specs.Books.{here_if}
 use Rattle.history.specs.LookBack.{last_place_from}
-use Rattle.history.specs.declared.event.Event.{Event}
 
 -- the place of the event at the end, if it speaks, or else what it was before
 pub last_place_at_end : {A : Type 0} (says : Event → Option A) (from : ℕ) (events : List Event) (event : Event) → last_place_from says from (events ++ event ∷ []) ≡ option_or (here_if (says event) (from + length events)) (last_place_from says from events)

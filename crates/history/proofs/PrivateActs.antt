@@ -2,6 +2,12 @@
 use Rattle.std.proofs.Common.{◌≡◌, ℕ, ◌≤◌, Bool, true, false, ◌&&◌, if◌then◌else◌, List, [], ◌∷◌, ◌++◌, Option, Some, None, is_some, is_none, refl, sym, ap, ◌∙◌, arith}
 use Rattle.std.proofs.lemmas.Int.{ints}
 use Rattle.std.specs.Option.{option_flatten, option_or}
+use Rattle.events.specs.Event.{ownership_of, party_at, party_of_company}
+use Rattle.events.specs.declared.event.Event.{Event}
+use Rattle.events.specs.declared.event.Event.TheVariants.{PrivateBought}
+use Rattle.events.specs.declared.event.Holder.{Holder}
+use Rattle.events.specs.declared.event.Holder.TheVariants as holder
+use Rattle.events.specs.declared.event.Shareholder.TheVariants.{InitialOffering}
 use Rattle.history.proofs.Acts.{fewer, stays_sold}
 use Rattle.history.proofs.BidWords.{same_private_is}
 use Rattle.history.proofs.EventAtEnd.{bids_of_before, cash_of_at_end, last_said_at_end, shares_of_before, square_of_before, sv_price_of_before}
@@ -9,15 +15,9 @@ use Rattle.history.proofs.Owned.{owner_is_party}
 use Rattle.history.proofs.Payments.{can_pay}
 use Rattle.history.proofs.Rolling.{trains_kept}
 use Rattle.history.proofs.Soundness.{differ_kept, fit_kept, floated_kept, held_kept, led_kept, price_kept, seated_kept, small_kept, ten_kept, within_after}
-use Rattle.history.specs.Event.{ownership_of, party_at, party_of_company}
 use Rattle.history.specs.Laws.{PrivateKeepsSound}
 use Rattle.history.specs.LookBack.{is_closed, is_sold, last_said, owner_of, owner_said}
 use Rattle.history.specs.Sound.{AreOffered, IsGivenAway, least_offered}
-use Rattle.history.specs.declared.event.Event.{Event}
-use Rattle.history.specs.declared.event.Event.TheVariants.{PrivateBought}
-use Rattle.history.specs.declared.event.Holder.{Holder}
-use Rattle.history.specs.declared.event.Holder.TheVariants as holder
-use Rattle.history.specs.declared.event.Shareholder.TheVariants.{InitialOffering}
 use Rattle.tables.specs.Roster.{same_private}
 use Rattle.tables.specs.declared.roster.Company.{Company}
 use Rattle.tables.specs.declared.roster.Company.TheVariants.{Pennsylvania, NewYorkCentral, CanadianPacific, BaltimoreOhio, ChesapeakeOhio, Erie, NewHaven, BostonMaine}

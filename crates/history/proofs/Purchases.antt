@@ -3,6 +3,14 @@ use Rattle.std.proofs.Common.{◌≡◌, ℕ, ◌≤◌, ◌<◌, inl, inr, Bool
 use Rattle.std.proofs.lemmas.Bool.{cases_eq}
 use Rattle.std.proofs.lemmas.Int.{ints}
 use Rattle.std.specs.Option.{option_flatten}
+use Rattle.events.specs.Event.{ownership_of, party_at, place_of_source}
+use Rattle.events.specs.declared.event.Event.{Event}
+use Rattle.events.specs.declared.event.Event.TheVariants.{Bought, Exchanged, Par}
+use Rattle.events.specs.declared.event.Holder.{Holder}
+use Rattle.events.specs.declared.event.Holder.TheVariants as holder
+use Rattle.events.specs.declared.event.Party.TheVariants as party
+use Rattle.events.specs.declared.event.Shareholder.TheVariants.{InitialOffering, Seat as OfSeat}
+use Rattle.events.specs.declared.event.Transfer.{Transfer}
 use Rattle.history.proofs.Rolling.{trains_kept}
 use Rattle.history.proofs.Choices.{chosen, passed_over, same_company_is, truth}
 use Rattle.history.proofs.Acts.{stays_sold}
@@ -12,18 +20,10 @@ use Rattle.history.proofs.Soundness.{companies_kept, differ_kept, fit_kept, free
 use Rattle.history.proofs.Starts.{start_sound_by}
 use Rattle.history.proofs.Tenths.{held_after, moved, part, shares_after, ten_after}
 use Rattle.history.specs.Bids.{free_cash_of}
-use Rattle.history.specs.Event.{ownership_of, party_at, place_of_source}
 use Rattle.history.specs.Laws.{ExchangeKeepsSound, PurchaseKeepsSound, StartByPurchaseKeepsSound}
 use Rattle.history.specs.LookBack.{Game, last_said, owner_of, owner_said, with_event}
 use Rattle.history.specs.Shares.{shares_of, square_of}
 use Rattle.history.specs.Sound.{AreOffered, CompaniesAreSolvent, SeatsAreSolvent, least_offered}
-use Rattle.history.specs.declared.event.Event.{Event}
-use Rattle.history.specs.declared.event.Event.TheVariants.{Bought, Exchanged, Par}
-use Rattle.history.specs.declared.event.Holder.{Holder}
-use Rattle.history.specs.declared.event.Holder.TheVariants as holder
-use Rattle.history.specs.declared.event.Party.TheVariants as party
-use Rattle.history.specs.declared.event.Shareholder.TheVariants.{InitialOffering, Seat as OfSeat}
-use Rattle.history.specs.declared.event.Transfer.{Transfer}
 use Rattle.order_grammar.specs.declared.order.ShareSource.{ShareSource}
 use Rattle.order_grammar.specs.declared.order.ShareSource.TheVariants as source
 use Rattle.tables.specs.Roster.{same_company}

@@ -1,18 +1,18 @@
 -- A list that is sound but perhaps for who leads the companies; and the word that the bank is broken, which
 -- changes nothing else.
 use Rattle.std.proofs.Common.{true, false, if◌then◌else◌, List, [], ◌∷◌, ◌++◌, refl}
+use Rattle.events.specs.Event.{IsQuiet}
+use Rattle.events.specs.declared.event.Event.{Event}
+use Rattle.events.specs.declared.event.Event.TheVariants.{Broken}
 use Rattle.history.proofs.Rolling.{trains_kept}
 use Rattle.history.proofs.EventAtEnd.{quiet_same}
 use Rattle.history.proofs.Soundness.{companies_kept, differ_kept, fit_kept, given_kept, held_kept, offered_kept, price_kept, seated_kept, small_kept, solvent_kept, ten_kept, within_kept}
-use Rattle.history.specs.Event.{IsQuiet}
 use Rattle.history.specs.Laws.{SaysTheSame}
 use Rattle.history.specs.LookBack.{Game, sv_price_of, with_event}
 use Rattle.history.specs.Money.{AreWithin}
 use Rattle.history.specs.Sound.{AreLed, AreOffered, AreTenInAll, BiddersAreSeated, BidsAreSmall, BidsDiffer, CompaniesAreSolvent, FloatedAreLed, IsGivenAway, IsSound, IsSvPrice, LiesFit, SeatsAreSolvent, TenthsAreHeld}
 use Rattle.history.specs.Tell.{breaks, broken_told}
 use Rattle.history.specs.Trains.{TrainsAreHeld}
-use Rattle.history.specs.declared.event.Event.{Event}
-use Rattle.history.specs.declared.event.Event.TheVariants.{Broken}
 
 -- sound but perhaps for who leads the companies
 pub record IsSettled (game : Game) : Type 0 where

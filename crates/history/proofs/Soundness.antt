@@ -1,21 +1,21 @@
 -- What keeps a list sound: an event without the aspects of a fact keeps that fact.
 use Rattle.std.proofs.Common.{◌≡◌, ℕ, ◌≤◌, List, [], ◌∷◌, ◌++◌, None, pos, ◌≤ℤ◌, ◌-ℤ◌, ◌+ℤ◌, ℤ, refl, sym, subst, ap, ◌∙◌, arith, if◌then◌else◌, inl}
 use Rattle.std.proofs.lemmas.Int.{ints}
+use Rattle.events.specs.Event.{bidding_of, floated_by, office_of, ownership_of, par_set, party_at, payment_of, square_set, sv_price_set, tile_laid, token_placed, transfer_of}
+use Rattle.events.specs.declared.event.Event.{Event}
+use Rattle.events.specs.declared.event.Holder.TheVariants as holder
+use Rattle.events.specs.declared.event.Party.TheVariants as party
+use Rattle.events.specs.declared.event.Shareholder.TheVariants.{InitialOffering, BankPool, Seat as OfSeat}
 use Rattle.history.proofs.InOrder.{lays_before, tokens_before}
 use Rattle.history.proofs.Rolling.{no_trains, trains_kept}
 use Rattle.history.proofs.EventAtEnd.{bid_of_before, bids_of_before, cash_of_before, is_closed_before, is_floated_before, is_sold_before, par_of_before, president_of_before, shares_of_before, square_of_before, sv_price_of_before}
 use Rattle.history.specs.Bids.{bids_of, free_cash_of}
-use Rattle.history.specs.Event.{bidding_of, floated_by, office_of, ownership_of, par_set, party_at, payment_of, square_set, sv_price_set, tile_laid, token_placed, transfer_of}
 use Rattle.history.specs.Laws.{QuietKeepsSound}
 use Rattle.history.specs.LookBack.{Game, cash_of, sv_price_of, with_event}
 use Rattle.history.specs.Money.{AreWithin, IsWithin}
 use Rattle.history.specs.Operating.{lays_of, tokens_of}
 use Rattle.history.specs.Shares.{held_by, shares_of}
 use Rattle.history.specs.Sound.{AreLed, AreOffered, AreTenInAll, BiddersAreSeated, BidsAreSmall, BidsDiffer, CompaniesAreSolvent, FloatedAreLed, IsGivenAway, IsLed, IsSound, IsSvPrice, LiesFit, SeatsAreSolvent, TenthsAreHeld, least_offered}
-use Rattle.history.specs.declared.event.Event.{Event}
-use Rattle.history.specs.declared.event.Holder.TheVariants as holder
-use Rattle.history.specs.declared.event.Party.TheVariants as party
-use Rattle.history.specs.declared.event.Shareholder.TheVariants.{InitialOffering, BankPool, Seat as OfSeat}
 use Rattle.map_tables.proofs.NothingFits.{nothing_fits}
 use Rattle.map_tables.specs.Fit.{AreFitWithHomes}
 use Rattle.map_tables.specs.declared.lay.Lay.{Lay}

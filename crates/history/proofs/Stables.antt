@@ -4,14 +4,14 @@ use Rattle.std.proofs.lemmas.Int.{fits_signed_from_abs, ints, to_z-of_z}
 use Rattle.std.proofs.lemmas.List.Sums.{count_by-le-length, sum_by-cons}
 use mir.Syntax.{w64, w128}
 use mir.Val.{of_z, to_z}
+use Rattle.events.specs.Event.{stable_of, train_moved}
+use Rattle.events.specs.declared.event.Event.{Event}
+use Rattle.events.specs.declared.event.TrainMove.{TrainMove}
 use Rattle.history.proofs.AllTrains.{trains_in_front}
 use Rattle.history.proofs.NetTables.{net_kept}
 use Rattle.history.specs.Books.{IsNet}
-use Rattle.history.specs.Event.{stable_of, train_moved}
 use Rattle.history.specs.LookBack.{balance}
 use Rattle.history.specs.Trains.{any_comes, any_goes, count_of, one_if, stable_size, train_comes, train_goes}
-use Rattle.history.specs.declared.event.Event.{Event}
-use Rattle.history.specs.declared.event.TrainMove.{TrainMove}
 use Rattle.tables.specs.Train.{kinds, same_kind}
 use Rattle.tables.specs.declared.rolling_stock.Kind.{Kind}
 use Rattle.tables.specs.declared.rolling_stock.Kind.TheVariants.{Two, Three, Four, Five, Six, Diesel}

@@ -8,11 +8,11 @@ use Rattle.std.proofs.lemmas.Int.{ints}
 use Rattle.std.specs.List.{flat_map}
 use mir.Syntax.{w128}
 use mir.Val.{to_z, of_z}
+use Rattle.events.specs.declared.event.Bid.{Bid}
+use Rattle.events.specs.declared.event.Event.{Event}
 use Rattle.history.specs.LookBack.{IsModerate}
 use Rattle.std.proofs.lemmas.List.Sums.{sum_by-cons}
 use Rattle.history.specs.Bids.{as_bid, bid_of, bids_elsewhere_of, bids_of, bids_on, tied_elsewhere, tied_on}
-use Rattle.history.specs.declared.event.Bid.{Bid}
-use Rattle.history.specs.declared.event.Event.{Event}
 use Rattle.tables.specs.Seat.{all_seats, seat_at}
 use Rattle.tables.specs.Roster.{privates}
 use Rattle.tables.specs.declared.roster.Private.{Private}

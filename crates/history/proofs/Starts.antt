@@ -3,21 +3,21 @@ use Rattle.std.proofs.Common.{◌≡◌, ℕ, ◌≤◌, ◌==◌, inl, inr, Boo
 use Rattle.std.proofs.lemmas.Bool.Decides.{nat_tests}
 use Rattle.std.proofs.lemmas.Int.{ints}
 use Rattle.std.specs.Option.{option_or}
+use Rattle.events.specs.Event.{is_par_value, office_of, par_set, placed, square_set}
+use Rattle.events.specs.declared.event.Event.{Event}
+use Rattle.events.specs.declared.event.Event.TheVariants.{Given, Par, President}
+use Rattle.events.specs.declared.event.Shareholder.TheVariants.{InitialOffering, Seat as OfSeat}
+use Rattle.events.specs.declared.event.Transfer.{Transfer}
 use Rattle.history.proofs.Rolling.{trains_kept}
 use Rattle.history.proofs.Choices.{new_word, old_word, same_company_is, something, truth}
 use Rattle.history.proofs.EventAtEnd.{is_floated_before, last_said_at_end, par_of_before, president_of_before, shares_of_before, square_of_before}
 use Rattle.history.proofs.Gains.{Gains}
 use Rattle.history.proofs.Soundness.{companies_kept, differ_kept, fit_kept, given_kept, held_kept, least_offered_before, price_kept, seated_kept, small_kept, solvent_kept, ten_kept, within_after, within_kept}
 use Rattle.history.proofs.Tenths.{held_after, moved, shares_after, ten_after}
-use Rattle.history.specs.Event.{office_of, par_set, placed, square_set}
 use Rattle.history.specs.Laws.{StartKeepsSound}
 use Rattle.history.specs.LookBack.{Game, is_closed, is_sold, with_event}
-use Rattle.history.specs.Shares.{is_floated, is_par_value, par_of, par_said, president_of, president_said, shares_of, square_of, square_said}
+use Rattle.history.specs.Shares.{is_floated, par_of, par_said, president_of, president_said, shares_of, square_of, square_said}
 use Rattle.history.specs.Sound.{AreLed, AreOffered, CompaniesAreSolvent, FloatedAreLed, IsLed, IsSound, SeatsAreSolvent, least_offered}
-use Rattle.history.specs.declared.event.Event.{Event}
-use Rattle.history.specs.declared.event.Event.TheVariants.{Given, Par, President}
-use Rattle.history.specs.declared.event.Shareholder.TheVariants.{InitialOffering, Seat as OfSeat}
-use Rattle.history.specs.declared.event.Transfer.{Transfer}
 use Rattle.tables.specs.Chart.{par_square_of}
 use Rattle.tables.specs.Roster.{same_company}
 use Rattle.tables.specs.declared.roster.Company.{Company}

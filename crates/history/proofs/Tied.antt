@@ -1,7 +1,7 @@
 -- A table of standing bids.
 use Rattle.std.proofs.Common.{◌≡◌, ℕ, zero, suc, ◌<◌, List, [], ◌∷◌, Option, Some, None, get_or, refl, sym, ap, ◌∙◌, arith}
+use Rattle.events.specs.declared.event.Event.{Event}
 use Rattle.history.specs.Bids.{AreStanding, bid_of}
-use Rattle.history.specs.declared.event.Event.{Event}
 use Rattle.tables.specs.Seat.{seat_at}
 use Rattle.tables.specs.declared.roster.Private.{Private}
 use Rattle.tables.specs.declared.seat.Seat.{Seat}

@@ -3,24 +3,24 @@
 use Rattle.std.proofs.Common.{◌≡◌, ℕ, ◌≤◌, Bool, true, false, ◌&&◌, if◌then◌else◌, List, [], ◌∷◌, ◌++◌, Option, Some, None, is_some, is_none, refl, sym, ap, ◌∙◌, arith}
 use Rattle.std.proofs.lemmas.Int.{ints}
 use Rattle.std.specs.Option.{option_flatten, option_or}
+use Rattle.events.specs.Event.{ownership_of, party_of_seller}
+use Rattle.events.specs.declared.event.Event.{Event}
+use Rattle.events.specs.declared.event.Event.TheVariants.{Runs, Dividend, Traded, Train, Phase, Rusted, Discarded, Closed}
+use Rattle.events.specs.declared.event.Holder.{Holder}
+use Rattle.events.specs.declared.event.Shareholder.TheVariants.{InitialOffering}
+use Rattle.events.specs.declared.event.TrainPlace.TheVariants as place
+use Rattle.events.specs.declared.event.TrainSeller.{TrainSeller}
+use Rattle.events.specs.declared.event.TrainSeller.TheVariants as seller
 use Rattle.history.proofs.Acts.{fewer, stays_sold}
 use Rattle.history.proofs.EventAtEnd.{last_said_at_end, shares_of_before, square_of_before, sv_price_of_before}
 use Rattle.history.proofs.Payments.{can_pay, payment_sound}
 use Rattle.history.proofs.Rolling.{trains_after_move, trains_after_sale, trains_kept}
 use Rattle.history.proofs.Soundness.{companies_kept, differ_kept, fit_kept, floated_kept, held_kept, led_kept, price_kept, quiet_sound, seated_kept, small_kept, solvent_kept, ten_kept, within_kept}
-use Rattle.history.specs.Event.{ownership_of, party_of_seller}
 use Rattle.history.specs.Laws.{ClosingKeepsSound, DiscardKeepsSound, DividendKeepsSound, PhaseKeepsSound, RunKeepsSound, RustingKeepsSound, TradeKeepsSound, TrainPurchaseKeepsSound}
 use Rattle.history.specs.LookBack.{is_closed, is_sold, last_said, owner_said}
 use Rattle.history.specs.Money.{IsParty}
 use Rattle.history.specs.Sound.{AreOffered, IsGivenAway, least_offered}
 use Rattle.history.specs.Trains.{IsThere, TrainsAreHeld}
-use Rattle.history.specs.declared.event.Event.{Event}
-use Rattle.history.specs.declared.event.Event.TheVariants.{Runs, Dividend, Traded, Train, Phase, Rusted, Discarded, Closed}
-use Rattle.history.specs.declared.event.Holder.{Holder}
-use Rattle.history.specs.declared.event.Shareholder.TheVariants.{InitialOffering}
-use Rattle.history.specs.declared.event.TrainPlace.TheVariants as place
-use Rattle.history.specs.declared.event.TrainSeller.{TrainSeller}
-use Rattle.history.specs.declared.event.TrainSeller.TheVariants as seller
 use Rattle.tables.specs.Roster.{same_private}
 use Rattle.tables.specs.declared.rolling_stock.Kind.{Kind}
 use Rattle.tables.specs.declared.roster.Company.{Company}

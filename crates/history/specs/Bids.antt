@@ -2,12 +2,12 @@
 -- private ends the bids on it. A seat's standing bids tie its cash.
 use Rattle.std.specs.Prelude.{◌≡◌, ℕ, ◌<◌, ◌==◌, ◌&&◌, if◌then◌else◌, List, [], ◌∷◌, Option, Some, None, sum_by, pos, ◌-ℤ◌, ℤ, slice_index_or, unwrap_or}
 use Rattle.std.specs.List.{flat_map}
-use Rattle.history.specs.Event.{bidding_of, party_at}
+use Rattle.events.specs.Event.{bidding_of, party_at}
+use Rattle.events.specs.declared.event.Bid.{Bid}
+use Rattle.events.specs.declared.event.Bidding.{Bidding}
+use Rattle.events.specs.declared.event.Bidding.TheVariants.{Made, Ended}
+use Rattle.events.specs.declared.event.Event.{Event}
 use Rattle.history.specs.LookBack.{cash_of, now_said}
-use Rattle.history.specs.declared.event.Bid.{Bid}
-use Rattle.history.specs.declared.event.Bidding.{Bidding}
-use Rattle.history.specs.declared.event.Bidding.TheVariants.{Made, Ended}
-use Rattle.history.specs.declared.event.Event.{Event}
 use Rattle.tables.specs.Roster.{privates, same_private}
 use Rattle.tables.specs.Seat.{all_seats, seat_at}
 use Rattle.tables.specs.declared.roster.Private.{Private}

@@ -1,23 +1,23 @@
 -- The books of a list of events: what its readers answer, kept while the events come. Tables are by the places
 -- of the privates and the companies in the roster, and by the numbers of the six seats that a table has.
 use Rattle.std.specs.Prelude.{◌≡◌, ℕ, ◌<◌, ◌≤◌, ◌+◌, ◌*◌, ◌^◌, ℤ, pos, neg_ℤ, ◌≤ℤ◌, [], List, length, Bool, false, ◌||◌, Option, Some, None, is_some, if◌then◌else◌, slice_index_or}
+use Rattle.events.specs.Event.{actor_of, floated_by, ownership_of, payment_of, phase_set, round_of as round_begun, square_set, stable_of, sv_price_set, train_moved, transfer_of}
+use Rattle.events.specs.declared.event.Event.{Event}
+use Rattle.events.specs.declared.event.Holder.{Holder}
+use Rattle.events.specs.declared.event.Holder.TheVariants as holder
+use Rattle.events.specs.declared.event.Party.{Party}
+use Rattle.events.specs.declared.event.Party.TheVariants as party
+use Rattle.events.specs.declared.event.Shareholder.{Shareholder}
+use Rattle.events.specs.declared.event.Shareholder.TheVariants.{InitialOffering, BankPool, Seat as OfSeat}
+use Rattle.events.specs.declared.event.TrainPlace.{TrainPlace}
+use Rattle.events.specs.declared.event.TrainPlace.TheVariants as train_place
 use Rattle.history.specs.Bids.{bid_of}
-use Rattle.history.specs.Event.{floated_by, ownership_of, payment_of, phase_set, round_of as round_begun, square_set, stable_of, sv_price_set, train_moved, transfer_of}
-use Rattle.history.specs.LookBack.{actor_of, balance, bankrupt_in, broken_in, last_place_from, last_said, owner_said, paid_by, paid_to}
+use Rattle.history.specs.LookBack.{balance, bankrupt_in, broken_in, last_place_from, last_said, owner_said, paid_by, paid_to}
 use Rattle.history.specs.Operating.{has_operated, rulings_in_round, tokens_placed}
 use Rattle.history.specs.Orders.{limit_of, par_ordered_of}
 use Rattle.history.specs.Shares.{brought_to, float_said, has_sold_in_round, par_of, president_of, square_of, square_said, taken_from}
 use Rattle.history.specs.Trains.{any_comes, any_goes, one_if, train_comes, train_goes}
 use Rattle.history.specs.declared.books.Books.{Books}
-use Rattle.history.specs.declared.event.Event.{Event}
-use Rattle.history.specs.declared.event.Holder.{Holder}
-use Rattle.history.specs.declared.event.Holder.TheVariants as holder
-use Rattle.history.specs.declared.event.Party.{Party}
-use Rattle.history.specs.declared.event.Party.TheVariants as party
-use Rattle.history.specs.declared.event.Shareholder.{Shareholder}
-use Rattle.history.specs.declared.event.Shareholder.TheVariants.{InitialOffering, BankPool, Seat as OfSeat}
-use Rattle.history.specs.declared.event.TrainPlace.{TrainPlace}
-use Rattle.history.specs.declared.event.TrainPlace.TheVariants as train_place
 use Rattle.history.specs.declared.owners.Owners.{Owners}
 use Rattle.tables.specs.Roster.{place_of_company, place_of_private}
 use Rattle.tables.specs.Seat.{seat_at}

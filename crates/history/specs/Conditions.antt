@@ -2,9 +2,9 @@
 -- the chart is at least the sum; PHASE, that the phase is that of the kind or a later one, in the order 2 3 4 5 6
 -- D; FLOATED, that the company has floated.
 use Rattle.std.specs.Prelude.{ℕ, nat_le, Bool, true, false, List, Option, Some, None}
+use Rattle.events.specs.declared.event.Event.{Event}
 use Rattle.history.specs.Shares.{is_floated, square_of}
 use Rattle.history.specs.Trains.{phase_of}
-use Rattle.history.specs.declared.event.Event.{Event}
 use Rattle.order_grammar.specs.declared.condition.Condition.{Condition}
 use Rattle.order_grammar.specs.declared.condition.Condition.TheVariants.{Price, Phase, Floated}
 use Rattle.tables.specs.Chart.{price_of}

@@ -1,9 +1,9 @@
 -- The books of a game as the game keeps them.
 use Rattle.std.specs.Prelude.{◌≡◌, true, [], List, Option, Some, None, Box, is_some}
 use Rattle.std.specs.Global.{Global}
+use Rattle.events.specs.declared.event.Event.{Event}
 use Rattle.history.specs.Books.{AreBooksOf}
 use Rattle.history.specs.declared.books.Books.{Books}
-use Rattle.history.specs.declared.event.Event.{Event}
 use Rattle.history.specs.declared.kept_books.KeptBooks.{KeptBooks}
 
 -- a box has the books of these events; where there is no box, nothing has happened

@@ -1,9 +1,4 @@
--- What a game is, by its events: each event, what a list of them says, and when that is sound.
-pub mod KeptPlace
-pub mod KeptRun
-pub mod Kept
-pub mod Told
-pub mod Event
+-- What a game is, by its events: what a list of them says, and when that is sound.
 pub mod LookBack
 pub mod Bids
 pub mod Books

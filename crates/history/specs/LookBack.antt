@@ -4,15 +4,14 @@
 use Rattle.std.specs.Prelude.{ℕ, ◌<◌, ◌+◌, ◌==◌, Bool, true, false, if◌then◌else◌, List, [], ◌∷◌, ◌++◌, Option, Some, None, sum_by, pos, neg_ℤ, ◌-ℤ◌, ◌≤ℤ◌, ℤ, ◌^◌, is_none, length, is_some, ◌&&◌, unwrap_or, slice_index_or}
 use Rattle.std.specs.List.{list_any}
 use Rattle.std.specs.Option.{option_or, option_flatten, option_map}
-use Rattle.history.specs.Event.{Obeyance, obeyed_of, is_act, ownership_of, payment_of, round_of as round_begun, sv_price_set, tells_bankrupt, tells_broken}
-use Rattle.history.specs.declared.event.Event.{Event}
-use Rattle.history.specs.declared.event.Event.TheVariants.{Bought}
-use Rattle.history.specs.declared.event.Holder.{Holder}
-use Rattle.history.specs.declared.event.Holder.TheVariants as holder
-use Rattle.history.specs.declared.event.Ownership.{Ownership}
-use Rattle.history.specs.declared.event.Party.{Party}
-use Rattle.history.specs.declared.event.Party.TheVariants as party
-use Rattle.history.specs.declared.event.Payment.{Payment}
+use Rattle.events.specs.Event.{actor_of, ownership_of, payment_of, round_of as round_begun, sv_price_set, tells_bankrupt, tells_broken}
+use Rattle.events.specs.declared.event.Event.{Event}
+use Rattle.events.specs.declared.event.Holder.{Holder}
+use Rattle.events.specs.declared.event.Holder.TheVariants as holder
+use Rattle.events.specs.declared.event.Ownership.{Ownership}
+use Rattle.events.specs.declared.event.Party.{Party}
+use Rattle.events.specs.declared.event.Party.TheVariants as party
+use Rattle.events.specs.declared.event.Payment.{Payment}
 use Rattle.history.specs.declared.owners.Owners.{Owners}
 use Rattle.tables.specs.Roster.{start_money_of, bank_start_of, face_of, place_of_private, privates, same_company, same_private}
 use Rattle.tables.specs.Seat.{left_of, seat_at}
@@ -125,17 +124,6 @@ broken_in events = list_any tells_broken events
 -- a president is bankrupt: the game is over
 abbrev pub bankrupt_in : List Event → Bool
 bankrupt_in events = list_any tells_bankrupt events
-
--- the seat that acted in its own turn by an obeyed order
-abbrev pub actor_by : Option Obeyance → Option Seat
-actor_by None = None
-actor_by (Some obeyed) = if is_act obeyed.order then Some obeyed.seat else None
-
--- the seat that acted in its own turn by this event: it bought a private or bid on one, or bought or sold
--- tenths of a company
-abbrev pub actor_of : Event → Option Seat
-actor_of (Bought company seat tenths from price) = Some seat
-actor_of other = actor_by (obeyed_of other)
 
 -- the seat at the left of the last that acted; at first seat 0
 abbrev pub left_of_actor : ℕ → Option Seat → Seat

@@ -1,13 +1,13 @@
 -- All money of a game. What the bank, the seats at the table and the companies have together is 12,000, whatever
 -- has happened, as long as money has gone only between them.
 use Rattle.std.specs.Prelude.{◌≡◌, ℕ, ◌<◌, List, [], ◌∷◌, ◌++◌, map, Option, Some, None, ℤ, pos, ◌+ℤ◌}
-use Rattle.history.specs.Event.{party_at, party_of_company, payment_of}
+use Rattle.events.specs.Event.{party_at, party_of_company, payment_of}
+use Rattle.events.specs.declared.event.Event.{Event}
+use Rattle.events.specs.declared.event.Holder.TheVariants as holder
+use Rattle.events.specs.declared.event.Party.{Party}
+use Rattle.events.specs.declared.event.Party.TheVariants as party
+use Rattle.events.specs.declared.event.Payment.{Payment}
 use Rattle.history.specs.LookBack.{cash_of}
-use Rattle.history.specs.declared.event.Event.{Event}
-use Rattle.history.specs.declared.event.Holder.TheVariants as holder
-use Rattle.history.specs.declared.event.Party.{Party}
-use Rattle.history.specs.declared.event.Party.TheVariants as party
-use Rattle.history.specs.declared.event.Payment.{Payment}
 use Rattle.tables.specs.Roster.{companies}
 use Rattle.tables.specs.Seat.{all_seats}
 

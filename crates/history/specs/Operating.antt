@@ -2,9 +2,9 @@
 -- have operated since the last round began, and how many lines of a seat's sheet were ruled since then.
 use Rattle.std.specs.Prelude.{ℕ, ◌+◌, ◌==◌, Bool, if◌then◌else◌, List, Option, Some, None, is_some}
 use Rattle.std.specs.List.{count_by, filter_map, fold}
-use Rattle.history.specs.Event.{operated_by, round_of as round_begun, ruled_by, tile_laid, token_placed}
+use Rattle.events.specs.Event.{operated_by, round_of as round_begun, ruled_by, tile_laid, token_placed}
+use Rattle.events.specs.declared.event.Event.{Event}
 use Rattle.history.specs.LookBack.{in_round, now_said}
-use Rattle.history.specs.declared.event.Event.{Event}
 use Rattle.map_tables.specs.declared.lay.Lay.{Lay}
 use Rattle.map_tables.specs.declared.place.Place.{Place}
 use Rattle.tables.specs.Roster.{same_company}

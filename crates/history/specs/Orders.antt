@@ -1,46 +1,12 @@
 -- What the obeyed standing orders of a seat say: how far it goes in an auction of a private, which holds for
 -- the round; and the par value that it sets for BO, in this round or an earlier one.
-use Rattle.std.specs.Prelude.{ℕ, ◌==◌, ◌&&◌, if◌then◌else◌, List, Option, Some, None}
-use Rattle.order_grammar.specs.declared.order.Order.{Order}
-use Rattle.order_grammar.specs.declared.order.Order.TheVariants as order
-use Rattle.history.specs.Event.{Obeyance, obeyed_of, obeyed_says, order_obeyed}
+use Rattle.std.specs.Prelude.{ℕ, List, Option}
+use Rattle.events.specs.Event.{obeyed_of}
+use Rattle.events.specs.Orders.{limit_in, par_of_baltimore_in, said_by}
+use Rattle.events.specs.declared.event.Event.{Event}
 use Rattle.history.specs.LookBack.{in_round, last_said, now_said}
-use Rattle.history.specs.Shares.{is_par_value}
-use Rattle.history.specs.declared.event.Event.{Event}
-use Rattle.history.specs.declared.ruling.Ruling.{Ruling}
-use Rattle.tables.specs.Roster.{same_company, same_private}
-use Rattle.tables.specs.declared.roster.Company.TheVariants.{BaltimoreOhio}
 use Rattle.tables.specs.declared.roster.Private.{Private}
 use Rattle.tables.specs.declared.seat.Seat.{Seat}
-
--- how far an order says to go in an auction of a private
-abbrev pub limit_in : Private → Order → Option ℕ
-limit_in private (order.Limit other amount) = if same_private other private then Some amount else None
-limit_in private other = None
-
--- the par value that an order says BO is to have
-abbrev pub par_of_baltimore_in : Order → Option ℕ
-par_of_baltimore_in (order.Par company price) =
-    if same_company company BaltimoreOhio && is_par_value price then Some price else None
-par_of_baltimore_in other = None
-
--- the same, where an order names this private and this sum, or none
-abbrev pub limit_said : Private → Option (Private × ℕ) → Option ℕ
-limit_said private None = None
-limit_said private (Some limit) = if same_private limit.0 private then Some limit.1 else None
-
--- the same, of the order that a ruling obeys
-abbrev pub limit_obeyed : Private → Ruling → Option ℕ
-limit_obeyed private ruling = obeyed_says (limit_in private) (order_obeyed ruling)
-
--- the same, of the order that a ruling obeys
-abbrev pub par_of_baltimore_obeyed : Ruling → Option ℕ
-par_of_baltimore_obeyed ruling = obeyed_says par_of_baltimore_in (order_obeyed ruling)
-
--- what an obeyed order says, if it is of this seat
-abbrev pub said_by : {A : Type 0} → Seat → (Order → Option A) → Option Obeyance → Option A
-said_by seat says None = None
-said_by seat says (Some obeyed) = if obeyed.seat.0 == seat.0 then says obeyed.order else None
 
 -- how far a seat goes in an auction of a private, by its last obeyed order of this round
 abbrev pub limit_of : List Event → Private → Seat → Option ℕ

@@ -2,16 +2,15 @@
 -- what a seat has sold in a round. A company is started once its token has a square, at first that of its
 -- par value.
 use Rattle.std.specs.Prelude.{ℕ, ◌==◌, Bool, true, false, if◌then◌else◌, List, [], ◌∷◌, Option, Some, None, ℤ, pos, ◌+ℤ◌, is_some, unwrap_or, ◌&&◌}
-use Rattle.history.specs.Event.{floated_by, office_of, par_set, square_set, transfer_of}
+use Rattle.events.specs.Event.{floated_by, office_of, par_set, square_set, transfer_of}
+use Rattle.events.specs.declared.event.Event.{Event}
+use Rattle.events.specs.declared.event.Office.{Office}
+use Rattle.events.specs.declared.event.ParValue.{ParValue}
+use Rattle.events.specs.declared.event.Placement.{Placement}
+use Rattle.events.specs.declared.event.Shareholder.{Shareholder}
+use Rattle.events.specs.declared.event.Shareholder.TheVariants.{InitialOffering, BankPool, Seat as OfSeat}
+use Rattle.events.specs.declared.event.Transfer.{Transfer}
 use Rattle.history.specs.LookBack.{balance, in_round, last_place_from, last_said, now_said}
-use Rattle.history.specs.declared.event.Event.{Event}
-use Rattle.history.specs.declared.event.Office.{Office}
-use Rattle.history.specs.declared.event.ParValue.{ParValue}
-use Rattle.history.specs.declared.event.Placement.{Placement}
-use Rattle.history.specs.declared.event.Shareholder.{Shareholder}
-use Rattle.history.specs.declared.event.Shareholder.TheVariants.{InitialOffering, BankPool, Seat as OfSeat}
-use Rattle.history.specs.declared.event.Transfer.{Transfer}
-use Rattle.tables.specs.Chart.{par_square_of}
 use Rattle.tables.specs.Roster.{same_company}
 use Rattle.tables.specs.Seat.{all_seats}
 use Rattle.tables.specs.declared.roster.Company.{Company}
@@ -104,10 +103,6 @@ sale_said company seat (Some transfer) =
 abbrev pub has_sold_in_round : List Event → Company → Seat → Bool
 has_sold_in_round events company seat =
     is_some (now_said (in_round (λ event. sale_said company seat (transfer_of event))) events)
-
--- a sum of money is one of the six par values
-abbrev pub is_par_value : ℕ → Bool
-is_par_value price = is_some (par_square_of price)
 
 -- the tenths of a company that these seats hold
 abbrev pub held_by : List Event → Company → List Seat → ℤ

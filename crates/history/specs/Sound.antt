@@ -11,17 +11,18 @@
 -- the tiles and tokens that were laid fit on the map, with the home tokens that are still to come.
 -- Each fact is about a few aspects of events: an event without those keeps it.
 use Rattle.std.specs.Prelude.{◌≡◌, ◌⊎◌, ℕ, ◌<◌, ◌≤◌, true, if◌then◌else◌, List, Some, None, pos, ◌≤ℤ◌}
+use Rattle.events.specs.Event.{is_par_value}
+use Rattle.events.specs.declared.event.Event.{Event}
+use Rattle.events.specs.declared.event.Holder.TheVariants as holder
+use Rattle.events.specs.declared.event.Party.TheVariants as party
+use Rattle.events.specs.declared.event.Shareholder.{Shareholder}
+use Rattle.events.specs.declared.event.Shareholder.TheVariants.{InitialOffering, Seat as OfSeat}
 use Rattle.history.specs.Bids.{bid_of, free_cash_of}
 use Rattle.history.specs.LookBack.{Game, cash_of, is_closed, is_sold, sv_price_of}
 use Rattle.history.specs.Money.{AreWithin}
 use Rattle.history.specs.Operating.{lays_of, tokens_of}
-use Rattle.history.specs.Shares.{is_floated, is_par_value, par_of, president_of, shares_of, square_of, tenths_in_all}
+use Rattle.history.specs.Shares.{is_floated, par_of, president_of, shares_of, square_of, tenths_in_all}
 use Rattle.history.specs.Trains.{TrainsAreHeld}
-use Rattle.history.specs.declared.event.Event.{Event}
-use Rattle.history.specs.declared.event.Holder.TheVariants as holder
-use Rattle.history.specs.declared.event.Party.TheVariants as party
-use Rattle.history.specs.declared.event.Shareholder.{Shareholder}
-use Rattle.history.specs.declared.event.Shareholder.TheVariants.{InitialOffering, Seat as OfSeat}
 use Rattle.map_tables.specs.Fit.{AreFitWithHomes}
 use Rattle.tables.specs.declared.roster.Company.{Company}
 use Rattle.tables.specs.declared.roster.Company.TheVariants.{Pennsylvania, NewYorkCentral}

@@ -3,14 +3,14 @@
 -- begins in phase 2, and the first train of a later kind from the bank begins the next phase.
 use Rattle.std.specs.Prelude.{◌≡◌, ℕ, Bool, true, false, ◌&&◌, if◌then◌else◌, List, [], ◌∷◌, map, Option, Some, None, ℤ, pos, negsuc, ◌+ℤ◌, ◌≤ℤ◌, ◌≤◌, ◌<◌, unwrap_or}
 use Rattle.std.specs.List.{count_by}
-use Rattle.history.specs.Event.{phase_set, stable_of, train_moved}
+use Rattle.events.specs.Event.{phase_set, stable_of, train_moved}
+use Rattle.events.specs.declared.event.Event.{Event}
+use Rattle.events.specs.declared.event.TrainMove.{TrainMove}
+use Rattle.events.specs.declared.event.TrainPlace.{TrainPlace}
+use Rattle.events.specs.declared.event.TrainPlace.TheVariants as place
+use Rattle.events.specs.declared.event.TrainSeller.{TrainSeller}
+use Rattle.events.specs.declared.event.TrainSeller.TheVariants as seller
 use Rattle.history.specs.LookBack.{balance, last_said}
-use Rattle.history.specs.declared.event.Event.{Event}
-use Rattle.history.specs.declared.event.TrainMove.{TrainMove}
-use Rattle.history.specs.declared.event.TrainPlace.{TrainPlace}
-use Rattle.history.specs.declared.event.TrainPlace.TheVariants as place
-use Rattle.history.specs.declared.event.TrainSeller.{TrainSeller}
-use Rattle.history.specs.declared.event.TrainSeller.TheVariants as seller
 use Rattle.tables.specs.Roster.{companies, same_company}
 use Rattle.tables.specs.Train.{kinds, same_kind, trains_of as manifest_of}
 use Rattle.tables.specs.declared.rolling_stock.Kind.{Kind}

@@ -1,10 +1,10 @@
 //! The ways of looking back over a list of events, each generic over the aspect of an event that it
 //! looks at.
 ghost use Rattle.std.specs.Prelude.{◌≡◌, ℕ, Option};
+ghost use Rattle.events.specs.declared.event.Event.{Event};
 ghost use Rattle.history.specs.LookBack.{IsModerate, balance, in_round, last_said};
-ghost use Rattle.history.specs.declared.event.Event.{Event};
 
-use crate::event::Event;
+use events::Event;
 use tables::{Amount, Money};
 
 /// A thing of which some events speak.

@@ -4,10 +4,10 @@ ghost use Rattle.history.specs.Orders.{limit_of, par_ordered_of};
 ghost use Rattle.history.specs.Bids.{AreStanding, NotesBidOn, bid_of, bids_elsewhere_of, bids_of, bids_on, free_cash_of, free_for, tied_on};
 
 use crate::aspect::{InRound, last_said};
-use crate::event::{Bid, Bidding, Holder, Party};
 use crate::look_back::Past;
 use crate::topics::{BidOn, LimitOn, ParOrdered};
 use arrayvec::ArrayVec;
+use events::{Bid, Bidding, Holder, Party};
 use tables::{Amount, Money, PLAYERS_MOST, Private, Seat};
 
 impl Past<'_> {

@@ -1,11 +1,10 @@
 //! The books of a list of events: what its readers answer, kept while the events come, so that an
 //! answer costs no more for a long list than for a short one.
 ghost use Rattle.std.specs.Prelude.{◌++◌, ◌∷◌, ◌<◌, ◌^◌, [], List, length};
+ghost use Rattle.events.specs.declared.event.Event.{Event as TheEvent};
 ghost use Rattle.history.specs.Books.{AreBooksOf};
 ghost use Rattle.history.specs.LookBack.{FitsMemory};
-ghost use Rattle.history.specs.declared.event.Event.{Event as TheEvent};
 
-use crate::event::Event;
 use crate::nets::{note_payment, note_stable, note_train, note_transfer};
 use crate::noting::{
     no_limits, note, note_arrival, note_bankrupt, note_bids, note_broken, note_float, note_limit,
@@ -15,6 +14,7 @@ use crate::noting::{
 use crate::owners::Owners;
 use crate::shares::Tenths;
 use crate::topics::{Actor, PhaseBegun, RoundPlayed, SvPrice};
+use events::Event;
 use tables::{Amount, Company, Kind, Money, PLAYERS_MOST, Round, Seat, Square};
 
 /// What a list of events says: what was said last of each thing, `None` where nothing was. Tables

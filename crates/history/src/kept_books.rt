@@ -1,12 +1,12 @@
 //! The books of a game as the game keeps them: behind a box, so that few bytes are handed on with
 //! the game.
 ghost use Rattle.std.specs.Prelude.{◌++◌, ◌∷◌, ◌<◌, ◌^◌, [], ◌≡◌, IfOk, List, MatchOption, OnOk, length};
+ghost use Rattle.events.specs.declared.event.Event.{Event as TheEvent};
 ghost use Rattle.history.specs.Books.{AreBooksOf};
 ghost use Rattle.history.specs.KeptBooks.{HasBox, KeepsBooksOf};
-ghost use Rattle.history.specs.declared.event.Event.{Event as TheEvent};
 
 use crate::books::Books;
-use crate::event::Event;
+use events::Event;
 use std::alloc::{AllocError, Global};
 
 /// The books of a list of events. There is no box before the first event is to come.

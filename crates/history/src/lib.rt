@@ -10,24 +10,19 @@
 //! against the rules, as `specs/Sound.antt` has it; most events leave most facts alone, and the
 //! laws say which event keeps a list sound.
 //!
-//! Reading order: `event` (events and their aspects), `ruling` (what became of a line), `kept_place`,
-//! `kept_run` and `kept` (how an event keeps that), `aspect` (the ways of looking back), `topics`
-//! (what is looked for), `nets` and `noting` (how an event changes what is kept), `books` (what a
-//! list says, kept event by event), `kept_books` (how a game keeps that), `look_back`, `owners`,
-//! `bids`, `offers`, `shares`, `operating`, `trains` and `conditions` (the readers of `Past`), `walk`
-//! (along a list, with its books), `list` (`History`), `tell` (events that follow from the list
-//! alone), `laws`.
+//! What happens, an event at a time, is the crate `events`; its names are named again here. Reading
+//! order: `aspect` (the ways of looking back), `topics` (what is looked for), `nets` and `noting`
+//! (how an event changes what is kept), `books` (what a list says, kept event by event),
+//! `kept_books` (how a game keeps that), `look_back`, `owners`, `bids`, `offers`, `shares`,
+//! `operating`, `trains` and `conditions` (the readers of `Past`), `walk` (along a list, with its
+//! books), `list` (`History`), `tell` (events that follow from the list alone), `laws`.
 #![tactic(auto)]
 
 mod aspect;
 mod bids;
 mod books;
 mod conditions;
-mod event;
-mod kept;
 mod kept_books;
-mod kept_place;
-mod kept_run;
 mod laws;
 mod list;
 mod look_back;
@@ -36,7 +31,6 @@ mod noting;
 mod offers;
 mod operating;
 mod owners;
-mod ruling;
 mod shares;
 mod tell;
 mod topics;
@@ -44,11 +38,11 @@ mod trains;
 mod walk;
 
 pub use books::Books;
-pub use event::{
-    Bid, Bidding, Event, Holder, Office, Ownership, ParValue, Party, Payment, Placement, SUM_MOST,
-    Shareholder, TrainMove, TrainPlace, TrainSeller, Transfer,
+pub use events::{
+    Bid, Bidding, Event, Holder, KeptOrder, KeptRuling, Office, OpeningRule, Ownership, ParValue,
+    Party, PayRule, Payment, Placement, PrivateRule, Refusal, Ruling, SUM_MOST, Shareholder,
+    StockRule, TrainMove, TrainPlace, TrainRule, TrainSeller, Transfer, Verdict,
 };
-pub use kept::{KeptOrder, KeptRuling};
 pub use laws::{
     all_money_stays, all_trains_stay, arrivals_differ, bid_keeps_sound, block_keeps_sound,
     cash_moves, dividend_keeps_sound, exchange_keeps_sound, first_is_cheapest, float_keeps_sound,
@@ -62,9 +56,6 @@ pub use list::History;
 pub use look_back::Past;
 pub use map_tables::{LayRule, RunRule, TokenRule};
 pub use owners::Owners;
-pub use ruling::{
-    OpeningRule, PayRule, PrivateRule, Refusal, Ruling, StockRule, TrainRule, Verdict,
-};
 pub use shares::Tenths;
 pub use trains::{TrainCount, so_many};
 pub use walk::Walk;

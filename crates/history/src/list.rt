@@ -1,10 +1,10 @@
 ghost use Rattle.std.specs.Prelude.{◌≡◌, ◌↔◌, ◌≤◌, ◌<◌, ◌++◌, IsTrue, IsOk, MatchResult, OnOk, OnErr, option_map, pos, slice_get, vec_capacity, vec_len, []};
 ghost use Rattle.std.specs.List.{cons_option};
 ghost use Rattle.std.specs.Option.{option_copied};
+ghost use Rattle.events.specs.Event.{sum_of};
+ghost use Rattle.events.specs.Kept.{TakesBox};
 ghost use Rattle.history.specs.Bids.{bid_of, free_cash_of};
 ghost use Rattle.history.specs.Conditions.{is_met};
-ghost use Rattle.history.specs.Event.{sum_of};
-ghost use Rattle.history.specs.Kept.{TakesBox};
 ghost use Rattle.history.specs.LookBack.{FitsMemory, IsModerate, bankrupt_in, broken_in, cash_of, cheapest_in, cheapest_of, is_sold, is_sold_in, owner_in, owner_of, priority_of, round_of, sv_price_of, with_event};
 ghost use Rattle.history.specs.Operating.{has_operated, lays_of, rulings_in_round, tokens_of, tokens_placed};
 ghost use Rattle.history.specs.Shares.{arrival_of, has_sold_in_round, is_floated, is_started, par_of, president_of, shares_of, square_of};
@@ -12,14 +12,13 @@ ghost use Rattle.history.specs.Sound.{IsSound};
 ghost use Rattle.history.specs.Trains.{phase_of, trains_held, trains_sold};
 ghost use Rattle.order_grammar.specs.Condition.{ordered};
 
-use crate::event::{Event, Holder, Party, SUM_MOST, Shareholder};
-use crate::kept::KeptOrder;
 use crate::kept_books::KeptBooks;
 use crate::look_back::Past;
 use crate::noting::note_offer;
 use crate::owners::Owners;
 use crate::shares::Tenths;
 use crate::trains::TrainCount;
+use events::{Event, Holder, KeptOrder, Party, SUM_MOST, Shareholder};
 use map_tables::{Lay, Place};
 use order_grammar::{Condition, Offer, Order};
 use std::alloc::{AllocError, Global};
@@ -45,7 +44,7 @@ const _: () = prove!(size_of::<History>() <= 120);
 
 impl Model for History {
     ghost use Rattle.std.specs.Prelude.{All, ◌≡◌, ◌≤◌};
-    ghost use Rattle.history.specs.Event.{sum_of};
+    ghost use Rattle.events.specs.Event.{sum_of};
     ghost use Rattle.history.specs.KeptBooks.{KeepsBooksOf};
     ghost use Rattle.history.specs.LookBack.{Game};
     ghost use Rattle.history.specs.Offers.{AreOffersOf};

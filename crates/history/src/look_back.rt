@@ -1,17 +1,18 @@
 ghost use Rattle.std.specs.Prelude.{◌≡◌, MatchOption, None, Some, [], length};
 ghost use Rattle.std.specs.Borrow.{Bor};
 ghost use Rattle.std.specs.Option.{ForSome};
+ghost use Rattle.events.specs.Event.{actor_of};
 ghost use Rattle.history.specs.Books.{AreBooksOf};
 ghost use Rattle.history.specs.Offers.{AreOffersOf};
 ghost use Rattle.history.specs.declared.books.Books.{Books as TheBooks};
-ghost use Rattle.history.specs.LookBack.{FitsMemory, IsModerate, actor_of, bankrupt_in, broken_in, cash_of, cheapest_in, cheapest_of, is_sold, is_sold_in, last_said, owner_in, owner_of, priority_of, round_of, start_of, sv_price_of};
+ghost use Rattle.history.specs.LookBack.{FitsMemory, IsModerate, bankrupt_in, broken_in, cash_of, cheapest_in, cheapest_of, is_sold, is_sold_in, last_said, owner_in, owner_of, priority_of, round_of, start_of, sv_price_of};
 
 use crate::aspect::balance;
 use crate::books::Books;
-use crate::event::{Event, Holder, Party};
 use crate::nets::entry_of_party;
 use crate::owners::Owners;
 use crate::topics::Cash;
+use events::{Event, Holder, Party};
 use order_grammar::Offer;
 use tables::{Amount, Money, Private, Round, Seat, bank_start, face, start_money};
 

@@ -1,13 +1,13 @@
 //! Tables of nets: what came to each entry, less what went from it. The entries are those of the
 //! bank, the companies and six seats; a further seat has an entry behind the table's end.
 ghost use Rattle.std.specs.Prelude.{◌≡◌, ◌==◌, ◌<◌, ◌≤◌, ◌+ℤ◌, ◌-ℤ◌, ◌≤ℤ◌, ◌^◌, ℕ, if◌then◌else◌, length, neg_ℤ, pos, Option};
+ghost use Rattle.events.specs.Event.{payment_of, train_moved, transfer_of};
 ghost use Rattle.history.specs.Books.{HasEntry, HasTenths, IsSafe, cash_net, net_at, party_entry, stable_net, tenths_entry, tenths_net, train_entry, train_net, train_row};
-ghost use Rattle.history.specs.Event.{payment_of, train_moved, transfer_of};
 ghost use Rattle.history.specs.LookBack.{IsModerate, paid_by, paid_to};
 ghost use Rattle.history.specs.Shares.{brought_to, taken_from};
 ghost use Rattle.history.specs.Trains.{any_comes, any_goes, one_if, train_comes, train_goes};
 
-use crate::event::{Event, Holder, Party, Shareholder, TrainPlace};
+use events::{Event, Holder, Party, Shareholder, TrainPlace};
 use tables::{Amount, Company, Kind, Money};
 
 /// A net with a change that is a sum of money, or less one.

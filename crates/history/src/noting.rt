@@ -1,23 +1,24 @@
 //! How an event changes what the books have, table by table.
 ghost use Rattle.std.specs.Prelude.{◌≡◌, ℕ, ◌<◌, ◌+◌, ◌^◌, ◌&&◌, ◌||◌, [], ◌∷◌, None, Some, IsOk, false, is_some, slice_index_or, unwrap_or, vec_capacity, vec_len};
 ghost use Rattle.std.specs.Option.{option_map, option_or};
+ghost use Rattle.events.specs.Event.{floated_by, obeyed_of, office_of, operated_by, par_set, square_set, tells_bankrupt, tells_broken, transfer_of};
+ghost use Rattle.events.specs.Offers.{offered_in};
+ghost use Rattle.events.specs.Orders.{limit_in, par_of_baltimore_in, said_by};
+ghost use Rattle.events.specs.declared.event.Shareholder.TheVariants.{BankPool, Seat as OfSeat};
 ghost use Rattle.history.specs.Bids.{bid_said};
 ghost use Rattle.history.specs.Books.{at_company, bid_in, count_at, flag_of, flag_then, here_if, sale_in};
-ghost use Rattle.history.specs.Event.{floated_by, obeyed_of, office_of, operated_by, par_set, square_set, tells_bankrupt, tells_broken, transfer_of};
 ghost use Rattle.history.specs.LookBack.{in_round};
-ghost use Rattle.history.specs.Offers.{is_among, offered_in, tells_offer};
+ghost use Rattle.history.specs.Offers.{is_among, tells_offer};
 ghost use Rattle.history.specs.Operating.{rulings_then, tokens_placed, turn_said};
-ghost use Rattle.history.specs.Orders.{limit_in, par_of_baltimore_in, said_by};
 ghost use Rattle.history.specs.Shares.{float_said, par_said, president_said, sale_said, same_shareholder, square_said};
-ghost use Rattle.history.specs.declared.event.Shareholder.TheVariants.{BankPool, Seat as OfSeat};
 ghost use Rattle.tables.specs.Roster.{place_of_company};
 ghost use Rattle.tables.specs.Seat.{seat_at};
 
 use crate::aspect::Topic;
 use crate::bids::note_bid_on;
-use crate::event::{Bid, Bidding, Event, Shareholder};
 use crate::list::push_any;
 use crate::topics::ParOrdered;
+use events::{Bid, Bidding, Event, Shareholder};
 use order_grammar::Offer;
 use std::alloc::AllocError;
 use tables::{Amount, Company, PLAYERS_MOST, Private, Seat, Square};

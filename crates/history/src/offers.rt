@@ -3,9 +3,9 @@ ghost use Rattle.std.specs.Prelude.{◌≡◌};
 ghost use Rattle.history.specs.Offers.{has_consent, has_offered, is_among};
 
 use crate::aspect::{InRound, last_said};
-use crate::kept::is_offer;
 use crate::look_back::Past;
 use crate::topics::OfferBy;
+use events::is_offer;
 use order_grammar::Offer;
 use tables::Seat;
 

@@ -2,8 +2,8 @@
 ghost use Rattle.std.specs.Prelude.{◌≡◌};
 ghost use Rattle.history.specs.Operating.{has_operated, rulings_in_round, tokens_placed};
 
-use crate::event::Event;
 use crate::look_back::Past;
+use events::Event;
 use tables::{Company, PLAYERS_MOST, Seat};
 
 impl Past<'_> {

@@ -1,11 +1,11 @@
 ghost use Rattle.std.specs.Prelude.{◌≡◌};
 ghost use Rattle.std.specs.Option.{option_or};
+ghost use Rattle.events.specs.Event.{ownership_of};
 ghost use Rattle.history.specs.Books.{word_in};
-ghost use Rattle.history.specs.Event.{ownership_of};
 ghost use Rattle.tables.specs.declared.roster.Private.TheVariants.{SchuylkillValley};
 ghost use Rattle.history.specs.LookBack.{cheapest_in, is_sold_in, owner_in, owner_said};
 
-use crate::event::{Event, Holder};
+use events::{Event, Holder};
 use tables::Private;
 
 /// What was said last of the owner of each private, made by one look over a list of events.

@@ -4,10 +4,10 @@ ghost use Rattle.history.specs.LookBack.{IsModerate};
 ghost use Rattle.history.specs.Shares.{arrival_of, has_sold_in_round, is_floated, is_started, par_of, president_of, shares_of, square_of, start_tenths};
 
 use crate::aspect::{InRound, balance, last_said};
-use crate::event::Shareholder;
 use crate::look_back::Past;
 use crate::nets::entry_of_tenths;
 use crate::topics::{SaleBy, Shares};
+use events::Shareholder;
 use tables::{Amount, Company, Money, PLAYERS_MOST, Seat, Square};
 
 /// A number of tenths of a company: what came in less what went out, from 0 to 10 in a sound game.

@@ -1,12 +1,12 @@
 //! Events that follow from the list alone.
 ghost use Rattle.std.specs.Prelude.{◌≡◌, ◌≤◌, OnErr, OnOk};
-ghost use Rattle.history.specs.Event.{IsQuiet, sum_of};
+ghost use Rattle.events.specs.Event.{IsQuiet, sum_of};
 ghost use Rattle.history.specs.LookBack.{with_event};
 ghost use Rattle.history.specs.Sound.{IsSound};
 ghost use Rattle.history.specs.Tell.{broken_told, left_told, revenue_told, revenues_told};
 
-use crate::event::{Event, Party};
 use crate::list::History;
+use events::{Event, Party};
 use std::alloc::AllocError;
 use tables::{Private, Seat, revenue};
 

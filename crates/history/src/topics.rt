@@ -1,13 +1,13 @@
 //! The things of which events speak, and the accounts that they change.
+ghost use Rattle.events.specs.Event.{actor_of, bidding_of, obeyed_of, payment_of, phase_set, round_of as round_begun, sv_price_set, transfer_of};
+ghost use Rattle.events.specs.Offers.{offered_in};
+ghost use Rattle.events.specs.Orders.{limit_in, par_of_baltimore_in, said_by};
 ghost use Rattle.history.specs.Bids.{bid_said};
-ghost use Rattle.history.specs.Event.{bidding_of, obeyed_of, payment_of, phase_set, round_of as round_begun, sv_price_set, transfer_of};
-ghost use Rattle.history.specs.LookBack.{actor_of, paid_by, paid_to};
-ghost use Rattle.history.specs.Offers.{offered_in};
-ghost use Rattle.history.specs.Orders.{limit_in, par_of_baltimore_in, said_by};
+ghost use Rattle.history.specs.LookBack.{paid_by, paid_to};
 ghost use Rattle.history.specs.Shares.{brought_to, sale_said, taken_from};
 
 use crate::aspect::{Account, Topic};
-use crate::event::{Bidding, Event, Party, Shareholder};
+use events::{Bidding, Event, Party, Shareholder};
 use order_grammar::Offer;
 use tables::{Amount, Company, Kind, Private, Round, Seat};
 

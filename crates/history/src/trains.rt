@@ -3,9 +3,9 @@ ghost use Rattle.std.specs.Prelude.{◌≡◌};
 ghost use Rattle.history.specs.LookBack.{IsModerate};
 ghost use Rattle.history.specs.Trains.{phase_of, so_many, stable_size, trains_at, trains_held, trains_sold};
 
-use crate::event::TrainPlace;
 use crate::look_back::Past;
 use crate::nets::{entry_of_train, row_of_trains};
+use events::TrainPlace;
 use tables::{Company, Kind, Money};
 
 /// A number of trains: those that came in less those that went out, at least 0 in a sound game.

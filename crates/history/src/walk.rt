@@ -4,8 +4,8 @@ ghost use Rattle.history.specs.Books.{AreBooksOf};
 ghost use Rattle.history.specs.LookBack.{FitsMemory};
 
 use crate::books::Books;
-use crate::event::Event;
 use crate::look_back::Past;
+use events::Event;
 
 /// A list of events, of which the first so many were passed, and the books of those. One who asks
 /// for a game as it stood, and later for the same game as it stood later, notes each event once.

@@ -1,6 +1,6 @@
 //! Laws of the definitions, each the contract of a function that does nothing.
 ghost use Rattle.std.specs.Prelude.{◌≡◌, ◌∷◌, [], List, ℕ};
-ghost use Rattle.history.specs.declared.event.Event.{Event};
+ghost use Rattle.events.specs.declared.event.Event.{Event};
 ghost use Rattle.market.specs.Moves.{StaysOnChart, down_of, fallen, left_of, right_of, up_of};
 ghost use Rattle.market.specs.OperatingOrder.{IsOperatingOrder, both_at_67, operating_order_of};
 ghost use Rattle.tables.specs.declared.roster.Company.TheVariants.{BaltimoreOhio, Pennsylvania};

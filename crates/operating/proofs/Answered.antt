@@ -5,17 +5,17 @@ use Rattle.board.specs.Ground.{Ground}
 use Rattle.board.specs.LayRules.{IsLayAnswer, ground_rules}
 use Rattle.board.specs.TokenRules.{IsTokenAnswer, slot_rules}
 use Rattle.board.specs.declared.asker.Asker.{Asker}
+use Rattle.events.specs.Event.{party_of_company}
+use Rattle.events.specs.declared.event.Event.TheVariants as event
+use Rattle.events.specs.declared.ruling.Refusal.TheVariants as refusal
+use Rattle.events.specs.declared.ruling.Ruling.{Ruling}
+use Rattle.events.specs.declared.ruling.Ruling.TheVariants.{Obeyed, Refused}
 use Rattle.history.proofs.EventAtEnd.{cash_of_before}
 use Rattle.history.proofs.Payments.{lay_sound, token_sound}
-use Rattle.history.specs.Event.{party_of_company}
 use Rattle.history.specs.LookBack.{Game, cash_of, with_event}
 use Rattle.history.specs.Operating.{lays_of}
 use Rattle.history.specs.Sound.{IsSound}
-use Rattle.history.specs.declared.event.Event.TheVariants as event
 use Rattle.map_tables.specs.declared.rules.LayRule.{LayRule}
-use Rattle.history.specs.declared.ruling.Refusal.TheVariants as refusal
-use Rattle.history.specs.declared.ruling.Ruling.{Ruling}
-use Rattle.history.specs.declared.ruling.Ruling.TheVariants.{Obeyed, Refused}
 use Rattle.map_tables.specs.declared.rules.TokenRule.{TokenRule}
 use Rattle.map_tables.specs.declared.lay.Lay.{Lay}
 use Rattle.map_tables.specs.declared.place.Place.{Place}

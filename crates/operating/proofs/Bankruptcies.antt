@@ -4,11 +4,11 @@ use Rattle.std.proofs.lemmas.Bool.{false≢true}
 use Rattle.std.proofs.lemmas.List.Folds.{list_any-append}
 use Rattle.std.specs.Int.Signed.{lt_z}
 use Rattle.board.proofs.Same.{or_true}
-use Rattle.history.specs.Event.{tells_bankrupt}
+use Rattle.events.specs.Event.{tells_bankrupt}
+use Rattle.events.specs.declared.event.Event.{Event}
+use Rattle.events.specs.declared.event.Event.TheVariants as event
 use Rattle.history.specs.LookBack.{Game, bankrupt_in, with_event}
 use Rattle.history.specs.Shares.{president_of}
-use Rattle.history.specs.declared.event.Event.{Event}
-use Rattle.history.specs.declared.event.Event.TheVariants as event
 use Rattle.operating.proofs.ForcedGames.{OfSales, gained_none, gained_of, of_bought, of_gained, of_raises, of_sale, operator}
 use Rattle.operating.proofs.ForcedLemmas.{size_before}
 use Rattle.operating.proofs.Operated.{or_false}

@@ -3,7 +3,7 @@ use Rattle.std.proofs.Common.{◌≡◌, ℕ, ℤ, pos, List, [], ◌∷◌, Opt
 use Rattle.certificate.specs.Set.{IsGreatest}
 use Rattle.certificate.specs.declared.runner.RunnerFault.{RunnerFault}
 use Rattle.certificate.specs.declared.runner.RunnerFault.TheVariants.{Memory}
-use Rattle.history.specs.declared.event.Event.{Event}
+use Rattle.events.specs.declared.event.Event.{Event}
 use Rattle.map_tables.specs.declared.rules.RunRule.{RunRule}
 use Rattle.operating.proofs.Calls.{broken_off, joined}
 use Rattle.operating.specs.Best.{best_judgement, trains_now}

@@ -14,14 +14,14 @@ use Rattle.certificate.proofs.Sharing.{legal_by_marks, legal_over}
 use Rattle.certificate.specs.Legal.{IsLegalRun, all_crossed, crossed, earned}
 use Rattle.certificate.specs.Marks.{MarksAre}
 use Rattle.certificate.specs.Set.{IsGreatest, IsLegalSet, ShareNoBorder, TrainRun, in_number, revenue_of, trains_that_run}
+use Rattle.events.specs.Event.{stable_of}
+use Rattle.events.specs.declared.event.Event.{Event}
+use Rattle.events.specs.declared.event.Event.TheVariants as event
+use Rattle.events.specs.declared.ruling.Refusal.TheVariants as refusal
+use Rattle.events.specs.declared.ruling.Ruling.{Ruling}
+use Rattle.events.specs.declared.ruling.Ruling.TheVariants.{Obeyed, Refused}
 use Rattle.history.proofs.EventAtEnd.{trains_at_before}
-use Rattle.history.specs.Event.{stable_of}
 use Rattle.history.specs.Trains.{so_many, trains_held}
-use Rattle.history.specs.declared.event.Event.{Event}
-use Rattle.history.specs.declared.event.Event.TheVariants as event
-use Rattle.history.specs.declared.ruling.Refusal.TheVariants as refusal
-use Rattle.history.specs.declared.ruling.Ruling.{Ruling}
-use Rattle.history.specs.declared.ruling.Ruling.TheVariants.{Obeyed, Refused}
 use Rattle.map_tables.specs.declared.rules.RunRule.{RunRule}
 use Rattle.map_tables.specs.declared.place.Place.{Place}
 use Rattle.operating.proofs.Fitting.{same_ground}

@@ -4,19 +4,19 @@ use Rattle.std.proofs.Common.{◌≡◌, ◌⊎◌, ℕ, ◌<◌, inl, inr, Bool
 use Rattle.std.proofs.lemmas.Bool.Decides.{nat_tests}
 use Rattle.std.proofs.lemmas.Int.{ints}
 use Rattle.std.specs.Int.Signed.{lt_z}
+use Rattle.events.specs.Event.{party_of_company, train_moved}
+use Rattle.events.specs.declared.event.Event.{Event}
+use Rattle.events.specs.declared.event.Event.TheVariants as event
+use Rattle.events.specs.declared.event.Party.{Party}
+use Rattle.events.specs.declared.event.TrainPlace.TheVariants as place
+use Rattle.events.specs.declared.event.TrainSeller.{TrainSeller}
+use Rattle.events.specs.declared.event.TrainSeller.TheVariants as seller
 use Rattle.history.proofs.EventAtEnd.{cash_of_before, trains_at_end}
 use Rattle.history.proofs.Rolling.{same_kind_is, sold_at_end}
 use Rattle.history.proofs.TrainActs.{trade_sound, train_purchase_sound}
-use Rattle.history.specs.Event.{party_of_company, train_moved}
 use Rattle.history.specs.LookBack.{Game, cash_of, with_event}
 use Rattle.history.specs.Sound.{IsSound}
 use Rattle.history.specs.Trains.{IsThere, one_if, train_goes, trains_held, trains_sold}
-use Rattle.history.specs.declared.event.Event.{Event}
-use Rattle.history.specs.declared.event.Event.TheVariants as event
-use Rattle.history.specs.declared.event.Party.{Party}
-use Rattle.history.specs.declared.event.TrainPlace.TheVariants as place
-use Rattle.history.specs.declared.event.TrainSeller.{TrainSeller}
-use Rattle.history.specs.declared.event.TrainSeller.TheVariants as seller
 use Rattle.operating.specs.Discards.{has_train}
 use Rattle.operating.specs.Phases.{with_trade}
 use Rattle.operating.specs.Trains.{are_left, first_left_of, is_kind, is_left, is_not_sellers, is_on_sale, is_no_trade_in, may_be_traded, may_trade, numbered_kinds, cost_of, purchase_rules, train_judgement}

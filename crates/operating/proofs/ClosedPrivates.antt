@@ -3,15 +3,15 @@
 use Rattle.std.proofs.Common.{◌≡◌, Bool, true, false, ◌&&◌, if◌then◌else◌, List, [], ◌∷◌, ◌++◌, Option, Some, None}
 use Rattle.std.proofs.Common.{is_some, is_none, refl, sym, ap, ◌∙◌}
 use Rattle.std.specs.Option.{option_flatten, option_or}
+use Rattle.events.specs.Event.{ownership_of}
+use Rattle.events.specs.declared.event.Event.{Event}
+use Rattle.events.specs.declared.event.Event.TheVariants as event
+use Rattle.events.specs.declared.event.Holder.{Holder}
+use Rattle.events.specs.declared.event.Holder.TheVariants as holder
+use Rattle.events.specs.declared.event.Ownership.{Ownership}
 use Rattle.history.proofs.BidWords.{same_private_is}
 use Rattle.history.proofs.EventAtEnd.{last_said_at_end}
-use Rattle.history.specs.Event.{ownership_of}
 use Rattle.history.specs.LookBack.{Game, is_closed, last_said, owner_said}
-use Rattle.history.specs.declared.event.Event.{Event}
-use Rattle.history.specs.declared.event.Event.TheVariants as event
-use Rattle.history.specs.declared.event.Holder.{Holder}
-use Rattle.history.specs.declared.event.Holder.TheVariants as holder
-use Rattle.history.specs.declared.event.Ownership.{Ownership}
 use Rattle.operating.proofs.TrainSteps.{IsPassedOn}
 use Rattle.operating.proofs.TurnEvents.{IsOfTurn}
 use Rattle.operating.proofs.ForcedGames.{forced_names_none, of_game_turn}

@@ -2,15 +2,15 @@
 -- they rust, and none after.
 use Rattle.std.proofs.Common.{◌≡◌, ℕ, ◌<◌, Bool, true, false, ◌&&◌, List, [], ◌∷◌, ◌++◌, Option, None, unwrap_or, pos, ◌-ℤ◌, refl, sym, ap, subst, ◌∙◌, arith}
 use Rattle.std.proofs.lemmas.Int.{ints}
+use Rattle.events.specs.Event.{phase_set, stable_of, train_moved}
+use Rattle.events.specs.declared.event.Event.{Event}
+use Rattle.events.specs.declared.event.Event.TheVariants as event
+use Rattle.events.specs.declared.event.TrainPlace.TheVariants as place
 use Rattle.history.proofs.AllTrains.{trains_stay}
 use Rattle.history.proofs.EventAtEnd.{last_said_before, trains_at_before, trains_at_end}
 use Rattle.history.proofs.Rolling.{no_trains, sold_at_end, trains_kept}
-use Rattle.history.specs.Event.{phase_set, stable_of, train_moved}
 use Rattle.history.specs.LookBack.{Game, with_event}
 use Rattle.history.specs.Trains.{one_if, phase_of, same_train_place, train_comes, train_goes, trains_at, trains_sold}
-use Rattle.history.specs.declared.event.Event.{Event}
-use Rattle.history.specs.declared.event.Event.TheVariants as event
-use Rattle.history.specs.declared.event.TrainPlace.TheVariants as place
 use Rattle.operating.proofs.TrainSteps.{IsPassedOn, OfClosings, OfDiscards, OfRustings, OfTrades}
 use Rattle.operating.specs.TrainLaws.{OthersKeepAll, OthersKeepStanding, TrainsAreAll, TrainsStandAtFirst, has_come, trains_there}
 use Rattle.tables.specs.Train.{place_of_kind, rusting_of, same_kind}

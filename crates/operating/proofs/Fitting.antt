@@ -8,19 +8,19 @@ use Rattle.board.specs.Homes.{Fits}
 use Rattle.board.specs.LayRules.{ground_rules}
 use Rattle.board.specs.TokenRules.{slot_rules}
 use Rattle.board.specs.declared.asker.Asker.{Asker}
+use Rattle.events.specs.Event.{phase_set, tile_laid, token_placed}
+use Rattle.events.specs.declared.event.Event.{Event}
+use Rattle.events.specs.declared.event.Event.TheVariants as event
 use Rattle.history.proofs.EventAtEnd.{last_said_before}
 use Rattle.history.proofs.InOrder.{lays_before, lays_grow, tokens_before, tokens_grow}
 use Rattle.history.proofs.Payments.{home_sound, withholding_sound}
 use Rattle.history.proofs.Settled.{broken_quiet}
 use Rattle.history.proofs.Soundness.{quiet_sound}
-use Rattle.history.specs.Event.{phase_set, tile_laid, token_placed}
 use Rattle.history.specs.LookBack.{Game, with_event}
 use Rattle.history.specs.Operating.{lays_of, tokens_of}
 use Rattle.history.specs.Sound.{IsSound, LiesFit}
 use Rattle.history.specs.Tell.{breaks, broken_told}
 use Rattle.history.specs.Trains.{phase_of}
-use Rattle.history.specs.declared.event.Event.{Event}
-use Rattle.history.specs.declared.event.Event.TheVariants as event
 use Rattle.map_tables.specs.Fit.{AreFitWithHomes}
 use Rattle.map_tables.specs.Home.{home_of}
 use Rattle.map_tables.specs.Place.{place_of}

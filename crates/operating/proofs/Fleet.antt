@@ -2,17 +2,17 @@
 use Rattle.std.proofs.Common.{◌≡◌, ◌⊎◌, ℕ, zero, suc, ◌<◌, ◌≤◌, ◌==◌, inl, inr, Bool, true, false, ◌&&◌, nat_lt, if◌then◌else◌, List, Option, Some, None, pos, refl, sym, ap, subst, ◌∙◌, arith}
 use Rattle.std.proofs.lemmas.Bool.Decides.{nat_tests}
 use Rattle.std.proofs.lemmas.Int.{ints}
+use Rattle.events.specs.Event.{place_of_seller, train_moved}
+use Rattle.events.specs.declared.event.Event.{Event}
+use Rattle.events.specs.declared.event.Event.TheVariants as event
+use Rattle.events.specs.declared.event.TrainPlace.TheVariants as place
+use Rattle.events.specs.declared.event.TrainSeller.{TrainSeller}
+use Rattle.events.specs.declared.event.TrainSeller.TheVariants as seller
 use Rattle.history.proofs.AllTrains.{trains_stay}
 use Rattle.history.proofs.Choices.{truth}
 use Rattle.history.proofs.Rolling.{same_kind_is, sold_at_end, trains_kept}
-use Rattle.history.specs.Event.{place_of_seller, train_moved}
 use Rattle.history.specs.LookBack.{Game, with_event}
 use Rattle.history.specs.Trains.{IsThere, TrainsAreHeld, one_if, phase_of, train_goes, trains_at, trains_in_play, trains_sold}
-use Rattle.history.specs.declared.event.Event.{Event}
-use Rattle.history.specs.declared.event.Event.TheVariants as event
-use Rattle.history.specs.declared.event.TrainPlace.TheVariants as place
-use Rattle.history.specs.declared.event.TrainSeller.{TrainSeller}
-use Rattle.history.specs.declared.event.TrainSeller.TheVariants as seller
 use Rattle.operating.proofs.Buying.{may_buy, so}
 use Rattle.operating.proofs.Complete.{Alike, alike_closed, alike_discarded, alike_on, alike_phase, alike_rusted, there_is}
 use Rattle.operating.proofs.Held.{bought_held, purchase_held}

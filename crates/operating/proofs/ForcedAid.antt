@@ -3,15 +3,15 @@ use Rattle.std.proofs.Common.{◌≡◌, ℕ, ◌≤◌, ◌<◌, inl, inr, Bool
 use Rattle.std.proofs.lemmas.Bool.{cases_eq}
 use Rattle.std.proofs.lemmas.Int.{ints}
 use Rattle.std.specs.Int.Signed.{lt_z}
+use Rattle.events.specs.Event.{party_of_company}
+use Rattle.events.specs.declared.event.Event.{Event}
+use Rattle.events.specs.declared.event.Event.TheVariants as event
 use Rattle.history.proofs.EventAtEnd.{cash_of_at_end}
 use Rattle.history.proofs.ForcedActs.{aid_sound}
 use Rattle.history.specs.Bids.{free_cash_of}
-use Rattle.history.specs.Event.{party_of_company}
 use Rattle.history.specs.LookBack.{Game, cash_of, with_event}
 use Rattle.history.specs.Sound.{IsSound}
 use Rattle.history.specs.Trains.{so_many}
-use Rattle.history.specs.declared.event.Event.{Event}
-use Rattle.history.specs.declared.event.Event.TheVariants as event
 use Rattle.operating.proofs.ForcedBuying.{cheapest_low, company_itself, less_is, not_less_is}
 use Rattle.operating.specs.Forced.{cheapest, falls_short, lack_of, with_aid}
 use Rattle.operating.specs.ForcedLaws.{AidIsWhatLacks, NoAidWithoutLack}

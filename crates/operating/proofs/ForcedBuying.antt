@@ -6,18 +6,18 @@ use Rattle.std.proofs.lemmas.Bool.Decides.{nat_tests}
 use Rattle.std.proofs.lemmas.Int.{ints}
 use Rattle.std.specs.Int.Signed.{lt_z}
 use Rattle.std.specs.List.{AllByRecursion}
+use Rattle.events.specs.Event.{party_of_company, stable_of, train_moved}
+use Rattle.events.specs.declared.event.Event.{Event}
+use Rattle.events.specs.declared.event.Event.TheVariants as event
+use Rattle.events.specs.declared.event.TrainPlace.TheVariants as place
+use Rattle.events.specs.declared.event.TrainSeller.{TrainSeller}
+use Rattle.events.specs.declared.event.TrainSeller.TheVariants as seller
+use Rattle.events.specs.declared.ruling.TrainRule.{TrainRule}
+use Rattle.events.specs.declared.ruling.TrainRule.TheVariants.{NotOnSale, TrainLimit, CashTooSmall, NoConsent, NotSellers, NoTradeIn}
 use Rattle.history.proofs.EventAtEnd.{cash_of_at_end, trains_at_before}
 use Rattle.history.proofs.Rolling.{sold_at_end}
-use Rattle.history.specs.Event.{party_of_company, stable_of, train_moved}
 use Rattle.history.specs.LookBack.{Game, cash_of, with_event}
 use Rattle.history.specs.Trains.{one_if, phase_of, so_many, stable_size, train_goes, trains_held, trains_sold}
-use Rattle.history.specs.declared.event.Event.{Event}
-use Rattle.history.specs.declared.event.Event.TheVariants as event
-use Rattle.history.specs.declared.event.TrainPlace.TheVariants as place
-use Rattle.history.specs.declared.event.TrainSeller.{TrainSeller}
-use Rattle.history.specs.declared.event.TrainSeller.TheVariants as seller
-use Rattle.history.specs.declared.ruling.TrainRule.{TrainRule}
-use Rattle.history.specs.declared.ruling.TrainRule.TheVariants.{NotOnSale, TrainLimit, CashTooSmall, NoConsent, NotSellers, NoTradeIn}
 use Rattle.operating.specs.Forced.{cheapest, first_on_sale, has_trains, lack_of, plain, with_aid}
 use Rattle.operating.specs.Trains.{are_left, cost_of, first_left, first_left_of, is_full, is_kind, is_left, is_on_sale, is_too_dear, numbered_kinds, sells, sells_diesels, train_judgement}
 use Rattle.operating.specs.declared.operator.Operator.{Operator}

@@ -5,16 +5,16 @@ use Rattle.certs.specs.SaleAct.{after_sale, sold, with_president, with_successor
 use Rattle.certs.specs.President.{successor_of}
 use Rattle.certs.specs.Purchase.{market_price_of}
 use Rattle.certs.specs.declared.deal.Sale.{Sale}
+use Rattle.events.specs.Event.{stable_of, train_moved}
+use Rattle.events.specs.declared.event.Event.{Event}
+use Rattle.events.specs.declared.event.Event.TheVariants as event
+use Rattle.events.specs.declared.ruling.Refusal.{Refusal}
+use Rattle.events.specs.declared.ruling.Ruling.TheVariants.{Obeyed, Refused}
 use Rattle.history.proofs.EventAtEnd.{trains_at_before}
-use Rattle.history.specs.Event.{stable_of, train_moved}
 use Rattle.history.specs.LookBack.{Game, with_event}
 use Rattle.history.specs.Shares.{president_of, square_of}
 use Rattle.history.specs.Tell.{breaks, with_broken}
 use Rattle.history.specs.Trains.{stable_size, trains_held, trains_of_kinds}
-use Rattle.history.specs.declared.event.Event.{Event}
-use Rattle.history.specs.declared.event.Event.TheVariants as event
-use Rattle.history.specs.declared.ruling.Refusal.{Refusal}
-use Rattle.history.specs.declared.ruling.Ruling.TheVariants.{Obeyed, Refused}
 use Rattle.market.specs.Moves.{fallen}
 use Rattle.market.specs.Token.{moved_from, same_square}
 use Rattle.operating.specs.Forced.{after_raise_line, after_raises, has_trains, next_to_sell, raise_rule, raise_ruled, sold_further, sold_singly, with_one_sold, falls_short}

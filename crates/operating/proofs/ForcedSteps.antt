@@ -5,17 +5,17 @@ use Rattle.certs.proofs.SaleAllowed.{sale_allowed, same_judgement}
 use Rattle.certs.specs.Sale.{sale_judgement}
 use Rattle.certs.specs.SaleAct.{MaySell, after_sale}
 use Rattle.certs.specs.declared.deal.Sale.{Sale}
+use Rattle.events.specs.Event.{IsQuiet, round_of as round_begun}
+use Rattle.events.specs.declared.event.Event.{Event}
+use Rattle.events.specs.declared.event.Event.TheVariants as event
+use Rattle.events.specs.declared.ruling.Refusal.TheVariants as refusal
+use Rattle.events.specs.declared.ruling.Ruling.{Ruling}
+use Rattle.events.specs.declared.ruling.Ruling.TheVariants.{Obeyed}
+use Rattle.events.specs.declared.ruling.StockRule.{StockRule}
+use Rattle.events.specs.declared.ruling.StockRule.TheVariants.{NotOfStock}
 use Rattle.history.proofs.EventAtEnd.{last_said_before, quiet_same}
 use Rattle.history.specs.Conditions.{is_met}
-use Rattle.history.specs.Event.{IsQuiet, round_of as round_begun}
 use Rattle.history.specs.LookBack.{Game, with_event}
-use Rattle.history.specs.declared.event.Event.{Event}
-use Rattle.history.specs.declared.event.Event.TheVariants as event
-use Rattle.history.specs.declared.ruling.Refusal.TheVariants as refusal
-use Rattle.history.specs.declared.ruling.Ruling.{Ruling}
-use Rattle.history.specs.declared.ruling.Ruling.TheVariants.{Obeyed}
-use Rattle.history.specs.declared.ruling.StockRule.{StockRule}
-use Rattle.history.specs.declared.ruling.StockRule.TheVariants.{NotOfStock}
 use Rattle.operating.specs.Forced.{after_forced, after_raise, after_raises, cheapest, concluded, falls_short, needed_rule, next_to_sell, one_tenth, raise_rule, raise_ruled, sale_rule, sold_further, sold_singly, with_aid, with_one_sold, with_ruling, with_sale}
 use Rattle.operating.specs.Phases.{after_train}
 use Rattle.operating.specs.declared.operator.Operator.{Operator}

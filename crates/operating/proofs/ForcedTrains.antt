@@ -6,18 +6,18 @@ use Rattle.std.proofs.lemmas.Int.{ints}
 use Rattle.std.specs.Int.Signed.{lt_z}
 use Rattle.board.specs.Ground.{position_of}
 use Rattle.certificate.specs.TwoTrain.{CanRun}
+use Rattle.events.specs.Event.{place_of_seller, stable_of, train_moved}
+use Rattle.events.specs.declared.event.Event.{Event}
+use Rattle.events.specs.declared.event.Event.TheVariants as event
+use Rattle.events.specs.declared.event.TrainSeller.{TrainSeller}
+use Rattle.events.specs.declared.event.TrainSeller.TheVariants as seller
+use Rattle.events.specs.declared.ruling.Ruling.{Ruling}
 use Rattle.history.proofs.Choices.{same_company_is, truth}
 use Rattle.history.proofs.EventAtEnd.{trains_at_before, trains_at_end}
 use Rattle.history.proofs.Rolling.{same_kind_is, same_train_place_is}
-use Rattle.history.specs.Event.{place_of_seller, stable_of, train_moved}
 use Rattle.history.specs.LookBack.{Game, bankrupt_in, with_event}
 use Rattle.history.specs.Shares.{president_of}
 use Rattle.history.specs.Trains.{TrainsAreHeld, one_if, phase_of, same_train_place, so_many, stable_size, trains_at, trains_held}
-use Rattle.history.specs.declared.event.Event.{Event}
-use Rattle.history.specs.declared.event.Event.TheVariants as event
-use Rattle.history.specs.declared.event.TrainSeller.{TrainSeller}
-use Rattle.history.specs.declared.event.TrainSeller.TheVariants as seller
-use Rattle.history.specs.declared.ruling.Ruling.{Ruling}
 use Rattle.operating.proofs.Bankruptcies.{now_bankrupt}
 use Rattle.operating.proofs.Fitting.{same_ground}
 use Rattle.operating.proofs.ForcedBuying.{cheapest_plain, company_itself, limit_low}

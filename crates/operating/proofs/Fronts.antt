@@ -3,10 +3,10 @@ use Rattle.std.proofs.Common.{◌≡◌, ◌-◌, ◌<◌, List, [], ◌∷◌, 
 use Rattle.std.proofs.lemmas.List.{append_assoc, append-nil}
 use Rattle.std.proofs.lemmas.List.Elements.{filter_map-append}
 use Rattle.board.specs.Ground.{Ground, ground_of}
-use Rattle.history.specs.Event.{tile_laid, token_placed}
+use Rattle.events.specs.Event.{tile_laid, token_placed}
+use Rattle.events.specs.declared.event.Event.{Event}
 use Rattle.history.specs.LookBack.{Game}
 use Rattle.history.specs.Operating.{lays_of, tokens_of}
-use Rattle.history.specs.declared.event.Event.{Event}
 use Rattle.operating.proofs.TurnGames.{of_steps}
 use Rattle.operating.proofs.TurnLaws.{adds_by}
 use Rattle.operating.proofs.TurnSteps.{of_line, of_settled}

@@ -2,12 +2,12 @@
 -- of them than there are.
 use Rattle.std.proofs.Common.{◌≡◌, ℕ, zero, suc, ◌≤◌, Option, Some, None, pos, ◌≤ℤ◌, refl, arith}
 use Rattle.std.proofs.lemmas.Int.{ints}
+use Rattle.events.specs.declared.event.Event.TheVariants as event
+use Rattle.events.specs.declared.event.TrainPlace.TheVariants as place
 use Rattle.history.proofs.Rolling.{trains_after_move, trains_kept}
 use Rattle.history.proofs.TrainActs.{came_held}
 use Rattle.history.specs.LookBack.{Game, with_event}
 use Rattle.history.specs.Trains.{TrainsAreHeld, so_many, trains_held}
-use Rattle.history.specs.declared.event.Event.TheVariants as event
-use Rattle.history.specs.declared.event.TrainPlace.TheVariants as place
 use Rattle.operating.proofs.Buying.{may_buy, there_traded}
 use Rattle.operating.proofs.PhaseLemmas.{below_many, first_of_either}
 use Rattle.operating.proofs.Rust.{so_many_less}

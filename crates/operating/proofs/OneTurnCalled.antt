@@ -3,8 +3,8 @@ use Rattle.std.proofs.Common.{◌≡◌, ℕ, Bool, true, false, List, [], ◌�
 use Rattle.certificate.proofs.Greatest.{one_greatest}
 use Rattle.certificate.specs.declared.runner.RunnerFault.{RunnerFault}
 use Rattle.certificate.specs.declared.runner.RunnerFault.TheVariants.{Memory}
+use Rattle.events.specs.declared.ruling.Ruling.TheVariants.{Faulty}
 use Rattle.history.specs.Shares.{president_of}
-use Rattle.history.specs.declared.ruling.Ruling.TheVariants.{Faulty}
 use Rattle.map_tables.specs.declared.rules.RunRule.{RunRule}
 use Rattle.operating.proofs.OneCourse.{Agree, none_first, then_agree, unasked_agrees}
 use Rattle.operating.proofs.Outcome.{AllLawful, block_end_once, order_once}

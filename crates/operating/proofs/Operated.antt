@@ -2,15 +2,15 @@
 use Rattle.std.proofs.Common.{◌≡◌, ℕ, ◌==◌, Bool, true, false, not, ◌||◌, if◌then◌else◌, List, [], ◌∷◌, ◌++◌, Option, Some, None, is_some, refl, sym}
 use Rattle.std.proofs.Common.{ap, subst, ◌∙◌}
 use Rattle.std.specs.Option.{option_flatten, option_map, option_or}
+use Rattle.events.specs.Event.{operated_by, round_of}
+use Rattle.events.specs.declared.event.Event.{Event}
+use Rattle.events.specs.declared.event.Event.TheVariants as event
+use Rattle.events.specs.declared.ruling.PayRule.{PayRule}
+use Rattle.events.specs.declared.ruling.PayRule.TheVariants.{NothingToPay}
 use Rattle.history.proofs.EventAtEnd.{last_said_at_end}
-use Rattle.history.specs.Event.{operated_by, round_of}
 use Rattle.history.specs.LookBack.{Game, in_round, last_said, with_event}
 use Rattle.history.specs.Shares.{president_of}
 use Rattle.history.specs.Operating.{has_operated, turn_said}
-use Rattle.history.specs.declared.event.Event.{Event}
-use Rattle.history.specs.declared.event.Event.TheVariants as event
-use Rattle.history.specs.declared.ruling.PayRule.{PayRule}
-use Rattle.history.specs.declared.ruling.PayRule.TheVariants.{NothingToPay}
 use Rattle.operating.proofs.TurnEvents.{begins_none, own_alone}
 use Rattle.operating.proofs.ForcedGames.{OfForced, forced_begins_none, forced_operates_none, of_block_end, of_game_turn}
 use Rattle.operating.proofs.TurnGames.{OfEvents, after_withheld, by_each, of_steps}

@@ -5,13 +5,13 @@ use mir.Syntax.{w64, w128}
 use mir.Val.{of_z, to_z}
 use Rattle.std.specs.Int.Signed.{le_z, lt_z}
 use Rattle.std.specs.Option.{option_or}
+use Rattle.events.specs.Event.{stable_of, train_moved}
+use Rattle.events.specs.declared.event.Event.{Event}
+use Rattle.events.specs.declared.event.Event.TheVariants as event
 use Rattle.history.proofs.EventAtEnd.{trains_at_end}
 use Rattle.history.proofs.TrainActs.{discard_sound, rusting_sound}
-use Rattle.history.specs.Event.{stable_of, train_moved}
 use Rattle.history.specs.LookBack.{Game, IsModerate, with_event}
 use Rattle.history.specs.Trains.{one_if, phase_of, so_many, stable_size, train_comes, train_goes, trains_held}
-use Rattle.history.specs.declared.event.Event.{Event}
-use Rattle.history.specs.declared.event.Event.TheVariants as event
 use Rattle.operating.specs.Discards.{first_held, has_train, next_discard}
 use Rattle.history.specs.Sound.{IsSound}
 use Rattle.operating.specs.Phases.{after_train, begins_phase, bought, excess_of, with_limits_kept, with_one_rusted, with_phase, with_privates_closed, with_rusted}

@@ -9,15 +9,15 @@ use Rattle.certs.specs.Purchase.{market_price_of}
 use Rattle.certs.specs.Sale.{kept_after, leaves_none, must_stay, moves_operating, one_has, sale_judgement, sale_rules}
 use Rattle.certs.specs.SaleAct.{sold, with_president, with_successor}
 use Rattle.certs.specs.declared.deal.Sale.{Sale}
+use Rattle.events.specs.Event.{office_of}
+use Rattle.events.specs.declared.event.Event.{Event}
+use Rattle.events.specs.declared.event.Event.TheVariants as event
+use Rattle.events.specs.declared.event.Shareholder.TheVariants.{Seat as OfSeat}
 use Rattle.history.proofs.Choices.{same_company_is}
 use Rattle.history.proofs.EventAtEnd.{last_said_before, president_of_before, shares_of_at_end, shares_of_before}
-use Rattle.history.specs.Event.{office_of}
 use Rattle.history.specs.LookBack.{Game}
 use Rattle.history.specs.Shares.{president_of, president_said, shares_of, square_of}
 use Rattle.history.specs.Tell.{breaks}
-use Rattle.history.specs.declared.event.Event.{Event}
-use Rattle.history.specs.declared.event.Event.TheVariants as event
-use Rattle.history.specs.declared.event.Shareholder.TheVariants.{Seat as OfSeat}
 use Rattle.market.specs.Moves.{fallen}
 use Rattle.market.specs.Token.{moved_from, same_square}
 use Rattle.operating.proofs.ForcedBuying.{company_itself, not_less_is}

@@ -4,20 +4,20 @@ use Rattle.std.proofs.Common.{◌≡◌, ℕ, ◌+◌, ◌≤◌, ◌==◌, ◌|
 use Rattle.std.proofs.lemmas.Bool.Decides.{nat_tests}
 use Rattle.std.specs.Int.Signed.{lt_z}
 use Rattle.std.specs.Option.{option_flatten, option_map}
+use Rattle.events.specs.Event.{obeyed_of, ownership_of, party_of_company, phase_set}
+use Rattle.events.specs.Offers.{offered_in}
+use Rattle.events.specs.Orders.{said_by}
+use Rattle.events.specs.declared.event.Event.{Event}
+use Rattle.events.specs.declared.event.Event.TheVariants.{Ruled}
+use Rattle.events.specs.declared.event.Holder.{Holder}
+use Rattle.events.specs.declared.event.Holder.TheVariants as holder
+use Rattle.events.specs.declared.ruling.PrivateRule.{PrivateRule}
+use Rattle.events.specs.declared.ruling.PrivateRule.TheVariants.{TooEarly, WrongPrice, NoConsent, NeverSold, CashTooSmall}
+use Rattle.events.specs.declared.ruling.Ruling.TheVariants.{Obeyed}
 use Rattle.history.proofs.EventAtEnd.{cash_of_before, last_said_before, president_of_before}
-use Rattle.history.specs.Event.{obeyed_of, ownership_of, party_of_company, phase_set}
 use Rattle.history.specs.LookBack.{Game, cash_of, in_round, owner_of, owner_said, with_event}
-use Rattle.history.specs.Offers.{offered_in}
-use Rattle.history.specs.Orders.{said_by}
 use Rattle.history.specs.Shares.{president_of}
 use Rattle.history.specs.Trains.{phase_of}
-use Rattle.history.specs.declared.event.Event.{Event}
-use Rattle.history.specs.declared.event.Event.TheVariants.{Ruled}
-use Rattle.history.specs.declared.event.Holder.{Holder}
-use Rattle.history.specs.declared.event.Holder.TheVariants as holder
-use Rattle.history.specs.declared.ruling.PrivateRule.{PrivateRule}
-use Rattle.history.specs.declared.ruling.PrivateRule.TheVariants.{TooEarly, WrongPrice, NoConsent, NeverSold, CashTooSmall}
-use Rattle.history.specs.declared.ruling.Ruling.TheVariants.{Obeyed}
 use Rattle.operating.proofs.Buying.{not_less}
 use Rattle.operating.specs.InTurn.{InTurn, in_turn, told}
 use Rattle.operating.specs.Privates.{after_private, is_given, is_given_by, is_wrong_price, private_bought, private_judgement, private_ruled, private_rules}

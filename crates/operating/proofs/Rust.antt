@@ -2,13 +2,13 @@
 use Rattle.std.proofs.Common.{◌≡◌, ℕ, zero, suc, inl, inr, Bool, true, false, ◌&&◌, List, [], ◌∷◌, Option, Some, None, ℤ, pos, negsuc, ◌≤ℤ◌, ◌-ℤ◌, refl, sym, ap, subst, ◌∙◌, arith}
 use Rattle.std.proofs.lemmas.Int.{ints}
 use Rattle.std.specs.List.{fold}
+use Rattle.events.specs.Event.{stable_of, train_moved}
+use Rattle.events.specs.declared.event.Event.TheVariants as event
 use Rattle.history.proofs.Choices.{truth}
 use Rattle.history.proofs.EventAtEnd.{trains_at_end}
 use Rattle.history.proofs.Rolling.{same_train_place_is}
-use Rattle.history.specs.Event.{stable_of, train_moved}
 use Rattle.history.specs.LookBack.{Game}
 use Rattle.history.specs.Trains.{one_if, same_train_place, so_many, train_comes, train_goes, trains_at, trains_held, trains_in_play}
-use Rattle.history.specs.declared.event.Event.TheVariants as event
 use Rattle.operating.proofs.PhaseLemmas.{one_less}
 use Rattle.operating.specs.Phases.{with_company_rusted, with_kind_rusted, with_one_rusted, with_stable_rusted}
 use Rattle.tables.specs.Roster.{companies}

@@ -4,11 +4,11 @@ use Rattle.std.proofs.Common.{◌≡◌, Bool, true, false, ◌&&◌, List, [], 
 use Rattle.std.proofs.lemmas.List.{append_assoc, append-nil}
 use Rattle.std.proofs.lemmas.List.Folds.{list_all-append}
 use Rattle.std.specs.List.{list_all}
-use Rattle.history.specs.Event.{bidding_of}
+use Rattle.events.specs.Event.{bidding_of}
+use Rattle.events.specs.declared.event.Event.{Event}
+use Rattle.events.specs.declared.event.Event.TheVariants as event
+use Rattle.events.specs.declared.event.TrainSeller.TheVariants as seller
 use Rattle.history.specs.LookBack.{Game}
-use Rattle.history.specs.declared.event.Event.{Event}
-use Rattle.history.specs.declared.event.Event.TheVariants as event
-use Rattle.history.specs.declared.event.TrainSeller.TheVariants as seller
 use Rattle.operating.proofs.TrainSteps.{IsPassedOn}
 use Rattle.operating.proofs.TurnEvents.{IsOfTurn, is_agreed}
 use Rattle.operating.proofs.ForcedGames.{forced_bids_none, forced_sells_none, of_game_turn}

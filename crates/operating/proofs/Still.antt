@@ -4,22 +4,23 @@ use Rattle.std.proofs.Common.{◌≡◌, ℕ, ◌+◌, Bool, true, false, not, n
 use Rattle.std.proofs.lemmas.List.Sums.{sum_by-append}
 use Rattle.std.specs.Int.Signed.{lt_z}
 use Rattle.std.specs.Option.{option_flatten, option_map}
+use Rattle.events.specs.Event.{obeyed_of, party_of_company, phase_set, stable_of, train_moved}
+use Rattle.events.specs.Offers.{offered_in}
+use Rattle.events.specs.Orders.{said_by}
+use Rattle.events.specs.declared.event.Event.{Event}
+use Rattle.events.specs.declared.event.Event.TheVariants.{Ruled}
+use Rattle.events.specs.declared.event.TrainPlace.TheVariants as train_place
+use Rattle.events.specs.declared.event.TrainSeller.{TrainSeller}
+use Rattle.events.specs.declared.event.TrainSeller.TheVariants as seller
+use Rattle.events.specs.declared.ruling.Ruling.{Ruling}
+use Rattle.events.specs.declared.ruling.Ruling.TheVariants.{Obeyed}
+use Rattle.events.specs.declared.ruling.TrainRule.{TrainRule}
+use Rattle.events.specs.declared.ruling.TrainRule.TheVariants.{NotOnSale, TrainLimit, CashTooSmall, NoConsent, NotSellers, NoTradeIn}
 use Rattle.history.proofs.EventAtEnd.{balance_before, cash_of_before, last_said_before, president_of_before}
-use Rattle.history.specs.Event.{obeyed_of, party_of_company, phase_set, stable_of, train_moved}
 use Rattle.history.specs.LookBack.{Game, in_round, with_event}
-use Rattle.history.specs.Offers.{has_consent, offered_in}
-use Rattle.history.specs.Orders.{said_by}
+use Rattle.history.specs.Offers.{has_consent}
 use Rattle.history.specs.Shares.{president_of}
 use Rattle.history.specs.Trains.{one_if, phase_of, stable_size, train_comes, train_goes, trains_held, trains_of_kinds, trains_sold}
-use Rattle.history.specs.declared.event.Event.{Event}
-use Rattle.history.specs.declared.event.Event.TheVariants.{Ruled}
-use Rattle.history.specs.declared.event.TrainPlace.TheVariants as train_place
-use Rattle.history.specs.declared.event.TrainSeller.{TrainSeller}
-use Rattle.history.specs.declared.event.TrainSeller.TheVariants as seller
-use Rattle.history.specs.declared.ruling.Ruling.{Ruling}
-use Rattle.history.specs.declared.ruling.Ruling.TheVariants.{Obeyed}
-use Rattle.history.specs.declared.ruling.TrainRule.{TrainRule}
-use Rattle.history.specs.declared.ruling.TrainRule.TheVariants.{NotOnSale, TrainLimit, CashTooSmall, NoConsent, NotSellers, NoTradeIn}
 use Rattle.operating.specs.Trains.{are_left, cost_of, first_left, first_left_of, is_full, is_kind, is_left, is_no_trade_in, is_not_given, is_not_sellers, is_on_sale, is_too_dear, lacks_consent, may_be_traded, numbered_kinds, presidents_agree, sells_diesels, traded_count, train_judgement}
 use Rattle.operating.specs.InTurn.{InTurn, in_turn, told}
 use Rattle.operating.specs.Phases.{after_train}

@@ -10,11 +10,11 @@ use Rattle.board.proofs.Stocked.{lay_keeps_stock}
 use Rattle.board.proofs.Tiles.{last_lies}
 use Rattle.map_tables.specs.Lying.{tile_on}
 use Rattle.board.specs.LayRules.{is_tile, lying_of}
+use Rattle.events.specs.declared.event.Event.{Event}
+use Rattle.events.specs.declared.event.Event.TheVariants as event
 use Rattle.history.proofs.InOrder.{lays_grow}
 use Rattle.history.specs.LookBack.{Game, with_event}
 use Rattle.history.specs.Operating.{lays_of}
-use Rattle.history.specs.declared.event.Event.{Event}
-use Rattle.history.specs.declared.event.Event.TheVariants as event
 use Rattle.map_tables.specs.Hex.{hexes, index_of, same_hex}
 use Rattle.map_tables.specs.Tile.{entry_of}
 use Rattle.map_tables.specs.declared.hex.Hex.{Hex}

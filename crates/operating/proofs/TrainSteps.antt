@@ -2,14 +2,14 @@
 use Rattle.std.proofs.Common.{◌≡◌, ℕ, zero, suc, ◌≤◌, ◌<◌, ◌==◌, Bool, true, false, ◌&&◌, nat_lt, if◌then◌else◌, List, [], ◌∷◌, ◌++◌, Option, Some, None, is_some, unwrap_or, refl, ap, ◌∙◌, arith}
 use Rattle.std.proofs.lemmas.Bool.Decides.{nat_tests}
 use Rattle.std.specs.List.{fold}
+use Rattle.events.specs.Event.{phase_set}
+use Rattle.events.specs.declared.event.Event.{Event}
+use Rattle.events.specs.declared.event.Event.TheVariants as event
+use Rattle.events.specs.declared.event.TrainSeller.{TrainSeller}
+use Rattle.events.specs.declared.event.TrainSeller.TheVariants as seller
 use Rattle.history.proofs.EventAtEnd.{last_said_at_end, last_said_before}
-use Rattle.history.specs.Event.{phase_set}
 use Rattle.history.specs.LookBack.{Game, owner_of, with_event}
 use Rattle.history.specs.Trains.{phase_of, so_many, trains_held, trains_sold}
-use Rattle.history.specs.declared.event.Event.{Event}
-use Rattle.history.specs.declared.event.Event.TheVariants as event
-use Rattle.history.specs.declared.event.TrainSeller.{TrainSeller}
-use Rattle.history.specs.declared.event.TrainSeller.TheVariants as seller
 use Rattle.operating.specs.Discards.{next_discard}
 use Rattle.operating.specs.Phases.{begins_phase, bought, excess_of, rusts_at, with_all_closed, with_bop_closed, with_closed, with_company_rusted, with_discarded, with_kind_rusted, with_kind_rusted_at, with_limit_kept, with_limits_kept, with_next_discarded, with_one_rusted, with_phase, with_privates_closed, with_rusted, with_stable_rusted, with_trade}
 use Rattle.operating.specs.TrainLaws.{PhasesGoOn}

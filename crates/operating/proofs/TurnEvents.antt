@@ -1,10 +1,10 @@
 -- The events that a company's turn can add, one by one, and what holds of them all.
 use Rattle.std.proofs.Common.{◌≡◌, Bool, false, if◌then◌else◌, Some, None, is_some, refl, sym, ap, subst}
-use Rattle.history.specs.Event.{operated_by, round_of}
+use Rattle.events.specs.Event.{operated_by, round_of}
+use Rattle.events.specs.declared.event.Event.{Event}
+use Rattle.events.specs.declared.event.Event.TheVariants as event
 use Rattle.history.specs.LookBack.{Game}
 use Rattle.history.specs.Operating.{turn_said}
-use Rattle.history.specs.declared.event.Event.{Event}
-use Rattle.history.specs.declared.event.Event.TheVariants as event
 use Rattle.operating.specs.SaleLaws.{IsAgreed}
 use Rattle.tables.specs.Roster.{same_company}
 use Rattle.tables.specs.declared.roster.Company.{Company}

@@ -2,15 +2,15 @@
 -- what the steps of the turn do, and so of the whole.
 use Rattle.board.specs.LayRules.{ground_rules}
 use Rattle.board.specs.declared.asker.Asker.{Asker}
-use Rattle.history.specs.Event.{phase_set, tile_laid, train_moved}
+use Rattle.events.specs.Event.{phase_set, tile_laid, train_moved}
+use Rattle.events.specs.declared.event.Event.{Event}
+use Rattle.events.specs.declared.event.Event.TheVariants as event
+use Rattle.events.specs.declared.event.Holder.{Holder}
+use Rattle.events.specs.declared.event.Holder.TheVariants as holder
+use Rattle.events.specs.declared.event.Shareholder.TheVariants as place
 use Rattle.history.specs.LookBack.{Game, with_event}
 use Rattle.history.specs.Shares.{square_of}
 use Rattle.history.specs.Tell.{breaks, broken_told}
-use Rattle.history.specs.declared.event.Event.TheVariants as event
-use Rattle.history.specs.declared.event.Event.{Event}
-use Rattle.history.specs.declared.event.Holder.TheVariants as holder
-use Rattle.history.specs.declared.event.Holder.{Holder}
-use Rattle.history.specs.declared.event.Shareholder.TheVariants as place
 use Rattle.map_tables.specs.Home.{home_of}
 use Rattle.map_tables.specs.Place.{place_of}
 use Rattle.map_tables.specs.declared.lay.Lay.{Lay}

@@ -6,22 +6,22 @@ use Rattle.board.specs.Ground.{Ground}
 use Rattle.board.specs.LayRules.{IsLayAnswer, ground_rules}
 use Rattle.board.specs.TokenRules.{IsTokenAnswer, slot_rules}
 use Rattle.board.specs.declared.asker.Asker.{Asker}
-use Rattle.history.specs.Event.{phase_set, tile_laid, train_moved}
+use Rattle.events.specs.Event.{phase_set, tile_laid, train_moved}
+use Rattle.events.specs.declared.event.Event.{Event}
+use Rattle.events.specs.declared.event.Event.TheVariants as event
+use Rattle.events.specs.declared.event.Holder.{Holder}
+use Rattle.events.specs.declared.event.Holder.TheVariants as holder
+use Rattle.events.specs.declared.ruling.PayRule.{PayRule}
+use Rattle.events.specs.declared.ruling.PrivateRule.{PrivateRule}
+use Rattle.events.specs.declared.ruling.Ruling.{Ruling}
+use Rattle.events.specs.declared.ruling.Ruling.TheVariants.{Obeyed}
+use Rattle.events.specs.declared.ruling.TrainRule.{TrainRule}
 use Rattle.history.specs.LookBack.{Game, owner_of, with_event}
 use Rattle.history.specs.Operating.{lays_of}
 use Rattle.history.specs.Shares.{president_of}
-use Rattle.history.specs.declared.event.Event.{Event}
-use Rattle.history.specs.declared.event.Event.TheVariants as event
-use Rattle.history.specs.declared.event.Holder.{Holder}
-use Rattle.history.specs.declared.event.Holder.TheVariants as holder
 use Rattle.map_tables.specs.declared.rules.LayRule.{LayRule}
-use Rattle.history.specs.declared.ruling.PayRule.{PayRule}
-use Rattle.history.specs.declared.ruling.PrivateRule.{PrivateRule}
-use Rattle.history.specs.declared.ruling.Ruling.{Ruling}
-use Rattle.history.specs.declared.ruling.Ruling.TheVariants.{Obeyed}
 use Rattle.map_tables.specs.declared.rules.RunRule.{RunRule}
 use Rattle.map_tables.specs.declared.rules.TokenRule.{TokenRule}
-use Rattle.history.specs.declared.ruling.TrainRule.{TrainRule}
 use Rattle.map_tables.specs.declared.lay.Lay.{Lay}
 use Rattle.map_tables.specs.declared.place.Place.{Place}
 use Rattle.operating.proofs.Allowed.{lay_allowed, token_allowed}

@@ -3,11 +3,11 @@
 -- that its token on the chart moves left. The first token that a company places in play is that of its home: it has
 -- placed none where none lies there.
 use Rattle.std.specs.Prelude.{ℕ, Bool, if◌then◌else◌, List}
+use Rattle.events.specs.declared.event.Event.{Event}
+use Rattle.events.specs.declared.event.Event.TheVariants as event
 use Rattle.history.specs.LookBack.{Game, with_event}
 use Rattle.history.specs.Operating.{tokens_of}
 use Rattle.history.specs.Tell.{broken_told}
-use Rattle.history.specs.declared.event.Event.{Event}
-use Rattle.history.specs.declared.event.Event.TheVariants as event
 use Rattle.map_tables.specs.Home.{home_of}
 use Rattle.map_tables.specs.Lying.{has_token}
 use Rattle.map_tables.specs.Place.{place_of}

@@ -1,9 +1,9 @@
 -- Nobody bids on a private in a company's turn, and none is sold there by the bank.
 use Rattle.std.specs.Prelude.{◌≡◌, ℕ, true, List, ◌++◌, is_none}
 use Rattle.std.specs.List.{list_all}
-use Rattle.history.specs.Event.{bidding_of}
+use Rattle.events.specs.Event.{bidding_of}
+use Rattle.events.specs.declared.event.Event.{Event}
 use Rattle.history.specs.LookBack.{Game}
-use Rattle.history.specs.declared.event.Event.{Event}
 use Rattle.operating.specs.Turn.{IsCompanyTurn}
 use Rattle.tables.specs.declared.roster.Company.{Company}
 use Rattle.tables.specs.declared.round.Round.{Round}

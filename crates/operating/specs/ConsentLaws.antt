@@ -2,10 +2,10 @@
 -- a train, and the one who presides over it presides over the buyer too, or has offered exactly this sale in this
 -- round; and the price is not 0. Where no rule refuses a private, a player owns it, and he has agreed in the same way.
 use Rattle.std.specs.Prelude.{◌≡◌, ℕ, ◌<◌, true, false, Some, None}
+use Rattle.events.specs.declared.event.Holder.TheVariants as holder
 use Rattle.history.specs.LookBack.{Game, owner_of}
 use Rattle.history.specs.Offers.{has_consent}
 use Rattle.history.specs.Shares.{president_of}
-use Rattle.history.specs.declared.event.Holder.TheVariants as holder
 use Rattle.operating.specs.Discards.{has_train}
 use Rattle.operating.specs.Privates.{private_judgement}
 use Rattle.operating.specs.Trains.{train_judgement}

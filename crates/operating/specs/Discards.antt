@@ -6,13 +6,13 @@ use Rattle.std.specs.Prelude.{◌==◌, Bool, false, not, ◌||◌, if◌then◌
 use Rattle.std.specs.Int.Signed.{lt_z}
 use Rattle.std.specs.List.{fold}
 use Rattle.std.specs.Option.{option_or}
-use Rattle.history.specs.Event.{Obeyance, obeyed_of, office_of, round_of as round_begun}
+use Rattle.events.specs.Event.{Obeyance, obeyed_of, office_of, round_of as round_begun}
+use Rattle.events.specs.declared.event.Event.{Event}
+use Rattle.events.specs.declared.event.Event.TheVariants.{Discarded}
+use Rattle.events.specs.declared.ruling.TrainRule.{TrainRule}
+use Rattle.events.specs.declared.ruling.TrainRule.TheVariants.{NoDiscard}
 use Rattle.history.specs.Shares.{president_of, president_said}
 use Rattle.history.specs.Trains.{trains_held}
-use Rattle.history.specs.declared.event.Event.{Event}
-use Rattle.history.specs.declared.event.Event.TheVariants.{Discarded}
-use Rattle.history.specs.declared.ruling.TrainRule.{TrainRule}
-use Rattle.history.specs.declared.ruling.TrainRule.TheVariants.{NoDiscard}
 use Rattle.order_grammar.specs.declared.order.Order.{Order}
 use Rattle.order_grammar.specs.declared.order.Order.TheVariants as order
 use Rattle.tables.specs.Roster.{same_company}

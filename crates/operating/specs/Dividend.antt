@@ -6,21 +6,21 @@
 use Rattle.std.specs.Prelude.{ℕ, ◌==◌, ◌*◌, ◌/◌, Bool, ◌||◌, nat_lt, if◌then◌else◌, List, [], ◌∷◌, Option, option_map, pos, ◌-ℤ◌, ◌≤ℤ◌}
 use Rattle.board.specs.Turn.{place_of_step}
 use Rattle.board.specs.declared.asker.TurnStep.TheVariants as step
+use Rattle.events.specs.declared.event.Event.{Event}
+use Rattle.events.specs.declared.event.Event.TheVariants as event
+use Rattle.events.specs.declared.event.Holder.{Holder}
+use Rattle.events.specs.declared.event.Holder.TheVariants as holder
+use Rattle.events.specs.declared.event.Party.TheVariants as party
+use Rattle.events.specs.declared.event.Shareholder.{Shareholder}
+use Rattle.events.specs.declared.event.Shareholder.TheVariants as place
+use Rattle.events.specs.declared.ruling.PayRule.{PayRule}
+use Rattle.events.specs.declared.ruling.PayRule.TheVariants.{NothingToPay}
+use Rattle.events.specs.declared.ruling.Refusal.TheVariants as refusal
 use Rattle.history.specs.LookBack.{Game, cash_of, with_event}
 use Rattle.history.specs.Shares.{shares_of}
 use Rattle.history.specs.Sound.{IsSound}
 use Rattle.history.specs.Tell.{broken_told}
 use Rattle.history.specs.Trains.{so_many}
-use Rattle.history.specs.declared.event.Event.{Event}
-use Rattle.history.specs.declared.event.Event.TheVariants as event
-use Rattle.history.specs.declared.event.Holder.{Holder}
-use Rattle.history.specs.declared.event.Holder.TheVariants as holder
-use Rattle.history.specs.declared.event.Party.TheVariants as party
-use Rattle.history.specs.declared.event.Shareholder.{Shareholder}
-use Rattle.history.specs.declared.event.Shareholder.TheVariants as place
-use Rattle.history.specs.declared.ruling.PayRule.{PayRule}
-use Rattle.history.specs.declared.ruling.PayRule.TheVariants.{NothingToPay}
-use Rattle.history.specs.declared.ruling.Refusal.TheVariants as refusal
 use Rattle.market.specs.Moves.{right_of}
 use Rattle.market.specs.Token.{with_move}
 use Rattle.operating.specs.Act.{withheld}

@@ -3,11 +3,11 @@ use Rattle.std.specs.Prelude.{◌≡◌, ◌⊎◌, ℕ, true, false, List, [], 
 use Rattle.std.specs.Int.Signed.{lt_z}
 use Rattle.board.specs.Ground.{position_of}
 use Rattle.certificate.specs.TwoTrain.{CanRun}
-use Rattle.history.specs.Event.{party_of_company}
+use Rattle.events.specs.Event.{party_of_company}
+use Rattle.events.specs.declared.event.Event.{Event}
+use Rattle.events.specs.declared.event.Event.TheVariants as event
 use Rattle.history.specs.LookBack.{Game, bankrupt_in, cash_of}
 use Rattle.history.specs.Shares.{president_of}
-use Rattle.history.specs.declared.event.Event.{Event}
-use Rattle.history.specs.declared.event.Event.TheVariants as event
 use Rattle.operating.specs.Forced.{cheapest, has_trains, lack_of, with_aid}
 use Rattle.operating.specs.Ground.{ground_now}
 use Rattle.operating.specs.TrainLaws.{TrainsStand}

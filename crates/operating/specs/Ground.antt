@@ -2,9 +2,9 @@
 -- is kept through a turn has the first of them, and is told the others when it is asked for.
 use Rattle.std.specs.Prelude.{◌≡◌, List, ◌++◌}
 use Rattle.board.specs.Ground.{Ground, ground_of}
+use Rattle.events.specs.declared.event.Event.{Event}
 use Rattle.history.specs.Operating.{lays_of, tokens_of}
 use Rattle.history.specs.Trains.{phase_of}
-use Rattle.history.specs.declared.event.Event.{Event}
 
 -- what lies
 abbrev pub ground_now : List Event → Ground

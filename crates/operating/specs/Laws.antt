@@ -1,10 +1,10 @@
 -- Laws of company turns.
 use Rattle.std.specs.Prelude.{◌≡◌, ℕ, true, false, ◌||◌, List, ◌++◌, is_some}
 use Rattle.std.specs.List.{list_any}
-use Rattle.history.specs.Event.{round_of as round_begun}
+use Rattle.events.specs.Event.{round_of as round_begun}
+use Rattle.events.specs.declared.event.Event.{Event}
 use Rattle.history.specs.LookBack.{Game}
 use Rattle.history.specs.Operating.{has_operated}
-use Rattle.history.specs.declared.event.Event.{Event}
 use Rattle.operating.specs.Act.{has_home_token}
 use Rattle.operating.specs.Turn.{IsCompanyTurn}
 use Rattle.tables.specs.Roster.{same_company}

@@ -2,15 +2,15 @@
 -- seat that is not the president of the company that sells, and at price 0; an offer of a private to a seat that
 -- does not own it. No other is refused: what a sale needs beside consent is asked at the sale.
 use Rattle.std.specs.Prelude.{◌==◌, Bool, false, not, ◌||◌, List, [], ◌∷◌, Option, Some, None}
+use Rattle.events.specs.declared.event.Event.{Event}
+use Rattle.events.specs.declared.event.Holder.{Holder}
+use Rattle.events.specs.declared.event.Holder.TheVariants as holder
+use Rattle.events.specs.declared.ruling.PrivateRule.TheVariants as private_rule
+use Rattle.events.specs.declared.ruling.Refusal.{Refusal}
+use Rattle.events.specs.declared.ruling.Refusal.TheVariants as refusal
+use Rattle.events.specs.declared.ruling.TrainRule.TheVariants as train_rule
 use Rattle.history.specs.LookBack.{owner_of}
 use Rattle.history.specs.Shares.{president_of}
-use Rattle.history.specs.declared.event.Event.{Event}
-use Rattle.history.specs.declared.event.Holder.{Holder}
-use Rattle.history.specs.declared.event.Holder.TheVariants as holder
-use Rattle.history.specs.declared.ruling.PrivateRule.TheVariants as private_rule
-use Rattle.history.specs.declared.ruling.Refusal.{Refusal}
-use Rattle.history.specs.declared.ruling.Refusal.TheVariants as refusal
-use Rattle.history.specs.declared.ruling.TrainRule.TheVariants as train_rule
 use Rattle.operating.specs.Discards.{is_president}
 use Rattle.order_grammar.specs.declared.order.Offer.{Offer}
 use Rattle.order_grammar.specs.declared.order.Offer.TheVariants as offer

@@ -1,11 +1,11 @@
 -- A law of privates. One that is closed has been sold and has no owner; nobody buys it, so it stays closed and has
 -- no owner ever after.
 use Rattle.std.specs.Prelude.{◌≡◌, ℕ, Bool, true, false, List, [], ◌∷◌, ◌++◌, Option, Some, None, is_some}
-use Rattle.history.specs.Event.{ownership_of}
+use Rattle.events.specs.Event.{ownership_of}
+use Rattle.events.specs.declared.event.Event.{Event}
+use Rattle.events.specs.declared.event.Event.TheVariants as event
+use Rattle.events.specs.declared.event.Ownership.{Ownership}
 use Rattle.history.specs.LookBack.{Game, is_closed, is_sold, owner_of}
-use Rattle.history.specs.declared.event.Event.{Event}
-use Rattle.history.specs.declared.event.Event.TheVariants as event
-use Rattle.history.specs.declared.event.Ownership.{Ownership}
 use Rattle.operating.specs.Turn.{IsCompanyTurn}
 use Rattle.tables.specs.declared.roster.Company.{Company}
 use Rattle.tables.specs.declared.roster.Private.{Private}

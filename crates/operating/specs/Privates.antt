@@ -3,18 +3,18 @@
 -- sold to a company; and the cash. The company owns the private from then on.
 use Rattle.std.specs.Prelude.{ℕ, ◌+◌, Bool, false, not, ◌||◌, nat_lt, List, [], ◌∷◌, Option, Some, option_map, pos}
 use Rattle.std.specs.Int.Signed.{lt_z}
-use Rattle.history.specs.Event.{party_of_company}
+use Rattle.events.specs.Event.{party_of_company}
+use Rattle.events.specs.declared.event.Event.{Event}
+use Rattle.events.specs.declared.event.Event.TheVariants as event
+use Rattle.events.specs.declared.event.Holder.{Holder}
+use Rattle.events.specs.declared.event.Holder.TheVariants as holder
+use Rattle.events.specs.declared.ruling.PrivateRule.{PrivateRule}
+use Rattle.events.specs.declared.ruling.PrivateRule.TheVariants.{TooEarly, WrongPrice, NoConsent, NeverSold, CashTooSmall}
+use Rattle.events.specs.declared.ruling.Refusal.TheVariants as refusal
 use Rattle.history.specs.LookBack.{Game, cash_of, owner_of, with_event}
 use Rattle.history.specs.Offers.{has_consent}
 use Rattle.history.specs.Shares.{president_of}
 use Rattle.history.specs.Trains.{phase_of}
-use Rattle.history.specs.declared.event.Event.{Event}
-use Rattle.history.specs.declared.event.Event.TheVariants as event
-use Rattle.history.specs.declared.event.Holder.{Holder}
-use Rattle.history.specs.declared.event.Holder.TheVariants as holder
-use Rattle.history.specs.declared.ruling.PrivateRule.{PrivateRule}
-use Rattle.history.specs.declared.ruling.PrivateRule.TheVariants.{TooEarly, WrongPrice, NoConsent, NeverSold, CashTooSmall}
-use Rattle.history.specs.declared.ruling.Refusal.TheVariants as refusal
 use Rattle.operating.specs.InTurn.{InTurn, in_turn, ruled}
 use Rattle.operating.specs.declared.operator.Operator.{Operator}
 use Rattle.order_grammar.specs.declared.order.Offer.{Offer}

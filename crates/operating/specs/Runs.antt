@@ -13,12 +13,12 @@ use Rattle.certificate.specs.Fault.{named_steps, run_fault}
 use Rattle.certificate.specs.Legal.{crossed, earned}
 use Rattle.certificate.specs.Law.{unused}
 use Rattle.certificate.specs.Marks.{borders_used, marked}
+use Rattle.events.specs.declared.event.Event.{Event}
+use Rattle.events.specs.declared.event.Event.TheVariants as event
+use Rattle.events.specs.declared.ruling.Refusal.TheVariants as refusal
+use Rattle.events.specs.declared.ruling.Ruling.TheVariants.{Obeyed, Refused}
 use Rattle.history.specs.LookBack.{Game, with_event}
 use Rattle.history.specs.Trains.{trains_held}
-use Rattle.history.specs.declared.event.Event.{Event}
-use Rattle.history.specs.declared.event.Event.TheVariants as event
-use Rattle.history.specs.declared.ruling.Refusal.TheVariants as refusal
-use Rattle.history.specs.declared.ruling.Ruling.TheVariants.{Obeyed, Refused}
 use Rattle.map_tables.specs.declared.rules.RunRule.{RunRule}
 use Rattle.map_tables.specs.declared.rules.RunRule.TheVariants as run_rule
 use Rattle.map_tables.specs.declared.place.Place.{Place}

@@ -1,11 +1,11 @@
 -- Sales to companies, by the list of events before each: whoever sells a train or a private to a company has agreed
 -- to exactly this sale.
 use Rattle.std.specs.Prelude.{◌≡◌, ℕ, Bool, true, false, List, [], ◌∷◌, ◌++◌, Some}
+use Rattle.events.specs.declared.event.Event.{Event}
+use Rattle.events.specs.declared.event.Event.TheVariants as event
+use Rattle.events.specs.declared.event.Holder.TheVariants as holder
+use Rattle.events.specs.declared.event.TrainSeller.TheVariants as seller
 use Rattle.history.specs.LookBack.{owner_of}
-use Rattle.history.specs.declared.event.Event.{Event}
-use Rattle.history.specs.declared.event.Event.TheVariants as event
-use Rattle.history.specs.declared.event.Holder.TheVariants as holder
-use Rattle.history.specs.declared.event.TrainSeller.TheVariants as seller
 use Rattle.operating.specs.ConsentLaws.{CompanyAgrees, OwnerAgrees}
 use Rattle.operating.specs.Turn.{IsCompanyTurn}
 use Rattle.history.specs.LookBack.{Game}

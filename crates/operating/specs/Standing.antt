@@ -4,10 +4,10 @@
 -- no other OFFER is refused. No other order has a place there.
 use Rattle.std.specs.Prelude.{ℕ, Bool, true, false, List, Option, None, option_map}
 use Rattle.std.specs.List.{range_with_len}
-use Rattle.history.specs.declared.event.Event.{Event}
-use Rattle.history.specs.declared.ruling.Refusal.{Refusal}
-use Rattle.history.specs.declared.ruling.Refusal.TheVariants as refusal
-use Rattle.history.specs.declared.ruling.Ruling.{Ruling}
+use Rattle.events.specs.declared.event.Event.{Event}
+use Rattle.events.specs.declared.ruling.Refusal.{Refusal}
+use Rattle.events.specs.declared.ruling.Refusal.TheVariants as refusal
+use Rattle.events.specs.declared.ruling.Ruling.{Ruling}
 use Rattle.operating.specs.Discards.{discard_judgement}
 use Rattle.operating.specs.Offers.{offer_judgement}
 use Rattle.order_grammar.specs.declared.order.Order.{Order}

@@ -5,11 +5,11 @@ use Rattle.std.specs.List.{count_by}
 use Rattle.map_tables.specs.Lying.{tile_on}
 use Rattle.board.specs.LayRules.{ground_rules, is_tile, lying_of}
 use Rattle.board.specs.declared.asker.Asker.{Asker}
-use Rattle.history.specs.Event.{tile_laid}
+use Rattle.events.specs.Event.{tile_laid}
+use Rattle.events.specs.declared.event.Event.{Event}
+use Rattle.events.specs.declared.event.Event.TheVariants.{Laid}
 use Rattle.history.specs.LookBack.{Game, with_event}
 use Rattle.history.specs.Operating.{lays_of}
-use Rattle.history.specs.declared.event.Event.{Event}
-use Rattle.history.specs.declared.event.Event.TheVariants.{Laid}
 use Rattle.map_tables.specs.Tile.{entry_of}
 use Rattle.map_tables.specs.declared.lay.Lay.{Lay}
 use Rattle.map_tables.specs.declared.tiles.TileNo.{TileNo}

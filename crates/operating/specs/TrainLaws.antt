@@ -1,10 +1,10 @@
 -- Laws of trains. Phases never go back. The trains of a kind that are with the bank, in its pool and with the
 -- companies are as many as there were at first until they rust, and none after.
 use Rattle.std.specs.Prelude.{◌≡◌, ℕ, ◌<◌, ◌≤◌, Bool, true, false, not, nat_lt, List, [], ◌∷◌, ◌++◌, Option, Some, None, ℤ, pos, ◌+ℤ◌, ◌-ℤ◌}
-use Rattle.history.specs.Event.{phase_set, train_moved}
+use Rattle.events.specs.Event.{phase_set, train_moved}
+use Rattle.events.specs.declared.event.Event.{Event}
 use Rattle.history.specs.LookBack.{Game}
 use Rattle.history.specs.Trains.{TrainsAreHeld, phase_of, trains_in_play, trains_sold}
-use Rattle.history.specs.declared.event.Event.{Event}
 use Rattle.operating.specs.Phases.{after_train}
 use Rattle.operating.specs.Trains.{train_judgement}
 use Rattle.operating.specs.Turn.{IsCompanyTurn}

@@ -4,16 +4,16 @@
 -- it has, at the price that the order names, which is at least 1, where its president consents.
 use Rattle.std.specs.Prelude.{ℕ, ◌==◌, ◌≤◌, unwrap_or, Bool, true, false, not, ◌&&◌, ◌||◌, nat_lt, if◌then◌else◌, List, [], ◌∷◌, Option, Some, None, pos, ◌-ℤ◌}
 use Rattle.std.specs.Int.Signed.{lt_z}
-use Rattle.history.specs.Event.{party_of_company}
+use Rattle.events.specs.Event.{party_of_company}
+use Rattle.events.specs.declared.event.Event.{Event}
+use Rattle.events.specs.declared.event.TrainSeller.{TrainSeller}
+use Rattle.events.specs.declared.event.TrainSeller.TheVariants as seller
+use Rattle.events.specs.declared.ruling.TrainRule.{TrainRule}
+use Rattle.events.specs.declared.ruling.TrainRule.TheVariants.{NotOnSale, TrainLimit, CashTooSmall, NoConsent, NotSellers, NoTradeIn}
 use Rattle.history.specs.LookBack.{Game, cash_of}
 use Rattle.history.specs.Offers.{has_consent}
 use Rattle.history.specs.Shares.{president_of}
 use Rattle.history.specs.Trains.{phase_of, stable_size, trains_held, trains_sold}
-use Rattle.history.specs.declared.event.Event.{Event}
-use Rattle.history.specs.declared.event.TrainSeller.{TrainSeller}
-use Rattle.history.specs.declared.event.TrainSeller.TheVariants as seller
-use Rattle.history.specs.declared.ruling.TrainRule.{TrainRule}
-use Rattle.history.specs.declared.ruling.TrainRule.TheVariants.{NotOnSale, TrainLimit, CashTooSmall, NoConsent, NotSellers, NoTradeIn}
 use Rattle.operating.specs.Discards.{has_train}
 use Rattle.operating.specs.declared.purchase.Purchase.{Purchase}
 use Rattle.order_grammar.specs.declared.order.Offer.{Offer}

@@ -5,10 +5,10 @@ use Rattle.std.specs.Prelude.{◌≡◌, ◌≢◌, ◌⊎◌, ℕ, ℤ, pos, Bo
 use Rattle.certificate.specs.Set.{IsGreatest}
 use Rattle.certificate.specs.declared.runner.RunnerFault.{RunnerFault}
 use Rattle.certificate.specs.declared.runner.RunnerFault.TheVariants.{Memory}
+use Rattle.events.specs.declared.event.Event.{Event}
+use Rattle.events.specs.declared.ruling.Ruling.TheVariants.{Faulty}
 use Rattle.history.specs.LookBack.{Game}
 use Rattle.history.specs.Shares.{president_of}
-use Rattle.history.specs.declared.event.Event.{Event}
-use Rattle.history.specs.declared.ruling.Ruling.TheVariants.{Faulty}
 use Rattle.map_tables.specs.declared.rules.RunRule.{RunRule}
 use Rattle.operating.specs.Best.{BestRuled, best_earned, best_judgement, trains_now}
 use Rattle.operating.specs.Calls.{Call, Course, IsFront, Then, Unasked}

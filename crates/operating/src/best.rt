@@ -2,9 +2,9 @@
 ghost use Rattle.std.specs.Prelude.{◌≡◌, ◌++◌, ◌≤◌, ◌≤ℤ◌, IfErr, IfOk, OnOk, pos, replicate, true};
 ghost use Rattle.certificate.specs.Set.{IsGreatest};
 ghost use Rattle.certificate.specs.declared.runner.RunnerFault.TheVariants.{Refused as runner_refuses};
+ghost use Rattle.events.specs.declared.ruling.Refusal.TheVariants as refusal;
+ghost use Rattle.events.specs.declared.ruling.Ruling.TheVariants.{Refused};
 ghost use Rattle.history.specs.Trains.{so_many};
-ghost use Rattle.history.specs.declared.ruling.Refusal.TheVariants as refusal;
-ghost use Rattle.history.specs.declared.ruling.Ruling.TheVariants.{Refused};
 ghost use Rattle.operating.specs.Best.{BestLeads, best_earned, best_judgement, has_none_to_run as has_none_left, trains_now};
 ghost use Rattle.operating.specs.Calls.{Makes};
 ghost use Rattle.operating.specs.CompanyTurn.{GoesOn, IsInOrder, state};

@@ -6,7 +6,7 @@ ghost use Rattle.operating.specs.Discards.{has_train as company_has, is_no_disca
 ghost use Rattle.operating.specs.Discards.{is_president as is_the_president, kinds_then};
 ghost use Rattle.operating.specs.Discards.{line_of as kind_of_line, lines_of, next_discard, presides_then};
 ghost use Rattle.operating.specs.Discards.{without_first};
-ghost use Rattle.history.specs.Event.{obeyed_of, office_of};
+ghost use Rattle.events.specs.Event.{obeyed_of, office_of};
 ghost use Rattle.history.specs.Shares.{president_said};
 ghost use Rattle.tables.specs.Train.{same_kind};
 

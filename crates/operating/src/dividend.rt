@@ -1,7 +1,7 @@
 ghost use Rattle.std.specs.Prelude.{◌≡◌, ◌<◌, ◌≤◌, ◌≤ℤ◌, IfOk, OnOk, pos};
+ghost use Rattle.events.specs.declared.event.Party.TheVariants as party;
 ghost use Rattle.history.specs.Money.{IsParty};
 ghost use Rattle.history.specs.Shares.{shares_of};
-ghost use Rattle.history.specs.declared.event.Party.TheVariants as party;
 ghost use Rattle.operating.specs.Dividend.{after_pay, after_withhold, all_paid, dividend_of, paid_for};
 ghost use Rattle.operating.specs.Dividend.{paid_out, paid_to, pay_judgement, withhold_judgement};
 ghost use Rattle.history.specs.Sound.{IsSound};

@@ -1,9 +1,9 @@
 ghost use Rattle.std.specs.Prelude.{◌≡◌, ◌≤◌, ◌≤ℤ◌, false, IfOk, None, OnOk, pos, Some};
 ghost use lib.Signed.{le_z};
+ghost use Rattle.events.specs.declared.event.Event.TheVariants as event;
 ghost use Rattle.history.specs.Trains.{trains_held};
 ghost use Rattle.board.specs.Ground.{position_of};
 ghost use Rattle.history.specs.LookBack.{with_event};
-ghost use Rattle.history.specs.declared.event.Event.TheVariants as event;
 ghost use Rattle.history.specs.Sound.{IsSound};
 ghost use Rattle.operating.specs.CompanyTurn.{GoesOn, IsInOrder, state};
 ghost use Rattle.operating.specs.Runs.{IsCounted, after_run, has_run, judged_run, ran_unless_fault};

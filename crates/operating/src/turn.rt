@@ -1,7 +1,7 @@
 ghost use Rattle.std.specs.Prelude.{◌≡◌, ◌≢◌, ◌≤◌, IfErr, OnOk, true};
 ghost use Rattle.std.specs.Option.{option_copied};
 ghost use Rattle.certificate.specs.declared.runner.RunnerFault.TheVariants.{Refused};
-ghost use Rattle.history.specs.declared.ruling.Ruling.TheVariants.{Faulty};
+ghost use Rattle.events.specs.declared.ruling.Ruling.TheVariants.{Faulty};
 ghost use Rattle.operating.specs.Calls.{Makes};
 ghost use Rattle.operating.specs.CompanyTurn.{GoesOn, IsInOrder, state};
 ghost use Rattle.operating.specs.InTurn.{told};

@@ -3,11 +3,11 @@ use Rattle.std.proofs.Common.{◌≡◌, ◌≢◌, ℕ, ◌<◌, ◌≤◌, Lis
 use Rattle.std.specs.Int.RustNames.{unsigned_abs}
 use Rattle.std.proofs.lemmas.Int.{ints, clamps}
 use Rattle.std.proofs.lemmas.List.{length-map as length_map}
+use Rattle.events.specs.declared.event.Bid.{Bid}
+use Rattle.events.specs.declared.event.Event.{Event}
 use Rattle.history.specs.Bids.{bid_of, bids_on, free_for}
 use Rattle.history.specs.LookBack.{Game, cheapest_of}
 use Rattle.history.specs.Orders.{limit_of}
-use Rattle.history.specs.declared.event.Bid.{Bid}
-use Rattle.history.specs.declared.event.Event.{Event}
 use Rattle.privates.proofs.Auctions.{auction_won}
 use Rattle.privates.proofs.StandingBids.{AmountsDiffer, EachBid, Stands, bid_free, bids_differ, bids_stand, cheapest_unsold}
 use Rattle.privates.specs.Act.{MayPay}

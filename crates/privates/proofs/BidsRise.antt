@@ -2,16 +2,16 @@
 use Rattle.std.proofs.Common.{◌≡◌, ℕ, ◌+◌, ◌≤◌, ◌==◌, ◌⊎◌, inl, inr, Bool, true, false, ◌||◌, ◌&&◌, nat_lt, if◌then◌else◌, List, [], ◌∷◌, Option, Some, None, is_some, refl, sym, ap, ◌∙◌, arith}
 use Rattle.std.proofs.lemmas.Bool.Decides.{Decides-eqb, nat_tests}
 use Rattle.std.specs.Option.{option_flatten, option_or}
+use Rattle.events.specs.Event.{bidding_of, ownership_of}
+use Rattle.events.specs.declared.event.Bid.{Bid}
+use Rattle.events.specs.declared.event.Bidding.{Bidding}
+use Rattle.events.specs.declared.event.Bidding.TheVariants.{Made, Ended}
+use Rattle.events.specs.declared.event.Event.{Event}
+use Rattle.events.specs.declared.event.Event.TheVariants as event
+use Rattle.events.specs.declared.event.Holder.{Holder}
 use Rattle.history.proofs.BidWords.{same_private_is}
 use Rattle.history.specs.Bids.{bid_of, bid_said, bids_on}
-use Rattle.history.specs.Event.{bidding_of, ownership_of}
 use Rattle.history.specs.LookBack.{is_sold, last_said, owner_said}
-use Rattle.history.specs.declared.event.Bid.{Bid}
-use Rattle.history.specs.declared.event.Bidding.{Bidding}
-use Rattle.history.specs.declared.event.Bidding.TheVariants.{Made, Ended}
-use Rattle.history.specs.declared.event.Event.{Event}
-use Rattle.history.specs.declared.event.Event.TheVariants as event
-use Rattle.history.specs.declared.event.Holder.{Holder}
 use Rattle.privates.proofs.Sales.{far_from_each, neither, of_seat}
 use Rattle.privates.proofs.StandingBids.{EachBid, Stands, bids_stand}
 use Rattle.privates.specs.BidsRise.{BidsRise, StandingBidsSuffice, is_near_bid, is_near_earlier, is_near_ever, some_later_is_near}

@@ -2,13 +2,13 @@
 -- parties have and own.
 use Rattle.std.proofs.Common.{◌≡◌, ℕ, Bool, false, T, not, List, [], ◌∷◌, ◌++◌, None, pos, ◌≤ℤ◌, ◌-ℤ◌, ◌+◌, ◌||◌, nat_lt, unwrap_or, arith, ℤ, refl, sym, subst, ap, ◌∙◌}
 use Rattle.std.specs.Int.Signed.{lt_z, lt_z_no}
+use Rattle.events.specs.Event.{IsQuiet, party_at}
+use Rattle.events.specs.declared.event.Event.{Event}
 use Rattle.history.proofs.EventAtEnd.{quiet_same}
 use Rattle.history.proofs.Standing.{bids_split}
 use Rattle.history.specs.Bids.{bids_elsewhere_of, free_for, tied_on}
-use Rattle.history.specs.Event.{IsQuiet, party_at}
 use Rattle.history.specs.Laws.{SaysTheSame}
 use Rattle.history.specs.LookBack.{Game, cash_of, with_event}
-use Rattle.history.specs.declared.event.Event.{Event}
 use Rattle.order_grammar.specs.declared.order.Order.{Order}
 use Rattle.order_grammar.specs.declared.order.Order.TheVariants.{BuyPrivate, Bid}
 use Rattle.privates.specs.Act.{MayAct, MayPay}

@@ -4,21 +4,21 @@ use Rattle.std.proofs.lemmas.Bool.Decides.{nat_tests}
 use Rattle.std.proofs.lemmas.List.{append_assoc}
 use Rattle.std.proofs.lemmas.List.Folds.{list_any-append}
 use Rattle.std.specs.List.{list_all, list_any}
+use Rattle.events.specs.Event.{bidding_of}
+use Rattle.events.specs.declared.event.Bid.{Bid}
+use Rattle.events.specs.declared.event.Bidding.{Bidding}
+use Rattle.events.specs.declared.event.Bidding.TheVariants.{Made, Ended}
+use Rattle.events.specs.declared.event.Event.{Event}
+use Rattle.events.specs.declared.event.Event.TheVariants as event
+use Rattle.events.specs.declared.event.Holder.{Holder}
+use Rattle.events.specs.declared.ruling.Refusal.TheVariants.{Opening}
+use Rattle.events.specs.declared.ruling.Ruling.{Ruling}
+use Rattle.events.specs.declared.ruling.Ruling.TheVariants.{Obeyed}
 use Rattle.history.proofs.BidWords.{bid_of_at_end, seated_after_bid}
 use Rattle.history.specs.Bids.{bid_of, bid_said, bids_on}
-use Rattle.history.specs.Event.{bidding_of}
 use Rattle.history.specs.LookBack.{Game, cheapest_of, is_sold, owner_of, priority_of, sv_price_of}
 use Rattle.history.specs.Sound.{BiddersAreSeated}
 use Rattle.history.specs.Tell.{after_revenues, breaks, paid_to_owner, with_broken}
-use Rattle.history.specs.declared.event.Bid.{Bid}
-use Rattle.history.specs.declared.event.Bidding.{Bidding}
-use Rattle.history.specs.declared.event.Bidding.TheVariants.{Made, Ended}
-use Rattle.history.specs.declared.event.Event.{Event}
-use Rattle.history.specs.declared.event.Event.TheVariants as event
-use Rattle.history.specs.declared.event.Holder.{Holder}
-use Rattle.history.specs.declared.ruling.Refusal.TheVariants.{Opening}
-use Rattle.history.specs.declared.ruling.Ruling.{Ruling}
-use Rattle.history.specs.declared.ruling.Ruling.TheVariants.{Obeyed}
 use Rattle.order_grammar.specs.declared.condition.Condition.{Condition}
 use Rattle.order_grammar.specs.declared.order.Order.{Order}
 use Rattle.order_grammar.specs.declared.order.Order.TheVariants as order

@@ -3,10 +3,10 @@ use Rattle.std.proofs.Common.{◌≡◌, ℕ, ◌≤◌, ◌==◌, ◌&&◌, Boo
 use Rattle.std.specs.List.{find, list_all}
 use Rattle.std.specs.Option.{option_or}
 use Rattle.std.proofs.lemmas.Bool.Decides.{nat_tests}
-use Rattle.history.specs.Event.{Obeyance, obeyed_of}
-use Rattle.history.specs.Orders.{par_of_baltimore_in, par_ordered_of, said_by}
-use Rattle.history.specs.Shares.{is_par_value}
-use Rattle.history.specs.declared.event.Event.{Event}
+use Rattle.events.specs.Event.{Obeyance, is_par_value, obeyed_of}
+use Rattle.events.specs.Orders.{par_of_baltimore_in, said_by}
+use Rattle.events.specs.declared.event.Event.{Event}
+use Rattle.history.specs.Orders.{par_ordered_of}
 use Rattle.order_grammar.specs.declared.order.Order.{Order}
 use Rattle.order_grammar.specs.declared.order.Order.TheVariants as order
 use Rattle.privates.specs.Sale.{par_set_by}

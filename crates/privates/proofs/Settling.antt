@@ -1,13 +1,13 @@
 -- The sales that follow from a sale come to an end: each sells one of the six privates.
 use Rattle.std.proofs.Common.{◌≡◌, ◌⊎◌, ℕ, zero, suc, ◌+◌, ◌≤◌, Bool, true, false, if◌then◌else◌, List, [], ◌∷◌, ◌++◌, Option, Some, None, is_some, append-nil, append_assoc, inl, inr, refl, sym, subst, ap, ◌∙◌, arith}
+use Rattle.events.specs.Event.{ownership_of}
+use Rattle.events.specs.declared.event.Bid.{Bid}
+use Rattle.events.specs.declared.event.Event.{Event}
+use Rattle.events.specs.declared.event.Event.TheVariants.{Sold}
 use Rattle.history.proofs.Acts.{stays_sold}
 use Rattle.history.proofs.EventAtEnd.{last_said_at_end}
 use Rattle.history.specs.Bids.{bids_on}
-use Rattle.history.specs.Event.{ownership_of}
 use Rattle.history.specs.LookBack.{cheapest_of, is_sold, owner_said}
-use Rattle.history.specs.declared.event.Bid.{Bid}
-use Rattle.history.specs.declared.event.Event.{Event}
-use Rattle.history.specs.declared.event.Event.TheVariants.{Sold}
 use Rattle.privates.proofs.StandingBids.{cheapest_unsold}
 use Rattle.privates.specs.Sale.{settle, settled, settled_by, settled_of}
 use Rattle.tables.specs.Steps.{iterate}

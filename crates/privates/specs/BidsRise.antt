@@ -3,12 +3,12 @@
 -- each bid so far was itself 5 over all that came before it: the last of all then stands, and is the highest.
 use Rattle.std.specs.Prelude.{◌≡◌, ℕ, ◌<◌, ◌+◌, Bool, false, ◌||◌, ◌&&◌, nat_lt, List, [], ◌∷◌, Option, Some, None}
 use Rattle.std.specs.List.{list_any}
-use Rattle.history.specs.Event.{bidding_of}
+use Rattle.events.specs.Event.{bidding_of}
+use Rattle.events.specs.declared.event.Bidding.{Bidding}
+use Rattle.events.specs.declared.event.Bidding.TheVariants.{Made, Ended}
+use Rattle.events.specs.declared.event.Event.{Event}
 use Rattle.history.specs.LookBack.{Game, is_sold}
 use Rattle.history.specs.Sound.{BiddersAreSeated}
-use Rattle.history.specs.declared.event.Bidding.{Bidding}
-use Rattle.history.specs.declared.event.Bidding.TheVariants.{Made, Ended}
-use Rattle.history.specs.declared.event.Event.{Event}
 use Rattle.privates.specs.Judgement.{is_too_low}
 use Rattle.privates.specs.Opening.{IsOpeningRound}
 use Rattle.tables.specs.Roster.{face_of, same_private}

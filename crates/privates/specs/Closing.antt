@@ -2,10 +2,10 @@
 -- Else SV falls by 5 if it is unsold, and at 0 goes to the holder of priority for nothing, with the sales that
 -- follow from it; if it is sold, each sold private pays its revenue, in roster order.
 use Rattle.std.specs.Prelude.{ℕ, ◌-◌, Bool, ◌==◌, if◌then◌else◌, List, [], ◌∷◌, ◌++◌, is_none}
+use Rattle.events.specs.declared.event.Event.{Event}
+use Rattle.events.specs.declared.event.Event.TheVariants as event
 use Rattle.history.specs.LookBack.{cheapest_of, is_sold, priority_of, sv_price_of}
 use Rattle.history.specs.Tell.{after_revenues}
-use Rattle.history.specs.declared.event.Event.{Event}
-use Rattle.history.specs.declared.event.Event.TheVariants as event
 use Rattle.privates.specs.Sale.{after_sale, settled}
 use Rattle.tables.specs.Roster.{privates}
 use Rattle.tables.specs.declared.roster.Private.TheVariants.{SchuylkillValley}

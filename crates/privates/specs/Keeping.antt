@@ -2,10 +2,10 @@
 -- that were not taken up.
 use Rattle.std.proofs.Common.{refl}
 use Rattle.std.specs.Prelude.{ℕ}
+use Rattle.events.specs.declared.event.Event.TheVariants as event
 use Rattle.history.specs.LookBack.{Game, with_event}
 use Rattle.history.specs.Sound.{IsSound}
 use Rattle.history.specs.Tell.{left_told}
-use Rattle.history.specs.declared.event.Event.TheVariants as event
 use Rattle.privates.specs.UnderwayKept.{begun_underway, event_underway, left_underway}
 use Rattle.privates.specs.Underway.{IsUnderway, MayBegin}
 use Rattle.tables.specs.declared.round.Round.{Round}

@@ -1,13 +1,14 @@
 -- The limits of this round are at most 99,999: only an obeyed LIMIT line changes one.
 use Rattle.std.proofs.Common.{◌≡◌, ◌⊎◌, inl, inr, ℕ, ◌≤◌, ◌==◌, Bool, true, false, if◌then◌else◌, List, [], ◌∷◌, ◌++◌, Option, Some, None, option_map, refl, sym, subst, ◌∙◌}
+use Rattle.events.specs.Event.{obeyed_of}
+use Rattle.events.specs.Orders.{limit_in, said_by}
+use Rattle.events.specs.declared.event.Event.{Event}
+use Rattle.events.specs.declared.event.Event.TheVariants as event
+use Rattle.events.specs.declared.ruling.Ruling.{Ruling}
+use Rattle.events.specs.declared.ruling.Ruling.TheVariants.{Obeyed, Refused, Faulty}
 use Rattle.history.proofs.EventAtEnd.{now_said_before, now_said_here}
-use Rattle.history.specs.Event.{obeyed_of}
 use Rattle.history.specs.LookBack.{in_round}
-use Rattle.history.specs.Orders.{limit_in, limit_of, said_by}
-use Rattle.history.specs.declared.event.Event.{Event}
-use Rattle.history.specs.declared.event.Event.TheVariants as event
-use Rattle.history.specs.declared.ruling.Ruling.{Ruling}
-use Rattle.history.specs.declared.ruling.Ruling.TheVariants.{Obeyed, Refused, Faulty}
+use Rattle.history.specs.Orders.{limit_of}
 use Rattle.order_grammar.specs.declared.order.Order.{Order}
 use Rattle.order_grammar.specs.declared.order.Order.TheVariants as order
 use Rattle.turns.specs.Small.{IsSmallOrder, IsSmallRuling}

@@ -2,8 +2,8 @@
 -- seat, the turns until all privates are sold or all seats have passed in succession, what follows them, and
 -- what was left.
 use Rattle.std.specs.Prelude.{ℕ, List}
+use Rattle.events.specs.declared.event.Event.{Event}
 use Rattle.history.specs.LookBack.{Game}
-use Rattle.history.specs.declared.event.Event.{Event}
 use Rattle.privates.specs.Turn.{opening_rules}
 use Rattle.sheets.specs.Part.{Numbered}
 use Rattle.tables.specs.Turns.{InPlay}

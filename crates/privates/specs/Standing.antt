@@ -3,18 +3,18 @@
 -- of a private, which must be unsold. A PAR says the par value that the seat sets for BO if it buys BOP:
 -- it must name BO and a par value.
 use Rattle.std.specs.Prelude.{ℕ, Bool, true, false, ◌&&◌, if◌then◌else◌, List, Option, Some, None, option_map}
+use Rattle.events.specs.Event.{is_par_value}
+use Rattle.events.specs.declared.event.Event.{Event}
+use Rattle.events.specs.declared.ruling.OpeningRule.{OpeningRule}
+use Rattle.events.specs.declared.ruling.OpeningRule.TheVariants.{NotOfOpening, Sold}
+use Rattle.events.specs.declared.ruling.Refusal.{Refusal}
+use Rattle.events.specs.declared.ruling.Refusal.TheVariants.{Opening}
+use Rattle.events.specs.declared.ruling.Ruling.{Ruling}
 use Rattle.history.specs.LookBack.{is_sold}
-use Rattle.history.specs.declared.event.Event.{Event}
-use Rattle.history.specs.declared.ruling.OpeningRule.{OpeningRule}
-use Rattle.history.specs.declared.ruling.OpeningRule.TheVariants.{NotOfOpening, Sold}
-use Rattle.history.specs.declared.ruling.Refusal.{Refusal}
-use Rattle.history.specs.declared.ruling.Refusal.TheVariants.{Opening}
-use Rattle.history.specs.declared.ruling.Ruling.{Ruling}
 use Rattle.order_grammar.specs.declared.order.Order.{Order}
 use Rattle.order_grammar.specs.declared.order.Order.TheVariants.{Limit, Par}
 use Rattle.sheets.specs.Part.{Numbered}
 use Rattle.tables.specs.Roster.{same_company}
-use Rattle.history.specs.Shares.{is_par_value}
 use Rattle.tables.specs.declared.roster.Company.{Company}
 use Rattle.tables.specs.declared.roster.Company.TheVariants.{BaltimoreOhio}
 use Rattle.tables.specs.declared.seat.Seat.{Seat}

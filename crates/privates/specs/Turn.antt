@@ -2,9 +2,9 @@
 -- obeyed purchase is a sale at the price that the bank asks, with the sales that follow from it; an obeyed
 -- bid stands. A seat that neither bought nor bid passes.
 use Rattle.std.specs.Prelude.{ℕ, Bool, true, false, List, [], ◌∷◌, ◌++◌}
-use Rattle.history.specs.declared.event.Event.{Event}
-use Rattle.history.specs.declared.event.Event.TheVariants.{Bids}
-use Rattle.history.specs.declared.ruling.Ruling.{Ruling}
+use Rattle.events.specs.declared.event.Event.{Event}
+use Rattle.events.specs.declared.event.Event.TheVariants.{Bids}
+use Rattle.events.specs.declared.ruling.Ruling.{Ruling}
 use Rattle.order_grammar.specs.declared.order.Order.{Order}
 use Rattle.order_grammar.specs.declared.order.Order.TheVariants.{BuyPrivate, Bid}
 pub use Rattle.privates.specs.Closing.{all_sold}

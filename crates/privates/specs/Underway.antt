@@ -1,11 +1,11 @@
 -- What holds all through an opening round: the list is sound, PRR has no square while CA is unsold, nor has
 -- BO while BOP is, and each limit that a seat ordered in this round is at most 99,999.
 use Rattle.std.specs.Prelude.{◌≡◌, ℕ, ◌≤◌, List, false, Some, None}
+use Rattle.events.specs.declared.event.Event.{Event}
 use Rattle.history.specs.LookBack.{Game, is_sold}
 use Rattle.history.specs.Orders.{limit_of}
 use Rattle.history.specs.Shares.{square_of}
 use Rattle.history.specs.Sound.{IsSound}
-use Rattle.history.specs.declared.event.Event.{Event}
 use Rattle.tables.specs.declared.roster.Company.TheVariants as company
 use Rattle.tables.specs.declared.roster.Private.{Private}
 use Rattle.tables.specs.declared.roster.Private.TheVariants.{CamdenAmboy, BaltimoreOhio}

@@ -1,15 +1,15 @@
 -- What keeps an opening round under way.
 use Rattle.std.proofs.Common.{◌≡◌, ℕ, ◌==◌, Bool, true, false, if◌then◌else◌, List, [], ◌∷◌, ◌++◌, Option, Some, None, is_some, append-nil, refl, sym, subst, ap, ◌∙◌}
 use Rattle.std.specs.Option.{option_or}
+use Rattle.events.specs.Event.{ownership_of, square_set}
+use Rattle.events.specs.declared.event.Event.{Event}
+use Rattle.events.specs.declared.event.Event.TheVariants as event
+use Rattle.events.specs.declared.event.Holder.{Holder}
+use Rattle.events.specs.declared.ruling.Ruling.{Ruling}
 use Rattle.history.proofs.EventAtEnd.{last_said_at_end, square_of_before}
-use Rattle.history.specs.Event.{ownership_of, square_set}
 use Rattle.history.specs.LookBack.{Game, is_sold, last_said, owner_of, owner_said, with_event}
 use Rattle.history.specs.Sound.{IsSound}
 use Rattle.history.specs.Tell.{after_revenues, breaks, paid_to_owner, revenues_told, with_broken, with_left}
-use Rattle.history.specs.declared.event.Event.{Event}
-use Rattle.history.specs.declared.event.Event.TheVariants as event
-use Rattle.history.specs.declared.event.Holder.{Holder}
-use Rattle.history.specs.declared.ruling.Ruling.{Ruling}
 use Rattle.privates.specs.LimitsKept.{limit_said, limits_kept, limits_ruled, no_limits}
 use Rattle.turns.specs.Small.{IsSmallRuling}
 use Rattle.privates.specs.Underway.{BaltimoreWaits, IsUnderway, IsWaiting, LimitsAreSmall, PennsylvaniaWaits}

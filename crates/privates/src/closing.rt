@@ -1,7 +1,7 @@
 ghost use Rattle.std.specs.Prelude.{◌≡◌, ◌≢◌, ◌<◌, ◌≤◌, ◌-◌, OnOk, false};
+ghost use Rattle.events.specs.declared.event.Event.TheVariants as event;
 ghost use Rattle.history.specs.LookBack.{is_sold, priority_of, sv_price_of, with_event};
 ghost use Rattle.history.specs.Tell.{revenues_told};
-ghost use Rattle.history.specs.declared.event.Event.TheVariants as event;
 ghost use Rattle.privates.specs.Closing.{after_fall, closed, given_away};
 ghost use Rattle.privates.specs.Underway.{IsUnderway};
 ghost use Rattle.tables.specs.declared.roster.Private.TheVariants.{SchuylkillValley};

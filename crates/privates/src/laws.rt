@@ -2,9 +2,9 @@
 ghost use Rattle.std.specs.Prelude.{◌≡◌, ℕ, List};
 ghost use Rattle.privates.specs.Auction.{AuctionIsWon};
 ghost use Rattle.privates.specs.BidsRise.{OpeningBidsRise, StandingBidsSuffice};
+ghost use Rattle.events.specs.declared.event.Event.{Event};
 ghost use Rattle.history.specs.LookBack.{Game};
 ghost use Rattle.privates.specs.Opening.{EndsSoon, IsOpeningRound};
-ghost use Rattle.history.specs.declared.event.Event.{Event};
 ghost use Rattle.privates.specs.Sale.{settle, settled};
 ghost use Rattle.privates.specs.Turn.{opening_rules};
 ghost use Rattle.tables.specs.declared.round.Round.{Round};

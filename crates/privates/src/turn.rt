@@ -1,6 +1,6 @@
 ghost use Rattle.std.specs.Prelude.{◌≡◌, ◌≤◌, ◌<◌, OnOk, IfOk};
+ghost use Rattle.events.specs.declared.event.Event.TheVariants as event;
 ghost use Rattle.history.specs.LookBack.{with_event};
-ghost use Rattle.history.specs.declared.event.Event.TheVariants as event;
 ghost use Rattle.privates.specs.Act.{MayAct, MayBid, MayPay};
 ghost use Rattle.privates.specs.Judgement.{price_of as price_asked, refusal_of};
 ghost use Rattle.privates.specs.Sale.{after_sale, settled};

@@ -3,10 +3,10 @@
 use Rattle.std.proofs.Common.{◌≡◌, ℕ, List, [], ◌∷◌, ◌++◌, length, is_some, append_assoc, ap, refl, subst, sym, ◌∙◌}
 use Rattle.std.specs.Prelude.{Option, Some, None, is_none, Result, Ok, Err, IsOk}
 use Rattle.std.specs.List.{flat_map, range_with_len}
-use Rattle.history.specs.declared.event.Event.{Event}
-use Rattle.history.specs.declared.event.Event.TheVariants.{Round, Ruled, Passes, Left, Sold, Bids, Price, Revenue, Given, Par, President, Bought, Sells, Exchanged, Floats, Moves, Home, Laid, Token, Withheld, Runs, Dividend, Traded, Train, Phase, Rusted, Discarded, Closed, PrivateBought, Forced, Aid, Bankrupt, Broken}
-use Rattle.history.specs.declared.event.Holder.{Holder}
-use Rattle.history.specs.declared.event.Holder.TheVariants as holder
+use Rattle.events.specs.declared.event.Event.{Event}
+use Rattle.events.specs.declared.event.Event.TheVariants.{Round, Ruled, Passes, Left, Sold, Bids, Price, Revenue, Given, Par, President, Bought, Sells, Exchanged, Floats, Moves, Home, Laid, Token, Withheld, Runs, Dividend, Traded, Train, Phase, Rusted, Discarded, Closed, PrivateBought, Forced, Aid, Bankrupt, Broken}
+use Rattle.events.specs.declared.event.Holder.{Holder}
+use Rattle.events.specs.declared.event.Holder.TheVariants as holder
 use Rattle.history.specs.Shares.{president_of, square_of}
 use Rattle.tables.specs.Roster.{companies}
 use Rattle.tables.specs.declared.roster.Company.{Company}

@@ -3,9 +3,9 @@
 use Rattle.std.proofs.Common.{◌≡◌, ℕ, Bool, true, false, List, [], ◌∷◌, ◌++◌, Option, Some, None, is_some, refl, ap, sym, subst, ◌∙◌, arith}
 use Rattle.std.specs.Prelude.{IsSome, ⊤}
 use Rattle.std.specs.List.{flat_map}
-use Rattle.history.specs.Event.{round_of}
+use Rattle.events.specs.Event.{round_of}
+use Rattle.events.specs.declared.event.Event.{Event}
 use Rattle.history.specs.LookBack.{Game}
-use Rattle.history.specs.declared.event.Event.{Event}
 use Rattle.report.specs.Laws.{ReportIsItsParts}
 use Rattle.report.specs.Report.{end_of_play, ends_round, header, is_round, is_the_round, lines_of_round, round_begun, rounds_in, text_of_one, texts_of_rounds, unread_lines, with_event}
 use Rattle.rounds.specs.Begun.{AreInOrder, BeginWithRound, IsBeforeEach, RoundsFollowInOrder, rounds_begun, with_round}

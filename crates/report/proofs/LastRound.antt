@@ -5,8 +5,8 @@ use Rattle.std.specs.List.{flat_map, list_any}
 use Rattle.std.proofs.lemmas.Bool.{false≢true}
 use Rattle.std.proofs.lemmas.List.{append-nil, drop_more}
 use Rattle.std.proofs.lemmas.List.Folds.{list_any-append}
-use Rattle.history.specs.Event.{round_of}
-use Rattle.history.specs.declared.event.Event.{Event}
+use Rattle.events.specs.Event.{round_of}
+use Rattle.events.specs.declared.event.Event.{Event}
 use Rattle.report.specs.Line.{event_line}
 use Rattle.report.specs.Parts.{last_round, last_round_text}
 use Rattle.report.specs.Report.{ends_round, lines_of_round, rounds_in, rounds_text, texts_of_rounds, with_event}

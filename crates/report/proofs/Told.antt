@@ -2,8 +2,8 @@
 use Rattle.std.proofs.Common.{◌≡◌, ℕ, zero, suc, false, List, [], ◌∷◌, ◌++◌, refl, sym, ap, subst, ◌∙◌, append_assoc}
 use Rattle.std.specs.Prelude.{Option, Some, Result, Ok, Err, IsOk}
 use Rattle.std.proofs.lemmas.List.{append-nil}
+use Rattle.events.specs.declared.event.Event.TheVariants as event
 use Rattle.history.specs.LookBack.{Game}
-use Rattle.history.specs.declared.event.Event.TheVariants as event
 use Rattle.report.specs.Laws.{IsFront, PartsAreAFront, PartsAreTheReport}
 use Rattle.report.specs.Parts.{StepsTell, end_told, end_text_of, last_round_text, next_text_of, text_of_last}
 use Rattle.report.specs.Report.{IsGameReport, IsReport, IsReportOf, end_text, header, report_text, rounds_text, unread_lines}

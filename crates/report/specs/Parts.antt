@@ -2,9 +2,9 @@
 -- text of that round; and at last what follows the rounds.
 use Rattle.std.specs.Prelude.{◌≡◌, ℕ, zero, suc, if◌then◌else◌, List, [], ◌∷◌, ◌++◌, Option, Some, None, Bool, is_some}
 use Rattle.std.specs.List.{flat_map, list_any}
-use Rattle.history.specs.Event.{round_of}
+use Rattle.events.specs.Event.{round_of}
+use Rattle.events.specs.declared.event.Event.{Event}
 use Rattle.history.specs.LookBack.{Game}
-use Rattle.history.specs.declared.event.Event.{Event}
 use Rattle.report.specs.Line.{event_line}
 use Rattle.report.specs.Report.{end_text, unread_lines}
 use Rattle.report.specs.Statement.{statement}

@@ -2,8 +2,8 @@
 -- statement, the unread lines, and the end.
 use Rattle.std.specs.Prelude.{◌≡◌, ℕ, ◌+◌, Bool, true, false, if◌then◌else◌, List, [], ◌∷◌, ◌++◌, length, take, drop, slice_range, codes, decimal, Option, Some, None, is_none, is_some, Result, Ok, Err}
 use Rattle.std.specs.List.{flat_map, range_with_len}
-use Rattle.history.specs.Event.{round_of}
-use Rattle.history.specs.declared.event.Event.{Event}
+use Rattle.events.specs.Event.{round_of}
+use Rattle.events.specs.declared.event.Event.{Event}
 use Rattle.order_grammar.specs.Fault.{code_of as code_of_fault}
 use Rattle.order_grammar.specs.Print.{spaced, text_of_round}
 use Rattle.order_grammar.specs.declared.condition.Version.{Version}

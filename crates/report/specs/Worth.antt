@@ -2,12 +2,12 @@
 -- Tenths of a company without a market price are worth nothing.
 use Rattle.std.specs.Prelude.{ℕ, ◌+◌, ◌*◌, if◌then◌else◌, List, [], ◌∷◌, codes, ℤ, pos, ◌+ℤ◌, sum_by}
 use Rattle.certs.specs.Purchase.{market_price_of}
-use Rattle.history.specs.Event.{party_at}
+use Rattle.events.specs.Event.{party_at}
+use Rattle.events.specs.declared.event.Event.{Event}
+use Rattle.events.specs.declared.event.Shareholder.TheVariants.{Seat as OfSeat}
 use Rattle.history.specs.LookBack.{cash_of, owner_of}
 use Rattle.history.specs.Shares.{shares_of}
 use Rattle.history.specs.Trains.{so_many}
-use Rattle.history.specs.declared.event.Event.{Event}
-use Rattle.history.specs.declared.event.Shareholder.TheVariants.{Seat as OfSeat}
 use Rattle.history.specs.declared.look_back.Past.{Past}
 use Rattle.report.specs.Line.{line_of, name_of}
 use Rattle.report.specs.Statement.{is_seat}

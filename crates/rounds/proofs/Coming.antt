@@ -1,8 +1,8 @@
 -- What holds of the round that comes next, if one does.
 use Rattle.std.proofs.Common.{◌≡◌, ℕ, ◌+◌, Bool, true, false, nat_lt, if◌then◌else◌, List, refl, sym, ap, subst, ◌∙◌}
 use Rattle.std.specs.Prelude.{⊤}
+use Rattle.events.specs.declared.event.Event.{Event}
 use Rattle.history.specs.LookBack.{bankrupt_in, broken_in}
-use Rattle.history.specs.declared.event.Event.{Event}
 use Rattle.privates.specs.Turn.{all_sold}
 use Rattle.rounds.specs.Play.{Between, IsRound, coming, in_set_before}
 use Rattle.rounds.specs.Sequence.{BankAloneEndsIt, following}

@@ -3,13 +3,13 @@
 use Rattle.std.proofs.Common.{◌≡◌, ℕ, zero, suc, ◌+◌, ◌<◌, ◌≤◌, Bool, true, false, ◌||◌, if◌then◌else◌, List, [], ◌∷◌, ◌++◌, length, Option, Some, None, is_some, refl, sym, ap, subst, ◌∙◌, arith}
 use Rattle.std.proofs.Math.Bool.{or-false, or-true}
 use Rattle.std.specs.Option.{option_map}
+use Rattle.events.specs.Event.{operated_by}
+use Rattle.events.specs.declared.event.Event.{Event}
+use Rattle.events.specs.declared.event.Event.TheVariants as event
 use Rattle.history.proofs.Choices.{same_company_is}
 use Rattle.history.proofs.EventAtEnd.{now_said_before, now_said_here}
-use Rattle.history.specs.Event.{operated_by}
 use Rattle.history.specs.LookBack.{Game, in_round}
 use Rattle.history.specs.Operating.{has_operated, turn_said}
-use Rattle.history.specs.declared.event.Event.{Event}
-use Rattle.history.specs.declared.event.Event.TheVariants as event
 use Rattle.market.specs.OperatingOrder.{IsOperatingOrder, operating_order_of, times}
 use Rattle.operating.specs.Laws.{CompanyOperates, CompanyTurnEnds, OneCompanyTurn}
 use Rattle.operating.specs.Turn.{IsCompanyTurn}

@@ -1,6 +1,6 @@
 -- The game of the small file, computed from the definitions.
 use Rattle.std.proofs.Common.{◌≡◌, ℕ, zero, suc, ◌<◌, false, List, [], ◌∷◌, Err, take, refl, arith}
-use Rattle.history.specs.declared.event.Event.{Event}
+use Rattle.events.specs.declared.event.Event.{Event}
 use Rattle.privates.specs.Opening.{IsOpeningRound, in_play, opened}
 use Rattle.privates.specs.Sale.{settled}
 use Rattle.privates.specs.Turn.{opening_turns}

@@ -2,10 +2,10 @@
 use Rattle.std.proofs.Common.{◌≡◌, ℕ, ◌+◌, ◌<◌, ◌≤◌, Bool, true, false, ◌||◌, not, if◌then◌else◌, List, [], ◌∷◌, length, Option, Some, None, refl, sym, ap, subst, ◌∙◌, arith}
 use Rattle.std.proofs.Math.Bool.{or-true}
 use Rattle.std.specs.Prelude.{find}
+use Rattle.events.specs.declared.event.Event.{Event}
 use Rattle.history.proofs.Choices.{same_company_is}
 use Rattle.history.specs.LookBack.{bankrupt_in}
 use Rattle.history.specs.Operating.{has_operated}
-use Rattle.history.specs.declared.event.Event.{Event}
 use Rattle.market.specs.OperatingOrder.{IsOperatingOrder, operates, operating_order_of, times}
 use Rattle.rounds.specs.OperatingRound.{first_idle, next_company}
 use Rattle.tables.specs.Roster.{companies, same_company}

@@ -1,14 +1,14 @@
 -- In an opening round only seats at the table bid: each turn is of such a seat.
 use Rattle.std.proofs.Common.{◌≡◌, ℕ, zero, suc, ◌<◌, Bool, true, false, nat_lt, if◌then◌else◌, List, [], ◌∷◌, ◌++◌, Option, Some, None, unwrap_or, refl, sym, ap, ◌∙◌, arith}
 use Rattle.std.proofs.lemmas.Bool.Decides.{nat_tests}
+use Rattle.events.specs.Event.{bidding_of}
+use Rattle.events.specs.declared.event.Event.{Event}
+use Rattle.events.specs.declared.event.Event.TheVariants as event
 use Rattle.history.proofs.BidWords.{bid_of_at_end, seated_after_bid}
 use Rattle.history.proofs.EventAtEnd.{bid_of_before}
 use Rattle.history.specs.Bids.{bid_of}
-use Rattle.history.specs.Event.{bidding_of}
 use Rattle.history.specs.LookBack.{Game}
 use Rattle.history.specs.Sound.{BiddersAreSeated}
-use Rattle.history.specs.declared.event.Event.{Event}
-use Rattle.history.specs.declared.event.Event.TheVariants as event
 use Rattle.privates.specs.Opening.{IsOpeningRound}
 use Rattle.privates.specs.Standing.{after_standing_line, standing_ruling}
 use Rattle.privates.specs.Turn.{InTurn, after_line, all_sold, opening_rules}

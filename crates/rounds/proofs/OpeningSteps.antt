@@ -4,17 +4,17 @@ use Rattle.std.proofs.Common.{◌≡◌, ℕ, zero, suc, ◌-◌, ◌==◌, Bool
 use Rattle.std.proofs.lemmas.Bool.{and_parts}
 use Rattle.std.proofs.lemmas.List.{append_assoc, append-nil}
 use Rattle.std.specs.List.{list_all}
+use Rattle.events.specs.Event.{IsQuiet}
+use Rattle.events.specs.declared.event.Bid.{Bid}
+use Rattle.events.specs.declared.event.Event.{Event}
+use Rattle.events.specs.declared.event.Event.TheVariants as event
+use Rattle.events.specs.declared.ruling.Refusal.TheVariants.{Opening}
+use Rattle.events.specs.declared.ruling.Ruling.{Ruling}
+use Rattle.events.specs.declared.ruling.Ruling.TheVariants.{Obeyed}
 use Rattle.history.proofs.EventAtEnd.{is_sold_before}
 use Rattle.history.specs.Bids.{bids_on}
-use Rattle.history.specs.Event.{IsQuiet}
 use Rattle.history.specs.LookBack.{cheapest_of, is_sold, priority_of, sv_price_of}
 use Rattle.history.specs.Tell.{after_revenues}
-use Rattle.history.specs.declared.event.Bid.{Bid}
-use Rattle.history.specs.declared.event.Event.{Event}
-use Rattle.history.specs.declared.event.Event.TheVariants as event
-use Rattle.history.specs.declared.ruling.Refusal.TheVariants.{Opening}
-use Rattle.history.specs.declared.ruling.Ruling.{Ruling}
-use Rattle.history.specs.declared.ruling.Ruling.TheVariants.{Obeyed}
 use Rattle.order_grammar.specs.declared.condition.Condition.{Condition}
 use Rattle.order_grammar.specs.declared.order.Order.{Order}
 use Rattle.order_grammar.specs.declared.order.Order.TheVariants as order

@@ -2,9 +2,9 @@
 -- close, the round adds but plain events.
 use Rattle.std.proofs.Common.{◌≡◌, ℕ, zero, suc, ◌+◌, ◌==◌, Bool, true, false, if◌then◌else◌, List, [], ◌∷◌, ◌++◌, map, drop, slice_set, refl, sym, subst}
 use Rattle.std.specs.List.{AllByRecursion, list_all, range_with_len}
+use Rattle.events.specs.declared.event.Event.{Event}
+use Rattle.events.specs.declared.event.Event.TheVariants as event
 use Rattle.history.specs.LookBack.{Game}
-use Rattle.history.specs.declared.event.Event.{Event}
-use Rattle.history.specs.declared.event.Event.TheVariants as event
 use Rattle.rounds.proofs.Growing.{further, in_either, stays, told}
 use Rattle.rounds.proofs.PlainLines.{ArePlain, GroupsArePlain, GrowsPlain, IsPlain, SheetsArePlain, standing_plain}
 use Rattle.rounds.specs.Plain.{is_plain}

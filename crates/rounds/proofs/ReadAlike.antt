@@ -2,12 +2,12 @@
 -- played alike.
 use Rattle.std.proofs.Common.{◌≡◌, ℕ, ◌-◌, List, [], length, map, refl, sym, ap, subst, ◌∙◌, ◌∷◌, ◌++◌, Option, Some, None}
 use Rattle.std.specs.List.{list_all, range_with_len}
+use Rattle.events.specs.declared.event.Event.{Event}
+use Rattle.events.specs.declared.event.Event.TheVariants as event
 use Rattle.history.specs.LookBack.{Game, priority_of}
 use Rattle.history.specs.Operating.{rulings_in_round}
 use Rattle.history.specs.Shares.{president_of}
 use Rattle.history.specs.Tell.{revenues_told, with_left}
-use Rattle.history.specs.declared.event.Event.{Event}
-use Rattle.history.specs.declared.event.Event.TheVariants as event
 use Rattle.operating.specs.InTurn.{InTurn}
 use Rattle.operating.specs.Standing as rules
 use Rattle.operating.specs.Forced.{EndLeads}

@@ -1,8 +1,8 @@
 -- A set keeps the number of operating rounds with which it began, since only a stock round that comes sets it.
 use Rattle.std.proofs.Common.{◌≡◌, ℕ, zero, suc, ◌+◌, ◌≤◌, Bool, List, refl, sym, ap, subst, ◌∙◌, arith}
 use Rattle.std.proofs.lemmas.Bool.{ltb-false}
+use Rattle.events.specs.declared.event.Event.{Event}
 use Rattle.history.specs.LookBack.{broken_in}
-use Rattle.history.specs.declared.event.Event.{Event}
 use Rattle.privates.specs.Turn.{all_sold}
 use Rattle.rounds.proofs.Coming.{OfNext, after_operating, comes_once, follows, in_set_then, of_coming}
 use Rattle.rounds.proofs.InSet.{StandsInSet, StandsNext, comes_in_set, round_in_set}

@@ -4,12 +4,12 @@ use Rattle.std.specs.Prelude.{unwrap_or}
 use Rattle.certs.specs.President.{successor_of}
 use Rattle.certs.specs.Purchase.{market_price_of}
 use Rattle.certs.specs.SaleAct.{after_sale, sold, with_president, with_successor}
+use Rattle.events.specs.declared.event.Event.{Event}
+use Rattle.events.specs.declared.event.Event.TheVariants as event
+use Rattle.events.specs.declared.ruling.Ruling.{Ruling}
+use Rattle.events.specs.declared.ruling.Ruling.TheVariants as ruling
 use Rattle.history.specs.LookBack.{Game}
 use Rattle.history.specs.Shares.{par_of, president_of, square_of}
-use Rattle.history.specs.declared.event.Event.{Event}
-use Rattle.history.specs.declared.event.Event.TheVariants as event
-use Rattle.history.specs.declared.ruling.Ruling.{Ruling}
-use Rattle.history.specs.declared.ruling.Ruling.TheVariants as ruling
 use Rattle.market.specs.Moves.{fallen, up_of}
 use Rattle.market.specs.OperatingOrder.{operating_order_of}
 use Rattle.market.specs.Token.{moved_from, same_square}

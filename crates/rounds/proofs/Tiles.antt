@@ -1,6 +1,6 @@
 -- The tiles on the map and in the stock are as many as the manifest has, after each round of each game.
 use Rattle.std.proofs.Common.{refl}
-use Rattle.history.specs.declared.event.Event.TheVariants as event
+use Rattle.events.specs.declared.event.Event.TheVariants as event
 use Rattle.operating.specs.TileLaws.{OthersKeepTiles, TilesAreAll, TilesAreAllAtFirst, TurnsKeepTiles}
 use Rattle.rounds.proofs.RoundSteps.{in_each_game}
 use Rattle.rounds.specs.Tiles.{TilesStandInEachGame}

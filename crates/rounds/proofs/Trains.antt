@@ -1,8 +1,8 @@
 -- Trains stand after each round, and phases go on.
 use Rattle.std.proofs.Common.{◌≤◌, List, refl, ap, arith}
+use Rattle.events.specs.declared.event.Event.{Event}
+use Rattle.events.specs.declared.event.Event.TheVariants as event
 use Rattle.history.specs.Trains.{phase_of}
-use Rattle.history.specs.declared.event.Event.{Event}
-use Rattle.history.specs.declared.event.Event.TheVariants as event
 use Rattle.operating.proofs.Complete.{phase_kept}
 use Rattle.operating.specs.TrainLaws.{OthersKeepStanding, PhasesGoOnInTurns, TrainsStand, TrainsStandAtFirst, TurnsKeepAll}
 use Rattle.rounds.proofs.RoundSteps.{in_each_game, of_round}

@@ -1,9 +1,9 @@
 -- The rounds that the events of a game begin.
 use Rattle.std.specs.Prelude.{◌≡◌, ℕ, true, List, [], ◌∷◌, ◌++◌, Option, Some, None, IsSome, ⊤}
-use Rattle.history.specs.Event.{round_of}
+use Rattle.events.specs.Event.{round_of}
+use Rattle.events.specs.declared.event.Event.{Event}
+use Rattle.events.specs.declared.event.Event.TheVariants as event
 use Rattle.history.specs.LookBack.{Game}
-use Rattle.history.specs.declared.event.Event.{Event}
-use Rattle.history.specs.declared.event.Event.TheVariants as event
 use Rattle.operating.specs.Laws.{BeginsNoRound}
 use Rattle.rounds.specs.Play.{Between, IsRound, Plays}
 use Rattle.sheets.specs.File.{IsAccepted}

@@ -3,10 +3,10 @@
 -- the stock round ANN starts PRR and BOB buys a tenth of it, which leaves ANN president, since CA brought him
 -- one before; then all pass, and the first operating round is awaited.
 use Rattle.std.specs.Prelude.{ℕ, List, [], ◌∷◌, ◌++◌, None, codes}
-use Rattle.history.specs.declared.event.Event.{Event}
-use Rattle.history.specs.declared.event.Event.TheVariants as event
-use Rattle.history.specs.declared.event.Holder.TheVariants as holder
-use Rattle.history.specs.declared.ruling.Ruling.TheVariants.{Obeyed}
+use Rattle.events.specs.declared.event.Event.{Event}
+use Rattle.events.specs.declared.event.Event.TheVariants as event
+use Rattle.events.specs.declared.event.Holder.TheVariants as holder
+use Rattle.events.specs.declared.ruling.Ruling.TheVariants.{Obeyed}
 use Rattle.order_grammar.specs.declared.order.Order.TheVariants.{BuyPrivate, BuyShare, Par}
 use Rattle.order_grammar.specs.declared.order.ShareSource.TheVariants.{InitialOffering}
 use Rattle.rounds.specs.Play.{Between}

@@ -1,7 +1,7 @@
 -- What a round asks of the list before it, beside that it is sound: before an opening round PRR and BO wait
 -- for the privates that bring their tenths. Once all privates are sold, no opening comes any more.
 use Rattle.std.specs.Prelude.{List, ⊤}
-use Rattle.history.specs.declared.event.Event.{Event}
+use Rattle.events.specs.declared.event.Event.{Event}
 use Rattle.privates.specs.Underway.{BaltimoreWaits, PennsylvaniaWaits}
 use Rattle.tables.specs.declared.round.Round.{Round}
 use Rattle.tables.specs.declared.round.Round.TheVariants.{Opening, Stock, Operating}

@@ -4,11 +4,11 @@
 -- those that have not operated in the round; it is over once there is none, or a president is bankrupt.
 use Rattle.std.specs.Prelude.{◌≡◌, ℕ, ◌-◌, ◌≤◌, not, true, false, if◌then◌else◌, List, [], ◌∷◌, ◌++◌, length, find, Option, Some, None}
 use Rattle.std.specs.List.{range_with_len}
+use Rattle.events.specs.declared.event.Event.{Event}
+use Rattle.events.specs.declared.event.Event.TheVariants as event
 use Rattle.history.specs.LookBack.{Game, bankrupt_in}
 use Rattle.history.specs.Operating.{has_operated, rulings_in_round}
 use Rattle.history.specs.Tell.{revenues_told, with_left}
-use Rattle.history.specs.declared.event.Event.{Event}
-use Rattle.history.specs.declared.event.Event.TheVariants as event
 use Rattle.market.specs.OperatingOrder.{operates, operating_order_of, times}
 use Rattle.operating.specs.Standing.{after_standing}
 use Rattle.operating.specs.Turn.{IsCompanyTurn}

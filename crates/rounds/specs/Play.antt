@@ -2,9 +2,9 @@
 -- for the next round, the sequence has ended since the bank is broken, or a president is bankrupt.
 use Rattle.std.specs.Prelude.{◌≡◌, ℕ, zero, suc, Bool, true, false, if◌then◌else◌, List, [], length, is_some}
 use Rattle.std.specs.List.{list_all, range_with_len}
+use Rattle.events.specs.declared.event.Event.{Event}
 use Rattle.history.specs.LookBack.{Game, bankrupt_in, broken_in}
 use Rattle.history.specs.Trains.{phase_of}
-use Rattle.history.specs.declared.event.Event.{Event}
 use Rattle.privates.specs.Opening.{IsOpeningRound}
 use Rattle.privates.specs.Turn.{all_sold}
 use Rattle.rounds.specs.OperatingRound.{IsOperatingRound}

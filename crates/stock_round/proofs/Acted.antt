@@ -4,11 +4,11 @@ use Rattle.std.specs.Prelude.{is_some, unwrap_or}
 use Rattle.certs.specs.President.{successor_of}
 use Rattle.certs.specs.Purchase.{market_price_of, tenth_price_of}
 use Rattle.certs.specs.SaleAct.{after_sale, sold, with_president, with_successor}
+use Rattle.events.specs.declared.event.Event.{Event}
+use Rattle.events.specs.declared.event.Event.TheVariants as event
+use Rattle.events.specs.declared.ruling.Ruling.TheVariants.{Obeyed}
 use Rattle.history.specs.Shares.{par_of, president_of, square_of}
 use Rattle.history.specs.Tell.{breaks, with_broken}
-use Rattle.history.specs.declared.event.Event.{Event}
-use Rattle.history.specs.declared.event.Event.TheVariants as event
-use Rattle.history.specs.declared.ruling.Ruling.TheVariants.{Obeyed}
 use Rattle.market.specs.Moves.{fallen}
 use Rattle.market.specs.Token.{moved_from, same_square}
 use Rattle.order_grammar.specs.declared.condition.Condition.{Condition}

@@ -4,18 +4,18 @@ use Rattle.std.proofs.lemmas.Bool.Decides.{nat_tests}
 use Rattle.std.proofs.lemmas.Int.{ints}
 use Rattle.std.specs.Int.Signed.{lt_z}
 use Rattle.certs.specs.Purchase.{is_none_there, is_short, tenth_price_of}
+use Rattle.events.specs.Event.{is_par_value, place_of_source}
+use Rattle.events.specs.declared.event.Event.{Event}
+use Rattle.events.specs.declared.event.Event.TheVariants as event
+use Rattle.events.specs.declared.event.Holder.{Holder}
+use Rattle.events.specs.declared.event.Holder.TheVariants as holder
+use Rattle.events.specs.declared.event.Shareholder.TheVariants.{InitialOffering}
 use Rattle.history.proofs.Blocks.{float_sound as float_law}
 use Rattle.history.proofs.Purchases.{exchange_sound as exchange_law, purchase_sound as purchase_law, start_by_purchase_sound as start_law}
 use Rattle.history.specs.Bids.{free_cash_of}
-use Rattle.history.specs.Event.{place_of_source}
 use Rattle.history.specs.LookBack.{Game, is_closed, is_sold, owner_of, with_event}
-use Rattle.history.specs.Shares.{is_floated, is_par_value, shares_of, square_of}
+use Rattle.history.specs.Shares.{is_floated, shares_of, square_of}
 use Rattle.history.specs.Sound.{IsLed, IsSound, least_offered}
-use Rattle.history.specs.declared.event.Event.{Event}
-use Rattle.history.specs.declared.event.Event.TheVariants as event
-use Rattle.history.specs.declared.event.Holder.{Holder}
-use Rattle.history.specs.declared.event.Holder.TheVariants as holder
-use Rattle.history.specs.declared.event.Shareholder.TheVariants.{InitialOffering}
 use Rattle.order_grammar.specs.declared.order.ShareSource.{ShareSource}
 use Rattle.order_grammar.specs.declared.order.ShareSource.TheVariants as source
 use Rattle.certs.proofs.SaleAllowed.{holds}

@@ -5,15 +5,15 @@ use Rattle.std.specs.Int.Signed.{lt_z}
 use Rattle.certs.proofs.SaleAllowed.{holds, sale_allowed, same_start, still_may_sell}
 use Rattle.certs.specs.Purchase.{in_zone, is_none_there, is_over_six, is_short, lifts_six, price_on, purchase_judgement, purchase_rules, tenth_price_of}
 use Rattle.certs.specs.declared.deal.Purchase.TheVariants as purchase
+use Rattle.events.specs.Event.{IsQuiet, party_at, place_of_source}
+use Rattle.events.specs.declared.event.Event.{Event}
+use Rattle.events.specs.declared.event.Holder.{Holder}
+use Rattle.events.specs.declared.event.Shareholder.TheVariants.{InitialOffering, BankPool, Seat as OfSeat}
 use Rattle.history.proofs.EventAtEnd.{quiet_same}
 use Rattle.history.specs.Bids.{bids_of, free_cash_of}
-use Rattle.history.specs.Event.{IsQuiet, party_at, place_of_source}
 use Rattle.history.specs.Laws.{SaysTheSame}
 use Rattle.history.specs.LookBack.{Game, cash_of, owner_of, with_event}
 use Rattle.history.specs.Shares.{is_started, shares_of, square_of}
-use Rattle.history.specs.declared.event.Event.{Event}
-use Rattle.history.specs.declared.event.Holder.{Holder}
-use Rattle.history.specs.declared.event.Shareholder.TheVariants.{InitialOffering, BankPool, Seat as OfSeat}
 use Rattle.order_grammar.specs.declared.order.Order.{Order}
 use Rattle.order_grammar.specs.declared.order.Order.TheVariants.{Par, BuyShare, Sell, ExchangeMohawk}
 use Rattle.order_grammar.specs.declared.order.ShareSource.{ShareSource}

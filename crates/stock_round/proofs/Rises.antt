@@ -1,7 +1,7 @@
 -- The companies that move up, one after another.
 use Rattle.std.proofs.Common.{◌≡◌, ℕ, ◌+◌, ◌<◌, List, ◌∷◌, length, drop, get_or, sym, ap, ◌∙◌, add-one}
 use Rattle.std.proofs.Math.Seq.{drop-cons}
-use Rattle.history.specs.declared.event.Event.{Event}
+use Rattle.events.specs.declared.event.Event.{Event}
 use Rattle.stock_round.specs.Closing.{all_risen, risen}
 use Rattle.tables.specs.declared.roster.Company.{Company}
 

@@ -4,8 +4,8 @@ use Rattle.std.specs.Prelude.{◌≡◌, ℕ, ◌*◌, List, true, false}
 use Rattle.certs.specs.Purchase.{is_no_par, is_none_there, is_short, tenth_price_of}
 use Rattle.certs.specs.declared.deal.Purchase.TheVariants as purchase
 pub use Rattle.certs.specs.SaleAct.{MaySell}
+use Rattle.events.specs.declared.event.Event.{Event}
 use Rattle.history.specs.Shares.{is_started}
-use Rattle.history.specs.declared.event.Event.{Event}
 use Rattle.order_grammar.specs.declared.order.Order.{Order}
 use Rattle.order_grammar.specs.declared.order.Order.TheVariants.{Par, BuyShare, Sell, ExchangeMohawk}
 use Rattle.order_grammar.specs.declared.order.ShareSource.{ShareSource}

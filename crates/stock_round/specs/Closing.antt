@@ -3,9 +3,9 @@
 -- it is when the turns are over.
 use Rattle.std.specs.Prelude.{Bool, ◌&&◌, if◌then◌else◌, List, [], ◌∷◌, pos}
 use Rattle.std.specs.Ordering.{int_eq}
+use Rattle.events.specs.declared.event.Event.{Event}
+use Rattle.events.specs.declared.event.Shareholder.TheVariants.{InitialOffering, BankPool}
 use Rattle.history.specs.Shares.{shares_of}
-use Rattle.history.specs.declared.event.Event.{Event}
-use Rattle.history.specs.declared.event.Shareholder.TheVariants.{InitialOffering, BankPool}
 use Rattle.market.specs.Moves.{up_of}
 use Rattle.market.specs.OperatingOrder.{operating_order_of}
 use Rattle.market.specs.Token.{with_move}

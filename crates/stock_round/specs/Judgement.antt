@@ -8,16 +8,16 @@ use Rattle.std.specs.Int.Signed.{lt_z}
 use Rattle.certs.specs.Purchase.{is_over_six, purchase_judgement}
 use Rattle.certs.specs.Sale.{sale_judgement}
 use Rattle.certs.specs.declared.deal.Purchase.TheVariants as purchase
+use Rattle.events.specs.declared.event.Event.{Event}
+use Rattle.events.specs.declared.event.Holder.{Holder}
+use Rattle.events.specs.declared.event.Holder.TheVariants as holder
+use Rattle.events.specs.declared.event.Shareholder.TheVariants.{InitialOffering, BankPool}
+use Rattle.events.specs.declared.ruling.Refusal.{Refusal}
+use Rattle.events.specs.declared.ruling.Refusal.TheVariants.{Stock}
+use Rattle.events.specs.declared.ruling.StockRule.{StockRule}
+use Rattle.events.specs.declared.ruling.StockRule.TheVariants.{NotOfStock, NoExchange}
 use Rattle.history.specs.LookBack.{owner_of}
 use Rattle.history.specs.Shares.{shares_of}
-use Rattle.history.specs.declared.event.Event.{Event}
-use Rattle.history.specs.declared.event.Holder.{Holder}
-use Rattle.history.specs.declared.event.Holder.TheVariants as holder
-use Rattle.history.specs.declared.event.Shareholder.TheVariants.{InitialOffering, BankPool}
-use Rattle.history.specs.declared.ruling.StockRule.{StockRule}
-use Rattle.history.specs.declared.ruling.StockRule.TheVariants.{NotOfStock, NoExchange}
-use Rattle.history.specs.declared.ruling.Refusal.{Refusal}
-use Rattle.history.specs.declared.ruling.Refusal.TheVariants.{Stock}
 use Rattle.order_grammar.specs.declared.order.Order.{Order}
 use Rattle.order_grammar.specs.declared.order.Order.TheVariants.{Par, BuyShare, Sell, ExchangeMohawk}
 use Rattle.order_grammar.specs.declared.order.ShareSource.{ShareSource}

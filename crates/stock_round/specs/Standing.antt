@@ -1,8 +1,8 @@
 -- The standing lines of a stock sheet, those before its first group, are ruled at the round's start: no order
 -- has a place there, whatever its condition.
 use Rattle.std.specs.Prelude.{List, Result, Ok, Err}
-use Rattle.history.specs.declared.event.Event.{Event}
-use Rattle.history.specs.declared.ruling.Ruling.TheVariants.{Faulty}
+use Rattle.events.specs.declared.event.Event.{Event}
+use Rattle.events.specs.declared.ruling.Ruling.TheVariants.{Faulty}
 use Rattle.order_grammar.specs.declared.fault.Fault.{Fault}
 use Rattle.order_grammar.specs.declared.fault.Fault.TheVariants.{OutOfPlace}
 use Rattle.order_grammar.specs.declared.order.Order.{Order}

@@ -2,8 +2,8 @@
 -- none of which has a place, the turns until all have passed in succession, what follows them, and what was
 -- left.
 use Rattle.std.specs.Prelude.{ℕ, List}
+use Rattle.events.specs.declared.event.Event.{Event}
 use Rattle.history.specs.LookBack.{Game}
-use Rattle.history.specs.declared.event.Event.{Event}
 use Rattle.sheets.specs.Part.{Numbered}
 pub use Rattle.stock_round.specs.Standing.{after_standing_line}
 use Rattle.stock_round.specs.Turn.{stock_rules}

@@ -2,8 +2,8 @@
 -- turn a seat buys once, but several certificates of a company whose square is brown, and sells as often as it
 -- likes, before and after. A seat that neither bought nor sold passes, also where it gave up MH.
 use Rattle.std.specs.Prelude.{ℕ, Bool, true, false, ◌||◌, List, Some, None, is_some}
-use Rattle.history.specs.declared.event.Event.{Event}
-use Rattle.history.specs.declared.ruling.Ruling.{Ruling}
+use Rattle.events.specs.declared.event.Event.{Event}
+use Rattle.events.specs.declared.ruling.Ruling.{Ruling}
 use Rattle.order_grammar.specs.declared.order.Order.{Order}
 use Rattle.order_grammar.specs.declared.order.Order.TheVariants.{Par, BuyShare, Sell}
 use Rattle.sheets.specs.Part.{Numbered}

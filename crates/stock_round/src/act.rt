@@ -1,6 +1,6 @@
 ghost use Rattle.std.specs.Prelude.{◌≡◌, ◌≤◌, ◌<◌, OnOk};
+ghost use Rattle.events.specs.declared.event.Event.TheVariants as event;
 ghost use Rattle.history.specs.Sound.{IsSound};
-ghost use Rattle.history.specs.declared.event.Event.TheVariants as event;
 ghost use Rattle.stock_round.specs.Act.{after_act, after_exchange, after_purchase, after_start};
 ghost use Rattle.stock_round.specs.Allowed.{MayAct, MayBuy, MayExchange, MayStart};
 

@@ -1,12 +1,12 @@
 -- The accounts, party by party.
 use Rattle.std.proofs.Common.{◌≡◌, ◌==◌, ℕ, ◌<◌, List, ℤ, ◌+ℤ◌, pos, length, get_or, set, if◌then◌else◌, ap, ◌∙◌, arith}
 use Rattle.std.proofs.lemmas.Int.{ints}
-use Rattle.history.specs.Event.{party_at}
+use Rattle.events.specs.Event.{party_at}
+use Rattle.events.specs.declared.event.Event.{Event}
+use Rattle.events.specs.declared.event.Holder.TheVariants as holder
+use Rattle.events.specs.declared.event.Party.{Party}
+use Rattle.events.specs.declared.event.Party.TheVariants as party
 use Rattle.history.specs.LookBack.{Game, IsModerate, cash_of}
-use Rattle.history.specs.declared.event.Event.{Event}
-use Rattle.history.specs.declared.event.Party.{Party}
-use Rattle.history.specs.declared.event.Holder.TheVariants as holder
-use Rattle.history.specs.declared.event.Party.TheVariants as party
 use Rattle.tables.specs.Roster.{place_of_company}
 use Rattle.tables.specs.Seat.{seat_at}
 use Rattle.tables.specs.declared.roster.Company.{Company}

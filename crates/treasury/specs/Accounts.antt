@@ -3,12 +3,12 @@
 -- that is not the bank, and has less than the sum, is short and pays nothing.
 use Rattle.std.specs.Prelude.{◌≡◌, ℕ, ◌<◌, List, ℤ, pos, ◌+ℤ◌, ◌-ℤ◌, ◌≤ℤ◌, Bool, false, if◌then◌else◌, slice_index_or}
 use lib.Signed.{lt_z}
-use Rattle.history.specs.Event.{party_at}
+use Rattle.events.specs.Event.{party_at}
+use Rattle.events.specs.declared.event.Event.{Event}
+use Rattle.events.specs.declared.event.Holder.TheVariants as holder
+use Rattle.events.specs.declared.event.Party.{Party}
+use Rattle.events.specs.declared.event.Party.TheVariants as party
 use Rattle.history.specs.LookBack.{Game, IsModerate, cash_of, same_party}
-use Rattle.history.specs.declared.event.Event.{Event}
-use Rattle.history.specs.declared.event.Holder.TheVariants as holder
-use Rattle.history.specs.declared.event.Party.{Party}
-use Rattle.history.specs.declared.event.Party.TheVariants as party
 use Rattle.history.specs.declared.look_back.Past.{Past}
 use Rattle.tables.specs.Roster.{place_of_company}
 use Rattle.tables.specs.Seat.{seat_at}

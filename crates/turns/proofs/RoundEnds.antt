@@ -1,8 +1,8 @@
 -- A round of turns has one outcome: its turns can begin, so they end, and they end once.
 use Rattle.std.proofs.Common.{◌≡◌, ℕ, zero, suc, ◌+◌, ◌≤◌, false, List, length, map, refl, sym, ap, ◌∙◌, arith}
 use Rattle.std.specs.List.{range_with_len}
+use Rattle.events.specs.declared.event.Event.{Event}
 use Rattle.history.specs.LookBack.{Game}
-use Rattle.history.specs.declared.event.Event.{Event}
 use Rattle.sheets.proofs.GroupLemmas.{few_groups}
 use Rattle.sheets.specs.Part.{Numbered, groups_of, parts_for}
 use Rattle.tables.proofs.Turns.{turns_end_once, turns_end_soon}

@@ -3,9 +3,10 @@ use Rattle.std.proofs.Common.{◌≡◌, ℕ, ◌+◌, ◌<◌, ◌≤◌, min, 
 use Rattle.std.proofs.lemmas.Bool.Decides.{nat_tests}
 use Rattle.std.proofs.lemmas.List.{map-set}
 use Rattle.std.proofs.lemmas.Option.{slice_get-get_or, slice_get-map}
-use Rattle.history.specs.LookBack.{actor_of, last_said, left_of_actor, priority_of}
-use Rattle.history.specs.declared.event.Event.{Event}
-use Rattle.history.specs.declared.event.Event.TheVariants.{Passes}
+use Rattle.events.specs.Event.{actor_of}
+use Rattle.events.specs.declared.event.Event.{Event}
+use Rattle.events.specs.declared.event.Event.TheVariants.{Passes}
+use Rattle.history.specs.LookBack.{last_said, left_of_actor, priority_of}
 use Rattle.sheets.specs.Part.{Numbered, Parts, groups_of}
 use Rattle.tables.specs.Seat.{left_of, seat_at}
 use Rattle.tables.specs.Turns.{InPlay, IsIdleWithoutLines, Turned, after_turn, groups_at, next_group, turn_over}

@@ -1,9 +1,9 @@
 -- A whole round of turns from its parts.
 use Rattle.std.proofs.Common.{◌≡◌, ℕ, List, [], ◌∷◌, ◌++◌, length, sym, subst, ap, ◌∙◌}
 use Rattle.std.specs.List.{range_with_len}
+use Rattle.events.specs.declared.event.Event.{Event}
+use Rattle.events.specs.declared.event.Event.TheVariants as event
 use Rattle.history.specs.LookBack.{Game, priority_of, with_event}
-use Rattle.history.specs.declared.event.Event.{Event}
-use Rattle.history.specs.declared.event.Event.TheVariants as event
 use Rattle.sheets.specs.File.{players_of}
 use Rattle.sheets.specs.Part.{Numbered}
 use Rattle.tables.specs.Turns.{InPlay, TurnsEnd}

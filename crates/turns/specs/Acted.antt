@@ -2,8 +2,9 @@
 -- where the holder of priority sits at the left of the seat that acted last. Both say the same of a turn where
 -- its new events name its seat, and no other, as one that acted where it acted, and else nobody.
 use Rattle.std.specs.Prelude.{◌≡◌, ℕ, Bool, if◌then◌else◌, List, ◌++◌, Some, None}
-use Rattle.history.specs.LookBack.{actor_of, last_said}
-use Rattle.history.specs.declared.event.Event.{Event}
+use Rattle.events.specs.Event.{actor_of}
+use Rattle.events.specs.declared.event.Event.{Event}
+use Rattle.history.specs.LookBack.{last_said}
 use Rattle.sheets.specs.Part.{Numbered}
 use Rattle.tables.specs.Turns.{Turned}
 use Rattle.tables.specs.declared.seat.Seat.{Seat}

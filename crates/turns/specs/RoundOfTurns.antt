@@ -5,10 +5,10 @@
 -- what else ends the turns and what follows them is each kind of round's own.
 use Rattle.std.specs.Prelude.{◌≡◌, ℕ, ◌*◌, ◌≤◌, Bool, List, [], ◌∷◌, ◌++◌}
 use Rattle.std.specs.List.{range_with_len}
+use Rattle.events.specs.declared.event.Event.{Event}
+use Rattle.events.specs.declared.event.Event.TheVariants as event
 use Rattle.history.specs.LookBack.{Game, priority_of}
 use Rattle.history.specs.Tell.{with_left}
-use Rattle.history.specs.declared.event.Event.{Event}
-use Rattle.history.specs.declared.event.Event.TheVariants as event
 use Rattle.sheets.specs.Part.{Numbered}
 pub use Rattle.sheets.specs.Taken.{groups_for, in_play}
 use Rattle.sheets.specs.Taken.{after_all_before, after_each, told_of_left}

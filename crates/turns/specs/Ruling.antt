@@ -3,13 +3,13 @@
 -- That is recorded, and an order that is obeyed is done. Each family of lines says for itself which orders have a place
 -- in them, by which rules these are judged, and what an order brings.
 use Rattle.std.specs.Prelude.{◌≡◌, ℕ, Bool, true, false, IsTrue, not, if◌then◌else◌, List, [], ◌∷◌, ◌++◌, Option, Some, None, Result, Ok, Err}
+use Rattle.events.specs.declared.event.Event.{Event}
+use Rattle.events.specs.declared.event.Event.TheVariants as event
+use Rattle.events.specs.declared.ruling.Refusal.{Refusal}
+use Rattle.events.specs.declared.ruling.Refusal.TheVariants as refusal
+use Rattle.events.specs.declared.ruling.Ruling.{Ruling}
+use Rattle.events.specs.declared.ruling.Ruling.TheVariants.{Obeyed, Refused, Faulty}
 use Rattle.history.specs.Conditions.{is_met}
-use Rattle.history.specs.declared.event.Event.{Event}
-use Rattle.history.specs.declared.event.Event.TheVariants as event
-use Rattle.history.specs.declared.ruling.Refusal.{Refusal}
-use Rattle.history.specs.declared.ruling.Refusal.TheVariants as refusal
-use Rattle.history.specs.declared.ruling.Ruling.{Ruling}
-use Rattle.history.specs.declared.ruling.Ruling.TheVariants.{Obeyed, Refused, Faulty}
 use Rattle.order_grammar.specs.declared.condition.Condition.{Condition}
 use Rattle.order_grammar.specs.declared.fault.Fault.{Fault}
 use Rattle.order_grammar.specs.declared.order.Order.{Order}

@@ -1,9 +1,9 @@
 ghost use Rattle.std.specs.Prelude.{◌≡◌, ◌≤◌, ◌<◌, ℕ, List, OnOk, IfOk, false};
+ghost use Rattle.events.specs.declared.event.Event.{Event};
+ghost use Rattle.events.specs.declared.event.Event.TheVariants as event;
 ghost use Rattle.history.specs.LookBack.{Game, with_event};
 ghost use Rattle.history.specs.Sound.{IsSound};
 ghost use Rattle.history.specs.Tell.{left_told};
-ghost use Rattle.history.specs.declared.event.Event.{Event};
-ghost use Rattle.history.specs.declared.event.Event.TheVariants as event;
 ghost use Rattle.sheets.specs.Part.{line_unread};
 ghost use Rattle.tables.specs.declared.round.Round.{Round};
 ghost use Rattle.tables.specs.declared.seat.Seat.{Seat};

@@ -1,10 +1,10 @@
 //! One way for a line: what becomes of it, recorded.
 ghost use Rattle.std.specs.Prelude.{◌≡◌, Bool, IfOk, MatchResult, OnOk, Option, Ok, Err, is_none};
+ghost use Rattle.events.specs.declared.event.Event.TheVariants as event;
+ghost use Rattle.events.specs.declared.ruling.Refusal.{Refusal as RefusalCode};
+ghost use Rattle.events.specs.declared.ruling.Ruling.TheVariants.{Faulty};
 ghost use Rattle.history.specs.LookBack.{Game, with_event};
 ghost use Rattle.history.specs.Sound.{IsSound};
-ghost use Rattle.history.specs.declared.event.Event.TheVariants as event;
-ghost use Rattle.history.specs.declared.ruling.Refusal.{Refusal as RefusalCode};
-ghost use Rattle.history.specs.declared.ruling.Ruling.TheVariants.{Faulty};
 ghost use Rattle.order_grammar.specs.declared.order.Order.{Order as OrderOfPlay};
 ghost use Rattle.sheets.specs.Part.{line_unread, line_with};
 ghost use Rattle.sheets.specs.Place.{placed as placed_reading};

@@ -1,7 +1,7 @@
 use Rattle.std.proofs.Common.{◌≡◌, ◌+ℤ◌, Option, pos, ap, ◌∙◌}
 use std.Path.{fun_ext}
 use Rattle.certs.specs.Counted.{certificates_in, certificates_now, privates_owned}
-use Rattle.history.specs.declared.event.Holder.{Holder}
+use Rattle.events.specs.declared.event.Holder.{Holder}
 use Rattle.tables.specs.Roster.{companies}
 use Rattle.tables.specs.declared.roster.Private.{Private}
 use Rattle.std.proofs.lemmas.Int.{to_z-of_z}

@@ -2,8 +2,8 @@ use Rattle.std.proofs.Common.{ℤ, pos, ap, sym, ◌∙◌, SFits}
 use Rattle.std.specs.Int.{w128}
 use Rattle.std.specs.Int.Signed.{lt_z}
 use Rattle.std.proofs.lemmas.Int.{to_z-of_z}
+use Rattle.events.specs.declared.event.Shareholder.{Shareholder}
 use Rattle.history.specs.Shares.{shares_of}
-use Rattle.history.specs.declared.event.Shareholder.{Shareholder}
 use Rattle.certs.specs.Purchase.{is_none_there}
 use Rattle.certs.proofs.purchase.is_none_there.Goals as goal
 

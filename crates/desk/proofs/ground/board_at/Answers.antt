@@ -5,8 +5,8 @@ use Rattle.std.specs.List.{fold}
 use Rattle.board.specs.Ground.{ground_of}
 use Rattle.desk.proofs.Laid.{all_laid}
 use Rattle.desk.specs.Laid.{laid_then}
+use Rattle.events.specs.declared.event.Event.{Event}
 use Rattle.history.specs.Trains.{phase_of}
-use Rattle.history.specs.declared.event.Event.{Event}
 use Rattle.desk.proofs.ground.board_at.Goals as goal
 
 pub returns : goal.returns

@@ -1,5 +1,5 @@
 use Rattle.std.proofs.Common.{◌≡◌, ap, ◌∙◌, rules}
-use Rattle.history.specs.Event.{party_at}
+use Rattle.events.specs.Event.{party_at}
 use Rattle.history.specs.LookBack.{cash_of}
 use Rattle.desk_state.proofs.purse.purse_of.Goals as goal
 

@@ -1,7 +1,7 @@
 use Rattle.std.proofs.Common.{arith}
+use Rattle.events.specs.Event.{stable_of}
 use Rattle.history.proofs.NetTables.{stable_moved, train_row_low}
 use Rattle.history.specs.Books.{train_row}
-use Rattle.history.specs.Event.{stable_of}
 use Rattle.history.proofs.nets.note_stable.Goals as goal
 
 pub returns-in-Some : goal.returns-in-Some

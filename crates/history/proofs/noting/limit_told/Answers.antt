@@ -1,7 +1,7 @@
 use Rattle.std.proofs.Common.{Some, refl, ap, sym, ◌∙◌}
 use Rattle.std.specs.Option.{option_map}
+use Rattle.events.specs.Orders.{limit_in, limit_obeyed, limit_said}
 use Rattle.history.proofs.BidWords.{no_word_told}
-use Rattle.history.specs.Orders.{limit_in, limit_obeyed, limit_said}
 use Rattle.history.proofs.noting.limit_told.Goals as goal
 
 pub returns-in-None : goal.returns-in-None

@@ -1,6 +1,6 @@
 use Rattle.std.proofs.Common.{is_some, refl, ap, sym, ◌∙◌}
+use Rattle.events.specs.Offers.{offer_obeyed, offer_said, offered_in}
 use Rattle.history.proofs.BidWords.{no_word_told}
-use Rattle.history.specs.Offers.{offer_obeyed, offer_said, offered_in}
 use Rattle.history.proofs.noting.offer_told.Goals as goal
 
 pub returns-in-None : goal.returns-in-None

@@ -2,7 +2,7 @@
 use Rattle.std.proofs.Common.{◌≡◌, true, false, List, ap, sym, subst, ◌∙◌}
 use Rattle.board.specs.Ground.{Ground, position_of}
 use Rattle.certificate.specs.TwoTrain.{CanRun}
-use Rattle.history.specs.declared.event.Event.{Event}
+use Rattle.events.specs.declared.event.Event.{Event}
 use Rattle.operating.specs.Forced.{has_trains}
 use Rattle.operating.proofs.forced.is_due.Goals as goal
 

@@ -1,8 +1,8 @@
 -- A RAISE that breaks no rule sells what it says.
 use Rattle.std.proofs.Common.{◌≡◌, ◌≤◌, ◌<◌, true, Option, Some, is_none, refl, ap, sym, subst, ◌∙◌}
 use Rattle.certs.proofs.SaleAllowed.{may_sell_after}
+use Rattle.events.specs.declared.event.Event.TheVariants as event
 use Rattle.history.specs.LookBack.{Game}
-use Rattle.history.specs.declared.event.Event.TheVariants as event
 use Rattle.order_grammar.specs.declared.condition.Condition.{Condition}
 use Rattle.order_grammar.specs.declared.order.Order.TheVariants.{Raise}
 use Rattle.operating.proofs.ForcedSteps.{nothing, raise_obeyed, raised}

@@ -1,6 +1,6 @@
 -- The game as it stands is the one that is judged.
 use Rattle.std.proofs.Common.{ℕ, List, ap, ◌∙◌}
-use Rattle.history.specs.declared.event.Event.{Event}
+use Rattle.events.specs.declared.event.Event.{Event}
 use Rattle.operating.specs.Trains.{train_judgement}
 use Rattle.operating.proofs.purchase.judge_purchase.Goals as goal
 

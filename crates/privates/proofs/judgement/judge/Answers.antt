@@ -1,6 +1,6 @@
 -- The game as it stands is the one that is judged.
 use Rattle.std.proofs.Common.{ℕ, List, sym, ap, ◌∙◌}
-use Rattle.history.specs.declared.event.Event.{Event}
+use Rattle.events.specs.declared.event.Event.{Event}
 use Rattle.order_grammar.specs.declared.order.Order.TheVariants.{BuyPrivate, Bid}
 use Rattle.privates.specs.Judgement.{judgement_of}
 use Rattle.privates.proofs.judgement.judge.Goals as goal

@@ -1,6 +1,6 @@
 -- The winner of the auction can pay, and the sale to him settles the bids.
 use Rattle.std.proofs.Common.{◌≡◌, ℕ, List, OnOk, sym, subst, arith}
-use Rattle.history.specs.declared.event.Event.{Event}
+use Rattle.events.specs.declared.event.Event.{Event}
 use Rattle.privates.proofs.Bidders.{auction_differs, auction_settles, limits_hold, payable, same_bidders}
 use Rattle.privates.specs.Act.{MayPay}
 use Rattle.privates.specs.Auction.{BidsDiffer, LimitsHold}

@@ -1,5 +1,5 @@
 use Rattle.std.proofs.Common.{◌≡◌, ℕ, List, ◌∙◌, sym, ap, add-one, arith}
-use Rattle.history.specs.declared.event.Event.{Event}
+use Rattle.events.specs.declared.event.Event.{Event}
 use Rattle.privates.specs.Sale.{settle, settled}
 use Rattle.tables.specs.Steps.{iterate}
 use Rattle.privates.proofs.sale.settle_all.Goals as goal

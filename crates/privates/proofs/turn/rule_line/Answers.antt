@@ -1,5 +1,5 @@
 use Rattle.std.proofs.Common.{refl, subst}
-use Rattle.history.specs.declared.ruling.Refusal.TheVariants.{Opening}
+use Rattle.events.specs.declared.ruling.Refusal.TheVariants.{Opening}
 use Rattle.privates.proofs.Judged.{may_act_after}
 use Rattle.privates.specs.Judgement.{judgement_of, refusal_of}
 use Rattle.privates.specs.UnderwayKept.{ruling_underway}

@@ -1,7 +1,7 @@
 use Rattle.report.specs.Statement.{tenths_column}
 use Rattle.report.proofs.Seats.{elements_step}
 use Rattle.report.proofs.statement.push_holdings.Goals as goal
-use Rattle.history.specs.declared.event.Shareholder.TheVariants.{Seat as OfSeat}
+use Rattle.events.specs.declared.event.Shareholder.TheVariants.{Seat as OfSeat}
 use Rattle.tables.specs.Roster.{companies}
 
 pub loop-company-preserved : goal.loop-company-preserved

@@ -2,7 +2,7 @@ use Rattle.std.proofs.Common.{◌≡◌, ◌++◌, take}
 use Rattle.std.specs.List.{flat_map}
 use Rattle.report.specs.Statement.{tenths_column}
 use Rattle.report.proofs.statement.push_holdings.Given as goal
-use Rattle.history.specs.declared.event.Shareholder.TheVariants.{Seat as OfSeat}
+use Rattle.events.specs.declared.event.Shareholder.TheVariants.{Seat as OfSeat}
 use Rattle.tables.specs.Roster.{companies}
 
 -- the companies so far

@@ -2,8 +2,8 @@ use Rattle.std.proofs.Common.{◌≡◌, ◌+◌, ◌-◌, ◌<◌, ℕ, true, f
 use Rattle.std.proofs.lemmas.Grind.{common_steps}
 use Rattle.std.specs.Prelude.{is_some}
 use Rattle.std.specs.List.{list_any}
-use Rattle.history.specs.Event.{round_of}
-use Rattle.history.specs.declared.event.Event.{Event}
+use Rattle.events.specs.Event.{round_of}
+use Rattle.events.specs.declared.event.Event.{Event}
 use Rattle.report.proofs.LastRound.{from_first, from_here}
 use Rattle.report.proofs.text.begin_of_last_round.Goals as goal
 

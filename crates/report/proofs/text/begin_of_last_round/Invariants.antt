@@ -1,7 +1,7 @@
 use Rattle.std.proofs.Common.{◌≡◌, ◌≤◌, false, length, drop}
 use Rattle.std.specs.Prelude.{is_some}
 use Rattle.std.specs.List.{list_any}
-use Rattle.history.specs.Event.{round_of}
+use Rattle.events.specs.Event.{round_of}
 use Rattle.report.proofs.text.begin_of_last_round.Given as goal
 
 -- no event from here on begins a round

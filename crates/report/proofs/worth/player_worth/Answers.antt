@@ -2,7 +2,7 @@
 use Rattle.std.proofs.Common.{ℕ, ◌+◌, ℤ, pos, ◌+ℤ◌, ap, ◌∙◌}
 use mir.Syntax.{w128}
 use mir.Val.{of_z, to_z}
-use Rattle.history.specs.Event.{party_at}
+use Rattle.events.specs.Event.{party_at}
 use Rattle.history.specs.LookBack.{cash_of}
 use Rattle.report.proofs.Worths.{wealth_fits}
 use Rattle.report.specs.Worth.{worth_of_all_tenths}

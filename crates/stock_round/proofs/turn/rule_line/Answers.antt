@@ -1,5 +1,5 @@
 use Rattle.std.proofs.Common.{refl, subst}
-use Rattle.history.specs.declared.ruling.Refusal.TheVariants.{Stock}
+use Rattle.events.specs.declared.ruling.Refusal.TheVariants.{Stock}
 use Rattle.sheets.specs.Part.{line_unread}
 use Rattle.stock_round.proofs.Judged.{may_act_after}
 use Rattle.stock_round.specs.Judgement.{judgement_of, refusal_of}

@@ -1,9 +1,9 @@
 use Rattle.std.proofs.Common.{◌≡◌, ◌<◌, ℕ, get_or, length, pos}
 use Rattle.tables.specs.Roster.{companies}
 use Rattle.tables.specs.declared.roster.Company.TheVariants.{Pennsylvania}
+use Rattle.events.specs.declared.event.Holder.TheVariants as holder
+use Rattle.events.specs.declared.event.Party.TheVariants as party
 use Rattle.history.specs.LookBack.{IsModerate, cash_of}
-use Rattle.history.specs.declared.event.Holder.TheVariants as holder
-use Rattle.history.specs.declared.event.Party.TheVariants as party
 use Rattle.treasury.proofs.accounts.cash_of_companies.Given as goal
 
 -- the companies so far have their cash

@@ -1,5 +1,5 @@
 use Rattle.std.proofs.Common.{◌≡◌, ◌<◌, ◌≤◌, ℕ, List, true, false, Some, map, refl, sym, subst, ap, ◌∙◌, arith}
-use Rattle.history.specs.declared.event.Event.{Event}
+use Rattle.events.specs.declared.event.Event.{Event}
 use Rattle.sheets.specs.Part.{Numbered, groups_of}
 use Rattle.tables.proofs.Steps.{leads_on, leads_to_end}
 use Rattle.tables.proofs.Turns.{turns_most_falls}

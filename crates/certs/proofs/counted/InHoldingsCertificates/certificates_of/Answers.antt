@@ -1,7 +1,7 @@
 use Rattle.certs.proofs.Counts.{small_kept}
 use Rattle.certs.proofs.RowLemmas.{small_in}
 use Rattle.certs.specs.Rows.{index_of}
-use Rattle.history.specs.declared.event.Shareholder.TheVariants.{Seat as OfSeat}
+use Rattle.events.specs.declared.event.Shareholder.TheVariants.{Seat as OfSeat}
 use Rattle.tables.specs.Roster.{place_of_company}
 use Rattle.certs.proofs.counted.InHoldingsCertificates.certificates_of.Goals as goal
 

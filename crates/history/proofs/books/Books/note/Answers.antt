@@ -1,9 +1,9 @@
 use Rattle.std.proofs.Common.{[], ◌∷◌, arith, length-append}
+use Rattle.events.specs.Event.{actor_of, floated_by, obeyed_of, office_of, operated_by, ownership_of, par_set, payment_of, phase_set, round_of, square_set, sv_price_set, tells_bankrupt, tells_broken, train_moved, transfer_of}
+use Rattle.events.specs.Orders.{limit_in, par_of_baltimore_in, said_by}
 use Rattle.history.proofs.Noted.{bid_noted, flag_noted, net_noted, one_low, place_noted, round_flag_noted, round_word_noted, rulings_noted, tokens_noted, word_noted}
-use Rattle.history.specs.Event.{floated_by, obeyed_of, office_of, operated_by, ownership_of, par_set, payment_of, phase_set, round_of, square_set, sv_price_set, tells_bankrupt, tells_broken, train_moved, transfer_of}
-use Rattle.history.specs.LookBack.{actor_of, owner_said, paid_by, paid_to}
+use Rattle.history.specs.LookBack.{owner_said, paid_by, paid_to}
 use Rattle.history.specs.Operating.{turn_said}
-use Rattle.history.specs.Orders.{limit_in, par_of_baltimore_in, said_by}
 use Rattle.history.specs.Shares.{brought_to, float_said, par_said, president_said, sale_said, square_said, taken_from}
 use Rattle.history.specs.Trains.{any_comes, any_goes, one_if, train_comes, train_goes}
 use Rattle.tables.specs.Seat.{seat_at}

@@ -1,7 +1,7 @@
 use Rattle.std.proofs.Common.{None, false, refl}
+use Rattle.events.specs.Event.{payment_of, stable_of, train_moved, transfer_of}
 use Rattle.history.proofs.Empty.{no_bid, no_count, no_net, no_sale, nothing_said, same_throughout}
 use Rattle.history.specs.Books.{party_entry, tenths_entry, train_entry, train_row}
-use Rattle.history.specs.Event.{payment_of, stable_of, train_moved, transfer_of}
 use Rattle.history.specs.LookBack.{paid_by, paid_to}
 use Rattle.history.specs.Shares.{brought_to, taken_from}
 use Rattle.history.specs.Trains.{any_comes, any_goes, one_if, train_comes, train_goes}

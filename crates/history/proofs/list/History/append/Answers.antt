@@ -1,10 +1,10 @@
 use Rattle.std.proofs.Common.{◌≤◌, sym, subst, ◌∙◌, arith}
 use Rattle.std.proofs.lemmas.List.Elements.{All-push}
+use Rattle.events.specs.Event.{sum_of, tile_laid, token_placed}
+use Rattle.events.specs.declared.event.Event.{Event}
 use Rattle.history.proofs.InOrder.{all_kept}
 use Rattle.history.proofs.Noted.{offers_noted}
-use Rattle.history.specs.Event.{sum_of, tile_laid, token_placed}
 use Rattle.history.specs.Offers.{AreOffersOf}
-use Rattle.history.specs.declared.event.Event.{Event}
 use Rattle.history.proofs.list.History.append.Goals as goal
 
 pub invariant_of-self-2 : goal.invariant_of-self-2

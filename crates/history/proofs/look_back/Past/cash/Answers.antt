@@ -1,8 +1,8 @@
 use Rattle.std.proofs.Common.{ℕ, arith, ◌∙◌, sym, ap, subst, ◌<◌}
+use Rattle.events.specs.Event.{payment_of}
+use Rattle.events.specs.declared.event.Event.{Event}
 use Rattle.history.proofs.NetTables.{account_kept, account_moderate}
 use Rattle.history.specs.Books.{AreBooksOf, IsNet, net_at, party_entry}
-use Rattle.history.specs.declared.event.Event.{Event}
-use Rattle.history.specs.Event.{payment_of}
 use Rattle.history.specs.LookBack.{balance, paid_by, paid_to}
 use Rattle.history.proofs.look_back.Past.cash.Goals as goal
 

@@ -1,8 +1,8 @@
 use Rattle.std.proofs.Common.{ℕ, arith, sym, ap, subst, ◌∙◌, ◌<◌}
+use Rattle.events.specs.Event.{transfer_of}
+use Rattle.events.specs.declared.event.Event.{Event}
 use Rattle.history.proofs.NetTables.{account_kept, account_moderate, company_low}
 use Rattle.history.specs.Books.{AreBooksOf, IsNet, net_at, row_of}
-use Rattle.history.specs.declared.event.Event.{Event}
-use Rattle.history.specs.Event.{transfer_of}
 use Rattle.history.specs.LookBack.{balance}
 use Rattle.history.specs.Shares.{brought_to, taken_from}
 use Rattle.history.proofs.look_back.Past.shares.Goals as goal

@@ -1,9 +1,9 @@
 use Rattle.std.proofs.Common.{ℕ, sym, subst, ap, ◌∙◌}
+use Rattle.events.specs.Event.{train_moved}
+use Rattle.events.specs.declared.event.Event.{Event}
 use Rattle.history.proofs.Stables.{size_is, train_count_fits, train_count_kept}
 use Rattle.history.specs.Books.{AreBooksOf, IsNet, net_at, train_row}
-use Rattle.history.specs.Event.{train_moved}
 use Rattle.history.specs.Trains.{any_comes, any_goes, one_if}
-use Rattle.history.specs.declared.event.Event.{Event}
 use Rattle.history.proofs.look_back.Past.stable_size.Goals as goal
 
 pub overflow_cast-result : goal.overflow_cast-result

@@ -1,9 +1,9 @@
 use Rattle.std.proofs.Common.{ℕ, sym, subst}
+use Rattle.events.specs.Event.{train_moved}
+use Rattle.events.specs.declared.event.Event.{Event}
 use Rattle.history.proofs.Stables.{train_count_fits, train_count_kept}
 use Rattle.history.specs.Books.{AreBooksOf, IsNet, net_at}
-use Rattle.history.specs.Event.{train_moved}
 use Rattle.history.specs.Trains.{one_if, train_comes, train_goes}
-use Rattle.history.specs.declared.event.Event.{Event}
 use Rattle.history.proofs.look_back.Past.trains_at.Goals as goal
 
 pub overflow_cast-result : goal.overflow_cast-result

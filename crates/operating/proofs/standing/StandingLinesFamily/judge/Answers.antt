@@ -1,5 +1,5 @@
 use Rattle.std.proofs.Common.{◌≡◌, option_map, rules, sym, ap, ◌∙◌}
-use Rattle.history.specs.declared.ruling.Refusal.TheVariants.{Train}
+use Rattle.events.specs.declared.ruling.Refusal.TheVariants.{Train}
 use Rattle.operating.specs.Discards.{discard_judgement}
 use Rattle.operating.specs.Standing.{standing_judgement}
 use Rattle.operating.proofs.standing.StandingLinesFamily.judge.Goals as goal

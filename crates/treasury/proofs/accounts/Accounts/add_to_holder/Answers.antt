@@ -1,7 +1,7 @@
 use Rattle.std.proofs.Common.{◌≡◌, ◌+ℤ◌, ◌<◌, ℕ, ℤ, get_or, length, pos, set, sym, subst, arith, rules}
 use Rattle.std.proofs.lemmas.Int.{ints}
-use Rattle.history.specs.declared.event.Holder.{Holder}
-use Rattle.history.specs.declared.event.Party.TheVariants as party
+use Rattle.events.specs.declared.event.Holder.{Holder}
+use Rattle.events.specs.declared.event.Party.TheVariants as party
 use Rattle.treasury.proofs.Parties.{company_changed}
 use Rattle.treasury.specs.Accounts.{cash_in, part_of}
 use Rattle.treasury.proofs.accounts.Accounts.add_to_holder.Goals as goal

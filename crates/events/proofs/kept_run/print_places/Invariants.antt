@@ -1,7 +1,7 @@
 use Rattle.std.proofs.Common.{◌≡◌, ◌++◌, map, take}
 use Rattle.map_tables.specs.Text.{text_of_place}
 use Rattle.order_grammar.specs.Print.{spaced}
-use Rattle.history.proofs.kept_run.print_places.Given as goal
+use Rattle.events.proofs.kept_run.print_places.Given as goal
 
 -- the places so far, each after a space
 abbrev pub invariant-loop-place : goal.invariant-loop-place

@@ -1,9 +1,9 @@
 -- A ruling as it is told: what became of the line, and the spelling of its order.
 use Rattle.std.specs.Prelude.{ℕ, List, []}
-use Rattle.history.specs.declared.ruling.Ruling.{Ruling}
-use Rattle.history.specs.declared.ruling.Ruling.TheVariants.{Obeyed, Refused, Faulty}
-use Rattle.history.specs.declared.ruling.Verdict.{Verdict}
-use Rattle.history.specs.declared.ruling.Verdict.TheVariants as verdict
+use Rattle.events.specs.declared.ruling.Ruling.{Ruling}
+use Rattle.events.specs.declared.ruling.Ruling.TheVariants.{Obeyed, Refused, Faulty}
+use Rattle.events.specs.declared.ruling.Verdict.{Verdict}
+use Rattle.events.specs.declared.ruling.Verdict.TheVariants as verdict
 use Rattle.order_grammar.specs.Print.{conditional_spelling}
 
 -- what became of the line

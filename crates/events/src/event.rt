@@ -1,7 +1,6 @@
 ghost use Rattle.std.specs.Prelude.{◌≡◌};
-ghost use Rattle.history.specs.Event.{bidding_of, floated_by, office_of, operated_by, ownership_of, par_set, party_at, party_of_company, party_of_seller, payment_of, phase_set, place_of_seller, place_of_source, round_of, ruled_by, square_set, stable_of, sum_of, sv_price_set, tile_laid, token_placed, train_moved, transfer_of};
-ghost use Rattle.history.specs.LookBack.{actor_of};
-ghost use Rattle.history.specs.declared.event.Party.TheVariants.{Bank};
+ghost use Rattle.events.specs.Event.{actor_of, bidding_of, floated_by, office_of, operated_by, ownership_of, par_set, party_at, party_of_company, party_of_seller, payment_of, phase_set, place_of_seller, place_of_source, round_of, ruled_by, square_set, stable_of, sum_of, sv_price_set, tile_laid, token_placed, train_moved, transfer_of};
+ghost use Rattle.events.specs.declared.event.Party.TheVariants.{Bank};
 ghost use Rattle.tables.specs.Seat.{seat_at};
 
 use crate::kept::KeptRuling;

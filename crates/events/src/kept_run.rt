@@ -1,7 +1,7 @@
 //! A run as a ruling keeps it, in two bytes a place: one of few places by itself, any other in a
 //! block of exactly its size.
 ghost use Rattle.std.specs.Prelude.{◌≡◌, ◌++◌, ◌<◌, ◌≤◌, IfOk, MatchOption, OnOk, length};
-ghost use Rattle.history.specs.KeptRun.{places_in};
+ghost use Rattle.events.specs.KeptRun.{places_in};
 ghost use Rattle.order_grammar.specs.Print.{places_text};
 
 use crate::kept_place::KeptPlace;

@@ -1,7 +1,7 @@
 -- A run of few places as a ruling keeps it.
 use Rattle.std.specs.Prelude.{List}
-use Rattle.history.specs.declared.kept_run.ShortRun.{ShortRun}
-use Rattle.history.specs.declared.kept_run.ShortRun.TheVariants as run
+use Rattle.events.specs.declared.kept_run.ShortRun.{ShortRun}
+use Rattle.events.specs.declared.kept_run.ShortRun.TheVariants as run
 use Rattle.map_tables.specs.declared.place.Place.{Place}
 
 -- the places of a run that is kept without a box

@@ -2,12 +2,12 @@
 //! box with it.
 ghost use Rattle.std.specs.Prelude.{◌≡◌, ◌++◌, None, Some, MatchResult, OnOk};
 ghost use Rattle.std.specs.Option.{option_copied};
-ghost use Rattle.history.specs.Event.{acts, order_obeyed};
-ghost use Rattle.history.specs.Kept.{IsShortOf, TakesBox, order_in, ruling_by, verdict_in};
-ghost use Rattle.history.specs.Offers.{offer_obeyed, offer_said, same_offer, same_terms};
-ghost use Rattle.history.specs.Orders.{limit_obeyed, limit_said, par_of_baltimore_in, par_of_baltimore_obeyed};
-ghost use Rattle.history.specs.Told.{order_text, verdict_of};
-ghost use Rattle.history.specs.declared.ruling.Ruling.TheVariants.{Faulty, Obeyed, Refused};
+ghost use Rattle.events.specs.Event.{acts, order_obeyed};
+ghost use Rattle.events.specs.Kept.{IsShortOf, TakesBox, order_in, ruling_by, verdict_in};
+ghost use Rattle.events.specs.Offers.{offer_obeyed, offer_said, same_offer, same_terms};
+ghost use Rattle.events.specs.Orders.{limit_obeyed, limit_said, par_of_baltimore_in, par_of_baltimore_obeyed};
+ghost use Rattle.events.specs.Told.{order_text, verdict_of};
+ghost use Rattle.events.specs.declared.ruling.Ruling.TheVariants.{Faulty, Obeyed, Refused};
 ghost use Rattle.order_grammar.specs.Condition.{ordered};
 ghost use Rattle.order_grammar.specs.Print.{spelling_of};
 ghost use Rattle.order_grammar.specs.declared.order.Order.TheVariants as order;
@@ -56,7 +56,7 @@ enum OrderKept {
 }
 
 impl Model for KeptOrder {
-    ghost use Rattle.history.specs.Kept.{ordered_in};
+    ghost use Rattle.events.specs.Kept.{ordered_in};
     ghost use Rattle.order_grammar.specs.Condition.{Ordered};
 
     ghost Value = { Ordered };
@@ -204,8 +204,8 @@ enum RulingKept {
 const _: () = prove!(size_of::<KeptRuling>() <= 16);
 
 impl Model for KeptRuling {
-    ghost use Rattle.history.specs.Kept.{ruling_in};
-    ghost use Rattle.history.specs.declared.ruling.Ruling.{Ruling};
+    ghost use Rattle.events.specs.Kept.{ruling_in};
+    ghost use Rattle.events.specs.declared.ruling.Ruling.{Ruling};
 
     ghost Value = { Ruling };
 
@@ -341,7 +341,7 @@ impl KeptRuling {
 
     /// The private in whose auction the order that it obeys says how far to go, and how far, if it
     /// does.
-    pub(crate) fn limit(&self) -> Option<(Private, Amount)>
+    pub fn limit(&self) -> Option<(Private, Amount)>
         ensures { (private : Private) →
             limit_said private result ≡ limit_obeyed private self.now }
     {
@@ -352,14 +352,14 @@ impl KeptRuling {
     }
 
     /// How far the order that it obeys says to go in an auction of a private, if it does.
-    pub(crate) fn limit_on(&self, private: Private) -> Option<Amount>
+    pub fn limit_on(&self, private: Private) -> Option<Amount>
         ensures { result ≡ limit_obeyed private self.now }
     {
         limit_said(private, self.limit())
     }
 
     /// The sale that the order that it obeys offers, if it does.
-    pub(crate) fn offer(&self) -> Option<Offer>
+    pub fn offer(&self) -> Option<Offer>
         ensures { (sale : Offer) → offer_said sale result ≡ offer_obeyed sale self.now }
     {
         match self.short_obeyed() {
@@ -369,7 +369,7 @@ impl KeptRuling {
     }
 
     /// A sale, if the order that it obeys offers it.
-    pub(crate) fn offer_of(&self, sale: Offer) -> Option<Offer>
+    pub fn offer_of(&self, sale: Offer) -> Option<Offer>
         ensures { result ≡ offer_obeyed sale self.now }
     {
         match self.offer() {
@@ -379,7 +379,7 @@ impl KeptRuling {
     }
 
     /// The par value that the order that it obeys says BO is to have, if it does.
-    pub(crate) fn par_of_baltimore(&self) -> Option<Amount>
+    pub fn par_of_baltimore(&self) -> Option<Amount>
         ensures { result ≡ par_of_baltimore_obeyed self.now }
     {
         match self.short_obeyed() {
@@ -400,7 +400,7 @@ fn limit_said(private: Private, said: Option<(Private, Amount)>) -> Option<Amoun
 }
 
 /// Whether two sales that are offered are the same.
-pub(crate) fn is_offer(one: Offer, sale: Offer) -> bool
+pub fn is_offer(one: Offer, sale: Offer) -> bool
     ensures { result ≡ same_offer one sale }
 {
     match one {

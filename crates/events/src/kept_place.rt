@@ -20,7 +20,7 @@ pub(crate) enum KeptStop {
 }
 
 impl Model for KeptPlace {
-    ghost use Rattle.history.specs.KeptPlace.{place_in, kept_stop};
+    ghost use Rattle.events.specs.KeptPlace.{place_in, kept_stop};
     ghost use Rattle.map_tables.specs.declared.place.Place.{Place};
 
     ghost Value = { Place };

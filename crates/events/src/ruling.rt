@@ -1,5 +1,5 @@
 ghost use Rattle.std.specs.Prelude.{◌≡◌};
-ghost use Rattle.history.specs.Event.{code_of_opening_rule, code_of_pay_rule, code_of_private_rule, code_of_refusal, code_of_stock_rule, code_of_train_rule};
+ghost use Rattle.events.specs.Event.{code_of_opening_rule, code_of_pay_rule, code_of_private_rule, code_of_refusal, code_of_stock_rule, code_of_train_rule};
 
 use map_tables::{LayRule, RunRule, TokenRule};
 use order_grammar::{Condition, Fault, Order};

@@ -1,7 +1,7 @@
 -- A place of a run as a ruling keeps it, in two bytes.
 use Rattle.std.specs.Prelude.{Option, Some, None}
-use Rattle.history.specs.declared.kept_place.KeptStop.{KeptStop}
-use Rattle.history.specs.declared.kept_place.KeptStop.TheVariants as stop
+use Rattle.events.specs.declared.kept_place.KeptStop.{KeptStop}
+use Rattle.events.specs.declared.kept_place.KeptStop.TheVariants as stop
 use Rattle.map_tables.specs.declared.hex.Hex.{Hex}
 use Rattle.map_tables.specs.declared.place.Place.{Place}
 use Rattle.map_tables.specs.declared.place.StopNumber.{StopNumber}

@@ -1,5 +1,5 @@
 use Rattle.std.proofs.Common.{◌≡◌, ◌≤◌, length, take}
-use Rattle.history.proofs.kept_run.run_of.Given as goal
+use Rattle.events.proofs.kept_run.run_of.Given as goal
 
 -- the places so far
 abbrev pub invariant-loop-place : goal.invariant-loop-place

@@ -1,18 +1,18 @@
 -- Orders and rulings as events keep them, in few bytes; an order under a condition stands behind a box.
 use Rattle.std.specs.Prelude.{◌≡◌, ◌<◌, false, length, Option, Some, None, ⊤}
-use Rattle.history.specs.KeptRun.{places_in}
-use Rattle.history.specs.declared.kept.OrderKept.{OrderKept}
-use Rattle.history.specs.declared.kept.OrderKept.TheVariants as kept
-use Rattle.history.specs.declared.kept.OrderVerdict.{OrderVerdict}
-use Rattle.history.specs.declared.kept.OrderVerdict.TheVariants as by
-use Rattle.history.specs.declared.kept.OrderedKept.{OrderedKept}
-use Rattle.history.specs.declared.kept.OrderedKept.TheVariants as ordered_kept
-use Rattle.history.specs.declared.kept.RulingKept.{RulingKept}
-use Rattle.history.specs.declared.kept.RulingKept.TheVariants as ruled
-use Rattle.history.specs.declared.ruling.Ruling.{Ruling}
-use Rattle.history.specs.declared.ruling.Ruling.TheVariants.{Obeyed, Refused, Faulty}
-use Rattle.history.specs.declared.ruling.Verdict.{Verdict}
-use Rattle.history.specs.declared.ruling.Verdict.TheVariants as verdict
+use Rattle.events.specs.KeptRun.{places_in}
+use Rattle.events.specs.declared.kept.OrderKept.{OrderKept}
+use Rattle.events.specs.declared.kept.OrderKept.TheVariants as kept
+use Rattle.events.specs.declared.kept.OrderVerdict.{OrderVerdict}
+use Rattle.events.specs.declared.kept.OrderVerdict.TheVariants as by
+use Rattle.events.specs.declared.kept.OrderedKept.{OrderedKept}
+use Rattle.events.specs.declared.kept.OrderedKept.TheVariants as ordered_kept
+use Rattle.events.specs.declared.kept.RulingKept.{RulingKept}
+use Rattle.events.specs.declared.kept.RulingKept.TheVariants as ruled
+use Rattle.events.specs.declared.ruling.Ruling.{Ruling}
+use Rattle.events.specs.declared.ruling.Ruling.TheVariants.{Obeyed, Refused, Faulty}
+use Rattle.events.specs.declared.ruling.Verdict.{Verdict}
+use Rattle.events.specs.declared.ruling.Verdict.TheVariants as verdict
 use Rattle.order_grammar.specs.Condition.{Ordered, ordered}
 use Rattle.order_grammar.specs.Short.{has_short_form, order_in_short}
 use Rattle.order_grammar.specs.declared.condition.Condition.{Condition}

@@ -4,45 +4,45 @@
 -- the train that it moves, the phase that it sets, the company that has operated by it, the round that it
 -- begins, the seat of a line that was ruled, the order that was obeyed, and whether it tells that the bank is
 -- broken or that a president is bankrupt. Every fact about a game looks back over one of them.
-use Rattle.std.specs.Prelude.{◌≡◌, ℕ, Bool, true, false, List, codes, Option, Some, None}
+use Rattle.std.specs.Prelude.{◌≡◌, ℕ, Bool, true, false, List, codes, Option, Some, None, if◌then◌else◌, is_some}
 use Rattle.order_grammar.specs.declared.order.Order.{Order}
 use Rattle.order_grammar.specs.declared.order.Order.TheVariants as order
 use Rattle.order_grammar.specs.declared.order.ShareSource.{ShareSource}
 use Rattle.order_grammar.specs.declared.order.ShareSource.TheVariants as source
-use Rattle.history.specs.declared.event.Bidding.{Bidding}
-use Rattle.history.specs.declared.event.Bidding.TheVariants.{Made, Ended}
-use Rattle.history.specs.declared.event.Event.{Event}
-use Rattle.history.specs.declared.event.Event.TheVariants.{Round, Ruled, Bids, Sold, Price, Revenue, Given, Par, President, Bought, Sells, Exchanged, Floats, Moves, Home, Laid, Token, Withheld, Runs, Dividend, Traded, Train, Phase, Rusted, Discarded, Closed, PrivateBought, Aid, Bankrupt, Broken}
-use Rattle.history.specs.declared.event.Holder.TheVariants as holder
-use Rattle.history.specs.declared.event.Office.{Office}
-use Rattle.history.specs.declared.event.Ownership.{Ownership}
-use Rattle.history.specs.declared.event.ParValue.{ParValue}
-use Rattle.history.specs.declared.event.Party.{Party}
-use Rattle.history.specs.declared.event.Party.TheVariants as party
-use Rattle.history.specs.declared.event.Payment.{Payment}
-use Rattle.history.specs.declared.event.Placement.{Placement}
-use Rattle.history.specs.declared.event.Shareholder.{Shareholder}
-use Rattle.history.specs.declared.event.Shareholder.TheVariants as place
-use Rattle.history.specs.declared.event.TrainMove.{TrainMove}
-use Rattle.history.specs.declared.event.TrainPlace.{TrainPlace}
-use Rattle.history.specs.declared.event.TrainPlace.TheVariants as train_place
-use Rattle.history.specs.declared.event.TrainSeller.{TrainSeller}
-use Rattle.history.specs.declared.event.TrainSeller.TheVariants as seller
-use Rattle.history.specs.declared.event.Transfer.{Transfer}
-use Rattle.history.specs.declared.ruling.OpeningRule.{OpeningRule}
-use Rattle.history.specs.declared.ruling.OpeningRule.TheVariants as opening
-use Rattle.history.specs.declared.ruling.PayRule.{PayRule}
-use Rattle.history.specs.declared.ruling.PayRule.TheVariants as pay_rule
-use Rattle.history.specs.declared.ruling.PrivateRule.{PrivateRule}
-use Rattle.history.specs.declared.ruling.PrivateRule.TheVariants as private_rule
-use Rattle.history.specs.declared.ruling.Refusal.{Refusal}
-use Rattle.history.specs.declared.ruling.Refusal.TheVariants as refusal
-use Rattle.history.specs.declared.ruling.Ruling.{Ruling}
-use Rattle.history.specs.declared.ruling.Ruling.TheVariants.{Obeyed}
-use Rattle.history.specs.declared.ruling.StockRule.{StockRule}
-use Rattle.history.specs.declared.ruling.StockRule.TheVariants as stock
-use Rattle.history.specs.declared.ruling.TrainRule.{TrainRule}
-use Rattle.history.specs.declared.ruling.TrainRule.TheVariants as train_rule
+use Rattle.events.specs.declared.event.Bidding.{Bidding}
+use Rattle.events.specs.declared.event.Bidding.TheVariants.{Made, Ended}
+use Rattle.events.specs.declared.event.Event.{Event}
+use Rattle.events.specs.declared.event.Event.TheVariants.{Round, Ruled, Bids, Sold, Price, Revenue, Given, Par, President, Bought, Sells, Exchanged, Floats, Moves, Home, Laid, Token, Withheld, Runs, Dividend, Traded, Train, Phase, Rusted, Discarded, Closed, PrivateBought, Aid, Bankrupt, Broken}
+use Rattle.events.specs.declared.event.Holder.TheVariants as holder
+use Rattle.events.specs.declared.event.Office.{Office}
+use Rattle.events.specs.declared.event.Ownership.{Ownership}
+use Rattle.events.specs.declared.event.ParValue.{ParValue}
+use Rattle.events.specs.declared.event.Party.{Party}
+use Rattle.events.specs.declared.event.Party.TheVariants as party
+use Rattle.events.specs.declared.event.Payment.{Payment}
+use Rattle.events.specs.declared.event.Placement.{Placement}
+use Rattle.events.specs.declared.event.Shareholder.{Shareholder}
+use Rattle.events.specs.declared.event.Shareholder.TheVariants as place
+use Rattle.events.specs.declared.event.TrainMove.{TrainMove}
+use Rattle.events.specs.declared.event.TrainPlace.{TrainPlace}
+use Rattle.events.specs.declared.event.TrainPlace.TheVariants as train_place
+use Rattle.events.specs.declared.event.TrainSeller.{TrainSeller}
+use Rattle.events.specs.declared.event.TrainSeller.TheVariants as seller
+use Rattle.events.specs.declared.event.Transfer.{Transfer}
+use Rattle.events.specs.declared.ruling.OpeningRule.{OpeningRule}
+use Rattle.events.specs.declared.ruling.OpeningRule.TheVariants as opening
+use Rattle.events.specs.declared.ruling.PayRule.{PayRule}
+use Rattle.events.specs.declared.ruling.PayRule.TheVariants as pay_rule
+use Rattle.events.specs.declared.ruling.PrivateRule.{PrivateRule}
+use Rattle.events.specs.declared.ruling.PrivateRule.TheVariants as private_rule
+use Rattle.events.specs.declared.ruling.Refusal.{Refusal}
+use Rattle.events.specs.declared.ruling.Refusal.TheVariants as refusal
+use Rattle.events.specs.declared.ruling.Ruling.{Ruling}
+use Rattle.events.specs.declared.ruling.Ruling.TheVariants.{Obeyed}
+use Rattle.events.specs.declared.ruling.StockRule.{StockRule}
+use Rattle.events.specs.declared.ruling.StockRule.TheVariants as stock
+use Rattle.events.specs.declared.ruling.TrainRule.{TrainRule}
+use Rattle.events.specs.declared.ruling.TrainRule.TheVariants as train_rule
 use Rattle.map_tables.specs.RuleCodes.{code_of_lay_rule, code_of_run_rule, code_of_token_rule}
 use Rattle.map_tables.specs.declared.lay.Lay.{Lay}
 use Rattle.map_tables.specs.declared.place.Place.{Place}
@@ -159,6 +159,10 @@ transfer_of other = None
 abbrev pub par_set : Event → Option ParValue
 par_set (Par company price) = Some (record { company = company; price = price })
 par_set other = None
+
+-- a sum of money is one of the six par values
+abbrev pub is_par_value : ℕ → Bool
+is_par_value price = is_some (par_square_of price)
 
 -- a company on a square
 abbrev pub placed : Company → Option Square → Option Placement
@@ -280,6 +284,17 @@ is_act_obeyed (Some order) = is_act order
 -- a ruling obeys such an order
 abbrev pub acts : Ruling → Bool
 acts ruling = is_act_obeyed (order_obeyed ruling)
+
+-- the seat that acted in its own turn by an obeyed order
+abbrev pub actor_by : Option Obeyance → Option Seat
+actor_by None = None
+actor_by (Some obeyed) = if is_act obeyed.order then Some obeyed.seat else None
+
+-- the seat that acted in its own turn by this event: it bought a private or bid on one, or bought or sold
+-- tenths of a company
+abbrev pub actor_of : Event → Option Seat
+actor_of (Bought company seat tenths from price) = Some seat
+actor_of other = actor_by (obeyed_of other)
 
 -- an event says nothing of what parties have and own, of SV's price, or of what lies on the map
 pub record IsQuiet (event : Event) : Type 0 where
