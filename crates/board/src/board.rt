@@ -131,7 +131,7 @@ impl Board {
         ensures err { OnErr result (self.new ≡ self.old) }
     {
         self.tokens.push((place, company))?;
-        // No index counts more tokens than lie.
+        // For the proof alone: there are no more tokens than a length can say, so no count of the index overflows.
         let _lie = self.tokens.len();
         self.index.add_token(place, company);
         Ok(())

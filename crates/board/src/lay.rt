@@ -19,8 +19,8 @@ use crate::lying::Lying;
 use crate::powers::is_dh_lay;
 use crate::shown::same_hex;
 use map_tables::{
-    Colour, End, Hex, Lay, LayRule, Link, Stop, TileNo, hex_kind, hexes_stand_once, laid_links,
-    printed_colour, private_hexes, terrain_cost, tile,
+    Colour, End, Hex, Lay, LayRule, Link, Stop, TileNo, hex_kind, laid_links, printed_colour,
+    private_hexes, terrain_cost, tile,
 };
 use reach::{Reach, reached};
 use std::alloc::{AllocError, Global};
@@ -154,7 +154,7 @@ impl Board {
     fn lying_of(&self, number: TileNo) -> usize
         ensures { result ≡ lying_of self.now.lays number }
     {
-        hexes_stand_once();
+        map_tables::laws::hexes_stand_once();
         self.count_of(number, &Hex::ALL)
     }
 

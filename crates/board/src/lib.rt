@@ -30,7 +30,7 @@ mod fault;
 mod fit;
 mod index;
 mod kept;
-mod laws;
+pub mod laws;
 mod lay;
 mod lying;
 mod network;
@@ -42,9 +42,5 @@ mod token;
 pub use asker::{Asker, TurnStep};
 pub use board::Board;
 pub use fault::{BoardFault, LayFault, TokenFault};
-pub use laws::{
-    faultless_are_fit, fits_without_homes, home_keeps_fit, lay_keeps_fit, lay_keeps_stock,
-    token_keeps_fit, worked_examples,
-};
 pub use plain::PlainBoard;
 pub use powers::is_dh_lay;

@@ -5,10 +5,7 @@ use crate::after::After;
 use crate::board::Board;
 use crate::lying::{full_shown, links_shown, red_shown, token_shown, value_shown};
 use crate::plain::PlainBoard;
-use map_tables::{
-    Hex, Links, Stop, laid_links_are_in_order, neighbours_pair, printed_links_are_in_order,
-    values_are_at_most_80,
-};
+use map_tables::{Hex, Links, Stop};
 use reach::Network;
 use tables::{Amount, Company};
 
@@ -16,10 +13,10 @@ use tables::{Amount, Company};
 fn grounds_are_lawful()
     ensures { GroundsAreLawful }
 {
-    neighbours_pair();
-    printed_links_are_in_order();
-    laid_links_are_in_order();
-    values_are_at_most_80();
+    map_tables::laws::neighbours_pair();
+    map_tables::laws::printed_links_are_in_order();
+    map_tables::laws::laid_links_are_in_order();
+    map_tables::laws::values_are_at_most_80();
 }
 
 impl Network for Board {

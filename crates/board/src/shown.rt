@@ -12,6 +12,8 @@ use map_tables::{
 };
 use tables::{Amount, Company, Kind};
 
+// These three compare by number where `==` would do: the prover knows numbers, and of a derived `==` only its law.
+
 /// Whether two hexes are one.
 pub(crate) fn same_hex(a: Hex, b: Hex) -> bool
     ensures { result ≡ same_hex a b }

@@ -8,7 +8,6 @@ ghost use Rattle.certificate.specs.Set.{IsGreatest};
 use crate::bits::Bits;
 use crate::claim::Claim;
 use crate::in_turn::claim_holds;
-use crate::laws::{marks_are_read, written_marks_hold};
 use crate::reader::{Marks, Reader, SliceMarks};
 use crate::tree::Tree;
 use crate::tree_walk::choose;
@@ -73,7 +72,7 @@ pub(crate) fn marks_hold<N: Network, M: Marks + Drop>(
         IsTrue result ↔ AreMarks position company trains.now revenue (M.left marks) }
 {
     network.keeps_laws();
-    marks_are_read();
+    crate::laws::marks_are_read();
     let tree = Tree::of(network, company, trains);
     let mut reader = Reader { marks, revenue };
     let mut used = Used::new();
@@ -117,7 +116,7 @@ pub fn write_marks<N: Network>(
         → AreMarksFilled position company trains.now revenue bits) }
 {
     network.keeps_laws();
-    written_marks_hold();
+    crate::laws::written_marks_hold();
     let tree = Tree::of(network, company, trains);
     let mut writer = Writer {
         bits: Bits::new(alloc),

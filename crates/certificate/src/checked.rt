@@ -4,7 +4,6 @@ ghost use Rattle.certificate.specs.Checked.{AnswersByNext, Shows};
 
 use crate::accept::accepts_bits;
 use crate::group::Group;
-use crate::laws::accepted_is_greatest;
 use crate::runner::{Runner, RunnerFault};
 use reach::Network;
 use std::marker::Model;
@@ -58,7 +57,7 @@ impl Runner for Checked {
     ) -> Result<Money, RunnerFault> {
         network.keeps_laws();
         // A law, which does nothing when it runs: what is accepted is the greatest revenue.
-        accepted_is_greatest();
+        crate::laws::accepted_is_greatest();
         let Some(Some(group)) = self.groups.next() else {
             return Err(RunnerFault::Refused);
         };

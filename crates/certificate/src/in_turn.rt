@@ -66,7 +66,7 @@ fn has_enough(trains: &[Kind], claimed: &[ClaimedRun], kind: Kind) -> bool
     runs.count() <= of_kind.count()
 }
 
-/// Whether two kinds are one.
+/// Whether two kinds are one. (By their numbers, which the prover knows at once.)
 fn same_kind(kind: Kind, other: Kind) -> bool
     ensures { result ≡ same_kind kind other }
 {

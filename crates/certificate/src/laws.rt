@@ -37,8 +37,6 @@ ghost use Rattle.certificate.specs.TreeLaws.{
   NoLeafEarnsMore,
 };
 
-use map_tables::neighbours_pair;
-
 /// What some places name is a legal run exactly where they break no rule: the walk that they name
 /// is then one from a stop to a stop that keeps all that a legal run must keep.
 pub fn legal_where_no_rule_is_broken()
@@ -50,7 +48,7 @@ pub fn legal_where_no_rule_is_broken()
 pub fn borders_are_told_apart()
     ensures { BordersAreToldApart }
 {
-    neighbours_pair();
+    map_tables::laws::neighbours_pair();
 }
 
 /// After a run those borders are used that were used before it, and those that it crosses: its

@@ -4,7 +4,7 @@ ghost use Rattle.map_tables.specs.Border.{neighbour_of};
 ghost use Rattle.map_tables.specs.Track.{end_order};
 ghost use Rattle.certificate.specs.Named.{is_hex, leg_to, same_link, side_towards, step_between, step_over};
 
-use map_tables::{End, Hex, Link, Place, Side, neighbour, sides_and_rotations_are_all};
+use map_tables::{End, Hex, Link, Place, Side, neighbour};
 use reach::{Network, Spot, Step};
 
 /// What leads from where a train stands to its next place: a step to the border between their
@@ -53,7 +53,7 @@ pub(crate) fn leg_to<N: Network>(network: &N, at: Spot, place: Place) -> Option<
 fn side_towards(hex: Hex, other: Hex) -> Option<Side>
     ensures { result ≡ side_towards hex other }
 {
-    sides_and_rotations_are_all();
+    map_tables::laws::sides_and_rotations_are_all();
     first_towards(&Side::ALL, hex, other)
 }
 
@@ -98,7 +98,7 @@ fn has_link(links: &[Link], link: Link) -> bool
     links.iter().any(|other| same_link(*other, link))
 }
 
-/// Whether two links are one.
+/// Whether two links are one. (By their numbers, which the prover knows at once.)
 fn same_link(link: Link, other: Link) -> bool
     ensures { result ≡ same_link link other }
 {

@@ -42,7 +42,7 @@ mod decider;
 mod group;
 mod hex;
 mod in_turn;
-mod laws;
+pub mod laws;
 mod leg;
 mod ranking;
 mod reader;
@@ -64,15 +64,6 @@ pub use claim::{Claim, ClaimedRun, ClaimedRuns};
 pub use group::Group;
 pub use hex::{HexFault, print_hex, read_hex};
 pub use in_turn::claim_holds;
-pub use laws::{
-    a_greatest_exists, accepted_is_greatest, borders_are_told_apart, bounds_fall,
-    claim_holds_in_turn, claims_have_places, crossed_borders_are_used, digits_and_bits,
-    each_legal_run_is_named, greater_trains_earn_no_less, leaves_are_legal_sets,
-    leaves_earn_their_bounds, legal_by_marks, legal_sets_are_leaves, legal_where_no_rule_is_broken,
-    marks_are_read, marks_hold_where_read, more_trains_earn_no_less, no_leaf_earns_more,
-    one_greatest, order_of_trains_changes_nothing, runs_earn_by_borders, runs_share_no_border,
-    worked_marks, worked_tree, written_marks_hold,
-};
 pub use ranking::Ranking;
 pub use runner::{Runner, RunnerFault};
 pub use two_train::can_run;

@@ -15,7 +15,7 @@
 mod counted;
 mod deal;
 mod holdings;
-mod laws;
+pub mod laws;
 mod notes;
 mod president;
 mod purchase;
@@ -25,7 +25,6 @@ mod sell;
 
 pub use deal::{Purchase, Sale};
 pub use holdings::Holdings;
-pub use laws::{counted_by_the_game, first_with_most_presides, presides_by_the_game};
 pub use president::successor;
 pub use purchase::{is_over_six, market_price, may_buy, tenth_price};
 pub use sale::may_sell;

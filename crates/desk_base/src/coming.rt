@@ -3,8 +3,7 @@ ghost use Rattle.std.specs.Prelude.{◌≡◌, false};
 ghost use Rattle.desk_base.specs.Coming.{NeverComes, can_come, may_come, may_follow, set_of};
 
 use crate::set_number::number_after;
-use rounds::{End, Game, rounds_only_add};
-use sheets::{sheets_are_numbered, three_to_six_play};
+use rounds::{End, Game};
 use tables::{OPERATING_MOST, Round};
 
 /// Whether a round that was not played can still come in a game. One that cannot never comes, whatever
@@ -14,9 +13,9 @@ pub fn can_come(game: &Game, round: Round) -> bool
     ensures never { result ≡ false → NeverComes game.now round }
 {
     // Laws, which do nothing when they run.
-    rounds_only_add();
-    sheets_are_numbered();
-    three_to_six_play();
+    rounds::laws::rounds_only_add();
+    sheets::laws::sheets_are_numbered();
+    sheets::laws::three_to_six_play();
     may_be_ahead(game, round)
 }
 

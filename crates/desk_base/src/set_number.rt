@@ -4,7 +4,7 @@ ghost use Rattle.desk_base.specs.SetNumber.{IsNumberPlayed, at_round, in_phase, 
 ghost use Rattle.rounds.specs.Play.{IsTheGame};
 
 use history::{Event, History};
-use rounds::{End, Game, rounds_only_add};
+use rounds::{End, Game};
 use tables::{Kind, Round, rounds_in_set};
 
 /// The phase, and how many operating rounds the set has that began last. A game begins as if a set had
@@ -55,7 +55,7 @@ pub fn number_in_set(game: &Game) -> u8
     ensures { IsNumberPlayed game.now result }
 {
     // A law, which does nothing when it runs: a round adds its own event, and none that begins another.
-    rounds_only_add();
+    rounds::laws::rounds_only_add();
     number_after(game.history(), game.outcome())
 }
 

@@ -6,7 +6,7 @@ ghost use Rattle.history.specs.Bids.{free_cash_of};
 ghost use Rattle.history.specs.LookBack.{cash_of};
 ghost use Rattle.report.specs.Worth.{worth_of};
 
-use certs::{Holdings, counted_by_the_game};
+use certs::Holdings;
 use history::{History, Party, Tenths};
 use report::player_worth;
 use tables::{Money, Seat};
@@ -53,6 +53,6 @@ fn certificates(history: &History, seat: Seat) -> Tenths
     ensures { result ≡ counted_of history.now.events seat }
 {
     // A law, which does nothing when it runs: the tables count what the events say.
-    counted_by_the_game();
+    certs::laws::counted_by_the_game();
     Holdings::of(history).counted(seat)
 }

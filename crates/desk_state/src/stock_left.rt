@@ -8,7 +8,7 @@ ghost use Rattle.map_tables.specs.Lying.{has_token, names, same_stop, tile_on};
 ghost use Rattle.std.specs.List.{count_by};
 
 use history::{History, Past};
-use map_tables::{Hex, Lay, Place, Stop, TileNo, hexes_stand_once, joined_stop, tile};
+use map_tables::{Hex, Lay, Place, Stop, TileNo, joined_stop, tile};
 use tables::{Company, Kind, tokens, train};
 
 /// How many tokens a company has not placed.
@@ -39,7 +39,7 @@ fn lying_of(lays: &[Lay], number: TileNo) -> usize
     ensures { result ≡ lying_of lays.now number }
 {
     // A law, which does nothing when it runs: these are all hexes.
-    hexes_stand_once();
+    map_tables::laws::hexes_stand_once();
     count_of(lays, number, &Hex::ALL)
 }
 

@@ -23,7 +23,7 @@ mod bids;
 mod books;
 mod conditions;
 mod kept_books;
-mod laws;
+pub mod laws;
 mod list;
 mod look_back;
 mod nets;
@@ -42,15 +42,6 @@ pub use events::{
     Bid, Bidding, Event, Holder, KeptOrder, KeptRuling, Office, OpeningRule, Ownership, ParValue,
     Party, PayRule, Payment, Placement, PrivateRule, Refusal, Ruling, SUM_MOST, Shareholder,
     StockRule, TrainMove, TrainPlace, TrainRule, TrainSeller, Transfer, Verdict,
-};
-pub use laws::{
-    all_money_stays, all_trains_stay, arrivals_differ, bid_keeps_sound, block_keeps_sound,
-    cash_moves, dividend_keeps_sound, exchange_keeps_sound, first_is_cheapest, float_keeps_sound,
-    forcing_keeps_sound, gift_keeps_sound, ground_grows, last_word_is_last, lay_keeps_sound,
-    money_of_sound_lists, move_keeps_sound, phase_keeps_sound, price_keeps_sound,
-    private_keeps_sound, purchase_keeps_sound, quiet_keeps_sound, quiet_says_the_same,
-    revenue_keeps_sound, rulings_are_counted, sale_keeps_sound, start_keeps_sound,
-    succession_keeps_sound, token_keeps_sound, train_purchase_keeps_sound, withholding_keeps_sound,
 };
 pub use list::History;
 pub use look_back::Past;

@@ -5,7 +5,7 @@ ghost use Rattle.map_tables.specs.declared.place.StopNumber.TheVariants.{First};
 ghost use Rattle.reach.specs.Position.{at_stop};
 
 use arrayvec::ArrayVec;
-use map_tables::{End, Hex, Link, Links, Side, Stop, StopNumber, joined_stop, neighbours_pair};
+use map_tables::{End, Hex, Link, Links, Side, Stop, StopNumber, joined_stop};
 use reach::Network;
 use tables::{Amount, Company};
 
@@ -154,6 +154,6 @@ impl Network for FourStops {
     }
 
     fn keeps_laws(&self) {
-        neighbours_pair();
+        map_tables::laws::neighbours_pair();
     }
 }

@@ -14,7 +14,7 @@
 mod border;
 mod hex;
 mod homes;
-mod laws;
+pub mod laws;
 mod lay;
 mod place;
 mod print;
@@ -29,12 +29,6 @@ mod track;
 pub use border::neighbour;
 pub use hex::{HEXES, Hex};
 pub use homes::{home, private_hexes};
-pub use laws::{
-    hexes_are_told_apart, hexes_stand_once, homes_take_tokens, laid_links_are_in_order,
-    neighbours_pair, nothing_fits, printed_links_are_in_order, prints_stand_once,
-    red_areas_are_joined, sides_and_rotations_are_all, six_turns_are_none, texts_are_read,
-    tiles_stand_once, turns_add_up, values_are_at_most_80,
-};
 pub use lay::{Lay, laid_links};
 pub use place::{Place, Stop, StopNumber, joined_stop};
 pub use print::{

@@ -8,12 +8,11 @@
 //! token on the chart stays on it; the order is one).
 #![tactic(auto)]
 
-mod laws;
+pub mod laws;
 mod moves;
 mod order;
 mod token;
 
-pub use laws::{first_there_operates_first, floated_companies_in_order, moves_stay_on_chart};
 pub use moves::{down, fall, left, right, up};
 pub use order::operating_order;
 pub use token::{move_token_down, move_token_left, move_token_right, move_token_up};

@@ -19,7 +19,7 @@ use crate::forced::has_trains;
 use crate::ground::catch_up;
 use crate::progress::Progress;
 use crate::running::tell_runs;
-use certificate::{Runner, RunnerFault, a_greatest_exists, one_greatest};
+use certificate::{Runner, RunnerFault};
 use history::{History, Past, Refusal, RunRule, TrainCount, so_many};
 use order_grammar::Order;
 use reach::Network;
@@ -112,8 +112,8 @@ impl CompanyTurn {
         ensures refuses { IfErr result (λ fault. fault ≡ runner_refuses → R.may_refuse ≡ true) }
     {
         // Laws, which do nothing when they run: by them the greatest revenue is small.
-        a_greatest_exists();
-        one_greatest();
+        certificate::laws::a_greatest_exists();
+        certificate::laws::one_greatest();
         let board = &mut *self.board;
         catch_up(board, &self.history)?;
         board.keeps_laws();

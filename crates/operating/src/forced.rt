@@ -19,7 +19,7 @@ use board::Board;
 use certificate::can_run;
 use certs::{Sale, may_sell, sell_block};
 use history::{Event, History, Party, Past, Refusal, StockRule, TrainSeller, so_many};
-use order_grammar::{Condition, Order, begins_with_word, read_in_version_where_spelt};
+use order_grammar::{Condition, Order, begins_with_word};
 use sheets::{PartsLeft, ReadLine, UnreadLine};
 use std::alloc::{AllocError, Global};
 use tables::{Amount, Company, Kind, Money};
@@ -125,7 +125,7 @@ fn rule_if_raise(
         (line_unread line.entry) (line_unread line.entry).reading) }
     ensures sound { OnOk result (IsSound history.new) }
 {
-    read_in_version_where_spelt();
+    order_grammar::laws::read_in_version_where_spelt();
     if !may_be_raise(line.text) {
         return Ok(());
     }
@@ -276,6 +276,8 @@ fn sell_tenths(history: &mut History, by: Operator) -> Result<(), AllocError>
     ensures after { OnOk result (history.new ≡ sold_singly by history.old) }
     ensures sound { OnOk result (IsSound history.new) }
 {
+    // A loop with an end of its own, so that no measure has to be proved: a turn of it changes nothing where no
+    // share can be sold.
     for _ in 0..SALES_MOST {
         sell_further(history, by)?;
     }

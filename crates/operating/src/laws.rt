@@ -4,9 +4,15 @@ ghost use Rattle.operating.specs.Laws.{CompanyOperates, CompanyTurnEnds, HomeTok
 ghost use Rattle.operating.specs.LegalRuns.{ObeyedRunsAreLegal};
 ghost use Rattle.operating.specs.TurnCalls.{OneListOfTurnCalls, RefusedTurnCallsAreAFront, SomeTurnCalls};
 
-use map_tables::{
-    laid_links_are_in_order, neighbours_pair, printed_links_are_in_order, values_are_at_most_80,
+pub use crate::best_laws::best_earns_no_less;
+pub use crate::consent_laws::sellers_agree;
+pub use crate::forced_laws::{
+    aid_is_what_lacks, bankruptcy_ends_turns, presidents_stay, turns_end_with_trains,
 };
+pub use crate::private_laws::closed_for_good;
+pub use crate::sale_laws::{sellers_agree_in_turns, turns_say_no_bid};
+pub use crate::tile_laws::all_tiles_are_there;
+pub use crate::train_laws::{all_trains_are_there, phases_go_on};
 
 /// After a company's turn it has operated, and else only those that had before.
 pub fn company_operates()
@@ -28,20 +34,20 @@ pub fn home_token_lies()
 pub fn one_company_turn()
     ensures { OneCompanyTurn }
 {
-    neighbours_pair();
-    printed_links_are_in_order();
-    laid_links_are_in_order();
-    values_are_at_most_80();
+    map_tables::laws::neighbours_pair();
+    map_tables::laws::printed_links_are_in_order();
+    map_tables::laws::laid_links_are_in_order();
+    map_tables::laws::values_are_at_most_80();
 }
 
 /// A company's turn has an outcome.
 pub fn company_turn_ends()
     ensures { CompanyTurnEnds }
 {
-    neighbours_pair();
-    printed_links_are_in_order();
-    laid_links_are_in_order();
-    values_are_at_most_80();
+    map_tables::laws::neighbours_pair();
+    map_tables::laws::printed_links_are_in_order();
+    map_tables::laws::laid_links_are_in_order();
+    map_tables::laws::values_are_at_most_80();
 }
 
 /// A company's turn makes one list of calls of its runner, and there is one for each turn. Where the
@@ -51,10 +57,10 @@ pub fn one_list_of_turn_calls()
     ensures some { SomeTurnCalls }
     ensures front { RefusedTurnCallsAreAFront }
 {
-    neighbours_pair();
-    printed_links_are_in_order();
-    laid_links_are_in_order();
-    values_are_at_most_80();
+    map_tables::laws::neighbours_pair();
+    map_tables::laws::printed_links_are_in_order();
+    map_tables::laws::laid_links_are_in_order();
+    map_tables::laws::values_are_at_most_80();
 }
 
 /// A run that is obeyed is legal where the borders are used that the runs obeyed before it in the

@@ -33,7 +33,7 @@ mod forced;
 mod forced_laws;
 mod ground;
 mod home;
-mod laws;
+pub mod laws;
 mod lay;
 mod offers;
 mod operator;
@@ -55,19 +55,6 @@ mod train_laws;
 mod turn;
 mod withholding;
 
-pub use best_laws::best_earns_no_less;
-pub use consent_laws::sellers_agree;
-pub use forced_laws::{
-    aid_is_what_lacks, bankruptcy_ends_turns, presidents_stay, turns_end_with_trains,
-};
-pub use laws::{
-    company_operates, company_turn_ends, home_token_lies, no_more_is_paid, obeyed_runs_are_legal,
-    one_company_turn, one_list_of_turn_calls, turn_only_adds,
-};
 pub use playing::{play_company, play_on};
-pub use private_laws::closed_for_good;
-pub use sale_laws::{sellers_agree_in_turns, turns_say_no_bid};
 pub use standing::rule_standing_lines;
 pub use table::Table;
-pub use tile_laws::all_tiles_are_there;
-pub use train_laws::{all_trains_are_there, phases_go_on};

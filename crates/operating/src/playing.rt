@@ -70,6 +70,7 @@ pub fn play_on<R: Runner>(
 {
     let Table { mut history, board } = table;
     let president = history.president(company);
+    // For the proof alone: the answer is at most six, and so the seats of the game are.
     let _few = sheets.seats();
     place_home(&mut history, company)?;
     let Some(president) = president else {

@@ -16,7 +16,7 @@ use crate::ground::catch_up;
 use crate::progress::Progress;
 use crate::runs::{Ran, Runs};
 use board::Board;
-use certificate::{check_run, runs_earn_by_borders};
+use certificate::check_run;
 use history::{Event, History, Refusal, RunRule};
 use map_tables::Run;
 use order_grammar::Order;
@@ -109,7 +109,7 @@ fn run_on(
     ensures counted { IfOk result (λ ran. IsCounted runs.now ran) }
 {
     board.keeps_laws();
-    runs_earn_by_borders();
+    certificate::laws::runs_earn_by_borders();
     let mut borders = runs.borders;
     match check_run(board, company, kind, run, &mut borders) {
         Ok(money) => Ok(Ran {

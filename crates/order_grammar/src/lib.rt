@@ -17,7 +17,7 @@ mod condition;
 mod fault;
 mod form;
 mod keyword;
-mod laws;
+pub mod laws;
 mod name;
 mod order;
 mod print;
@@ -28,12 +28,6 @@ mod words;
 pub use class::MARKS_DIGITS_MOST;
 pub use condition::{Condition, Version};
 pub use fault::Fault;
-pub use laws::{
-    cert_line_faulty_where_it_has_one, cert_line_read_where_spelt, cert_spelling_is_read_again,
-    conditional_spelling_is_read_again, faulty_in_version_where_it_has_one,
-    faulty_where_it_has_one, read_in_version_where_spelt, read_where_spelt, spelling_is_read_again,
-    version_one_has_no_conditions, versions_differ_by_if_alone,
-};
 pub use name::{NAME_MOST, Name};
 pub use order::{Offer, Order, ShareSource, TrainSource};
 pub use print::{

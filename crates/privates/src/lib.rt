@@ -17,7 +17,7 @@
 mod bidding;
 mod closing;
 mod judgement;
-mod laws;
+pub mod laws;
 mod opening;
 mod sale;
 mod standing;
@@ -25,8 +25,4 @@ mod turn;
 
 pub use bidding::auction;
 pub use judgement::judge;
-pub use laws::{
-    auction_is_won, nothing_is_left_to_settle, one_opening_round, opening_bids_rise,
-    opening_round_ends, opening_turns_tell_who_acted, standing_bids_suffice,
-};
 pub use opening::play_opening;

@@ -3,24 +3,18 @@ ghost use Rattle.report.specs.Laws.{ArrivalChangesNoReport, PartsAreAFront, Part
 ghost use Rattle.report.specs.Report.{IsReport};
 ghost use Rattle.std.specs.Prelude.{◌≡◌, ℕ, List};
 
-use rounds::{
-    one_game, rounds_follow_in_order, rounds_only_add, same_parts_same_game,
-    same_sheets_are_read_alike, some_game, steps_play_the_game, version_one_is_ruled_plainly,
-};
-use sheets::arrival_changes_nothing;
-
 /// A file has at most one report.
 pub fn one_report()
     ensures { (file a b : List ℕ) → IsReport file a → IsReport file b → a ≡ b }
 {
-    one_game()
+    rounds::laws::one_game()
 }
 
 /// Each file, refused or not, has one.
 pub fn some_report()
     ensures { (file : List ℕ) → (text : List ℕ) × IsReport file text }
 {
-    some_game()
+    rounds::laws::some_game()
 }
 
 /// Two accepted files of the same players have reports that differ in the version of the first line
@@ -29,7 +23,7 @@ pub fn some_report()
 pub fn same_parts_same_report()
     ensures { SamePartsSameReport }
 {
-    same_parts_same_game()
+    rounds::laws::same_parts_same_game()
 }
 
 /// The report of a file of version 1 has that version in its first line, and tells no condition: each
@@ -38,7 +32,7 @@ pub fn same_parts_same_report()
 pub fn plain_reports()
     ensures { PlainReports }
 {
-    version_one_is_ruled_plainly()
+    rounds::laws::version_one_is_ruled_plainly()
 }
 
 /// In which order the sheets of different players arrive changes nothing in the report: two accepted
@@ -47,9 +41,9 @@ pub fn plain_reports()
 pub fn arrival_changes_no_report()
     ensures { ArrivalChangesNoReport }
 {
-    arrival_changes_nothing();
-    same_sheets_are_read_alike();
-    same_parts_same_game()
+    sheets::laws::arrival_changes_nothing();
+    rounds::laws::same_sheets_are_read_alike();
+    rounds::laws::same_parts_same_game()
 }
 
 /// The report of the game of a file is its header, the text of each of its rounds, the unread lines
@@ -57,7 +51,7 @@ pub fn arrival_changes_no_report()
 pub fn report_is_its_parts()
     ensures { ReportIsItsParts }
 {
-    rounds_follow_in_order()
+    rounds::laws::rounds_follow_in_order()
 }
 
 /// The parts that are told while a game is played are its report: the header, the text of each
@@ -67,7 +61,7 @@ pub fn parts_are_the_report()
     ensures front { PartsAreAFront }
     ensures whole { PartsAreTheReport }
 {
-    one_game();
-    rounds_only_add();
-    steps_play_the_game()
+    rounds::laws::one_game();
+    rounds::laws::rounds_only_add();
+    rounds::laws::steps_play_the_game()
 }

@@ -15,7 +15,7 @@
 #![tactic(auto)]
 
 mod column;
-mod laws;
+pub mod laws;
 mod line;
 mod parts;
 mod statement;
@@ -23,10 +23,6 @@ mod text;
 mod worth;
 
 pub use column::{push_left, push_right};
-pub use laws::{
-    arrival_changes_no_report, one_report, parts_are_the_report, plain_reports,
-    report_is_its_parts, same_parts_same_report, some_report,
-};
 pub use line::{name, push_name, push_square};
 pub use parts::{end_text, header_text, next_text, outcome_text, unread_text};
 pub use text::{refusal_text, report, round_text};

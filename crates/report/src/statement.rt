@@ -10,7 +10,7 @@ ghost use Rattle.treasury.specs.Accounts.{AreAccountsAt, HasAccount};
 
 use crate::column::{push_left, push_right};
 use crate::line::{name, push_name};
-use certs::{Holdings, counted_by_the_game};
+use certs::Holdings;
 use history::{History, Holder, Owners, Party, Past, Shareholder, Tenths, so_many};
 use order_grammar::NAME_MOST;
 use sheets::Sheets;
@@ -294,7 +294,7 @@ fn certificates(standing: &Standing, seat: Seat) -> Tenths
     ensures { result ≡ counted_of standing.now.past.events.now seat }
 {
     // A law, which does nothing when it runs: the tables count what the events say.
-    counted_by_the_game();
+    certs::laws::counted_by_the_game();
     standing.holdings.counted(seat)
 }
 

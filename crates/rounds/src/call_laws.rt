@@ -2,16 +2,14 @@
 ghost use Rattle.rounds.specs.CallsNamed.{CallsAreNamed};
 ghost use Rattle.rounds.specs.StepsBroken.{BrokenStepsCallABrokenGame};
 
-use sheets::{sheets_are_numbered, three_to_six_play};
-
 /// Each call by which play leads to a game is for a round that a line can name: PR, SR or OR with a
 /// number from 1 to 99,999, an operating round also with its number in its set, from 1 to 3. No later
 /// round is played, since no sheet can name it.
 pub fn calls_are_named()
     ensures { CallsAreNamed }
 {
-    sheets_are_numbered();
-    three_to_six_play()
+    sheets::laws::sheets_are_numbered();
+    sheets::laws::three_to_six_play()
 }
 
 /// The calls of the steps of a play, one step after the other up to one that a fault breaks off, are

@@ -22,33 +22,23 @@ ghost use Rattle.sheets.specs.File.{content_of};
 ghost use Rattle.sheets.specs.declared.fault.FileFault.TheVariants.{Header};
 ghost use Rattle.tables.specs.declared.round.Round.{Round};
 
-use market::floated_companies_in_order;
-use operating::{
-    all_tiles_are_there, all_trains_are_there, closed_for_good, company_operates,
-    company_turn_ends, one_company_turn, one_list_of_turn_calls, phases_go_on,
-    sellers_agree_in_turns, turn_only_adds, turns_say_no_bid,
-};
-use privates::{one_opening_round, opening_bids_rise, opening_round_ends};
-use sheets::{
-    arrival_changes_nothing, sheets_are_numbered, three_to_six_play, version_one_is_plain,
-};
-use stock_round::{one_stock_round, stock_round_ends};
+pub use crate::call_laws::{broken_steps_call_a_broken_game, calls_are_named};
 
 /// An operating round has at most one outcome: the sheets and the game before it say what the game
 /// after it is.
 pub fn one_operating_round()
     ensures { OneOperatingRound }
 {
-    one_company_turn()
+    operating::laws::one_company_turn()
 }
 
 /// An operating round has an outcome, whatever the sheets say.
 pub fn operating_round_ends()
     ensures { (file : List ℕ) (round : Round) (old : Game) → EndsSoon file round old }
 {
-    floated_companies_in_order();
-    company_operates();
-    company_turn_ends()
+    market::laws::floated_companies_in_order();
+    operating::laws::company_operates();
+    operating::laws::company_turn_ends()
 }
 
 /// In an operating round at most eight companies take turns, none of them a second, and none is
@@ -56,16 +46,16 @@ pub fn operating_round_ends()
 pub fn companies_operate_once()
     ensures { CompaniesOperateOnce }
 {
-    floated_companies_in_order();
-    company_operates()
+    market::laws::floated_companies_in_order();
+    operating::laws::company_operates()
 }
 
 /// A file has at most one game.
 pub fn one_game()
     ensures { OneGame }
 {
-    one_opening_round();
-    one_stock_round();
+    privates::laws::one_opening_round();
+    stock_round::laws::one_stock_round();
     one_operating_round()
 }
 
@@ -74,10 +64,10 @@ pub fn one_game()
 pub fn some_game()
     ensures { SomeGame }
 {
-    sheets_are_numbered();
-    three_to_six_play();
-    opening_round_ends();
-    stock_round_ends();
+    sheets::laws::sheets_are_numbered();
+    sheets::laws::three_to_six_play();
+    privates::laws::opening_round_ends();
+    stock_round::laws::stock_round_ends();
     operating_round_ends()
 }
 
@@ -86,8 +76,8 @@ pub fn some_game()
 pub fn steps_play_the_game()
     ensures { StepsPlayTheGame }
 {
-    one_opening_round();
-    one_stock_round();
+    privates::laws::one_opening_round();
+    stock_round::laws::one_stock_round();
     one_operating_round();
     some_game()
 }
@@ -96,7 +86,7 @@ pub fn steps_play_the_game()
 pub fn rounds_only_add()
     ensures { RoundsOnlyAdd }
 {
-    turn_only_adds()
+    operating::laws::turn_only_adds()
 }
 
 /// The round that follows a round comes later in the order of all rounds.
@@ -109,9 +99,9 @@ pub fn sequence_goes_forward()
 pub fn rounds_follow_in_order()
     ensures { RoundsFollowInOrder }
 {
-    turn_only_adds();
-    sheets_are_numbered();
-    three_to_six_play()
+    operating::laws::turn_only_adds();
+    sheets::laws::sheets_are_numbered();
+    sheets::laws::three_to_six_play()
 }
 
 /// A set has as many operating rounds as the phase lets it have in which it began, whatever phases
@@ -126,7 +116,7 @@ pub fn sets_keep_their_number()
 pub fn all_trains_are_there_in_each_game()
     ensures { TrainsStandInEachGame }
 {
-    all_trains_are_there()
+    operating::laws::all_trains_are_there()
 }
 
 /// Whenever a round ends, the tiles of a number that lie on the map and those in the stock are as
@@ -134,30 +124,30 @@ pub fn all_trains_are_there_in_each_game()
 pub fn all_tiles_are_there_in_each_game()
     ensures { TilesStandInEachGame }
 {
-    all_tiles_are_there()
+    operating::laws::all_tiles_are_there()
 }
 
 /// No round leads back to an earlier phase.
 pub fn phases_go_on_in_rounds()
     ensures { PhasesGoOnInRounds }
 {
-    phases_go_on()
+    operating::laws::phases_go_on()
 }
 
 /// Whenever a round ends, each bid was at least 5 over every earlier bid on its private.
 pub fn bids_rise_in_each_game()
     ensures { BidsRiseInEachGame }
 {
-    opening_bids_rise();
-    three_to_six_play();
-    turns_say_no_bid()
+    privates::laws::opening_bids_rise();
+    sheets::laws::three_to_six_play();
+    operating::laws::turns_say_no_bid()
 }
 
 /// A private that is closed has no owner ever after, whatever rounds are played.
 pub fn closed_for_good_in_each_game()
     ensures { ClosedForGood }
 {
-    closed_for_good()
+    operating::laws::closed_for_good()
 }
 
 /// Whoever sold a train or a private to a company had agreed to exactly that sale, as the list of
@@ -165,7 +155,7 @@ pub fn closed_for_good_in_each_game()
 pub fn sellers_agree_in_each_game()
     ensures { SellersAgreeInEachGame }
 {
-    sellers_agree_in_turns()
+    operating::laws::sellers_agree_in_turns()
 }
 
 /// No ruling in the game of a file of version 1 is of an order under a condition, however many rounds
@@ -173,7 +163,7 @@ pub fn sellers_agree_in_each_game()
 pub fn version_one_is_ruled_plainly()
     ensures { VersionOneIsRuledPlainly }
 {
-    version_one_is_plain()
+    sheets::laws::version_one_is_plain()
 }
 
 /// While the bank is not broken, some round follows each round in the sequence.
@@ -201,7 +191,7 @@ pub fn broken_bank_ends_games()
     ensures sets { NoSetAfterBroken }
     ensures rounds { BrokenBankEndsSets }
 {
-    turn_only_adds()
+    operating::laws::turn_only_adds()
 }
 
 /// In files of one version the same sheets of a round are read alike.
@@ -220,7 +210,7 @@ pub fn same_parts_same_game()
 pub fn arrival_changes_no_game()
     ensures { ArrivalChangesNoGame }
 {
-    arrival_changes_nothing()
+    sheets::laws::arrival_changes_nothing()
 }
 
 /// Sheets for later rounds change nothing: where two files, the first of which is not refused, have
@@ -229,8 +219,8 @@ pub fn arrival_changes_no_game()
 pub fn later_sheets_change_nothing()
     ensures { LaterSheetsChangeNothing }
 {
-    sheets_are_numbered();
-    three_to_six_play()
+    sheets::laws::sheets_are_numbered();
+    sheets::laws::three_to_six_play()
 }
 
 /// The definitions play the small file of `specs/Example.antt` as its events say: computed from
@@ -271,9 +261,9 @@ pub fn steps_call_the_game()
 pub fn one_list_of_calls()
     ensures { OneListOfCalls }
 {
-    one_opening_round();
-    one_stock_round();
-    one_list_of_turn_calls()
+    privates::laws::one_opening_round();
+    stock_round::laws::one_stock_round();
+    operating::laws::one_list_of_turn_calls()
 }
 
 /// Each game makes such a list, and so there is one for each file that is not refused.
@@ -282,7 +272,7 @@ pub fn some_calls()
     ensures accepted { SomeCalls }
 {
     some_game();
-    one_list_of_turn_calls()
+    operating::laws::one_list_of_turn_calls()
 }
 
 /// Where memory is refused, or the runner refuses to answer, the calls made of it by then are a
@@ -291,7 +281,7 @@ pub fn some_calls()
 pub fn refused_calls_are_a_front()
     ensures { RefusedCallsAreAFront }
 {
-    one_opening_round();
-    one_stock_round();
-    one_list_of_turn_calls()
+    privates::laws::one_opening_round();
+    stock_round::laws::one_stock_round();
+    operating::laws::one_list_of_turn_calls()
 }

@@ -14,9 +14,9 @@ ghost use Rattle.sheets.specs.File.{players_of};
 
 use crate::fault::PlayFault;
 use certificate::Runner;
-use history::{Event, History, rulings_are_counted};
-use market::{floated_companies_in_order, operating_order};
-use operating::{Table, company_operates, play_on, rule_standing_lines};
+use history::{Event, History};
+use market::operating_order;
+use operating::{Table, play_on, rule_standing_lines};
 use sheets::Sheets;
 use std::alloc::{AllocError, Global};
 use tables::{Company, Round, Seat};
@@ -80,8 +80,8 @@ fn take_turns<R: Runner>(
 {
     // Laws, which do nothing when they run: by them the next company has floated, and the loop
     // comes to an end.
-    floated_companies_in_order();
-    company_operates();
+    market::laws::floated_companies_in_order();
+    operating::laws::company_operates();
     let mut table = Table::lay_out(alloc, history)?;
     while let Some(company) = next_company(&table.history) {
         table = take_turn(alloc, table, sheets, round, company, runner)?;
@@ -146,7 +146,7 @@ fn tell_all_left(history: &mut History, sheets: &Sheets, round: Round) -> Result
     ensures sound { OnOk result (IsSound history.new) }
 {
     // A law: a count of lines that were left changes no count of rulings.
-    rulings_are_counted();
+    history::laws::rulings_are_counted();
     for seat in 0..sheets.seats() {
         tell_left(history, sheets, round, Seat::at(seat))?;
     }

@@ -20,7 +20,7 @@ use crate::sequence::next;
 use certificate::Runner;
 use history::History;
 use privates::play_opening;
-use sheets::{Sheets, sheets_are_numbered};
+use sheets::Sheets;
 use std::alloc::{AllocError, Global};
 use std::marker::Model;
 use std::mem;
@@ -123,7 +123,7 @@ impl<'a> Play<'a> {
         ensures refuses { IfErr result (λ fault. IsRefused fault → R.may_refuse ≡ true) }
     {
         // A law, which does nothing when it runs: by it steps come to an end.
-        sheets_are_numbered();
+        sheets::laws::sheets_are_numbered();
         let history = mem::replace(&mut self.history, History::start(self.alloc, 0));
         match play_round(self.alloc, history, self.sheets, round, runner) {
             Ok(history) => {

@@ -13,9 +13,7 @@ use crate::players::Players;
 use crate::post::Post;
 use crate::sheet::Sheet;
 use crate::text::{Piece, first_written};
-use order_grammar::{
-    Fault, Order, Version, begins_with_word, read_order_in, version_one_has_no_conditions,
-};
+use order_grammar::{Fault, Order, Version, begins_with_word, read_order_in};
 use std::alloc::{AllocError, Global};
 use std::collections::HashMap;
 
@@ -193,7 +191,7 @@ fn post_begun(players: &Players, line: &[u8]) -> Option<Post>
     requires { length players.now ≤ 6 }
     ensures { result ≡ post_begun players.now (reading_of line.now) }
 {
-    version_one_has_no_conditions();
+    order_grammar::laws::version_one_has_no_conditions();
     let mut order = Order::Blank;
     match read_order_in(Version::One, line, &mut order) {
         Ok(_) => post_of(players, &order),

@@ -2,8 +2,6 @@
 
 ghost use Rattle.sheets.specs.Laws.{ArrivalChangesNoParts, ArrivalChangesNothing, LastSheetCounts, LongFileIsRefused, SheetsAreNumbered, SheetsHaveFewGroups, ThreeToSixPlay, VersionOneIsPlain, VersionOneIsPlainOutside};
 
-use order_grammar::{read_where_spelt, version_one_has_no_conditions};
-
 /// The sheet of a player for a round is the last that the player sent for it.
 pub fn last_sheet_counts()
     ensures { LastSheetCounts }
@@ -28,7 +26,7 @@ pub fn version_one_is_plain()
     ensures sheets { VersionOneIsPlain }
     ensures outside { VersionOneIsPlainOutside }
 {
-    version_one_has_no_conditions()
+    order_grammar::laws::version_one_has_no_conditions()
 }
 
 /// A file of over `FILE_MOST` bytes is refused as too long, whatever it says.
@@ -45,7 +43,7 @@ pub fn three_to_six_play()
 pub fn sheets_are_numbered()
     ensures { SheetsAreNumbered }
 {
-    read_where_spelt()
+    order_grammar::laws::read_where_spelt()
 }
 
 /// A sheet has at most 512 groups or blocks, since each begins with a line that may be an order.

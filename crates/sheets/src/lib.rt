@@ -18,7 +18,7 @@
 mod collecting;
 mod fault;
 mod file;
-mod laws;
+pub mod laws;
 mod open_sheet;
 mod parts;
 mod place;
@@ -30,10 +30,6 @@ mod text;
 pub use collecting::SHEETS_MOST;
 pub use fault::FileFault;
 pub use file::{FILE_MOST, Sheets, collect, examine};
-pub use laws::{
-    arrival_changes_no_parts, arrival_changes_nothing, last_sheet_counts, long_file_is_refused,
-    sheets_are_numbered, sheets_have_few_groups, three_to_six_play, version_one_is_plain,
-};
 pub use parts::PartsLeft;
 pub use place::{fault_out_of_place, is_of_file};
 pub use sheet::{LINES_MOST, Lines, NumberedLine, ReadLine, Sheet, UnreadLine};

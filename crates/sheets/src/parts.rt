@@ -3,7 +3,7 @@ ghost use Rattle.sheets.specs.Block.{block_in, opens_block_of as opens_a_block_o
 ghost use Rattle.sheets.specs.Part.{StandsAtHead, TakesHead, TakesOrdinary, head_word as word_of_heads, line_unread, lines_in, opens_part as opens_a_part, parts_left};
 
 use crate::sheet::{Lines, UnreadLine};
-use order_grammar::{Order, begins_with_word, read_in_version_where_spelt};
+use order_grammar::{Order, begins_with_word};
 use std::marker::Model;
 use tables::{Company, Round};
 
@@ -107,7 +107,7 @@ impl<'a> Default for PartsLeft<'a> {
 fn is_head(round: Round, line: UnreadLine) -> bool
     ensures { result ≡ opens_a_part round (line_unread line.entry).reading }
 {
-    read_in_version_where_spelt();
+    order_grammar::laws::read_in_version_where_spelt();
     begins_with_word(line.text, head_word(round)) && opens_part(round, line)
 }
 

@@ -18,12 +18,11 @@ mod closing;
 mod deals;
 mod float;
 mod judgement;
-mod laws;
+pub mod laws;
 mod payments;
 mod playing;
 mod prices;
 mod standing;
 mod turn;
 
-pub use laws::{one_stock_round, stock_round_ends, stock_turns_tell_who_acted};
 pub use playing::play_stock;

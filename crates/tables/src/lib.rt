@@ -11,7 +11,7 @@
 #![tactic(auto)]
 
 mod chart;
-mod laws;
+pub mod laws;
 mod rolling_stock;
 mod roster;
 mod round;
@@ -19,10 +19,6 @@ mod seat;
 mod squares;
 
 pub use chart::{par_square, price, square, zone};
-pub use laws::{
-    each_turn_is_nearer_the_end, first_rule_broken, one_end, one_end_of_turns, rosters_in_order,
-    rounds_in_order, turns_end_soon,
-};
 pub use rolling_stock::{Kind, Trains, limit, rounds_in_set, rusts, train};
 pub use roster::{Company, Private, face, revenue, token_price, tokens};
 pub use round::{NUMBER_MOST, OPERATING_MOST, Round};

@@ -22,7 +22,7 @@ use crate::refusal::write_refusal;
 use crate::watched::Watched;
 use best_run::Keeping;
 use certificate::{Bits, Group};
-use rounds::{Play, Step, calls_are_answered, steps_call_the_game};
+use rounds::{Play, Step};
 use sheets::{FileFault, Sheets, collect};
 use std::alloc::{AllocError, Global};
 use std::io::{Read, Write};
@@ -98,8 +98,8 @@ fn write_game<W: Write>(
 {
     // Laws, which do nothing when they run: the calls of the steps are those of the game, and each of
     // them is answered.
-    calls_are_answered();
-    steps_call_the_game();
+    rounds::laws::calls_are_answered();
+    rounds::laws::steps_call_the_game();
     write_head(alloc, writer)?;
     let mut play = Play::start(alloc, sheets)?;
     loop {

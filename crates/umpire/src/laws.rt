@@ -2,9 +2,10 @@
 ghost use Rattle.umpire.specs.Laws.{PartsWhatWasJoined};
 ghost use Rattle.umpire.specs.ReadAgain.{AcceptsWhatWasWritten, CertifyingCanBeWritten, ReadsBack};
 
-use certificate::claims_have_places;
-use report::some_report;
-use rounds::calls_are_named;
+pub use crate::migration_laws::{
+    file_goes_over_once, file_grows_no_longer, file_is_refused_alike, file_says_the_same,
+    migration_changes_no_report,
+};
 
 /// An order file, one LF, and a text whose first line alone is `CERTS 1` part into the file and the
 /// text.
@@ -23,8 +24,8 @@ pub fn certificates_are_read_again()
 pub fn certifying_groups_can_be_written()
     ensures { CertifyingCanBeWritten }
 {
-    calls_are_named();
-    claims_have_places()
+    rounds::laws::calls_are_named();
+    certificate::laws::claims_have_places()
 }
 
 /// An accepted order file, one LF, and the text of groups that certify its game, as `certs` writes
@@ -33,5 +34,5 @@ pub fn written_certificates_are_accepted()
     ensures { AcceptsWhatWasWritten }
 {
     certifying_groups_can_be_written();
-    some_report()
+    report::laws::some_report()
 }

@@ -18,7 +18,7 @@ mod gathering;
 mod group_text;
 mod groups;
 mod input;
-mod laws;
+pub mod laws;
 mod migration;
 mod migration_laws;
 mod output;
@@ -31,15 +31,7 @@ mod watched;
 pub use certificates::certs;
 pub use fault::{Fault, status, word};
 pub use groups::read_groups;
-pub use laws::{
-    certificates_are_read_again, certifying_groups_can_be_written, joined_is_parted,
-    written_certificates_are_accepted,
-};
 pub use migration::migrate;
-pub use migration_laws::{
-    file_goes_over_once, file_grows_no_longer, file_is_refused_alike, file_says_the_same,
-    migration_changes_no_report,
-};
 pub use parting::{CERTIFICATES_MOST, Parted, part};
 pub use program::run;
 pub use verification::verify;

@@ -1,8 +1,6 @@
 //! Laws of going over to version 2, each the contract of a function that does nothing.
 ghost use Rattle.umpire.specs.MigrationLaws.{AcceptedSaysTheSame, GoesOverOnce, GrowsNoLonger, MigrationChangesNoReport, RefusedAlike};
 
-use report::same_parts_same_report;
-
 /// A file that has gone over to version 2 stays as it is where it goes over again.
 pub fn file_goes_over_once()
     ensures { GoesOverOnce }
@@ -31,5 +29,5 @@ pub fn file_says_the_same()
 pub fn migration_changes_no_report()
     ensures { MigrationChangesNoReport }
 {
-    same_parts_same_report()
+    report::laws::same_parts_same_report()
 }

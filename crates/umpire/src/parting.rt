@@ -1,7 +1,7 @@
 ghost use Rattle.std.specs.Prelude.{◌≡◌, true, None, Some, MatchOption};
 ghost use Rattle.umpire.specs.Parting.{certificates_of, from_divider, is_divider, order_file_of, without_newline};
 
-use order_grammar::{Line, Order, begins_with_word, cert_line_read_where_spelt, read_cert_line};
+use order_grammar::{Line, Order, begins_with_word, read_cert_line};
 use sheets::first_line;
 
 /// The most bytes of the text of certificates.
@@ -58,7 +58,7 @@ fn is_divider(line: &[u8]) -> bool
     ensures { result ≡ is_divider line.now }
 {
     // A law, which does nothing when it runs: what is read as an order has its words.
-    cert_line_read_where_spelt();
+    order_grammar::laws::cert_line_read_where_spelt();
     begins_with_word(line, b"CERTS")
         && matches!(
             read_cert_line(line),

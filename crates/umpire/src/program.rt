@@ -15,7 +15,7 @@ use crate::output::write_text;
 use crate::refusal::write_refusal;
 use crate::watched::Watched;
 use best_run::Search;
-use report::{header_text, next_text, parts_are_the_report, some_report};
+use report::{header_text, next_text};
 use rounds::{Play, Step};
 use sheets::{FileFault, Sheets, collect};
 use std::alloc::{AllocError, Global};
@@ -48,7 +48,7 @@ pub fn run<R: Read, W: Write>(
         (has_failed reader.new) (has_failed writer.new)) }
 {
     // A law, which does nothing when it runs: each file has a report, and nothing is a front of it.
-    some_report();
+    report::laws::some_report();
     let file = read_file(alloc, reader)?;
     write_answer(alloc, file.as_slice(), writer)
 }
@@ -64,7 +64,7 @@ fn write_answer<W: Write>(alloc: Global, file: &[u8], writer: &mut Watched<W>) -
         false (has_failed writer.new)) }
 {
     // The law of `run` again.
-    some_report();
+    report::laws::some_report();
     match collect(alloc, file) {
         Ok(sheets) => write_game(alloc, &sheets, writer),
         Err(FileFault::Memory) => Err(Fault::Memory),
@@ -91,8 +91,8 @@ fn write_game<W: Write>(
         false (has_failed writer.new)) }
 {
     // Laws, which do nothing when they run: the file has a report, and its parts make it up.
-    some_report();
-    parts_are_the_report();
+    report::laws::some_report();
+    report::laws::parts_are_the_report();
     write_header(alloc, sheets, writer)?;
     let mut play = Play::start(alloc, sheets)?;
     write_rounds(alloc, &mut play, writer)?;

@@ -21,11 +21,8 @@ use crate::refusal::write_refusal;
 use crate::watched::Watched;
 use certificate::{Checked, Group};
 use order_grammar::print_round;
-use report::{next_text, parts_are_the_report, some_report};
-use rounds::{
-    Play, PlayFault, Step, broken_steps_call_a_broken_game, calls_are_answered,
-    refused_calls_are_a_front, some_calls, steps_call_the_game,
-};
+use report::next_text;
+use rounds::{Play, PlayFault, Step};
 use sheets::{FILE_MOST, FileFault, Sheets, collect};
 use std::alloc::{AllocError, Global};
 use std::io::{Read, Write};
@@ -151,11 +148,11 @@ fn play_checked(
     // Laws, which do nothing when they run: a file's game makes one list of calls, and each of them is
     // answered; those of the steps are those of the game, or of one that is broken off, and then they
     // are a front of that list.
-    some_calls();
-    calls_are_answered();
-    steps_call_the_game();
-    broken_steps_call_a_broken_game();
-    refused_calls_are_a_front();
+    rounds::laws::some_calls();
+    rounds::laws::calls_are_answered();
+    rounds::laws::steps_call_the_game();
+    rounds::laws::broken_steps_call_a_broken_game();
+    rounds::laws::refused_calls_are_a_front();
     let mut checked = Checked::new(groups);
     let mut told = Vec::new(alloc);
     loop {
@@ -184,8 +181,8 @@ fn write_told<W: Write>(
     ensures err { IfErr result (IsWriteFault (has_failed writer.new)) }
 {
     // Laws, which do nothing when they run: the file has a report, and its parts make it up.
-    some_report();
-    parts_are_the_report();
+    report::laws::some_report();
+    report::laws::parts_are_the_report();
     write_header(alloc, sheets, writer)?;
     write_text(writer, told)?;
     write_end(alloc, play, writer)?;
