@@ -1,6 +1,6 @@
-//! The powers of CS and DH, in the hands of a company that owns them.
+//! The powers of CS and DH, in the hands of a company that is_owner them.
 ghost use Rattle.std.specs.Prelude.{◌≡◌};
-ghost use Rattle.board.specs.Powers.{has_no_tile, is_cs_lay as is_lay_of_cs, is_dh_lay as is_lay_of_dh, is_dh_token as is_token_of_dh, is_owner as owns};
+ghost use Rattle.board.specs.Powers.{has_no_tile, is_cs_lay, is_dh_lay, is_dh_token, is_owner};
 
 use crate::asker::Asker;
 use crate::board::Board;
@@ -10,11 +10,11 @@ use map_tables::{Hex, Lay, TileNo};
 use tables::Private;
 
 impl Board {
-    /// Whether a lay on a hex is CS's: the company that owns CS lays on B20, while no tile lies
+    /// Whether a lay on a hex is CS's: the company that is_owner CS lays on B20, while no tile lies
     /// there. Such a lay does not use the lay of the turn, and needs no connection.
     #[tactic(auto, unfolding(crate::specs::Powers::is_cs_lay))]
     pub fn is_cs_lay(&self, asker: &Asker, hex: Hex) -> bool
-        ensures { result ≡ is_lay_of_cs self.now.lays asker.now hex }
+        ensures { result ≡ is_cs_lay self.now.lays asker.now hex }
     {
         is_owner(asker, Private::ChamplainStLawrence)
             && same_hex(hex, Hex::B20)
@@ -32,11 +32,11 @@ impl Board {
     }
 }
 
-/// Whether a lay is DH's: the company that owns DH lays 57 on F16. It needs no connection, and
+/// Whether a lay is DH's: the company that is_owner DH lays 57 on F16. It needs no connection, and
 /// neither does a token there in the same turn, which costs nothing.
 #[tactic(auto, unfolding(crate::specs::Powers::is_dh_lay))]
 pub fn is_dh_lay(asker: &Asker, lay: Lay) -> bool
-    ensures { result ≡ is_lay_of_dh asker.now lay }
+    ensures { result ≡ is_dh_lay asker.now lay }
 {
     is_owner(asker, Private::DelawareHudson)
         && same_hex(lay.hex, Hex::F16)
@@ -46,14 +46,14 @@ pub fn is_dh_lay(asker: &Asker, lay: Lay) -> bool
 /// Whether a token for a hex is DH's: DH's lay was made in this turn, and this is its hex.
 #[tactic(auto, unfolding(crate::specs::Powers::is_dh_token))]
 pub(crate) fn is_dh_token(asker: &Asker, hex: Hex) -> bool
-    ensures { result ≡ is_token_of_dh asker.now hex }
+    ensures { result ≡ is_dh_token asker.now hex }
 {
     asker.dh_laid && same_hex(hex, Hex::F16)
 }
 
-/// Whether the company that asks owns a private.
+/// Whether the company that asks is_owner a private.
 fn is_owner(asker: &Asker, private: Private) -> bool
-    ensures { result ≡ owns asker.now private }
+    ensures { result ≡ is_owner asker.now private }
 {
     asker.own_privates[private.place()]
 }

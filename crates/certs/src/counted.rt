@@ -1,6 +1,6 @@
 //! The certificates of a seat that count against the limit.
 ghost use Rattle.std.specs.Prelude.{◌≡◌, ◌≤◌, ◌+ℤ◌, ℤ, pos};
-ghost use Rattle.certs.specs.Counted.{certificates_by, certificates_in, certificates_now, certificates_of, counted_in, counted_of, counts_on, one_owned, presides as presides_over, privates_owned};
+ghost use Rattle.certs.specs.Counted.{certificates_by, certificates_in, certificates_now, certificates_of, counted_in, counted_of, counts_on, one_owned, presides, privates_owned};
 ghost use Rattle.certs.specs.Rows.{IsFew, IsSmall};
 ghost use Rattle.history.specs.LookBack.{owner_in};
 ghost use Rattle.tables.specs.Roster.{companies};
@@ -148,7 +148,7 @@ pub(crate) fn counts_on(square: Option<Square>) -> bool
 
 /// Whether a seat is this president.
 fn presides(seat: Seat, president: Option<Seat>) -> bool
-    ensures { result ≡ presides_over seat president }
+    ensures { result ≡ presides seat president }
 {
     match president {
         Some(president) => president == seat,

@@ -1,7 +1,7 @@
 ghost use Rattle.std.specs.Prelude.{◌≡◌, ◌≤◌, ◌<◌, ◌+ℤ◌, pos, unwrap_or};
 ghost use Rattle.std.specs.Int.Signed.{le_z};
 ghost use Rattle.certs.specs.Counted.{counted_of};
-ghost use Rattle.certs.specs.Purchase.{allowed, allows_several as several, cost_of, in_zone, is_at_limit as limit_reached, is_none_there as none_there, is_no_par as no_par, is_over_six as over_six, is_second as second_purchase, is_short as short_of_cash, is_wrong_start as wrong_start, lifts_six as lifts, market_price_of, purchase_judgement, tenth_price_of};
+ghost use Rattle.certs.specs.Purchase.{allowed, allows_several, cost_of, in_zone, is_at_limit, is_none_there, is_no_par, is_over_six, is_second, is_short, is_wrong_start, lifts_six, market_price_of, purchase_judgement, tenth_price_of};
 ghost use Rattle.events.specs.declared.event.Shareholder.TheVariants.{Seat as OfSeat};
 ghost use Rattle.history.specs.Shares.{par_of, shares_of, square_of};
 ghost use Rattle.tables.specs.Roster.{certificate_limit_of};
@@ -12,7 +12,7 @@ use history::{History, Past, Shareholder, StockRule, Tenths};
 use order_grammar::ShareSource;
 use tables::{Amount, Company, Money, Seat, Zone, certificate_limit, par_square, price, zone};
 
-/// The most tenths of a company that a seat may hold where no zone lifts that.
+/// The most tenths of a company that a seat may hold where no zone lifts_six that.
 const TENTHS_MOST: Tenths = 6;
 
 /// Whether a seat at a table of at most six may buy, in a turn in which it has bought of a company,
@@ -78,7 +78,7 @@ fn broken_by(
 /// Whether none is where a tenth is to be bought.
 #[tactic(auto, unfolding(crate::specs::Purchase::is_none_there))]
 fn is_none_there(now: &Past, purchase: Purchase) -> bool
-    ensures { result ≡ none_there now.now.events.now purchase }
+    ensures { result ≡ is_none_there now.now.events.now purchase }
 {
     match purchase {
         Purchase::Par { .. } => false,
@@ -90,7 +90,7 @@ fn is_none_there(now: &Past, purchase: Purchase) -> bool
 
 /// Whether a sum that is to be the par value is none of the six.
 fn is_no_par(purchase: Purchase) -> bool
-    ensures { result ≡ no_par purchase }
+    ensures { result ≡ is_no_par purchase }
 {
     match purchase {
         Purchase::Par { price, .. } => par_square(price).is_none(),
@@ -100,7 +100,7 @@ fn is_no_par(purchase: Purchase) -> bool
 
 /// Whether a par value is set for a company that is started, or a tenth bought of one that is not.
 fn is_wrong_start(now: &Past, purchase: Purchase) -> bool
-    ensures { result ≡ wrong_start now.now.events.now purchase }
+    ensures { result ≡ is_wrong_start now.now.events.now purchase }
 {
     match purchase {
         Purchase::Par { company, .. } => now.is_started(company),
@@ -145,7 +145,7 @@ pub fn market_price(now: &Past, company: Company) -> Amount
 /// Whether what a purchase costs is over a seat's cash that is free of its bids.
 #[tactic(auto, unfolding(crate::specs::Purchase::is_short))]
 fn is_short(now: &Past, seat: Seat, purchase: Purchase) -> bool
-    ensures { result ≡ short_of_cash now.now.seats now.now.events.now seat
+    ensures { result ≡ is_short now.now.seats now.now.events.now seat
         (cost_of now.now.events.now purchase) }
 {
     now.free_cash(seat) < cost(now, purchase)
@@ -154,7 +154,7 @@ fn is_short(now: &Past, seat: Seat, purchase: Purchase) -> bool
 /// Whether a certificate of a company would count, and a seat has reached the limit.
 #[tactic(auto, unfolding(crate::specs::Purchase::is_at_limit))]
 fn is_at_limit(now: &Past, seat: Seat, company: Company) -> bool
-    ensures { result ≡ limit_reached now.now.seats now.now.events.now seat company }
+    ensures { result ≡ is_at_limit now.now.seats now.now.events.now seat company }
 {
     counts_on(now.square(company)) && has_full_hand(now, seat)
 }
@@ -171,14 +171,14 @@ fn has_full_hand(now: &Past, seat: Seat) -> bool
 /// company's square does not lift that.
 #[tactic(auto, unfolding(crate::specs::Purchase::is_over_six))]
 pub fn is_over_six(now: &Past, seat: Seat, company: Company, tenths: u8) -> bool
-    ensures { result ≡ over_six now.now.events.now seat company tenths }
+    ensures { result ≡ is_over_six now.now.events.now seat company tenths }
 {
     !lifts_six(now, company) && would_have(now, seat, company, tenths) > TENTHS_MOST
 }
 
-/// Whether the zone of a company's square lifts the limit of six tenths.
+/// Whether the zone of a company's square lifts_six the limit of six tenths.
 fn lifts_six(now: &Past, company: Company) -> bool
-    ensures { result ≡ in_zone lifts (square_of now.now.events.now company) }
+    ensures { result ≡ in_zone lifts_six (square_of now.now.events.now company) }
 {
     match now.square(company) {
         Some(square) => matches!(zone(square), Zone::Orange | Zone::Brown),
@@ -194,10 +194,10 @@ fn would_have(now: &Past, seat: Seat, company: Company, tenths: u8) -> Tenths
 }
 
 /// Whether a seat has bought already in its turn, and a purchase of a company is not one of
-/// several.
+/// allows_several.
 #[tactic(auto, unfolding(crate::specs::Purchase::is_second))]
 fn is_second(now: &Past, company: Company, bought: Option<Company>) -> bool
-    ensures { result ≡ second_purchase now.now.events.now company bought }
+    ensures { result ≡ is_second now.now.events.now company bought }
 {
     match bought {
         Some(bought) => company != bought || !allows_several(now, company),
@@ -205,9 +205,9 @@ fn is_second(now: &Past, company: Company, bought: Option<Company>) -> bool
     }
 }
 
-/// Whether several certificates of a company may be bought in a turn.
+/// Whether allows_several certificates of a company may be bought in a turn.
 fn allows_several(now: &Past, company: Company) -> bool
-    ensures { result ≡ in_zone several (square_of now.now.events.now company) }
+    ensures { result ≡ in_zone allows_several (square_of now.now.events.now company) }
 {
     match now.square(company) {
         Some(square) => zone(square) == Zone::Brown,

@@ -1,7 +1,7 @@
 ghost use Rattle.std.specs.Prelude.{◌≡◌, ◌^◌, ◌≤ℤ◌, ◌+ℤ◌, pos};
 ghost use Rattle.certs.specs.Counted.{presides};
 ghost use Rattle.certs.specs.Purchase.{allowed};
-ghost use Rattle.certs.specs.Sale.{another_has as another_seat_has, is_first_stock as is_first_stock_round, is_not_held as not_held, is_over_five as over_five, kept_after, leaves_none as leaves_no_president, moves_operating as moves_presidency, must_stay as president_must_stay, sale_judgement};
+ghost use Rattle.certs.specs.Sale.{another_has, is_first_stock, is_not_held, is_over_five, kept_after, leaves_none, moves_operating, must_stay, sale_judgement};
 ghost use Rattle.events.specs.declared.event.Shareholder.TheVariants.{BankPool};
 ghost use Rattle.history.specs.LookBack.{round_of};
 ghost use Rattle.history.specs.Shares.{shares_of};
@@ -58,7 +58,7 @@ fn broken_by(now: &Past, seat: Seat, sale: Sale, operating: Option<Company>) -> 
 
 /// Whether the round is the first stock round.
 fn is_first_stock(now: &Past) -> bool
-    ensures { result ≡ is_first_stock_round (round_of now.now.events.now) }
+    ensures { result ≡ is_first_stock (round_of now.now.events.now) }
 {
     matches!(now.round(), Some(Round::Stock(1)))
 }
@@ -66,7 +66,7 @@ fn is_first_stock(now: &Past) -> bool
 /// Whether no tenths are to be sold, or more than the seat has.
 #[tactic(auto, unfolding(crate::specs::Sale::is_not_held))]
 fn is_not_held(now: &Past, seat: Seat, sale: Sale) -> bool
-    ensures { result ≡ not_held now.now.events.now seat sale }
+    ensures { result ≡ is_not_held now.now.events.now seat sale }
 {
     sale.tenths == 0
         || now.shares(sale.company, Shareholder::Seat(seat)) < Tenths::from(sale.tenths)
@@ -75,7 +75,7 @@ fn is_not_held(now: &Past, seat: Seat, sale: Sale) -> bool
 /// Whether the bank pool would hold over five tenths of the company.
 #[tactic(auto, unfolding(crate::specs::Sale::is_over_five))]
 fn is_over_five(now: &Past, sale: Sale) -> bool
-    ensures { result ≡ over_five now.now.events.now sale }
+    ensures { result ≡ is_over_five now.now.events.now sale }
 {
     would_be_pooled(now, sale) > POOL_MOST
 }
@@ -90,7 +90,7 @@ fn would_be_pooled(now: &Past, sale: Sale) -> Tenths
 /// Whether the seat presides over the company, and may not sell so many of its tenths.
 #[tactic(auto, unfolding(crate::specs::Sale::must_stay))]
 fn must_stay(now: &Past, seat: Seat, sale: Sale, operating: Option<Company>) -> bool
-    ensures { result ≡ president_must_stay now.now.seats now.now.events.now seat sale operating }
+    ensures { result ≡ must_stay now.now.seats now.now.events.now seat sale operating }
 {
     now.president(sale.company) == Some(seat)
         && (leaves_none(now, seat, sale) || moves_operating(now, seat, sale, operating))
@@ -98,7 +98,7 @@ fn must_stay(now: &Past, seat: Seat, sale: Sale, operating: Option<Company>) -> 
 
 /// Whether the president would keep fewer than two tenths, and no other seat has two.
 fn leaves_none(now: &Past, seat: Seat, sale: Sale) -> bool
-    ensures { result ≡ leaves_no_president now.now.seats now.now.events.now seat sale }
+    ensures { result ≡ leaves_none now.now.seats now.now.events.now seat sale }
 {
     would_keep(now, seat, sale) < PRESIDENT_TENTHS
         && !another_has(now, sale.company, seat, PRESIDENT_TENTHS)
@@ -106,7 +106,7 @@ fn leaves_none(now: &Past, seat: Seat, sale: Sale) -> bool
 
 /// Whether the sale is of the operating company, and another seat would have strictly more of it.
 fn moves_operating(now: &Past, seat: Seat, sale: Sale, operating: Option<Company>) -> bool
-    ensures { result ≡ moves_presidency now.now.seats now.now.events.now seat sale operating }
+    ensures { result ≡ moves_operating now.now.seats now.now.events.now seat sale operating }
 {
     match operating {
         Some(company) => company == sale.company && another_has_more(now, seat, sale),
@@ -116,7 +116,7 @@ fn moves_operating(now: &Past, seat: Seat, sale: Sale, operating: Option<Company
 
 /// Whether another seat would have strictly more of the company.
 fn another_has_more(now: &Past, seat: Seat, sale: Sale) -> bool
-    ensures { result ≡ another_seat_has now.now.seats now.now.events.now sale.company seat
+    ensures { result ≡ another_has now.now.seats now.now.events.now sale.company seat
         (kept_after now.now.events.now seat sale +ℤ pos 1) }
 {
     another_has(now, sale.company, seat, would_keep(now, seat, sale) + 1)
@@ -133,7 +133,7 @@ fn would_keep(now: &Past, seat: Seat, sale: Sale) -> Tenths
 /// Whether another seat has at least so many tenths of a company.
 fn another_has(now: &Past, company: Company, seat: Seat, least: Tenths) -> bool
     ensures { result
-        ≡ another_seat_has now.now.seats now.now.events.now company seat least }
+        ≡ another_has now.now.seats now.now.events.now company seat least }
 {
     let mut other = seat;
     for _ in 1..now.seats {

@@ -8,14 +8,14 @@ use Rattle.history.specs.Trains.{trains_sold}
 use Rattle.map_tables.specs.Tile.{entry_of}
 use Rattle.map_tables.specs.declared.lay.Lay.{Lay}
 use Rattle.map_tables.specs.declared.tiles.TileNo.{TileNo}
-use Rattle.tables.specs.Roster.{tokens_of as all_tokens_of}
+use Rattle.tables.specs.Roster.{tokens_of}
 use Rattle.tables.specs.Train.{trains_of}
 use Rattle.tables.specs.declared.rolling_stock.Kind.{Kind}
 use Rattle.tables.specs.declared.roster.Company.{Company}
 
 -- the tokens that a company has not placed
 abbrev pub tokens_left : List Event → Company → ℕ
-tokens_left events company = all_tokens_of company - tokens_placed events company
+tokens_left events company = tokens_of company - tokens_placed events company
 
 -- so many of a number, if that has a limit, less some
 abbrev pub less_of : Option ℕ → ℕ → Option ℕ

@@ -12,7 +12,7 @@ use Rattle.events.specs.declared.event.TrainPlace.TheVariants as place
 use Rattle.history.proofs.Choices.{same_company_is, truth}
 use Rattle.history.proofs.EventAtEnd.{trains_at_before, trains_at_end}
 use Rattle.history.specs.Trains.{TrainsAreHeld, one_if, same_train_place, train_goes, trains_at, trains_held, trains_sold}
-use Rattle.tables.specs.Train.{place_of_kind, same_kind, trains_of as manifest_of}
+use Rattle.tables.specs.Train.{place_of_kind, same_kind, trains_of}
 use Rattle.tables.specs.declared.rolling_stock.Kind.{Kind}
 use Rattle.tables.specs.declared.rolling_stock.Kind.TheVariants.{Two, Three, Four, Five, Six, Diesel}
 use Rattle.tables.specs.declared.roster.Company.{Company}
@@ -105,14 +105,14 @@ none_from_stable None kind of to = grind arith
 none_from_stable (Some company) kind of to = grind arith
 
 -- a train is sold that the bank still has
-pub trains_after_sale : (events : List Event) (event : Event) (kind : Kind) (to : TrainPlace) → train_moved event ≡ Some (record { kind = kind; from = place.Bank; to = to }) → ((number : ℕ) → (manifest_of kind).number ≡ Some number → trains_sold events kind < number) → TrainsAreHeld events → TrainsAreHeld (events ++ event ∷ [])
+pub trains_after_sale : (events : List Event) (event : Event) (kind : Kind) (to : TrainPlace) → train_moved event ≡ Some (record { kind = kind; from = place.Bank; to = to }) → ((number : ℕ) → (trains_of kind).number ≡ Some number → trains_sold events kind < number) → TrainsAreHeld events → TrainsAreHeld (events ++ event ∷ [])
 trains_after_sale events event kind to is left before =
     let move : TrainMove = record { kind = kind; from = place.Bank; to = to } in
     record {
       held = λ other of. let had = before.held other of in omega (arith, ints, trains_at_end events event (stable_of other) of, ap (λ m. one_if (train_goes (stable_of other) of m)) is, ap one_if (none_from_stable other of kind to));
       sold = λ of number has. elim (truth (same_kind kind of)) [
         | inl same ↦
-            let fewer = left number (ap (λ k. (manifest_of k).number) (same_kind_is kind of same) ∙ has) in
+            let fewer = left number (ap (λ k. (trains_of k).number) (same_kind_is kind of same) ∙ has) in
             let sold = subst (λ k. trains_sold events k < number) (same_kind_is kind of same) fewer in
             omega (arith, sold_at_end events event of, ap (λ m. one_if (train_goes place.Bank of m)) is, ap (λ (test : Bool). one_if (test && true)) same)
         | inr other ↦

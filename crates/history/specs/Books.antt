@@ -1,7 +1,7 @@
 -- The books of a list of events: what its readers answer, kept while the events come. Tables are by the places
 -- of the privates and the companies in the roster, and by the numbers of the six seats that a table has.
 use Rattle.std.specs.Prelude.{◌≡◌, ℕ, ◌<◌, ◌≤◌, ◌+◌, ◌*◌, ◌^◌, ℤ, pos, neg_ℤ, ◌≤ℤ◌, [], List, length, Bool, false, ◌||◌, Option, Some, None, is_some, if◌then◌else◌, slice_index_or}
-use Rattle.events.specs.Event.{actor_of, floated_by, ownership_of, payment_of, phase_set, round_of as round_begun, square_set, stable_of, sv_price_set, train_moved, transfer_of}
+use Rattle.events.specs.Event.{actor_of, floated_by, ownership_of, payment_of, phase_set, round_of, square_set, stable_of, sv_price_set, train_moved, transfer_of}
 use Rattle.events.specs.declared.event.Event.{Event}
 use Rattle.events.specs.declared.event.Holder.{Holder}
 use Rattle.events.specs.declared.event.Holder.TheVariants as holder
@@ -104,7 +104,7 @@ sale_in sales company seat = slice_index_or (slice_index_or sales (place_of_comp
 
 -- a flag after an event: one that begins a round takes it down, and one that speaks puts it up
 abbrev pub flag_then : Event → Bool → Bool → Bool
-flag_then event speaks flag = if is_some (round_begun event) then false else (flag || speaks)
+flag_then event speaks flag = if is_some (round_of event) then false else (flag || speaks)
 
 -- an entry of a table of nets
 abbrev pub net_at : List ℤ → ℕ → ℤ
@@ -149,7 +149,7 @@ pub record AreBooksOf (books : Books) (events : List Event) : Type 0 where
   pub bids : (private : Private) (number : ℕ) → number < 6 → bid_in books.bids private number ≡ bid_of events private (seat_at number)
   pub sv_price : books.sv_price ≡ last_said sv_price_set events
   pub actor : books.actor ≡ last_said actor_of events
-  pub round : books.round ≡ last_said round_begun events
+  pub round : books.round ≡ last_said round_of events
   pub phase : books.phase ≡ last_said phase_set events
   pub broken : books.broken ≡ broken_in events
   pub bankrupt : books.bankrupt ≡ bankrupt_in events

@@ -12,7 +12,7 @@ use Rattle.events.specs.declared.event.TrainSeller.{TrainSeller}
 use Rattle.events.specs.declared.event.TrainSeller.TheVariants as seller
 use Rattle.history.specs.LookBack.{balance, last_said}
 use Rattle.tables.specs.Roster.{companies, same_company}
-use Rattle.tables.specs.Train.{kinds, same_kind, trains_of as manifest_of}
+use Rattle.tables.specs.Train.{kinds, same_kind, trains_of}
 use Rattle.tables.specs.declared.rolling_stock.Kind.{Kind}
 use Rattle.tables.specs.declared.rolling_stock.Kind.TheVariants.{Two}
 use Rattle.tables.specs.declared.roster.Company.{Company}
@@ -106,11 +106,11 @@ AllTrainsStay =
 -- nobody has fewer than no trains of a kind, and the bank has sold no more of them than there are
 pub record TrainsAreHeld (events : List Event) : Type 0 where
   pub held : (owner : Option Company) (kind : Kind) → pos 0 ≤ℤ trains_held events owner kind
-  pub sold : (kind : Kind) (number : ℕ) → (manifest_of kind).number ≡ Some number → trains_sold events kind ≤ number
+  pub sold : (kind : Kind) (number : ℕ) → (trains_of kind).number ≡ Some number → trains_sold events kind ≤ number
 
 -- a train of the kind is there to be bought: one that the bank has not sold, one of the pool, or one of a company
 abbrev pub IsThere : List Event → TrainSeller → Kind → Type 0
 IsThere events seller.Bank kind =
-    (number : ℕ) → (manifest_of kind).number ≡ Some number → trains_sold events kind < number
+    (number : ℕ) → (trains_of kind).number ≡ Some number → trains_sold events kind < number
 IsThere events seller.BankPool kind = pos 1 ≤ℤ trains_held events None kind
 IsThere events (seller.Company company) kind = pos 1 ≤ℤ trains_held events (Some company) kind

@@ -23,7 +23,7 @@ use Rattle.operating.specs.Trains.{are_left, first_left_of, is_kind, is_left, is
 use Rattle.operating.specs.declared.purchase.Purchase.{Purchase}
 use Rattle.tables.proofs.Rules.{none_broken}
 use Rattle.tables.specs.Roster.{same_company}
-use Rattle.tables.specs.Train.{same_kind, trains_of as manifest_of}
+use Rattle.tables.specs.Train.{same_kind, trains_of}
 use Rattle.tables.specs.declared.rolling_stock.Kind.{Kind}
 use Rattle.tables.specs.declared.rolling_stock.Kind.TheVariants.{Six, Diesel}
 use Rattle.tables.specs.declared.roster.Company.{Company}
@@ -67,16 +67,16 @@ fewer_sold (Some m) sold n left is =
     subst (λ (k : ℕ). sold < k) same (grind (arith, nat_tests, left))
 
 -- a D has no number
-no_number : (kind : Kind) (n : ℕ) → same_kind kind Diesel ≡ true → (manifest_of kind).number ≡ Some n → ⊥
+no_number : (kind : Kind) (n : ℕ) → same_kind kind Diesel ≡ true → (trains_of kind).number ≡ Some n → ⊥
 no_number kind n same is =
-    let none : None ≡ Some n = sym (ap (λ (k : Kind). (manifest_of k).number) (same_kind_is kind Diesel same)) ∙ is in absurd (cc)
+    let none : None ≡ Some n = sym (ap (λ (k : Kind). (trains_of k).number) (same_kind_is kind Diesel same)) ∙ is in absurd (cc)
 
 -- what is on sale is there
 on_sale_there : (events : List Event) (buyer : Company) (from : TrainSeller) (kind : Kind) → is_on_sale events from kind ≡ true →
     is_not_sellers events buyer kind from ≡ false → IsThere events from kind
 on_sale_there events buyer seller.Bank kind on has = λ n number.
     elim (either (is_kind (first_left_of events numbered_kinds) kind) (same_kind kind Diesel && nat_lt 0 (trains_sold events Six)) on) [
-      | inl first ↦ fewer_sold (manifest_of kind).number (trains_sold events kind) n (first_is_left events numbered_kinds kind first) number
+      | inl first ↦ fewer_sold (trains_of kind).number (trains_sold events kind) n (first_is_left events numbered_kinds kind first) number
       | inr diesel ↦ absurd (no_number kind n (both (same_kind kind Diesel) (nat_lt 0 (trains_sold events Six)) diesel).0 number)
     ]
 on_sale_there events buyer seller.BankPool kind on has = grind (arith, ints, on)

@@ -27,7 +27,7 @@ use Rattle.map_tables.specs.Place.{place_of}
 use Rattle.map_tables.specs.declared.lay.Lay.{Lay}
 use Rattle.map_tables.specs.declared.place.Place.{Place}
 use Rattle.map_tables.specs.declared.place.Stop.{Stop}
-use Rattle.market.proofs.Tokens.{move_sound as token_moves}
+use Rattle.market.proofs.Tokens.{move_sound}
 use Rattle.market.specs.Moves.{left_of}
 use Rattle.market.specs.Token.{with_move}
 use Rattle.operating.specs.Act.{has_home_token, moved_left, withheld}
@@ -106,7 +106,7 @@ pub withheld_sound : (game new : Game) (company : Company) (amount : ℕ) → ne
 withheld_sound game new company amount is sound =
     let told = broken_told (with_event game (event.Withheld company amount)) in
     subst IsSound (sym is)
-    (token_moves left_of told (withheld game company amount) company refl refl (broken_sound (with_event game (event.Withheld company amount)) (withholding_sound game company amount sound)))
+    (move_sound left_of told (withheld game company amount) company refl refl (broken_sound (with_event game (event.Withheld company amount)) (withholding_sound game company amount sound)))
 
 -- what a withholding brings, step by step
 pub withheld_steps : (game paid told new : Game) (company : Company) (amount : ℕ) → paid ≡ with_event game (event.Withheld company amount) → told ≡ broken_told paid → new.seats ≡ told.seats → new.events ≡ with_move left_of told.events company → new ≡ withheld game company amount

@@ -24,7 +24,7 @@ use Rattle.operating.specs.TrainLaws.{PurchasesKeepAll, TrainsAreAll, has_come}
 use Rattle.operating.specs.Trains.{is_on_sale, purchase_rules, train_judgement}
 use Rattle.operating.specs.declared.purchase.Purchase.{Purchase}
 use Rattle.tables.proofs.Rules.{none_broken}
-use Rattle.tables.specs.Train.{kinds, place_of_kind, rusting_of, same_kind, trains_of as manifest_of}
+use Rattle.tables.specs.Train.{kinds, place_of_kind, rusting_of, same_kind, trains_of}
 use Rattle.tables.specs.declared.rolling_stock.Kind.{Kind}
 use Rattle.tables.specs.declared.rolling_stock.Kind.TheVariants.{Two, Three, Four, Five, Six, Diesel}
 use Rattle.tables.specs.declared.roster.Company.{Company}
@@ -112,20 +112,20 @@ at_bank : (game : Game) (buyer : Company) (purchase : Purchase) (kind : Kind) �
 at_bank game buyer purchase kind fair bank is =
     ap (λ (k : Kind). is_on_sale game.events seller.Bank k) (sym is) ∙ ap (λ (from : TrainSeller). is_on_sale game.events from purchase.kind) (sym bank) ∙ on_sale game buyer purchase fair
 
-left_by : (events : List Event) (from : TrainSeller) (of kind : Kind) (number : ℕ) → from ≡ seller.Bank → of ≡ kind → IsThere events from of → (manifest_of kind).number ≡ Some number → trains_sold events kind < number
+left_by : (events : List Event) (from : TrainSeller) (of kind : Kind) (number : ℕ) → from ≡ seller.Bank → of ≡ kind → IsThere events from of → (trains_of kind).number ≡ Some number → trains_sold events kind < number
 left_by events seller.Bank of kind number bank is has there =
-    subst (λ (k : Kind). trains_sold events k < number) is (has number (ap (λ (k : Kind). (manifest_of k).number) is ∙ there))
+    subst (λ (k : Kind). trains_sold events k < number) is (has number (ap (λ (k : Kind). (trains_of k).number) is ∙ there))
 left_by events seller.BankPool of kind number bank is has there = absurd (cc)
 left_by events (seller.Company owner) of kind number bank is has there = absurd (cc)
 
 -- a kind of which one is sold had one left
-had_left : (game : Game) (buyer : Company) (purchase : Purchase) (kind : Kind) (number : ℕ) → IsFair game buyer purchase → purchase.from ≡ seller.Bank → purchase.kind ≡ kind → (manifest_of kind).number ≡ Some number → trains_sold game.events kind < number
+had_left : (game : Game) (buyer : Company) (purchase : Purchase) (kind : Kind) (number : ℕ) → IsFair game buyer purchase → purchase.from ≡ seller.Bank → purchase.kind ≡ kind → (trains_of kind).number ≡ Some number → trains_sold game.events kind < number
 had_left game buyer purchase kind number fair bank is there =
     let may = may_buy game buyer purchase fair.none in
     left_by game.events purchase.from purchase.kind kind number bank is may.there there
 
 -- the kinds are sold in their order after a purchase
-in_order_then : (game : Game) (buyer : Company) (purchase : Purchase) → IsFair game buyer purchase → (earlier later : Kind) (number : ℕ) → (manifest_of earlier).number ≡ Some number → place_of_kind earlier < 4 → place_of_kind earlier < place_of_kind later → 0 < trains_sold (bought game buyer purchase).events later → trains_sold (bought game buyer purchase).events earlier ≡ number
+in_order_then : (game : Game) (buyer : Company) (purchase : Purchase) → IsFair game buyer purchase → (earlier later : Kind) (number : ℕ) → (trains_of earlier).number ≡ Some number → place_of_kind earlier < 4 → place_of_kind earlier < place_of_kind later → 0 < trains_sold (bought game buyer purchase).events later → trains_sold (bought game buyer purchase).events earlier ≡ number
 in_order_then game buyer purchase fair earlier later number there numbered before sold =
     let early = (is_bought game buyer purchase earlier).sold in
     let late = (is_bought game buyer purchase later).sold in

@@ -26,7 +26,7 @@ use Rattle.operating.proofs.ForcedLemmas.{size_before}
 use Rattle.reach.specs.Position.{IsAmong}
 use Rattle.tables.specs.Roster.{same_company}
 use Rattle.tables.specs.Rules.{first_broken}
-use Rattle.tables.specs.Train.{limit_of, same_kind, trains_of as manifest_of}
+use Rattle.tables.specs.Train.{limit_of, same_kind, trains_of}
 use Rattle.tables.specs.declared.rolling_stock.Kind.{Kind}
 use Rattle.tables.specs.declared.rolling_stock.Kind.TheVariants.{Two, Three, Four, Five, Six, Diesel}
 use Rattle.tables.specs.declared.roster.Company.{Company}
@@ -158,7 +158,7 @@ module _ (events : List Event) (its : Event) (none : train_moved its ≡ None) w
       omega (arith, sold_at_end events its kind, goes)
 
   same_left : (kind : Kind) → is_left after kind ≡ is_left events kind
-  same_left kind = ap (are_left (manifest_of kind).number) (same_sold kind)
+  same_left kind = ap (are_left (trains_of kind).number) (same_sold kind)
 
   same_first : (some : List Kind) → first_left_of after some ≡ first_left_of events some
   same_first [] = refl
@@ -285,7 +285,7 @@ forced_allowed by game none =
     plain_allowed (with_aid by game) by.company kept.0 game.events (cheapest game.events) (cheapest_plain game.events) kept.1 (aided by game)
 
 -- and costs at most 1,100
-price_low : (kind : Kind) → (manifest_of kind).price ≤ 1100
+price_low : (kind : Kind) → (trains_of kind).price ≤ 1100
 price_low Two = omega arith
 price_low Three = omega arith
 price_low Four = omega arith

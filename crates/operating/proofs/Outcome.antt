@@ -7,7 +7,7 @@ use Rattle.board.specs.LayRules.{IsConnected, IsLayAnswer, cost_or, ground_rules
 use Rattle.board.specs.TokenRules.{IsReachedPlace, IsTokenAnswer, reach_rules as token_reach_rules, slot_rules, token_cost_of, token_rules}
 use Rattle.board.specs.declared.asker.Asker.{Asker}
 use Rattle.certificate.proofs.Finite.{Decided}
-use Rattle.certificate.proofs.Greatest.{a_greatest_exists as greatest_there, one_greatest as one_revenue}
+use Rattle.certificate.proofs.Greatest.{a_greatest_exists, one_greatest}
 use Rattle.certificate.proofs.RunDecided.{can_run_decided}
 use Rattle.history.specs.LookBack.{Game}
 use Rattle.map_tables.specs.declared.rules.RunRule.{RunRule}
@@ -98,12 +98,12 @@ module _ (all : AllLawful) where
   one_best by turn line None =
       let position : Position = position_now turn.game.events in
       let trains : List Kind = trains_now turn.game.events by.company in
-      let greatest = greatest_there position by.company trains (all (ground_now turn.game.events)) in
+      let greatest = a_greatest_exists position by.company trains (all (ground_now turn.game.events)) in
       record {
         it = best_earned by turn line greatest.0;
         so = (greatest.0, greatest.1, refl);
         only = λ new leads. leads.2
-            ∙ ap (best_earned by turn line) (one_revenue position by.company trains leads.0 greatest.0 leads.1 greatest.1);
+            ∙ ap (best_earned by turn line) (one_greatest position by.company trains leads.0 greatest.0 leads.1 greatest.1);
       }
 
   -- an order leads to one turn

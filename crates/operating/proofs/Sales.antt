@@ -22,7 +22,7 @@ use Rattle.operating.specs.Phases.{bought, with_bop_closed, with_trade}
 use Rattle.operating.specs.TrainLaws.{TrainsAreAll}
 use Rattle.operating.specs.Trains.{are_left, first_left, is_kind, is_left, is_on_sale, cost_of}
 use Rattle.operating.specs.declared.purchase.Purchase.{Purchase}
-use Rattle.tables.specs.Train.{place_of_kind, same_kind, trains_of as manifest_of}
+use Rattle.tables.specs.Train.{place_of_kind, same_kind, trains_of}
 use Rattle.tables.specs.declared.rolling_stock.Kind.{Kind}
 use Rattle.tables.specs.declared.rolling_stock.Kind.TheVariants.{Two, Three, Four, Five, Six, Diesel}
 use Rattle.tables.specs.declared.roster.Company.{Company}
@@ -133,14 +133,14 @@ left_is events Six numbered = refl
 left_is events Diesel numbered = absurd (omega arith)
 
 -- all trains of an earlier kind but the 6 are sold where the bank sells one
-pub earlier_sold : (game : Game) (kind earlier : Kind) (number : ℕ) → is_on_sale game.events seller.Bank kind ≡ true → TrainsAreHeld game.events → TrainsAreAll game.events → (manifest_of earlier).number ≡ Some number → place_of_kind earlier < 4 → place_of_kind earlier < place_of_kind kind → trains_sold game.events earlier ≡ number
+pub earlier_sold : (game : Game) (kind earlier : Kind) (number : ℕ) → is_on_sale game.events seller.Bank kind ≡ true → TrainsAreHeld game.events → TrainsAreAll game.events → (trains_of earlier).number ≡ Some number → place_of_kind earlier < 4 → place_of_kind earlier < place_of_kind kind → trains_sold game.events earlier ≡ number
 earlier_sold game kind earlier number sells held all there numbered before =
     let events = game.events in
     elim (either (is_kind (first_left events) kind) (same_kind kind Diesel && nat_lt 0 (trains_sold events Six)) sells) [
       | inl first ↦
           let none = gone (is_left events Two) (is_left events Three) (is_left events Four) (is_left events Five) (is_left events Six) earlier kind first before in
           let few = held.sold earlier number there in
-          let many = all_sold (manifest_of earlier).number (trains_sold events earlier) number (sym (left_is events earlier (omega arith)) ∙ none) there in
+          let many = all_sold (trains_of earlier).number (trains_sold events earlier) number (sym (left_is events earlier (omega arith)) ∙ none) there in
           omega arith
       | inr diesel ↦
           let six = (both (same_kind kind Diesel) (nat_lt 0 (trains_sold events Six)) diesel).1 in

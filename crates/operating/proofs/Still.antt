@@ -35,7 +35,7 @@ use Rattle.order_grammar.specs.declared.order.TrainSource.{TrainSource}
 use Rattle.sheets.specs.Part.{Numbered}
 use Rattle.tables.specs.Roster.{same_company}
 use Rattle.tables.specs.Rules.{first_broken}
-use Rattle.tables.specs.Train.{kinds, limit_of, same_kind, trains_of as manifest_of}
+use Rattle.tables.specs.Train.{kinds, limit_of, same_kind, trains_of}
 use Rattle.tables.specs.declared.rolling_stock.Kind.{Kind}
 use Rattle.tables.specs.declared.rolling_stock.Kind.TheVariants.{Two, Six, Diesel}
 use Rattle.tables.specs.declared.roster.Company.{Company}
@@ -72,7 +72,7 @@ module _ (events : List Event) (seat : Seat) (line : Numbered) (ruling : Ruling)
 
   -- the same kinds are left
   same_left : (kind : Kind) → is_left after kind ≡ is_left events kind
-  same_left kind = ap (are_left (manifest_of kind).number) (same_sold kind)
+  same_left kind = ap (are_left (trains_of kind).number) (same_sold kind)
 
   same_first : (some : List Kind) → first_left_of after some ≡ first_left_of events some
   same_first [] = refl

@@ -9,7 +9,7 @@ use Rattle.operating.specs.Phases.{after_train}
 use Rattle.operating.specs.Trains.{train_judgement}
 use Rattle.operating.specs.Turn.{IsCompanyTurn}
 use Rattle.operating.specs.declared.purchase.Purchase.{Purchase}
-use Rattle.tables.specs.Train.{place_of_kind, rusting_of, trains_of as manifest_of}
+use Rattle.tables.specs.Train.{place_of_kind, rusting_of, trains_of}
 use Rattle.tables.specs.declared.rolling_stock.Kind.{Kind}
 use Rattle.tables.specs.declared.roster.Company.{Company}
 use Rattle.tables.specs.declared.round.Round.{Round}
@@ -43,11 +43,11 @@ trains_there events kind number = (pos number -ℤ pos (trains_sold events kind)
 -- its turn: the phase is that of the latest kind that it has sold, and it sells a 3, 4, 5 or 6 or a D once all
 -- trains of each earlier kind but the 6 are sold
 pub record TrainsAreAll (events : List Event) : Type 0 where
-  pub until : (kind : Kind) (number : ℕ) → (manifest_of kind).number ≡ Some number → have_rusted events kind ≡ false → trains_there events kind number ≡ pos number
-  pub after : (kind : Kind) (number : ℕ) → (manifest_of kind).number ≡ Some number → have_rusted events kind ≡ true → trains_there events kind number ≡ pos 0
+  pub until : (kind : Kind) (number : ℕ) → (trains_of kind).number ≡ Some number → have_rusted events kind ≡ false → trains_there events kind number ≡ pos number
+  pub after : (kind : Kind) (number : ℕ) → (trains_of kind).number ≡ Some number → have_rusted events kind ≡ true → trains_there events kind number ≡ pos 0
   pub begun : 0 < place_of_kind (phase_of events) → 0 < trains_sold events (phase_of events)
   pub latest : (kind : Kind) → 0 < trains_sold events kind → place_of_kind kind ≤ place_of_kind (phase_of events)
-  pub in_order : (earlier later : Kind) (number : ℕ) → (manifest_of earlier).number ≡ Some number → place_of_kind earlier < 4 → place_of_kind earlier < place_of_kind later → 0 < trains_sold events later → trains_sold events earlier ≡ number
+  pub in_order : (earlier later : Kind) (number : ℕ) → (trains_of earlier).number ≡ Some number → place_of_kind earlier < 4 → place_of_kind earlier < place_of_kind later → 0 < trains_sold events later → trains_sold events earlier ≡ number
 
 -- they are as many, and nobody has fewer than none
 pub record TrainsStand (events : List Event) : Type 0 where

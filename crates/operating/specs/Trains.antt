@@ -20,7 +20,7 @@ use Rattle.order_grammar.specs.declared.order.Offer.{Offer}
 use Rattle.order_grammar.specs.declared.order.Offer.TheVariants as offer
 use Rattle.tables.specs.Roster.{same_company}
 use Rattle.tables.specs.Rules.{Rule, first_broken}
-use Rattle.tables.specs.Train.{limit_of, same_kind, trains_of as manifest_of}
+use Rattle.tables.specs.Train.{limit_of, same_kind, trains_of}
 use Rattle.tables.specs.declared.rolling_stock.Kind.{Kind}
 use Rattle.tables.specs.declared.rolling_stock.Kind.TheVariants.{Two, Three, Four, Five, Six, Diesel}
 use Rattle.tables.specs.declared.roster.Company.{Company}
@@ -33,7 +33,7 @@ are_left (Some number) sold = nat_lt sold number
 
 -- the bank has trains of a kind left
 abbrev pub is_left : List Event → Kind → Bool
-is_left events kind = are_left (manifest_of kind).number (trains_sold events kind)
+is_left events kind = are_left (trains_of kind).number (trains_sold events kind)
 
 -- the first of these kinds of which the bank has some left
 abbrev pub first_left_of : List Event → List Kind → Option Kind
@@ -81,7 +81,7 @@ is_full events company trade_in =
 -- the price of a train of a kind for a company that trades a train in: a D is cheaper then
 abbrev pub price_for_trade : Kind → ℕ
 price_for_trade Diesel = 800
-price_for_trade other = (manifest_of other).price
+price_for_trade other = (trains_of other).price
 
 -- a train of the kind may be traded in for a D
 abbrev pub may_be_traded : Kind → Bool
@@ -94,7 +94,7 @@ may_be_traded Diesel = false
 
 -- what a train of the bank or the pool costs
 abbrev pub price_of_train : Kind → Option Kind → ℕ
-price_of_train kind None = (manifest_of kind).price
+price_of_train kind None = (trains_of kind).price
 price_of_train kind (Some trade_in) = price_for_trade kind
 
 -- the price that an order names is one that a line can spell

@@ -1,6 +1,6 @@
 ghost use Rattle.std.specs.Prelude.{◌≡◌, map};
 ghost use Rattle.history.specs.LookBack.{owner_in};
-ghost use Rattle.operating.specs.Judgement.{asker_of, is_companys as companys_own, is_players as players_own};
+ghost use Rattle.operating.specs.Judgement.{asker_of, is_companys, is_players};
 ghost use Rattle.tables.specs.Roster.{privates};
 
 use crate::progress::Progress;
@@ -27,7 +27,7 @@ pub(crate) fn asker(history: &History, company: Company, progress: Progress) -> 
 /// Which privates a company owns, by their places in the roster.
 fn of_company(owners: &Owners, company: Company) -> [bool; 6]
     ensures { result
-        ≡ map (λ private. companys_own company (owner_in owners.now private)) privates }
+        ≡ map (λ private. is_companys company (owner_in owners.now private)) privates }
 {
     [
         is_companys(company, owners.owner(Private::SchuylkillValley)),
@@ -41,7 +41,7 @@ fn of_company(owners: &Owners, company: Company) -> [bool; 6]
 
 /// Which privates players own, by their places in the roster.
 fn of_players(owners: &Owners) -> [bool; 6]
-    ensures { result ≡ map (λ private. players_own (owner_in owners.now private)) privates }
+    ensures { result ≡ map (λ private. is_players (owner_in owners.now private)) privates }
 {
     [
         is_players(owners.owner(Private::SchuylkillValley)),
@@ -55,7 +55,7 @@ fn of_players(owners: &Owners) -> [bool; 6]
 
 /// Whether an owner is this company.
 fn is_companys(company: Company, owner: Option<Holder>) -> bool
-    ensures { result ≡ companys_own company owner }
+    ensures { result ≡ is_companys company owner }
 {
     match owner {
         Some(Holder::Company(owner)) => owner == company,
@@ -65,7 +65,7 @@ fn is_companys(company: Company, owner: Option<Holder>) -> bool
 
 /// Whether an owner is a player.
 fn is_players(owner: Option<Holder>) -> bool
-    ensures { result ≡ players_own owner }
+    ensures { result ≡ is_players owner }
 {
     matches!(owner, Some(Holder::Seat(_)))
 }

@@ -5,7 +5,7 @@ ghost use Rattle.certificate.specs.declared.runner.RunnerFault.TheVariants.{Refu
 ghost use Rattle.events.specs.declared.ruling.Refusal.TheVariants as refusal;
 ghost use Rattle.events.specs.declared.ruling.Ruling.TheVariants.{Refused};
 ghost use Rattle.history.specs.Trains.{so_many};
-ghost use Rattle.operating.specs.Best.{BestLeads, best_earned, best_judgement, has_none_to_run as has_none_left, trains_now};
+ghost use Rattle.operating.specs.Best.{BestLeads, best_earned, best_judgement, has_none_to_run, trains_now};
 ghost use Rattle.operating.specs.Calls.{Makes};
 ghost use Rattle.operating.specs.CompanyTurn.{GoesOn, IsInOrder, state};
 ghost use Rattle.operating.specs.InTurn.{in_turn, told};
@@ -139,7 +139,7 @@ fn best_rule(history: &History, company: Company, progress: &Progress) -> Option
 
 /// Whether a company has no train, or some train of it has run in the turn.
 fn has_none_to_run(past: &Past, company: Company, progress: &Progress) -> bool
-    ensures { result ≡ has_none_left past.now.events.now company progress.now }
+    ensures { result ≡ has_none_to_run past.now.events.now company progress.now }
 {
     !has_trains(past, company) || progress.has_any_run()
 }

@@ -1,10 +1,10 @@
 //! Trains that a company discards: by the lines of its president, or else the least that it has.
 ghost use Rattle.std.specs.Prelude.{◌≡◌, OnOk, IfOk, Some};
-ghost use Rattle.operating.specs.Discards.{discard_in as kind_in_order, discard_judgement};
-ghost use Rattle.operating.specs.Discards.{discarded_by as discarded_kind, first_held as the_first_held};
-ghost use Rattle.operating.specs.Discards.{has_train as company_has, is_no_discard as no_discard};
-ghost use Rattle.operating.specs.Discards.{is_president as is_the_president, kinds_then};
-ghost use Rattle.operating.specs.Discards.{line_of as kind_of_line, lines_of, next_discard, presides_then};
+ghost use Rattle.operating.specs.Discards.{discard_in, discard_judgement};
+ghost use Rattle.operating.specs.Discards.{discarded_by, first_held};
+ghost use Rattle.operating.specs.Discards.{has_train, is_no_discard};
+ghost use Rattle.operating.specs.Discards.{is_president, kinds_then};
+ghost use Rattle.operating.specs.Discards.{line_of, lines_of, next_discard, presides_then};
 ghost use Rattle.operating.specs.Discards.{without_first};
 ghost use Rattle.events.specs.Event.{obeyed_of, office_of};
 ghost use Rattle.history.specs.Shares.{president_said};
@@ -32,21 +32,21 @@ pub(crate) fn judge_discard(
 
 /// Whether the seat is not president of the company, or the company has no such train.
 fn is_no_discard(past: &Past, seat: Seat, company: Company, kind: Kind) -> bool
-    ensures { result ≡ no_discard past.now.events.now seat company kind }
+    ensures { result ≡ is_no_discard past.now.events.now seat company kind }
 {
     !is_president(past.president(company), seat) || !has_train(past, company, kind)
 }
 
 /// Whether a seat presides.
 pub(crate) fn is_president(president: Option<Seat>, seat: Seat) -> bool
-    ensures { result ≡ is_the_president president seat }
+    ensures { result ≡ is_president president seat }
 {
     matches!(president, Some(president) if president == seat)
 }
 
 /// Whether a company has a train of a kind.
 pub(crate) fn has_train(past: &Past, company: Company, kind: Kind) -> bool
-    ensures { result ≡ company_has past.now.events.now company kind }
+    ensures { result ≡ has_train past.now.events.now company kind }
 {
     past.trains(Some(company), kind) > 0
 }
@@ -70,7 +70,7 @@ pub(crate) fn next_discard(
 
 /// The first of these kinds of which a company has a train.
 fn first_held(past: &Past, company: Company, kinds: &[Kind]) -> Option<Kind>
-    ensures { result ≡ the_first_held past.now.events.now company kinds.now }
+    ensures { result ≡ first_held past.now.events.now company kinds.now }
 {
     for kind in kinds {
         if has_train(past, company, *kind) {
@@ -153,7 +153,7 @@ fn presides_after(presides: bool, event: &Event, seat: Seat, company: Company) -
 
 /// The kind of which a company is to discard by a line of a seat that an event obeys.
 fn kind_ordered(event: &Event, seat: Seat, company: Company) -> Option<Kind>
-    ensures { result ≡ kind_of_line seat company (obeyed_of event.now) }
+    ensures { result ≡ line_of seat company (obeyed_of event.now) }
 {
     match event {
         Event::Ruled {
@@ -170,7 +170,7 @@ fn kind_ordered(event: &Event, seat: Seat, company: Company) -> Option<Kind>
 
 /// The kind of which an order says that a company is to discard.
 fn discard_in(order: &Order, company: Company) -> Option<Kind>
-    ensures { result ≡ kind_in_order company order.now }
+    ensures { result ≡ discard_in company order.now }
 {
     match order {
         Order::Discard {
@@ -183,7 +183,7 @@ fn discard_in(order: &Order, company: Company) -> Option<Kind>
 
 /// The kind of which a company discards by an event.
 fn discarded_by(event: &Event, company: Company) -> Option<Kind>
-    ensures { result ≡ discarded_kind company event.now }
+    ensures { result ≡ discarded_by company event.now }
 {
     match event {
         Event::Discarded {

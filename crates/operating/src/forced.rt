@@ -4,7 +4,7 @@ ghost use Rattle.std.specs.Option.{option_copied};
 ghost use Rattle.history.specs.Sound.{IsSound};
 ghost use Rattle.history.specs.Trains.{so_many as as_many};
 ghost use Rattle.operating.specs.CompanyTurn.{IsInOrder};
-ghost use Rattle.operating.specs.Forced.{EndLeads, IsDue, after_forced, after_raise, after_raise_line, after_raises, cheapest as the_cheapest, concluded, falls_short as president_falls_short, first_on_sale as the_first_on_sale, first_to_sell as the_first_to_sell, has_trains as has_any_trains, lack_of, may_spell_raise, needed_rule as rule_of_needed, next_to_sell as the_next_to_sell, one_tenth, plain as plain_purchase, raise_rule as rule_of_raise, sale_rule as rule_of_sale, sold_further, sold_singly, with_aid, with_one_sold};
+ghost use Rattle.operating.specs.Forced.{EndLeads, IsDue, after_forced, after_raise, after_raise_line, after_raises, cheapest, concluded, falls_short, first_on_sale, first_to_sell, has_trains, lack_of, may_spell_raise, needed_rule, next_to_sell, one_tenth, plain, raise_rule, sale_rule, sold_further, sold_singly, with_aid, with_one_sold};
 ghost use Rattle.operating.specs.Ground.{IsFront};
 ghost use Rattle.operating.specs.Trains.{IsSmallPurchase};
 ghost use Rattle.order_grammar.specs.declared.order.Order.TheVariants.{Raise};
@@ -62,7 +62,7 @@ fn is_due(board: &mut Board, history: &History, company: Company) -> Result<bool
 
 /// Whether a company has a train.
 pub(crate) fn has_trains(past: &Past, company: Company) -> bool
-    ensures { result ≡ has_any_trains past.now.events.now company }
+    ensures { result ≡ has_trains past.now.events.now company }
 {
     past.stable_size(Some(company)) > 0
 }
@@ -210,7 +210,7 @@ fn raise_rule(
     due: bool,
 ) -> Option<Refusal>
     ensures { result
-        ≡ rule_of_raise due by history.now (option_copied condition.entry) sale }
+        ≡ raise_rule due by history.now (option_copied condition.entry) sale }
 {
     if due && falls_short(history, by) {
         needed_rule(history, by, condition, sale)
@@ -227,7 +227,7 @@ fn needed_rule(
     sale: Sale,
 ) -> Option<Refusal>
     ensures { result
-        ≡ rule_of_needed by history.now (option_copied condition.entry) sale }
+        ≡ needed_rule by history.now (option_copied condition.entry) sale }
 {
     if history.is_met(condition) {
         sale_rule(history, by, sale).map(Refusal::Stock)
@@ -239,7 +239,7 @@ fn needed_rule(
 /// The first rule that a sale breaks by which money is raised for the company.
 #[tactic(auto, unfolding(crate::specs::Forced::sale_rule))]
 fn sale_rule(history: &History, by: Operator, sale: Sale) -> Option<StockRule>
-    ensures { result ≡ rule_of_sale by history.now sale }
+    ensures { result ≡ sale_rule by history.now sale }
 {
     match may_sell(history, by.president, sale, Some(by.company)) {
         Ok(()) => None,
@@ -308,7 +308,7 @@ fn sell_next(history: &mut History, by: Operator) -> Result<(), AllocError>
     requires sound { IsSound history.old }
     ensures seats { OnOk result (history.new.seats ≡ history.old.seats) }
     ensures after { OnOk result (history.new
-        ≡ with_one_sold by history.old (the_next_to_sell by history.old)) }
+        ≡ with_one_sold by history.old (next_to_sell by history.old)) }
     ensures sound { OnOk result (IsSound history.new) }
 {
     if let Some(company) = next_to_sell(history, by) {
@@ -328,14 +328,14 @@ fn tenth_of(company: Company) -> Sale
 /// The first company in roster order of which the president may sell a tenth.
 #[tactic(auto, unfolding(crate::specs::Forced::next_to_sell))]
 fn next_to_sell(history: &History, by: Operator) -> Option<Company>
-    ensures { result ≡ the_next_to_sell by history.now }
+    ensures { result ≡ next_to_sell by history.now }
 {
     first_to_sell(history, by, &Company::ALL)
 }
 
 /// The first of these companies of which the president may sell a tenth.
 fn first_to_sell(history: &History, by: Operator, among: &[Company]) -> Option<Company>
-    ensures { result ≡ the_first_to_sell by history.now among.now }
+    ensures { result ≡ first_to_sell by history.now among.now }
 {
     among.iter().copied().find(|company| sale_rule(history, by, tenth_of(*company)).is_none())
 }
@@ -344,7 +344,7 @@ fn first_to_sell(history: &History, by: Operator, among: &[Company]) -> Option<C
 #[tactic(auto, unfolding(crate::specs::Forced::concluded))]
 fn conclude(alloc: Global, history: &mut History, by: Operator) -> Result<(), AllocError>
     requires at_table { by.president.0 < history.old.seats }
-    requires none { has_any_trains history.old.events by.company ≡ false }
+    requires none { has_trains history.old.events by.company ≡ false }
     requires sound { IsSound history.old }
     ensures after { OnOk result (history.new ≡ concluded by history.old) }
     ensures sound { OnOk result (IsSound history.new) }
@@ -363,7 +363,7 @@ fn conclude(alloc: Global, history: &mut History, by: Operator) -> Result<(), Al
 #[tactic(auto, unfolding(crate::specs::Forced::with_aid))]
 fn aid(history: &mut History, by: Operator) -> Result<(), AllocError>
     requires at_table { by.president.0 < history.old.seats }
-    requires enough { president_falls_short by history.old ≡ false }
+    requires enough { falls_short by history.old ≡ false }
     requires sound { IsSound history.old }
     ensures after { OnOk result (history.new ≡ with_aid by history.old) }
     ensures sound { OnOk result (IsSound history.new) }
@@ -393,7 +393,7 @@ fn lacking(history: &History, company: Company) -> Amount
 /// Whether the president has less free of his bids than the company lacks.
 #[tactic(auto, unfolding(crate::specs::Forced::falls_short))]
 fn falls_short(history: &History, by: Operator) -> bool
-    ensures { result ≡ president_falls_short by history.now }
+    ensures { result ≡ falls_short by history.now }
 {
     history.free_cash(by.president) < lack(history, by.company)
 }
@@ -410,7 +410,7 @@ fn lack(history: &History, company: Company) -> Money
 /// The cheapest train that the bank or the pool sells, the bank's where both sell it.
 #[tactic(auto, unfolding(crate::specs::Forced::cheapest))]
 fn cheapest(past: &Past) -> Purchase
-    ensures purchase { result ≡ the_cheapest past.now.events.now }
+    ensures purchase { result ≡ cheapest past.now.events.now }
     ensures small { IsSmallPurchase result }
 {
     first_on_sale(past, &NUMBERED)
@@ -419,7 +419,7 @@ fn cheapest(past: &Past) -> Purchase
 /// The first of these kinds that is for sale; a D of the bank where none is.
 #[tactic(auto, unfolding(crate::specs::Forced::first_on_sale))]
 fn first_on_sale(past: &Past, kinds: &[Kind]) -> Purchase
-    ensures purchase { result ≡ the_first_on_sale past.now.events.now kinds.now }
+    ensures purchase { result ≡ first_on_sale past.now.events.now kinds.now }
     ensures small { IsSmallPurchase result }
 {
     for kind in kinds {
@@ -435,7 +435,7 @@ fn first_on_sale(past: &Past, kinds: &[Kind]) -> Purchase
 
 /// The purchase of a train for which none is traded in.
 fn plain(kind: Kind, from: TrainSeller) -> Purchase
-    ensures { result ≡ plain_purchase kind from }
+    ensures { result ≡ plain kind from }
 {
     Purchase {
         kind,

@@ -1,6 +1,6 @@
 //! The standing lines OFFER.
 ghost use Rattle.std.specs.Prelude.{◌≡◌};
-ghost use Rattle.operating.specs.Offers.{is_seats as is_of_seat, offer_judgement};
+ghost use Rattle.operating.specs.Offers.{is_seats, offer_judgement};
 
 use crate::discards::is_president;
 use history::{History, Holder, PrivateRule, Refusal, TrainRule};
@@ -28,7 +28,7 @@ pub(crate) fn judge_offer(history: &History, seat: Seat, sale: Offer) -> Option<
 
 /// Whether a seat is this owner.
 fn is_seats(seat: Seat, owner: Option<Holder>) -> bool
-    ensures { result ≡ is_of_seat seat owner }
+    ensures { result ≡ is_seats seat owner }
 {
     matches!(owner, Some(Holder::Seat(owner)) if owner == seat)
 }

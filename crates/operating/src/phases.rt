@@ -2,7 +2,7 @@
 ghost use Rattle.std.specs.Prelude.{◌≡◌, OnOk, None};
 ghost use Rattle.history.specs.Trains.{so_many};
 ghost use Rattle.history.specs.Sound.{IsSound};
-ghost use Rattle.operating.specs.Phases.{after_train, begins_phase as is_first_of_phase, bought, excess_of};
+ghost use Rattle.operating.specs.Phases.{after_train, begins_phase, bought, excess_of};
 ghost use Rattle.operating.specs.Phases.{rusts_at, with_all_closed, with_bop_closed, with_closed};
 ghost use Rattle.operating.specs.Phases.{with_company_rusted, with_kind_rusted, with_kind_rusted_at};
 ghost use Rattle.operating.specs.Phases.{with_limit_kept, with_limits_kept, with_next_discarded, with_phase};
@@ -41,7 +41,7 @@ pub(crate) fn buy_train(
 
 /// Whether a purchase is that of the first train of a later kind from the bank.
 fn begins_phase(history: &History, from: TrainSeller, kind: Kind) -> bool
-    ensures { result ≡ is_first_of_phase history.now.events from kind }
+    ensures { result ≡ begins_phase history.now.events from kind }
 {
     match from {
         TrainSeller::Bank => {

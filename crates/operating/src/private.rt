@@ -4,9 +4,9 @@ ghost use Rattle.history.specs.LookBack.{owner_of};
 ghost use Rattle.history.specs.Sound.{IsSound};
 ghost use Rattle.operating.specs.CompanyTurn.{GoesOn, IsInOrder, state};
 ghost use Rattle.operating.specs.Privates.{after_private, private_bought, private_judgement, sold_by};
-ghost use Rattle.operating.specs.Privates.{is_given as is_sale_given, is_given_by as is_sale_given_by};
-ghost use Rattle.operating.specs.Privates.{is_too_dear as too_dear, is_too_early as too_early};
-ghost use Rattle.operating.specs.Privates.{is_wrong_price as wrong_price};
+ghost use Rattle.operating.specs.Privates.{is_given, is_given_by};
+ghost use Rattle.operating.specs.Privates.{is_too_dear, is_too_early};
+ghost use Rattle.operating.specs.Privates.{is_wrong_price};
 ghost use Rattle.order_grammar.specs.declared.order.Order.TheVariants.{BuyOwnedPrivate};
 ghost use Rattle.sheets.specs.Part.{line_with};
 
@@ -124,7 +124,7 @@ fn broken_by(past: &Past, company: Company, private: Private, price: Amount) -> 
 
 /// Whether a company has less than a price.
 fn is_too_dear(past: &Past, company: Company, price: Amount) -> bool
-    ensures { result ≡ too_dear
+    ensures { result ≡ is_too_dear
         (record { seats = past.now.seats; events = past.now.events.now }) company price }
 {
     past.cash(Party::of_company(company)) < Money::from(price)
@@ -132,14 +132,14 @@ fn is_too_dear(past: &Past, company: Company, price: Amount) -> bool
 
 /// Whether phase 3 has not begun.
 fn is_too_early(past: &Past) -> bool
-    ensures { result ≡ too_early past.now.events.now }
+    ensures { result ≡ is_too_early past.now.events.now }
 {
     past.phase().place() < Kind::Three.place()
 }
 
 /// Whether a price is under half of the face value, or over twice that.
 fn is_wrong_price(private: Private, price: Amount) -> bool
-    ensures { result ≡ wrong_price private price }
+    ensures { result ≡ is_wrong_price private price }
 {
     let (face, price) = (u64::from(face(private)), u64::from(price));
     price + price < face || face + face < price
@@ -147,7 +147,7 @@ fn is_wrong_price(private: Private, price: Amount) -> bool
 
 /// Whether a player owns a private, and consents to its sale to a company at a price.
 fn is_given(past: &Past, buyer: Company, private: Private, price: Amount) -> bool
-    ensures { result ≡ is_sale_given past.now.events.now buyer private price }
+    ensures { result ≡ is_given past.now.events.now buyer private price }
 {
     let sale = Offer::Private {
         private,
@@ -159,7 +159,7 @@ fn is_given(past: &Past, buyer: Company, private: Private, price: Amount) -> boo
 
 /// Whether this owner is a player, and consents to a sale where this seat takes.
 fn is_given_by(past: &Past, owner: Option<Holder>, taker: Option<Seat>, sale: Offer) -> bool
-    ensures { result ≡ is_sale_given_by past.now.events.now owner taker sale }
+    ensures { result ≡ is_given_by past.now.events.now owner taker sale }
 {
     match (owner, taker) {
         (Some(Holder::Seat(giver)), Some(taker)) => past.has_consent(giver, taker, sale),

@@ -1,8 +1,8 @@
 ghost use Rattle.std.specs.Prelude.{◌≡◌, ◌≤◌};
 ghost use Rattle.operating.specs.Best.{best_done};
-ghost use Rattle.operating.specs.Dividend.{is_past_pay as past_pay};
-ghost use Rattle.operating.specs.Runs.{IsCounted, has_any_run as any_ran, is_past_runs as past_runs, run_done};
-ghost use Rattle.operating.specs.InTurn.{at_start, is_unpaid as not_past_pay, lay_done, pay_done, token_done};
+ghost use Rattle.operating.specs.Dividend.{is_past_pay};
+ghost use Rattle.operating.specs.Runs.{IsCounted, has_any_run, is_past_runs, run_done};
+ghost use Rattle.operating.specs.InTurn.{at_start, is_unpaid, lay_done, pay_done, token_done};
 
 use crate::runs::{Ran, Runs};
 use board::{Asker, Board, TurnStep, is_dh_lay};
@@ -96,28 +96,28 @@ impl Progress {
 
     /// Whether the turn is past its runs.
     pub(crate) fn is_past_runs(&self) -> bool
-        ensures { result ≡ past_runs self.now }
+        ensures { result ≡ is_past_runs self.now }
     {
         TurnStep::Run.number() < self.pointer.number()
     }
 
     /// Whether some train has run in the turn.
     pub(crate) fn has_any_run(&self) -> bool
-        ensures { result ≡ any_ran self.now }
+        ensures { result ≡ has_any_run self.now }
     {
         self.best_run || self.runs.are_any()
     }
 
     /// Whether the turn is past its pay.
     pub(crate) fn is_past_pay(&self) -> bool
-        ensures { result ≡ past_pay self.now }
+        ensures { result ≡ is_past_pay self.now }
     {
         TurnStep::Pay.number() < self.pointer.number()
     }
 
     /// Whether the turn is not past its pay.
     pub(crate) fn is_unpaid(&self) -> bool
-        ensures { result ≡ not_past_pay self.now }
+        ensures { result ≡ is_unpaid self.now }
     {
         self.pointer.number() < TurnStep::Trains.number()
     }

@@ -1,13 +1,13 @@
 //! The purchase of a train: what is on sale, what it costs, and the rules.
 ghost use Rattle.std.specs.Prelude.{◌≡◌, ◌≤◌, pos};
 ghost use Rattle.operating.specs.Trains.{IsSmallPurchase, cost_of, first_left_of, presidents_agree, train_judgement};
-ghost use Rattle.operating.specs.Trains.{first_left as the_first_left, is_full as would_be_full, is_left as has_left};
-ghost use Rattle.operating.specs.Trains.{is_no_trade_in as no_trade_in, is_on_sale as on_sale, is_too_dear as too_dear};
-ghost use Rattle.operating.specs.Trains.{lacks_consent as has_no_consent, is_not_sellers as none_of_sellers};
-ghost use Rattle.operating.specs.Trains.{may_be_traded as may_be_given, may_trade as may_be_had_for};
-ghost use Rattle.operating.specs.Trains.{price_for_trade as price_with_trade, price_of_train as the_price_of_train};
-ghost use Rattle.operating.specs.Trains.{sells as bank_sells, sells_diesels as bank_sells_diesels};
-ghost use Rattle.operating.specs.Trains.{traded_count as count_of_trade};
+ghost use Rattle.operating.specs.Trains.{first_left, is_full, is_left};
+ghost use Rattle.operating.specs.Trains.{is_no_trade_in, is_on_sale, is_too_dear};
+ghost use Rattle.operating.specs.Trains.{lacks_consent, is_not_sellers};
+ghost use Rattle.operating.specs.Trains.{may_be_traded, may_trade};
+ghost use Rattle.operating.specs.Trains.{price_for_trade, price_of_train};
+ghost use Rattle.operating.specs.Trains.{sells, sells_diesels};
+ghost use Rattle.operating.specs.Trains.{traded_count};
 
 use crate::discards::has_train;
 use history::{History, Party, Past, TrainRule, TrainSeller};
@@ -43,7 +43,7 @@ impl Purchase {
 
 /// What a train of the bank or the pool costs.
 fn price_of_train(kind: Kind, trade_in: Option<Kind>) -> Amount
-    ensures price { result ≡ the_price_of_train kind trade_in }
+    ensures price { result ≡ price_of_train kind trade_in }
     ensures small { result ≤ 1100 }
 {
     match trade_in {
@@ -96,7 +96,7 @@ fn broken_by(past: &Past, company: Company, purchase: Purchase) -> Option<TrainR
 
 /// Whether such a train is on sale there.
 fn is_on_sale(past: &Past, from: TrainSeller, kind: Kind) -> bool
-    ensures { result ≡ on_sale past.now.events.now from kind }
+    ensures { result ≡ is_on_sale past.now.events.now from kind }
 {
     match from {
         TrainSeller::Bank => sells(past, kind),
@@ -107,21 +107,21 @@ fn is_on_sale(past: &Past, from: TrainSeller, kind: Kind) -> bool
 
 /// Whether the bank sells trains of a kind.
 pub(crate) fn sells(past: &Past, kind: Kind) -> bool
-    ensures { result ≡ bank_sells past.now.events.now kind }
+    ensures { result ≡ sells past.now.events.now kind }
 {
     first_left(past) == Some(kind) || (kind == Kind::Diesel && sells_diesels(past))
 }
 
 /// Whether the bank sells a D: it has sold a 6.
 fn sells_diesels(past: &Past) -> bool
-    ensures { result ≡ bank_sells_diesels past.now.events.now }
+    ensures { result ≡ sells_diesels past.now.events.now }
 {
     past.trains_sold(Kind::Six) > 0
 }
 
 /// The least kind of 2 to 6 of which the bank has some left.
 fn first_left(past: &Past) -> Option<Kind>
-    ensures { result ≡ the_first_left past.now.events.now }
+    ensures { result ≡ first_left past.now.events.now }
 {
     first_of(past, &NUMBERED)
 }
@@ -140,7 +140,7 @@ fn first_of(past: &Past, kinds: &[Kind]) -> Option<Kind>
 
 /// Whether the bank has trains of a kind left.
 fn is_left(past: &Past, kind: Kind) -> bool
-    ensures { result ≡ has_left past.now.events.now kind }
+    ensures { result ≡ is_left past.now.events.now kind }
 {
     match train(kind).number {
         None => true,
@@ -151,7 +151,7 @@ fn is_left(past: &Past, kind: Kind) -> bool
 /// Whether a company would have more trains than the phase allows. One that is to be traded in is
 /// not counted, whether the company has it or not.
 fn is_full(past: &Past, company: Company, trade_in: Option<Kind>) -> bool
-    ensures { result ≡ would_be_full past.now.events.now company trade_in }
+    ensures { result ≡ is_full past.now.events.now company trade_in }
 {
     let kept = Money::from(past.stable_size(Some(company))) - traded_count(trade_in);
     kept >= limit(past.phase()) as Money
@@ -159,7 +159,7 @@ fn is_full(past: &Past, company: Company, trade_in: Option<Kind>) -> bool
 
 /// What a train of a kind costs a company that trades a train in: a D is cheaper then.
 fn price_for_trade(kind: Kind) -> Amount
-    ensures price { result ≡ price_with_trade kind }
+    ensures price { result ≡ price_for_trade kind }
     ensures small { result ≤ 1100 }
 {
     match kind {
@@ -170,14 +170,14 @@ fn price_for_trade(kind: Kind) -> Amount
 
 /// Whether a train of a kind may be traded in for a D.
 fn may_be_traded(kind: Kind) -> bool
-    ensures { result ≡ may_be_given kind }
+    ensures { result ≡ may_be_traded kind }
 {
     matches!(kind, Kind::Four | Kind::Five | Kind::Six)
 }
 
 /// How many trains are traded in.
 fn traded_count(trade_in: Option<Kind>) -> Money
-    ensures { result ≡ pos (count_of_trade trade_in) }
+    ensures { result ≡ pos (traded_count trade_in) }
 {
     match trade_in {
         None => 0,
@@ -188,7 +188,7 @@ fn traded_count(trade_in: Option<Kind>) -> Money
 /// Whether a train costs more than the company has.
 fn is_too_dear(past: &Past, company: Company, purchase: Purchase) -> bool
     requires { IsSmallPurchase purchase }
-    ensures { result ≡ too_dear
+    ensures { result ≡ is_too_dear
         (record { seats = past.now.seats; events = past.now.events.now }) company purchase }
 {
     past.cash(Party::of_company(company)) < Money::from(purchase.price())
@@ -197,7 +197,7 @@ fn is_too_dear(past: &Past, company: Company, purchase: Purchase) -> bool
 /// Whether a company that is to sell a train has not consented, or the price is 0.
 fn lacks_consent(past: &Past, buyer: Company, purchase: Purchase) -> bool
     requires { IsSmallPurchase purchase }
-    ensures { result ≡ has_no_consent past.now.events.now buyer purchase }
+    ensures { result ≡ lacks_consent past.now.events.now buyer purchase }
 {
     let TrainSeller::Company(seller) = purchase.from else {
         return false;
@@ -224,7 +224,7 @@ fn presidents_agree(past: &Past, giver: Option<Seat>, taker: Option<Seat>, sale:
 
 /// Whether a company that is to sell a train has none of the kind, or is the buyer.
 fn is_not_sellers(past: &Past, buyer: Company, kind: Kind, from: TrainSeller) -> bool
-    ensures { result ≡ none_of_sellers past.now.events.now buyer kind from }
+    ensures { result ≡ is_not_sellers past.now.events.now buyer kind from }
 {
     match from {
         TrainSeller::Company(seller) => !has_train(past, seller, kind) || buyer == seller,
@@ -234,7 +234,7 @@ fn is_not_sellers(past: &Past, buyer: Company, kind: Kind, from: TrainSeller) ->
 
 /// Whether a train is to be traded in that is not there, or that may not be.
 fn is_no_trade_in(past: &Past, company: Company, kind: Kind, trade_in: Option<Kind>) -> bool
-    ensures { result ≡ no_trade_in past.now.events.now company kind trade_in }
+    ensures { result ≡ is_no_trade_in past.now.events.now company kind trade_in }
 {
     match trade_in {
         None => false,
@@ -244,7 +244,7 @@ fn is_no_trade_in(past: &Past, company: Company, kind: Kind, trade_in: Option<Ki
 
 /// Whether a train that the company has may be traded in for one of this kind.
 fn may_trade(past: &Past, company: Company, kind: Kind, trade_in: Kind) -> bool
-    ensures { result ≡ may_be_had_for past.now.events.now company kind trade_in }
+    ensures { result ≡ may_trade past.now.events.now company kind trade_in }
 {
     kind == Kind::Diesel && may_be_traded(trade_in) && past.trains(Some(company), trade_in) > 0
 }

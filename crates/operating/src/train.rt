@@ -4,7 +4,7 @@ ghost use Rattle.operating.specs.Trains.{IsSmallPurchase};
 ghost use Rattle.order_grammar.specs.declared.order.Order.TheVariants.{BuyTrain};
 ghost use Rattle.sheets.specs.Part.{line_with};
 ghost use Rattle.turns.specs.Small.{IsSmallOrder};
-ghost use Rattle.operating.specs.Turn.{after_buying, purchase_of as the_purchase_of};
+ghost use Rattle.operating.specs.Turn.{after_buying, purchase_of};
 
 use crate::company_turn::CompanyTurn;
 use crate::phases::buy_train;
@@ -45,7 +45,7 @@ impl CompanyTurn {
 /// The purchase that a TRAIN line orders.
 fn purchase_of(kind: Kind, from: TrainSource) -> Purchase
     requires { IsSmallOrder (BuyTrain kind from) }
-    ensures purchase { result ≡ the_purchase_of kind from }
+    ensures purchase { result ≡ purchase_of kind from }
     ensures small { IsSmallPurchase result }
 {
     let (from, trade_in, asked) = match from {

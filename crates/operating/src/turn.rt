@@ -5,7 +5,7 @@ ghost use Rattle.events.specs.declared.ruling.Ruling.TheVariants.{Faulty};
 ghost use Rattle.operating.specs.Calls.{Makes};
 ghost use Rattle.operating.specs.CompanyTurn.{GoesOn, IsInOrder, state};
 ghost use Rattle.operating.specs.InTurn.{told};
-ghost use Rattle.operating.specs.Turn.{AskedLeads, LineLeads, LinesLead, OrderLeads, is_held as is_order_held, is_ruled_there as is_order_ruled_there};
+ghost use Rattle.operating.specs.Turn.{AskedLeads, LineLeads, LinesLead, OrderLeads, is_held, is_ruled_there};
 ghost use Rattle.operating.specs.TurnCalls.{AskedCalls, LineCalls, LinesCall, OrderCalls, led_to};
 ghost use Rattle.order_grammar.specs.declared.order.Order.TheVariants.{RunBest};
 ghost use Rattle.sheets.specs.Part.{faulty_line, line_unread, line_with};
@@ -81,11 +81,11 @@ impl CompanyTurn {
         requires order { IsInOrder self.old }
         ensures turn { OnOk result (AskedLeads self.old.by (state self.old) (line_with line order.now)
             order.now
-            (is_order_held self.old.history.events line.condition order.now)
+            (is_held self.old.history.events line.condition order.now)
             (state self.new)) }
         ensures calls { Makes R.earns runner.old (AskedCalls self.old.by self.old.round
             (line_with line order.now) order.now
-            (is_order_held self.old.history.events line.condition order.now)
+            (is_held self.old.history.events line.condition order.now)
             (state self.old) (led_to (state self.new) result)) runner.new }
         ensures order { OnOk result (GoesOn self.old self.new) }
         ensures refuses { IfErr result (λ fault. fault ≡ Refused → R.may_refuse ≡ true) }
@@ -178,7 +178,7 @@ impl CompanyTurn {
 /// RAISE is asked for its condition at the end of the turn, and an order without a place never.
 fn is_held(history: &History, condition: Option<&Condition>, order: &Order) -> bool
     ensures { result
-        ≡ is_order_held history.now.events (option_copied condition.entry) order.now }
+        ≡ is_held history.now.events (option_copied condition.entry) order.now }
 {
     is_ruled_there(order) && !history.is_met(condition)
 }
@@ -186,7 +186,7 @@ fn is_held(history: &History, condition: Option<&Condition>, order: &Order) -> b
 /// Whether an order is ruled where it stands in a block: a RAISE waits for the end of the turn, and
 /// others have no place.
 fn is_ruled_there(order: &Order) -> bool
-    ensures { result ≡ is_order_ruled_there order.now }
+    ensures { result ≡ is_ruled_there order.now }
 {
     matches!(
         order,

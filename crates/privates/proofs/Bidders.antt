@@ -2,7 +2,7 @@
 use Rattle.std.proofs.Common.{◌≡◌, ◌≢◌, ℕ, ◌<◌, ◌≤◌, List, [], ◌∷◌, length, map, Option, Some, None, ℤ, pos, negsuc, ◌≤ℤ◌, inl, inr, refl, sym, subst, ap, ◌∙◌, arith}
 use Rattle.std.specs.Int.RustNames.{unsigned_abs}
 use Rattle.std.proofs.lemmas.Int.{ints, clamps}
-use Rattle.std.proofs.lemmas.List.{length-map as length_map}
+use Rattle.std.proofs.lemmas.List.{length-map}
 use Rattle.events.specs.declared.event.Bid.{Bid}
 use Rattle.events.specs.declared.event.Event.{Event}
 use Rattle.history.specs.Bids.{bid_of, bids_on, free_for}
@@ -91,7 +91,7 @@ winner_pays game private bids are some cheapest underway =
     let made : Bid → Bidder = bidder_of game.seats game.events private in
     let bidders : List Bidder = map made bids in
     let won : Seat × ℤ = auction_of bidders in
-    let is_won = auction_won bidders (omega (arith, length_map bids made)) (limits_hold game.seats game.events private bids) in
+    let is_won = auction_won bidders (omega (arith, length-map bids made)) (limits_hold game.seats game.events private bids) in
     let all : EachBid (Stands game.events private 0 game.seats) bids = subst (EachBid (Stands game.events private 0 game.seats)) (sym are) (bids_stand game.seats game.events private) in
     let one = made_of (Stands game.events private 0 game.seats) made is_won.winner bids is_won.bids all in
     let its : Bid = one.bid in

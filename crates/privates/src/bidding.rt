@@ -1,6 +1,6 @@
 ghost use Rattle.std.specs.Prelude.{◌≡◌, ◌≤◌, ◌+ℤ◌, length, pos};
 ghost use Rattle.std.specs.Int.{int_max, int_min};
-ghost use Rattle.privates.specs.Auction.{BidsDiffer, LimitsHold, ahead as the_one_ahead, auction_of, greater_of, highest_bid as highest_bid_of, limit_by, second_limit as the_second_limit, winner_among, with_limit as second_with_limit};
+ghost use Rattle.privates.specs.Auction.{BidsDiffer, LimitsHold, ahead, auction_of, greater_of, highest_bid, limit_by, second_limit, winner_among, with_limit};
 
 use tables::{Money, Seat};
 
@@ -50,7 +50,7 @@ fn winner(first: Bidder, others: &[Bidder]) -> Bidder
 
 /// Who of two is ahead.
 fn ahead(one: Bidder, other: Bidder) -> Bidder
-    ensures { result ≡ the_one_ahead one other }
+    ensures { result ≡ ahead one other }
 {
     let greater = one.2 < other.2;
     let higher = one.2 == other.2 && one.1 < other.1;
@@ -59,7 +59,7 @@ fn ahead(one: Bidder, other: Bidder) -> Bidder
 
 /// The highest bid of a bidder and others.
 fn highest_bid(first: Bidder, others: &[Bidder]) -> Money
-    ensures { result ≡ highest_bid_of first others.now }
+    ensures { result ≡ highest_bid first others.now }
 {
     let mut highest = first.1;
     for other in others {
@@ -70,7 +70,7 @@ fn highest_bid(first: Bidder, others: &[Bidder]) -> Money
 
 /// The greatest limit of the others than the winner, or 0 where there is no other.
 fn second_limit(bidders: &[Bidder], winner: Bidder) -> Money
-    ensures { result ≡ the_second_limit winner bidders.now }
+    ensures { result ≡ second_limit winner bidders.now }
 {
     let mut second = None;
     for bidder in bidders {
@@ -81,7 +81,7 @@ fn second_limit(bidders: &[Bidder], winner: Bidder) -> Money
 
 /// The greatest limit so far of the others than the winner, with one more bidder.
 fn with_limit(second: Option<Money>, bidder: Bidder, winner: Bidder) -> Option<Money>
-    ensures { result ≡ second_with_limit winner second bidder }
+    ensures { result ≡ with_limit winner second bidder }
 {
     if bidder.1 == winner.1 {
         return second;

@@ -2,7 +2,7 @@ ghost use Rattle.std.specs.Prelude.{◌≡◌, ◌≤◌, pos};
 ghost use Rattle.std.specs.Int.Signed.{lt_z};
 ghost use Rattle.history.specs.Bids.{free_for};
 ghost use Rattle.history.specs.LookBack.{cheapest_in};
-ghost use Rattle.privates.specs.Judgement.{bid_rules, is_near as is_near_one_of, is_the, is_too_low as is_too_low_for, judgement_of, price_of as asked_price, purchase_rules};
+ghost use Rattle.privates.specs.Judgement.{bid_rules, is_near, is_the, is_too_low, judgement_of, price_of, purchase_rules};
 ghost use Rattle.tables.specs.Rules.{first_broken};
 
 use history::{Bid, History, OpeningRule, Owners, Past};
@@ -14,7 +14,7 @@ const STEP: u64 = 5;
 
 /// What the bank asks for a private: SV's price may have fallen, the others' is their face.
 pub(crate) fn price_of(past: &Past, private: Private) -> Amount
-    ensures { result ≡ asked_price past.now.events.now private }
+    ensures { result ≡ price_of past.now.events.now private }
 {
     match private {
         Private::SchuylkillValley => past.sv_price(),
@@ -105,7 +105,7 @@ fn is_short(past: &Past, seat: Seat, private: Private, sum: Amount) -> bool
 /// Whether a bid on a private is too low.
 fn is_too_low(past: &Past, private: Private, amount: Amount) -> bool
     requires { past.now.seats ≤ 6 }
-    ensures { result ≡ is_too_low_for past.now.seats past.now.events.now private amount }
+    ensures { result ≡ is_too_low past.now.seats past.now.events.now private amount }
 {
     if u64::from(amount) < u64::from(face(private)) + STEP {
         return true;
@@ -115,7 +115,7 @@ fn is_too_low(past: &Past, private: Private, amount: Amount) -> bool
 
 /// Whether a sum is less than the step over one of these bids.
 fn is_near(amount: Amount, bids: &[Bid]) -> bool
-    ensures { result ≡ is_near_one_of amount bids.now }
+    ensures { result ≡ is_near amount bids.now }
 {
     for bid in bids {
         if u64::from(amount) < u64::from(bid.amount) + STEP {

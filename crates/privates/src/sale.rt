@@ -4,7 +4,7 @@ ghost use Rattle.events.specs.declared.event.Event.TheVariants as event;
 ghost use Rattle.history.specs.Bids.{bids_on};
 ghost use Rattle.history.specs.LookBack.{cheapest_of, with_event};
 ghost use Rattle.privates.specs.Act.{MayPay};
-ghost use Rattle.privates.specs.Sale.{after_sale, bidder_of as the_bidder_of, par_set_by as par_that_sets, settle as settle_of, settled, settled_by};
+ghost use Rattle.privates.specs.Sale.{after_sale, bidder_of, par_set_by, settle, settled, settled_by};
 ghost use Rattle.tables.specs.declared.roster.Private.TheVariants.{BaltimoreOhio, CamdenAmboy};
 ghost use Rattle.privates.specs.Underway.{IsUnderway};
 
@@ -126,7 +126,7 @@ fn sell_baltimore(history: &mut History, buyer: Seat, price: Amount) -> Result<(
 
 /// The par value that a buyer of BOP sets for BO: that of his last obeyed PAR line, else 67.
 fn par_set_by(past: &Past, buyer: Seat) -> Amount
-    ensures par { result ≡ par_that_sets past.now.events.now buyer }
+    ensures par { result ≡ par_set_by past.now.events.now buyer }
     ensures small { result ≤ 1000000 }
 {
     past.par_ordered(buyer).unwrap_or(PAR_UNLESS_ORDERED)
@@ -154,7 +154,7 @@ fn settle(history: &mut History) -> Result<(), AllocError>
     requires underway { IsUnderway history.old }
     ensures seats { OnOk result (history.new.seats ≡ history.old.seats) }
     ensures events { OnOk result (history.new.events
-        ≡ settle_of history.old.seats history.old.events) }
+        ≡ settle history.old.seats history.old.events) }
     ensures underway { OnOk result (IsUnderway history.new) }
 {
     match history.cheapest_unsold() {
@@ -215,7 +215,7 @@ fn bidders_of(
     bids: &[Bid],
 ) -> ArrayVec<(Seat, Money, Money), PLAYERS_MOST>
     requires { length bids.now ≤ 6 }
-    ensures { result.items ≡ map (the_bidder_of past.now.seats past.now.events.now private)
+    ensures { result.items ≡ map (bidder_of past.now.seats past.now.events.now private)
         bids.now }
 {
     let mut bidders = ArrayVec::new();
@@ -227,7 +227,7 @@ fn bidders_of(
 
 /// A bidder with his bid and his limit.
 fn bidder_of(past: &Past, private: Private, bid: Bid) -> (Seat, Money, Money)
-    ensures { result ≡ the_bidder_of past.now.seats past.now.events.now private bid }
+    ensures { result ≡ bidder_of past.now.seats past.now.events.now private bid }
 {
     let amount = Money::from(bid.amount);
     let limit = match past.limit(private, bid.seat) {

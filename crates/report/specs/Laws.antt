@@ -9,7 +9,7 @@ use Rattle.events.specs.declared.event.Event.TheVariants.{Ruled}
 use Rattle.events.specs.declared.ruling.Refusal.{Refusal}
 use Rattle.events.specs.declared.ruling.Ruling.{Ruling}
 use Rattle.events.specs.declared.ruling.Ruling.TheVariants.{Obeyed, Refused, Faulty}
-use Rattle.order_grammar.specs.Fault.{code_of as code_of_fault}
+use Rattle.order_grammar.specs.Fault.{code_of}
 use Rattle.order_grammar.specs.Print.{spaced, spelling_of}
 use Rattle.order_grammar.specs.declared.condition.Version.TheVariants.{One}
 use Rattle.order_grammar.specs.declared.order.Order.{Order}
@@ -49,7 +49,7 @@ SamePartsSameReport =
 abbrev pub order_alone : Ruling → List (List ℕ)
 order_alone (Obeyed condition order) = codes "OBEYED" ∷ spelling_of order ∷ []
 order_alone (Refused rule condition order) = codes "REFUSED" ∷ code_of_refusal rule ∷ spelling_of order ∷ []
-order_alone (Faulty fault) = codes "REFUSED" ∷ code_of_fault fault ∷ []
+order_alone (Faulty fault) = codes "REFUSED" ∷ code_of fault ∷ []
 
 -- the line of an event that is a ruling tells no condition
 abbrev pub TellsNoCondition : List ℕ → Event → Type 0

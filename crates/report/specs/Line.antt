@@ -12,7 +12,7 @@ use Rattle.events.specs.declared.ruling.Ruling.{Ruling}
 use Rattle.events.specs.declared.ruling.Ruling.TheVariants.{Obeyed, Refused, Faulty}
 use Rattle.map_tables.specs.Text.{text_of_hex, text_of_place, text_of_rotation, text_of_tile}
 use Rattle.map_tables.specs.declared.lay.Lay.{Lay}
-use Rattle.order_grammar.specs.Fault.{code_of as code_of_fault}
+use Rattle.order_grammar.specs.Fault.{code_of}
 use Rattle.order_grammar.specs.Order.{text_of_source}
 use Rattle.order_grammar.specs.declared.order.ShareSource.{ShareSource}
 use Rattle.order_grammar.specs.Print.{conditional_spelling, spaced, text_of_round}
@@ -42,7 +42,7 @@ abbrev pub ruling_words : Ruling → List (List ℕ)
 ruling_words (Obeyed condition order) = codes "OBEYED" ∷ conditional_spelling condition order ∷ []
 ruling_words (Refused rule condition order) =
     codes "REFUSED" ∷ code_of_refusal rule ∷ conditional_spelling condition order ∷ []
-ruling_words (Faulty fault) = codes "REFUSED" ∷ code_of_fault fault ∷ []
+ruling_words (Faulty fault) = codes "REFUSED" ∷ code_of fault ∷ []
 
 -- a line of these words, with its LF
 abbrev pub line_of : List ℕ → List (List ℕ) → List ℕ

@@ -4,7 +4,7 @@ use Rattle.std.specs.Prelude.{◌≡◌, ℕ, ◌+◌, Bool, true, false, if◌t
 use Rattle.std.specs.List.{flat_map, range_with_len}
 use Rattle.events.specs.Event.{round_of}
 use Rattle.events.specs.declared.event.Event.{Event}
-use Rattle.order_grammar.specs.Fault.{code_of as code_of_fault}
+use Rattle.order_grammar.specs.Fault.{code_of}
 use Rattle.order_grammar.specs.Print.{spaced, text_of_round}
 use Rattle.order_grammar.specs.declared.condition.Version.{Version}
 use Rattle.order_grammar.specs.declared.condition.Version.TheVariants.{One, Two}
@@ -15,14 +15,14 @@ use Rattle.report.specs.Worth.{worth_lines}
 use Rattle.rounds.specs.Play.{Between, Played, Plays, end_of}
 use Rattle.rounds.specs.declared.game.End.{End}
 use Rattle.rounds.specs.declared.game.End.TheVariants.{Awaiting, Bank, Bankrupt}
-use Rattle.sheets.specs.File.{Content, content_of, code_of_fault as code_of_file_fault, sheet_of, players_of, unread_of, version_of}
+use Rattle.sheets.specs.File.{Content, content_of, code_of as code_of_fault, sheet_of, players_of, unread_of, version_of}
 use Rattle.sheets.specs.declared.fault.FileFault.{FileFault}
 use Rattle.tables.specs.Round.{same_round}
 use Rattle.tables.specs.declared.round.Round as round
 
 -- the line of a refused file
 abbrev pub refusal_line : FileFault → List ℕ
-refusal_line fault = codes "FILE REFUSED " ++ code_of_file_fault fault ++ 10 ∷ []
+refusal_line fault = codes "FILE REFUSED " ++ code_of_fault fault ++ 10 ∷ []
 
 -- the word of a version
 abbrev pub word_of_version : Version → List ℕ
@@ -110,7 +110,7 @@ round_text_of played round = text_of_one played.file played.game.seats round [] 
 abbrev pub unread_lines : ℕ → List Fault → List ℕ
 unread_lines count [] = []
 unread_lines count (fault ∷ faults) =
-    codes "UNREAD " ++ decimal (count + 1) ++ 32 ∷ code_of_fault fault ++ 10 ∷ unread_lines (count + 1) faults
+    codes "UNREAD " ++ decimal (count + 1) ++ 32 ∷ code_of fault ++ 10 ∷ unread_lines (count + 1) faults
 
 -- the name of a seat's player after a space, if it has no sheet for a round
 abbrev pub name_owing : List ℕ → round.Round → ℕ → List ℕ

@@ -1,7 +1,7 @@
 ghost use Rattle.std.specs.Prelude.{◌≡◌, ◌+◌, ◌≤◌, IfOk, OnOk, drop, length};
 ghost use Rattle.report.specs.Column.{Adds};
 ghost use Rattle.report.specs.Parts.{last_round, last_round_text};
-ghost use Rattle.report.specs.Report.{IsLengthOfRound, awaiting_text, end_text, ends_round as ends_a_round, game_line, header, is_round as is_the_round, name_owing, over_text, refusal_line, report_of, round_text_of, rounds_text, text_between, unread_lines};
+ghost use Rattle.report.specs.Report.{IsLengthOfRound, awaiting_text, end_text, ends_round, game_line, header, is_round, name_owing, over_text, refusal_line, report_of, round_text_of, rounds_text, text_between, unread_lines};
 ghost use Rattle.sheets.specs.File.{players_of};
 
 use crate::line::{push_event, push_name};
@@ -177,7 +177,7 @@ fn length_of_round(events: &[Event]) -> usize
 
 /// Whether these are the events of this round.
 fn is_round(events: &[Event], round: &Round) -> bool
-    ensures { result ≡ is_the_round round.now events.now }
+    ensures { result ≡ is_round round.now events.now }
 {
     match events {
         [] => false,
@@ -187,7 +187,7 @@ fn is_round(events: &[Event], round: &Round) -> bool
 
 /// Whether a round ends before these later events: the next begins, or there is none.
 fn ends_round(later: &[Event]) -> bool
-    ensures { result ≡ ends_a_round later.now }
+    ensures { result ≡ ends_round later.now }
 {
     later.first().is_none_or(|event| event.round().is_some())
 }

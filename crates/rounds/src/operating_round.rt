@@ -9,7 +9,7 @@ ghost use Rattle.operating.specs.Table.{IsLaidOut, game_on};
 ghost use Rattle.operating.specs.Turn.{IsCompanyTurn};
 ghost use Rattle.rounds.specs.Faults.{IsRefused};
 ghost use Rattle.rounds.specs.GameCalls.{CompanyCalls, OperatingCalls, TurnsCall};
-ghost use Rattle.rounds.specs.OperatingRound.{IsOperatingRound, TurnsLead, finished, first_idle as first_to_operate, lines_left, next_company as company_to_operate};
+ghost use Rattle.rounds.specs.OperatingRound.{IsOperatingRound, TurnsLead, finished, first_idle, lines_left, next_company};
 ghost use Rattle.sheets.specs.File.{players_of};
 
 use crate::fault::PlayFault;
@@ -118,7 +118,7 @@ fn take_turn<R: Runner>(
 /// The company whose turn it is: the first in operating order that has not operated in the round;
 /// none once a president is bankrupt.
 fn next_company(history: &History) -> Option<Company>
-    ensures { result ≡ company_to_operate history.now.events }
+    ensures { result ≡ next_company history.now.events }
 {
     if history.bankrupt() {
         return None;
@@ -128,7 +128,7 @@ fn next_company(history: &History) -> Option<Company>
 
 /// The first company in operating order that has not operated in the round.
 fn first_idle(history: &History) -> Option<Company>
-    ensures { result ≡ first_to_operate history.now.events }
+    ensures { result ≡ first_idle history.now.events }
 {
     operating_order(history)
         .as_slice()

@@ -5,7 +5,7 @@ ghost use Rattle.operating.specs.Calls.{Makes};
 ghost use Rattle.rounds.specs.Faults.{IsRefused};
 ghost use Rattle.rounds.specs.GameCalls.{PlayedCalls};
 ghost use Rattle.rounds.specs.Gifts.{GiftsWait};
-ghost use Rattle.rounds.specs.Play.{IsPlayed, IsToPlay, all_posted, coming as what_comes, end_of, goes_on, in_set_before as set_before, rounds_of_new_set};
+ghost use Rattle.rounds.specs.Play.{IsPlayed, IsToPlay, all_posted, coming, end_of, goes_on, in_set_before, rounds_of_new_set};
 ghost use Rattle.rounds.specs.Sequence.{turn_in_set};
 ghost use Rattle.rounds.specs.Steps.{ComesNearer, ComesNext, IsOver, IsUnbroken, StepCalls, StepLeads, game_so_far, started};
 ghost use Rattle.sheets.specs.File.{players_of};
@@ -213,7 +213,7 @@ fn coming(history: &History, round: Round, in_set: u8) -> Next
     requires least { 1 ≤ in_set }
     requires most { in_set ≤ operating_most }
     requires within { turn_in_set round ≤ in_set }
-    ensures { result ≡ what_comes round in_set history.now.events }
+    ensures { result ≡ coming round in_set history.now.events }
 {
     if history.bankrupt() {
         return Next::Ended;
@@ -270,7 +270,7 @@ fn rounds_of_new_set(history: &History) -> u8
 /// How many operating rounds the set has where this comes next: the number is fixed as the stock
 /// round of the set comes.
 fn in_set_before(history: &History, upcoming: Next, in_set: u8) -> u8
-    ensures { result ≡ set_before upcoming history.now.events in_set }
+    ensures { result ≡ in_set_before upcoming history.now.events in_set }
 {
     match upcoming {
         Next::Round(Round::Stock(_)) => rounds_of_new_set(history),

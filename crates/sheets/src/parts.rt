@@ -1,6 +1,6 @@
 ghost use Rattle.std.specs.Prelude.{◌≡◌, [], Ok};
-ghost use Rattle.sheets.specs.Block.{block_in, opens_block_of as opens_a_block_of};
-ghost use Rattle.sheets.specs.Part.{StandsAtHead, TakesHead, TakesOrdinary, head_word as word_of_heads, line_unread, lines_in, opens_part as opens_a_part, parts_left};
+ghost use Rattle.sheets.specs.Block.{block_in, opens_block_of};
+ghost use Rattle.sheets.specs.Part.{StandsAtHead, TakesHead, TakesOrdinary, head_word, line_unread, lines_in, opens_part, parts_left};
 
 use crate::sheet::{Lines, UnreadLine};
 use order_grammar::{Order, begins_with_word};
@@ -105,7 +105,7 @@ impl<'a> Default for PartsLeft<'a> {
 
 /// Whether a line opens a part of a sheet for a round. It is read only if its first word may open one.
 fn is_head(round: Round, line: UnreadLine) -> bool
-    ensures { result ≡ opens_a_part round (line_unread line.entry).reading }
+    ensures { result ≡ opens_part round (line_unread line.entry).reading }
 {
     order_grammar::laws::read_in_version_where_spelt();
     begins_with_word(line.text, head_word(round)) && opens_part(round, line)
@@ -113,7 +113,7 @@ fn is_head(round: Round, line: UnreadLine) -> bool
 
 /// The word with which the lines begin that open a part of a sheet for a round.
 fn head_word(round: Round) -> &'static [u8]
-    ensures { result.now ≡ word_of_heads round }
+    ensures { result.now ≡ head_word round }
 {
     match round {
         Round::Opening(_) | Round::Stock(_) => b"TURN",
@@ -125,7 +125,7 @@ fn head_word(round: Round) -> &'static [u8]
 /// would else clear the room for an order with each line that it does not read.)
 #[inline(never)]
 fn opens_part(round: Round, line: UnreadLine) -> bool
-    ensures { result ≡ opens_a_part round (line_unread line.entry).reading }
+    ensures { result ≡ opens_part round (line_unread line.entry).reading }
 {
     let mut order = Order::Blank;
     match line.read_into(&mut order) {
@@ -136,7 +136,7 @@ fn opens_part(round: Round, line: UnreadLine) -> bool
 
 /// Whether an order opens a part of a sheet for a round.
 fn is_head_of(round: Round, order: &Order) -> bool
-    ensures { result ≡ opens_a_part round (Ok order.now) }
+    ensures { result ≡ opens_part round (Ok order.now) }
 {
     match round {
         Round::Opening(_) | Round::Stock(_) => matches!(order, Order::Turn),
@@ -147,7 +147,7 @@ fn is_head_of(round: Round, order: &Order) -> bool
 /// Whether a head opens a block of a company.
 #[inline(never)]
 fn opens_block_of(company: Company, head: UnreadLine) -> bool
-    ensures { result ≡ opens_a_block_of company (line_unread head.entry).reading }
+    ensures { result ≡ opens_block_of company (line_unread head.entry).reading }
 {
     let mut order = Order::Blank;
     match head.read_into(&mut order) {
@@ -158,7 +158,7 @@ fn opens_block_of(company: Company, head: UnreadLine) -> bool
 
 /// Whether an order opens a block of a company.
 fn is_head_of_block(company: Company, order: &Order) -> bool
-    ensures { result ≡ opens_a_block_of company (Ok order.now) }
+    ensures { result ≡ opens_block_of company (Ok order.now) }
 {
     match order {
         Order::Company(named) => *named == company,

@@ -1,6 +1,6 @@
 ghost use Rattle.std.specs.Prelude.{◌≡◌, Err};
 ghost use Rattle.sheets.specs.Part.{line_unread};
-ghost use Rattle.sheets.specs.Place.{has_no_place, is_of_file as belongs_to_file, placed};
+ghost use Rattle.sheets.specs.Place.{has_no_place, is_of_file, placed};
 
 use crate::sheet::UnreadLine;
 use order_grammar::{Fault, Order};
@@ -9,7 +9,7 @@ use order_grammar::{Fault, Order};
 /// of play, so that no part of a sheet has a place for it: GAME, PLAYERS, SHEET, TURN and COMPANY
 /// where they are no heads, CERTS, CERT, CLAIM and MARKS.
 pub fn is_of_file(order: &Order) -> bool
-    ensures { result ≡ belongs_to_file order.now }
+    ensures { result ≡ is_of_file order.now }
 {
     matches!(
         order,

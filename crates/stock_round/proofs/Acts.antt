@@ -11,7 +11,7 @@ use Rattle.events.specs.declared.event.Holder.{Holder}
 use Rattle.events.specs.declared.event.Holder.TheVariants as holder
 use Rattle.events.specs.declared.event.Shareholder.TheVariants.{InitialOffering}
 use Rattle.history.proofs.Blocks.{float_sound as float_law}
-use Rattle.history.proofs.Purchases.{exchange_sound as exchange_law, purchase_sound as purchase_law, start_by_purchase_sound as start_law}
+use Rattle.history.proofs.Purchases.{exchange_sound as exchange_law, purchase_sound as purchase_law, start_by_purchase_sound}
 use Rattle.history.specs.Bids.{free_cash_of}
 use Rattle.history.specs.LookBack.{Game, is_closed, is_sold, owner_of, with_event}
 use Rattle.history.specs.Shares.{is_floated, shares_of, square_of}
@@ -39,7 +39,7 @@ paid seats events seat cost may = grind (arith, ints, may)
 pub start_sound : (game new : Game) (seat : Seat) (company : Company) (price cost : ℕ) → MayStart game.seats game.events seat company price → seat.0 < game.seats → cost ≡ president_tenths * price → new ≡ with_event (with_event (with_event game (event.Par company price)) (event.Bought company seat 2 source.InitialOffering cost)) (event.President company seat) → IsSound game → IsSound new
 start_sound game new seat company price cost may within is_cost told sound =
     let pays : pos cost ≤ℤ free_cash_of game.seats game.events seat = subst (λ (n : ℕ). pos n ≤ℤ free_cash_of game.seats game.events seat) (sym is_cost) (paid game.seats game.events seat (president_tenths * price) may.pays) in
-    subst IsSound (sym told) (start_law game company seat price cost (holds (is_par_value price) may.par) (is_nothing (square_of game.events company) may.fresh) within pays sound)
+    subst IsSound (sym told) (start_by_purchase_sound game company seat price cost (holds (is_par_value price) may.par) (is_nothing (square_of game.events company) may.fresh) within pays sound)
 
 -- a tenth that is not missing is there
 there_is : (events : List Event) (company : Company) (from : ShareSource) → lt_z (shares_of events company (place_of_source from)) (pos 1) ≡ false → pos 1 ≤ℤ shares_of events company (place_of_source from)

@@ -1,6 +1,6 @@
 ghost use Rattle.std.specs.Prelude.{◌≡◌, OnOk};
 ghost use Rattle.history.specs.Sound.{IsSound};
-ghost use Rattle.stock_round.specs.Closing.{all_risen, closed, is_sold_out as has_sold_out, risen};
+ghost use Rattle.stock_round.specs.Closing.{all_risen, closed, is_sold_out, risen};
 
 use history::{History, Shareholder};
 use market::{move_token_up, operating_order};
@@ -48,7 +48,7 @@ fn raise_if_sold_out(history: &mut History, company: Company) -> Result<(), Allo
 
 /// Whether all tenths of a company are with players.
 fn is_sold_out(history: &History, company: Company) -> bool
-    ensures { result ≡ has_sold_out history.now.events company }
+    ensures { result ≡ is_sold_out history.now.events company }
 {
     history.shares(company, Shareholder::InitialOffering) == 0
         && history.shares(company, Shareholder::BankPool) == 0

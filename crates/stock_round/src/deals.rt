@@ -1,5 +1,5 @@
 ghost use Rattle.std.specs.Prelude.{◌≡◌};
-ghost use Rattle.stock_round.specs.Turn.{has_acted as acted_by, with_deal};
+ghost use Rattle.stock_round.specs.Turn.{has_acted, with_deal};
 
 use order_grammar::Order;
 use tables::Company;
@@ -35,7 +35,7 @@ impl Deals {
 
     /// Whether the seat has bought or sold: else it passes.
     pub(crate) fn has_acted(self) -> bool
-        ensures { result ≡ acted_by self }
+        ensures { result ≡ has_acted self }
     {
         self.bought.is_some() || self.sold
     }

@@ -1,7 +1,7 @@
 ghost use Rattle.std.specs.Prelude.{◌≡◌, OnOk, true, unwrap_or};
 ghost use Rattle.history.specs.Shares.{par_of};
 ghost use Rattle.history.specs.Sound.{IsSound};
-ghost use Rattle.stock_round.specs.Act.{floated_at, is_to_float as is_ready_to_float, with_float};
+ghost use Rattle.stock_round.specs.Act.{floated_at, is_to_float, with_float};
 
 use crate::prices::par_value;
 use history::{Event, History, Shareholder, Tenths};
@@ -32,14 +32,14 @@ pub(crate) fn tell_float(history: &mut History, company: Company) -> Result<(), 
 
 /// Whether a company is to float.
 fn is_to_float(history: &History, company: Company) -> bool
-    ensures { result ≡ is_ready_to_float history.now.events company }
+    ensures { result ≡ is_to_float history.now.events company }
 {
     !history.floated(company) && history.shares(company, Shareholder::InitialOffering) <= FLOAT_MOST
 }
 
 /// A company floats.
 fn float(history: &mut History, company: Company) -> Result<(), AllocError>
-    requires ready { is_ready_to_float history.old.events company ≡ true }
+    requires ready { is_to_float history.old.events company ≡ true }
     requires sound { IsSound history.old }
     ensures seats { OnOk result (history.new.seats ≡ history.old.seats) }
     ensures events { OnOk result (history.new.events

@@ -1,6 +1,6 @@
 ghost use Rattle.std.specs.Prelude.{◌≡◌, ◌≤◌, ◌<◌, None};
 ghost use Rattle.history.specs.LookBack.{owner_of};
-ghost use Rattle.stock_round.specs.Judgement.{exchange_rules, exchange_source as source_of_exchange, is_no_exchange as may_not_exchange, is_offered as has_offered, is_owner, is_pooled as has_pooled, judgement_of};
+ghost use Rattle.stock_round.specs.Judgement.{exchange_rules, exchange_source, is_no_exchange, is_offered, is_owner, is_pooled, judgement_of};
 ghost use Rattle.tables.specs.Rules.{first_broken};
 ghost use Rattle.tables.specs.declared.roster.Private.TheVariants.{MohawkHudson};
 
@@ -64,7 +64,7 @@ fn judge_exchange(history: &History, seat: Seat) -> Option<StockRule>
 /// Whether a seat may not exchange MH: it does not own it, no tenth of NYC is there, or the seat
 /// would come over six.
 fn is_no_exchange(history: &History, seat: Seat) -> bool
-    ensures { result ≡ may_not_exchange history.now.events seat }
+    ensures { result ≡ is_no_exchange history.now.events seat }
 {
     !owns_mohawk(history, seat)
         || !(is_offered(history) || is_pooled(history))
@@ -88,21 +88,21 @@ fn owns_mohawk(history: &History, seat: Seat) -> bool
 
 /// Whether there is a tenth of NYC in the initial offering.
 fn is_offered(history: &History) -> bool
-    ensures { result ≡ has_offered history.now.events }
+    ensures { result ≡ is_offered history.now.events }
 {
     history.shares(Company::NewYorkCentral, Shareholder::InitialOffering) > 0
 }
 
 /// Whether there is one in the bank pool.
 fn is_pooled(history: &History) -> bool
-    ensures { result ≡ has_pooled history.now.events }
+    ensures { result ≡ is_pooled history.now.events }
 {
     history.shares(Company::NewYorkCentral, Shareholder::BankPool) > 0
 }
 
 /// Where the tenth of NYC for MH comes from: the initial offering first, else the bank pool.
 pub(crate) fn exchange_source(history: &History) -> ShareSource
-    ensures { result ≡ source_of_exchange history.now.events }
+    ensures { result ≡ exchange_source history.now.events }
 {
     if is_offered(history) {
         ShareSource::InitialOffering

@@ -1,5 +1,5 @@
 ghost use Rattle.std.specs.Prelude.{◌≡◌, IfSome, true};
-ghost use Rattle.tables.specs.Chart.{entry_at as the_entry_at, is_on_chart, par_square_of, price_of, row_at as the_row_at, square_at, zone_of};
+ghost use Rattle.tables.specs.Chart.{entry_at, is_on_chart, par_square_of, price_of, row_at, square_at, zone_of};
 
 use crate::seat::Amount;
 use crate::squares::{Square, Zone};
@@ -69,7 +69,7 @@ macro_rules! row {
 
 /// The chart, row by row: a row from 0 (the printed A) downwards. There is none past the eleventh.
 fn row_at(row: u8) -> &'static [Option<Entry>]
-    ensures { result.now ≡ the_row_at row }
+    ensures { result.now ≡ row_at row }
 {
     match row {
         0 => row!(y 60 w 67 w 71 w 76 w 82 w 90 p 100 w 112 w 126 w 142 w 160 w 180 w 200 w 225
@@ -92,7 +92,7 @@ fn row_at(row: u8) -> &'static [Option<Entry>]
 
 /// What the chart has on a square; `None` off the chart.
 fn entry_at(square: Square) -> Option<Entry>
-    ensures { result ≡ the_entry_at square.row square.column }
+    ensures { result ≡ entry_at square.row square.column }
 {
     let before = usize::from(square.column).checked_sub(1)?;
     *row_at(square.row).get(before)?

@@ -1,5 +1,5 @@
 ghost use Rattle.std.specs.Prelude.{◌≡◌, ◌<◌, ◌^◌};
-ghost use Rattle.tables.specs.Round.{is_before as comes_before, rank_of, stock_rank as the_stock_rank};
+ghost use Rattle.tables.specs.Round.{is_before, rank_of, stock_rank};
 
 /// The largest number of an order or a round.
 pub const NUMBER_MOST: u32 = 99_999;
@@ -33,7 +33,7 @@ impl Round {
 
     /// Whether the round comes before another.
     pub fn is_before(self, other: Round) -> bool
-        ensures { result ≡ comes_before self other }
+        ensures { result ≡ is_before self other }
     {
         self.rank() < other.rank()
     }
@@ -41,7 +41,7 @@ impl Round {
 
 /// The place of a stock round among all rounds.
 fn stock_rank(set: u32) -> u64
-    ensures place { result ≡ the_stock_rank set }
+    ensures place { result ≡ stock_rank set }
     ensures within { result < 2 ^ 40 }
 {
     u64::from(NUMBER_MOST) + (u64::from(OPERATING_MOST) + 1) * u64::from(set)

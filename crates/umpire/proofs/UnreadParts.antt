@@ -3,7 +3,7 @@ use Rattle.std.proofs.Common.{◌≡◌, ℕ, ◌+◌, List, [], ◌∷◌, ◌+
 use Rattle.std.specs.Prelude.{Option, codes, decimal}
 use Rattle.std.specs.Io.KnownBytes.{Appends}
 use Rattle.std.proofs.lemmas.List.{append-nil}
-use Rattle.order_grammar.specs.Fault.{code_of as code_of_fault}
+use Rattle.order_grammar.specs.Fault.{code_of}
 use Rattle.order_grammar.specs.declared.fault.Fault.{Fault}
 use Rattle.report.specs.Report.{unread_lines}
 use Rattle.umpire.proofs.Parts.{LeavesRest}
@@ -22,7 +22,7 @@ lines_parted before (fault ∷ part) later =
     let there : List ℕ = unread_lines (before + length (fault ∷ part)) later in
     let others : unread_lines (before + 1) (part ++ later) ≡ here ++ there =
     lines_parted (before + 1) part later ∙ ap (λ n. here ++ unread_lines n later) (grind arith) in
-    rw others (line_parted (codes "UNREAD ") (decimal (before + 1)) (code_of_fault fault) here there)
+    rw others (line_parted (codes "UNREAD ") (decimal (before + 1)) (code_of fault) here there)
 
 -- the lines of the first so many faults, and then those of the others
 pub unread_parted : (before most : ℕ) (faults part later : List Fault) → part ≡ take most faults → later ≡ drop most faults →

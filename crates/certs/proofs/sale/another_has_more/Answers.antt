@@ -2,7 +2,7 @@ use Rattle.std.proofs.Common.{◌≡◌, ◌∙◌, ap, ℤ, pos, SFits, arith}
 use Rattle.std.specs.Prelude.{◌+ℤ◌}
 use Rattle.std.specs.Int.{w128}
 use Rattle.std.proofs.lemmas.Int.{ints}
-use Rattle.certs.specs.Sale.{another_has as another_seat_has, kept_after}
+use Rattle.certs.specs.Sale.{another_has, kept_after}
 use Rattle.certs.proofs.sale.another_has_more.Goals as goal
 use mir.Val.{of_z, to_z}
 
@@ -16,4 +16,4 @@ returns c =
     let more : to_z w128 (of_z w128 (to_z w128 (of_z w128 c.would_keep.result) +ℤ pos 1)) ≡ kept +ℤ pos 1 =
     omega (arith, ints, is, fits, c.would_keep.ensures.not_over) in
     c.another_has.ensures
-    ∙ ap (λ (least : ℤ). another_seat_has now.seats now.events.now c.args.sale.company c.args.seat least) more
+    ∙ ap (λ (least : ℤ). another_has now.seats now.events.now c.args.sale.company c.args.seat least) more

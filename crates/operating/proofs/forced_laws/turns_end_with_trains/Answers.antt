@@ -1,5 +1,5 @@
-use Rattle.operating.proofs.ForcedTrains.{turns_end_with_trains as law}
+use Rattle.operating.proofs.ForcedTrains.{turns_end_with_trains}
 use Rattle.operating.proofs.forced_laws.turns_end_with_trains.Goals as goal
 
 pub returns : goal.returns
-returns c = law
+returns c = turns_end_with_trains

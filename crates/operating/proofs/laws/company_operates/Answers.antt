@@ -1,5 +1,5 @@
-use Rattle.operating.proofs.Operated.{company_operates as law}
+use Rattle.operating.proofs.Operated.{company_operates}
 use Rattle.operating.proofs.laws.company_operates.Goals as goal
 
 pub returns : goal.returns
-returns c = law
+returns c = company_operates
