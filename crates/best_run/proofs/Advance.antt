@@ -19,19 +19,19 @@ use Rattle.tables.specs.declared.roster.Company.{Company}
 use Rattle.certificate.specs.Legal.{border_at, worth}
 use Rattle.certificate.proofs.Kept.{border_low}
 use Rattle.certificate.proofs.Marks.{among_both}
-use Rattle.best_run.specs.declared.task.Piece.{Piece}
+use Rattle.best_run.specs.declared.task.Segment.{Segment}
 use Rattle.best_run.specs.declared.task.Task.{Task}
 use Rattle.best_run.specs.declared.state.Settled.{Settled}
-use Rattle.best_run.specs.declared.state.Standing.{Standing}
-use Rattle.best_run.specs.Described.{Describes, IsNodeAt, IsPieceOf, IsSideNode, IsStopNode}
+use Rattle.best_run.specs.declared.state.PartialRun.{PartialRun}
+use Rattle.best_run.specs.Described.{Describes, IsNodeAt, IsSegmentOf, IsSideNode, IsStopNode}
 use Rattle.best_run.specs.Fit.{BordersFit}
 use Rattle.best_run.specs.Marks.{IsMarked}
 use Rattle.best_run.specs.Moves.{along, left_after, marked_all, marked_if, misses, node_at, own_before, stop_in, turned_back, using}
-use Rattle.best_run.proofs.Backwards.{AreAlike}
+use Rattle.best_run.proofs.Backwards.{AreCanonical}
 use Rattle.best_run.proofs.Marks.{length_marked}
 
 -- what a state tells of a run: where it stands, its stops and its borders, beside those of other runs
-pub record Tells (task : Task) (position : Position) (company : Company) (most : ℕ) (others : List ℕ) (at : Spot) (stops : List Stop) (borders : List ℕ) (settled : Settled) (run : Standing) : Type 0 where
+pub record Tells (task : Task) (position : Position) (company : Company) (most : ℕ) (others : List ℕ) (at : Spot) (stops : List Stop) (borders : List ℕ) (settled : Settled) (run : PartialRun) : Type 0 where
   pub head : run.head ≡ spot_number at
   pub left : run.left + length stops ≡ most
   pub value : run.value ≡ worth position stops
@@ -126,11 +126,11 @@ module _ (position : Position) (company : Company) (kinds : List Kind) (task : T
   pub node_left : (spot : Spot) (found : Option Stop) → stop_of spot ≡ found → IsNodeAt position company found (node_at task (spot_number spot))
   node_left spot found is = subst (λ o. IsNodeAt position company o (node_at task (spot_number spot))) is (describes.spots spot)
 
-  used_more : (most : ℕ) (others : List ℕ) (at : Spot) (stops : List Stop) (borders : List ℕ) (settled : Settled) (run : Standing) → Tells task position company most others at stops borders settled run → (step : Step) (piece : Piece) → IsPieceOf step piece → (border : ℕ) → IsMarked (using settled piece).used border ↔ (IsAmong border (border_at (entered_at step).hex (entered_at step).end ++ borders) ⊎ IsAmong border others)
-  used_more most others at stops borders settled run tells step piece is border =
+  used_more : (most : ℕ) (others : List ℕ) (at : Spot) (stops : List Stop) (borders : List ℕ) (settled : Settled) (run : PartialRun) → Tells task position company most others at stops borders settled run → (step : Step) (segment : Segment) → IsSegmentOf step segment → (border : ℕ) → IsMarked (using settled segment).used border ↔ (IsAmong border (border_at (entered_at step).hex (entered_at step).end ++ borders) ⊎ IsAmong border others)
+  used_more most others at stops borders settled run tells step segment is border =
       let new = border_at (entered_at step).hex (entered_at step).end in
-      let fits : BordersFit piece.borders.items = subst BordersFit (sym is.borders) (border_fits (entered_at step).hex (entered_at step).end) in
-      let marks : IsMarked (marked_all settled.used piece.borders.items) border ↔ (IsAmong border piece.borders.items ⊎ IsMarked settled.used border) = marks_more settled.used piece.borders.items fits tells.whole border in
+      let fits : BordersFit segment.borders.items = subst BordersFit (sym is.borders) (border_fits (entered_at step).hex (entered_at step).end) in
+      let marks : IsMarked (marked_all settled.used segment.borders.items) border ↔ (IsAmong border segment.borders.items ⊎ IsMarked settled.used border) = marks_more settled.used segment.borders.items fits tells.whole border in
       let both : IsAmong border (new ++ borders) ↔ (IsAmong border new ⊎ IsAmong border borders) = among_both border new borders in
       let old = tells.used border in (
         λ marked. elim (marks.0 marked) [
@@ -147,19 +147,19 @@ module _ (position : Position) (company : Company) (kinds : List Kind) (task : T
       )
 
   -- a step to a stop
-  pub to_stop : (most : ℕ) (others : List ℕ) (at : Spot) (stops : List Stop) (borders : List ℕ) (settled : Settled) (run : Standing) → Tells task position company most others at stops borders settled run → (step : Step) (piece : Piece) → IsPieceOf step piece → (stop : Stop) → stop_of (left_at step) ≡ Some stop → 0 < run.left → Tells task position company most others (left_at step) (stop ∷ stops) (border_at (entered_at step).hex (entered_at step).end ++ borders) (using settled piece) (along task run piece)
-  to_stop most others at stops borders settled run tells step piece is stop there some =
+  pub to_stop : (most : ℕ) (others : List ℕ) (at : Spot) (stops : List Stop) (borders : List ℕ) (settled : Settled) (run : PartialRun) → Tells task position company most others at stops borders settled run → (step : Step) (segment : Segment) → IsSegmentOf step segment → (stop : Stop) → stop_of (left_at step) ≡ Some stop → 0 < run.left → Tells task position company most others (left_at step) (stop ∷ stops) (border_at (entered_at step).hex (entered_at step).end ++ borders) (using settled segment) (along task run segment)
+  to_stop most others at stops borders settled run tells step segment is stop there some =
       let node : IsStopNode position company stop (node_at task (spot_number (left_at step))) = node_left (left_at step) (Some stop) there in
-      let here : IsStopNode position company stop (node_at task piece.to) = subst (λ (n : ℕ). IsStopNode position company stop (node_at task n)) (sym is.to) node in
-      let left : left_after (stop_in (node_at task piece.to)) run.left ≡ run.left - 1 = ap (λ b. left_after b run.left) here.stops in
-      let low : piece.to < length run.visited = omega (arith, tells.spots, is.to, spot_low (left_at step)) in
-      let marks : marked_if (stop_in (node_at task piece.to)) run.visited piece.to ≡ set run.visited piece.to true = ap (λ b. marked_if b run.visited piece.to) here.stops in
+      let here : IsStopNode position company stop (node_at task segment.to) = subst (λ (n : ℕ). IsStopNode position company stop (node_at task n)) (sym is.to) node in
+      let left : left_after (stop_in (node_at task segment.to)) run.left ≡ run.left - 1 = ap (λ b. left_after b run.left) here.stops in
+      let low : segment.to < length run.visited = omega (arith, tells.spots, is.to, spot_low (left_at step)) in
+      let marks : marked_if (stop_in (node_at task segment.to)) run.visited segment.to ≡ set run.visited segment.to true = ap (λ b. marked_if b run.visited segment.to) here.stops in
       record {
         head = is.to;
         left = omega (arith, tells.left);
         value = omega (arith, tells.value, here.value);
         visited = λ spot other other_is.
-            let one : IsMarked (set run.visited piece.to true) (spot_number spot) ↔ ((spot_number spot ≡ piece.to) ⊎ IsMarked run.visited (spot_number spot)) = mark_more run.visited piece.to (spot_number spot) low in
+            let one : IsMarked (set run.visited segment.to true) (spot_number spot) ↔ ((spot_number spot ≡ segment.to) ⊎ IsMarked run.visited (spot_number spot)) = mark_more run.visited segment.to (spot_number spot) low in
             let old = tells.visited spot other other_is in
             subst (λ (marks : List Bool). IsMarked marks (spot_number spot) ↔ (IsAmong other (stop ∷ stops) ⊎ IsMarked (own_before task run.home) (spot_number spot))) (sym marks) (
               λ marked. elim (one.0 marked) [
@@ -174,39 +174,39 @@ module _ (position : Position) (company : Company) (kinds : List Kind) (task : T
                 | inr passed ↦ one.1 (inr (old.1 (inr passed)))
               ],
             );
-        used = used_more most others at stops borders settled run tells step piece is;
-        spots = ap (λ (marks : List Bool). length marks) marks ∙ (length-set run.visited piece.to true ∙ tells.spots);
-        whole = length_marked settled.used piece.borders.items ∙ tells.whole;
+        used = used_more most others at stops borders settled run tells step segment is;
+        spots = ap (λ (marks : List Bool). length marks) marks ∙ (length-set run.visited segment.to true ∙ tells.spots);
+        whole = length_marked settled.used segment.borders.items ∙ tells.whole;
       }
 
   -- a step to a side
-  pub to_side : (most : ℕ) (others : List ℕ) (at : Spot) (stops : List Stop) (borders : List ℕ) (settled : Settled) (run : Standing) → Tells task position company most others at stops borders settled run → (step : Step) (piece : Piece) → IsPieceOf step piece → stop_of (left_at step) ≡ None → Tells task position company most others (left_at step) stops (border_at (entered_at step).hex (entered_at step).end ++ borders) (using settled piece) (along task run piece)
-  to_side most others at stops borders settled run tells step piece is side =
+  pub to_side : (most : ℕ) (others : List ℕ) (at : Spot) (stops : List Stop) (borders : List ℕ) (settled : Settled) (run : PartialRun) → Tells task position company most others at stops borders settled run → (step : Step) (segment : Segment) → IsSegmentOf step segment → stop_of (left_at step) ≡ None → Tells task position company most others (left_at step) stops (border_at (entered_at step).hex (entered_at step).end ++ borders) (using settled segment) (along task run segment)
+  to_side most others at stops borders settled run tells step segment is side =
       let node : IsSideNode (node_at task (spot_number (left_at step))) = node_left (left_at step) None side in
-      let here : IsSideNode (node_at task piece.to) = subst (λ (n : ℕ). IsSideNode (node_at task n)) (sym is.to) node in
-      let left : left_after (stop_in (node_at task piece.to)) run.left ≡ run.left = ap (λ b. left_after b run.left) here.stops in
-      let marks : marked_if (stop_in (node_at task piece.to)) run.visited piece.to ≡ run.visited = ap (λ b. marked_if b run.visited piece.to) here.stops in
+      let here : IsSideNode (node_at task segment.to) = subst (λ (n : ℕ). IsSideNode (node_at task n)) (sym is.to) node in
+      let left : left_after (stop_in (node_at task segment.to)) run.left ≡ run.left = ap (λ b. left_after b run.left) here.stops in
+      let marks : marked_if (stop_in (node_at task segment.to)) run.visited segment.to ≡ run.visited = ap (λ b. marked_if b run.visited segment.to) here.stops in
       record {
         head = is.to;
         left = omega (arith, tells.left);
         value = omega (arith, tells.value, here.value);
         visited = λ spot other other_is.
             subst (λ (seen : List Bool). IsMarked seen (spot_number spot) ↔ (IsAmong other stops ⊎ IsMarked (own_before task run.home) (spot_number spot))) (sym marks) (tells.visited spot other other_is);
-        used = used_more most others at stops borders settled run tells step piece is;
+        used = used_more most others at stops borders settled run tells step segment is;
         spots = ap (λ (seen : List Bool). length seen) marks ∙ tells.spots;
-        whole = length_marked settled.used piece.borders.items ∙ tells.whole;
+        whole = length_marked settled.used segment.borders.items ∙ tells.whole;
       }
 
   -- a run that turns back stands where it began; its stops and borders may be told in another order
-  pub to_home : (most : ℕ) (others : List ℕ) (at : Spot) (stops : List Stop) (borders : List ℕ) (settled : Settled) (run : Standing) → Tells task position company most others at stops borders settled run → (home : Spot) (seen : List Stop) (gone : List ℕ) → run.home ≡ spot_number home → AreAlike stops seen → worth position stops ≡ worth position seen → AreAlike borders gone → Tells task position company most others home seen gone settled (turned_back run)
-  to_home most others at stops borders settled run tells home seen gone is alike earns same =
+  pub to_home : (most : ℕ) (others : List ℕ) (at : Spot) (stops : List Stop) (borders : List ℕ) (settled : Settled) (run : PartialRun) → Tells task position company most others at stops borders settled run → (home : Spot) (seen : List Stop) (gone : List ℕ) → run.home ≡ spot_number home → AreCanonical stops seen → worth position stops ≡ worth position seen → AreCanonical borders gone → Tells task position company most others home seen gone settled (turned_back run)
+  to_home most others at stops borders settled run tells home seen gone is canonical earns same =
       record {
         head = is;
-        left = omega (arith, tells.left, alike.long);
+        left = omega (arith, tells.left, canonical.long);
         value = tells.value ∙ earns;
         visited = λ spot stop there.
             let old = tells.visited spot stop there in
-            let among = alike.among stop in (
+            let among = canonical.among stop in (
               λ marked. elim (old.0 marked) [ inl here ↦ inl (among.0 here) | inr passed ↦ inr passed ],
               λ either. elim either [ inl here ↦ old.1 (inl (among.1 here)) | inr passed ↦ old.1 (inr passed) ],
             );

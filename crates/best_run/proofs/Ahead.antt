@@ -3,14 +3,14 @@ use Rattle.std.proofs.Common.{◌≡◌, ℕ, ◌+◌, ◌<◌, ◌≤◌, Bool,
 use Rattle.std.proofs.lemmas.Option.{slice_get_within}
 use Rattle.reach.proofs.Collected.{none_marked}
 use Rattle.reach.proofs.Marking.{set_cases, set_keeps}
-use Rattle.best_run.specs.declared.task.Piece.{Piece}
+use Rattle.best_run.specs.declared.task.Segment.{Segment}
 use Rattle.best_run.specs.declared.task.Task.{Task}
-use Rattle.best_run.specs.declared.task.Way.{Way}
+use Rattle.best_run.specs.declared.task.Leg.{Leg}
 use Rattle.best_run.specs.declared.state.Settled.{Settled}
-use Rattle.best_run.specs.declared.state.Standing.{Standing}
+use Rattle.best_run.specs.declared.state.PartialRun.{PartialRun}
 use Rattle.best_run.specs.Ahead.{IsGoneOver, IsOutlook, LiesAhead, Widens, WidensBack, WidensBackBelow, WidensBelow, WidensBy, WidensFrom, WidensPast, leads_on}
 use Rattle.best_run.specs.Moves.{can_take, ends_in, node_at}
-use Rattle.best_run.specs.Ways.{ways_at}
+use Rattle.best_run.specs.Legs.{legs_at}
 use Rattle.best_run.proofs.Marks.{set_fewer}
 use Rattle.best_run.proofs.Places.{below_next}
 
@@ -19,17 +19,17 @@ falsely true is not = let wrong : true ≡ false = not in cc
 falsely false is not = let wrong : false ≡ true = is in cc
 
 -- the way at a place is one
-one_way : (ways : List Way) (place other : ℕ) (way found : Way) → slice_get ways place ≡ Some way → slice_get ways other ≡ Some found → other ≡ place → way ≡ found
-one_way ways place other way found at finds same =
-    let e : Some way ≡ Some found = sym at ∙ (ap (λ i. slice_get ways i) (sym same) ∙ finds) in cc
+one_leg : (legs : List Leg) (place other : ℕ) (leg found : Leg) → slice_get legs place ≡ Some leg → slice_get legs other ≡ Some found → other ≡ place → leg ≡ found
+one_leg legs place other leg found at finds same =
+    let e : Some leg ≡ Some found = sym at ∙ (ap (λ i. slice_get legs i) (sym same) ∙ finds) in cc
 
-module _ (task : Task) (settled : Settled) (run : Standing) where
+module _ (task : Task) (settled : Settled) (run : PartialRun) where
   widens_none : (ahead : List Bool) → Widens task settled run ahead ahead
   widens_none ahead = record { kept = λ spot lies. lies; over = λ spot lies. inl lies; fewer = omega arith }
 
   -- what is gone over stays so where more lies ahead
   over_more : (old new : List Bool) → ((spot : ℕ) → LiesAhead old spot → LiesAhead new spot) → (spot : ℕ) → IsGoneOver task settled run old spot → IsGoneOver task settled run new spot
-  over_more old new kept spot over passes place way at taken = kept way.piece.to (over passes place way at taken)
+  over_more old new kept spot over passes place leg at taken = kept leg.segment.to (over passes place leg at taken)
 
   widens_both : (old middle new : List Bool) → Widens task settled run old middle → Widens task settled run middle new → Widens task settled run old new
   widens_both old middle new first second =
@@ -44,82 +44,82 @@ module _ (task : Task) (settled : Settled) (run : Standing) where
 
   -- no piece is gone over, one more is, and all are
   pub below_none : (spot : ℕ) (ahead : List Bool) → WidensBelow task settled run spot 0 ahead ahead
-  below_none spot ahead = record { widens = widens_none ahead; leads = λ place way low at taken. absurd (omega arith) }
+  below_none spot ahead = record { widens = widens_none ahead; leads = λ place leg low at taken. absurd (omega arith) }
 
-  pub below_more : (spot place : ℕ) (way : Way) (old middle new : List Bool) → slice_get (ways_at task spot) place ≡ Some way → WidensBelow task settled run spot place old middle → WidensBy task settled run way.piece middle new → WidensBelow task settled run spot (place + 1) old new
-  below_more spot place way old middle new here before by =
+  pub below_more : (spot place : ℕ) (leg : Leg) (old middle new : List Bool) → slice_get (legs_at task spot) place ≡ Some leg → WidensBelow task settled run spot place old middle → WidensBy task settled run leg.segment middle new → WidensBelow task settled run spot (place + 1) old new
+  below_more spot place leg old middle new here before by =
       record {
         widens = widens_both old middle new before.widens by.widens;
         leads = λ other found low at taken. elim (below_next other place low) [
-          | inl less ↦ by.widens.kept found.piece.to (before.leads other found less at taken)
+          | inl less ↦ by.widens.kept found.segment.to (before.leads other found less at taken)
           | inr same ↦
-              let is : way ≡ found = one_way (ways_at task spot) place other way found here at same in
-              subst (λ (w : Way). can_take task run settled.used w.piece ≡ true → LiesAhead new w.piece.to) is by.leads taken
+              let is : leg ≡ found = one_leg (legs_at task spot) place other leg found here at same in
+              subst (λ (w : Leg). can_take task run settled.used w.segment ≡ true → LiesAhead new w.segment.to) is by.leads taken
         ];
       }
 
-  pub from_all : (spot : ℕ) (ways : List Way) (place : ℕ) (old new : List Bool) → ways_at task spot ≡ ways → length ways ≤ place → WidensBelow task settled run spot place old new → WidensFrom task settled run spot old new
-  from_all spot ways place old new there all below =
+  pub from_all : (spot : ℕ) (legs : List Leg) (place : ℕ) (old new : List Bool) → legs_at task spot ≡ legs → length legs ≤ place → WidensBelow task settled run spot place old new → WidensFrom task settled run spot old new
+  from_all spot legs place old new there all below =
       record {
         widens = below.widens;
-        here = λ passes other way at taken.
-            let low : other < length ways = slice_get_within ways other way (ap (λ ws. slice_get ws other) (sym there) ∙ at) in
-            below.leads other way (omega (arith, low, all)) at taken;
+        here = λ passes other leg at taken.
+            let low : other < length legs = slice_get_within legs other leg (ap (λ ws. slice_get ws other) (sym there) ∙ at) in
+            below.leads other leg (omega (arith, low, all)) at taken;
       }
 
   -- the same for the stop where the run began
   pub back_none : (ahead : List Bool) → WidensBackBelow task settled run 0 ahead ahead
-  back_none ahead = record { widens = widens_none ahead; leads = λ place way low at later taken. absurd (omega arith) }
+  back_none ahead = record { widens = widens_none ahead; leads = λ place leg low at later taken. absurd (omega arith) }
 
-  pub back_more : (place : ℕ) (way : Way) (old middle new : List Bool) → slice_get (ways_at task run.home) place ≡ Some way → WidensBackBelow task settled run place old middle → WidensBy task settled run way.piece middle new → WidensBackBelow task settled run (place + 1) old new
-  back_more place way old middle new here before by =
+  pub back_more : (place : ℕ) (leg : Leg) (old middle new : List Bool) → slice_get (legs_at task run.home) place ≡ Some leg → WidensBackBelow task settled run place old middle → WidensBy task settled run leg.segment middle new → WidensBackBelow task settled run (place + 1) old new
+  back_more place leg old middle new here before by =
       record {
         widens = widens_both old middle new before.widens by.widens;
         leads = λ other found low at later taken. elim (below_next other place low) [
-          | inl less ↦ by.widens.kept found.piece.to (before.leads other found less at later taken)
+          | inl less ↦ by.widens.kept found.segment.to (before.leads other found less at later taken)
           | inr same ↦
-              let is : way ≡ found = one_way (ways_at task run.home) place other way found here at same in
-              subst (λ (w : Way). can_take task run settled.used w.piece ≡ true → LiesAhead new w.piece.to) is by.leads taken
+              let is : leg ≡ found = one_leg (legs_at task run.home) place other leg found here at same in
+              subst (λ (w : Leg). can_take task run settled.used w.segment ≡ true → LiesAhead new w.segment.to) is by.leads taken
         ];
       }
 
-  pub back_skip : (place : ℕ) (way : Way) (old new : List Bool) → slice_get (ways_at task run.home) place ≡ Some way → (run.first ≤ way.first → ⊥) → WidensBackBelow task settled run place old new → WidensBackBelow task settled run (place + 1) old new
-  back_skip place way old new here sooner before =
+  pub back_skip : (place : ℕ) (leg : Leg) (old new : List Bool) → slice_get (legs_at task run.home) place ≡ Some leg → (run.first ≤ leg.first → ⊥) → WidensBackBelow task settled run place old new → WidensBackBelow task settled run (place + 1) old new
+  back_skip place leg old new here sooner before =
       record {
         widens = before.widens;
         leads = λ other found low at later taken. elim (below_next other place low) [
           | inl less ↦ before.leads other found less at later taken
           | inr same ↦
-              let is : way ≡ found = one_way (ways_at task run.home) place other way found here at same in
-              absurd (sooner (subst (λ (w : Way). run.first ≤ w.first) (sym is) later))
+              let is : leg ≡ found = one_leg (legs_at task run.home) place other leg found here at same in
+              absurd (sooner (subst (λ (w : Leg). run.first ≤ w.first) (sym is) later))
         ];
       }
 
-  pub back_all : (ways : List Way) (place : ℕ) (old new : List Bool) → ways_at task run.home ≡ ways → length ways ≤ place → WidensBackBelow task settled run place old new → WidensBack task settled run old new
-  back_all ways place old new there all below =
+  pub back_all : (legs : List Leg) (place : ℕ) (old new : List Bool) → legs_at task run.home ≡ legs → length legs ≤ place → WidensBackBelow task settled run place old new → WidensBack task settled run old new
+  back_all legs place old new there all below =
       record {
         widens = below.widens;
-        here = λ passes other way at later taken.
-            let low : other < length ways = slice_get_within ways other way (ap (λ ws. slice_get ws other) (sym there) ∙ at) in
-            below.leads other way (omega (arith, low, all)) at later taken;
+        here = λ passes other leg at later taken.
+            let low : other < length legs = slice_get_within legs other leg (ap (λ ws. slice_get ws other) (sym there) ∙ at) in
+            below.leads other leg (omega (arith, low, all)) at later taken;
       }
 
   pub back_end : (ahead : List Bool) → ends_in (node_at task run.home) ≡ true → WidensBack task settled run ahead ahead
   back_end ahead ends =
-      record { widens = widens_none ahead; here = λ passes place way at later taken. absurd (falsely (ends_in (node_at task run.home)) ends passes) }
+      record { widens = widens_none ahead; here = λ passes place leg at later taken. absurd (falsely (ends_in (node_at task run.home)) ends passes) }
 
   -- no run passes a spot
   pub from_end : (spot : ℕ) (ahead : List Bool) → ends_in (node_at task spot) ≡ true → WidensFrom task settled run spot ahead ahead
   from_end spot ahead ends =
-      record { widens = widens_none ahead; here = λ passes place way at taken. absurd (falsely (ends_in (node_at task spot)) ends passes) }
+      record { widens = widens_none ahead; here = λ passes place leg at taken. absurd (falsely (ends_in (node_at task spot)) ends passes) }
 
   -- a piece leads to what lies ahead, or may not be taken
-  along_known : (piece : Piece) (ahead : List Bool) → LiesAhead ahead piece.to → WidensBy task settled run piece ahead ahead
-  along_known piece ahead lies = record { widens = widens_none ahead; leads = λ taken. lies }
+  along_known : (segment : Segment) (ahead : List Bool) → LiesAhead ahead segment.to → WidensBy task settled run segment ahead ahead
+  along_known segment ahead lies = record { widens = widens_none ahead; leads = λ taken. lies }
 
-  along_none : (piece : Piece) (ahead : List Bool) → can_take task run settled.used piece ≡ false → WidensBy task settled run piece ahead ahead
-  along_none piece ahead none =
-      record { widens = widens_none ahead; leads = λ taken. absurd (falsely (can_take task run settled.used piece) taken none) }
+  along_none : (segment : Segment) (ahead : List Bool) → can_take task run settled.used segment ≡ false → WidensBy task settled run segment ahead ahead
+  along_none segment ahead none =
+      record { widens = widens_none ahead; leads = λ taken. absurd (falsely (can_take task run settled.used segment) taken none) }
 
   -- a stop that lies ahead is gone over
   pub past_from : (spot : ℕ) (old new : List Bool) → get_or old spot false ≡ false → spot < length old → WidensFrom task settled run spot (set old spot true) new → WidensPast task settled run spot old new
@@ -139,16 +139,16 @@ module _ (task : Task) (settled : Settled) (run : Standing) where
         lies = from.widens.kept there (get_or-set_same old there true false low);
       }
 
-  pub along_past : (piece : Piece) (old new : List Bool) → WidensPast task settled run piece.to old new → WidensBy task settled run piece old new
-  along_past piece old new past = record { widens = past.widens; leads = λ taken. past.lies }
+  pub along_past : (segment : Segment) (old new : List Bool) → WidensPast task settled run segment.to old new → WidensBy task settled run segment old new
+  along_past segment old new past = record { widens = past.widens; leads = λ taken. past.lies }
 
   -- a piece does not lead on
-  pub along_not : (piece : Piece) (ahead : List Bool) → leads_on task settled run ahead piece ≡ false → WidensBy task settled run piece ahead ahead
-  along_not piece ahead is = by_mark (get_or ahead piece.to false) refl is
+  pub along_not : (segment : Segment) (ahead : List Bool) → leads_on task settled run ahead segment ≡ false → WidensBy task settled run segment ahead ahead
+  along_not segment ahead is = by_mark (get_or ahead segment.to false) refl is
     where
-      by_mark : (lies : Bool) → get_or ahead piece.to false ≡ lies → (not lies && can_take task run settled.used piece) ≡ false → WidensBy task settled run piece ahead ahead
-      by_mark true there none = along_known piece ahead there
-      by_mark false there none = along_none piece ahead none
+      by_mark : (lies : Bool) → get_or ahead segment.to false ≡ lies → (not lies && can_take task run settled.used segment) ≡ false → WidensBy task settled run segment ahead ahead
+      by_mark true there none = along_known segment ahead there
+      by_mark false there none = along_none segment ahead none
 
   -- where nothing lay ahead, all has been gone over
   all_over : (ahead : List Bool) → ((spot : ℕ) → LiesAhead ahead spot → LiesAhead (replicate 744 false) spot ⊎ IsGoneOver task settled run ahead spot) → (spot : ℕ) → LiesAhead ahead spot → IsGoneOver task settled run ahead spot

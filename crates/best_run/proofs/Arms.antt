@@ -15,15 +15,15 @@ use Rattle.certificate.specs.Legal.{AreDistinct, EndsAtStop, HasSuch, crossed, e
 use Rattle.certificate.proofs.Marks.{among_both}
 use Rattle.certificate.proofs.RunReached.{flip_enters, flipped}
 use Rattle.certificate.proofs.TwoTrain.{returning}
-use Rattle.best_run.specs.declared.task.Piece.{Piece}
+use Rattle.best_run.specs.declared.task.Segment.{Segment}
 use Rattle.best_run.specs.declared.task.Task.{Task}
 use Rattle.best_run.specs.declared.state.Settled.{Settled}
-use Rattle.best_run.specs.declared.state.Standing.{Standing}
-use Rattle.best_run.specs.Described.{Describes, GoesFrom, HasPieceOf, IsPieceOf, IsStopNode}
-use Rattle.best_run.specs.Moves.{LeadsFrom, along, begin, begun, between, ends_in, may_earn, node_at, own_before, settling, standing, stop_in, turn, turned_back, using}
+use Rattle.best_run.specs.declared.state.PartialRun.{PartialRun}
+use Rattle.best_run.specs.Described.{Describes, GoesFrom, HasSegmentOf, IsSegmentOf, IsStopNode}
+use Rattle.best_run.specs.Moves.{LeadsFrom, along, begin, begun, between, ends_in, may_earn, node_at, own_before, with_run_settled, partial, stop_in, turn, turned_back, using}
 use Rattle.best_run.specs.Marks.{IsMarked}
 use Rattle.best_run.proofs.Advance.{Tells, mark_more, node_left, one_number, same_spot, spot_low, to_home}
-use Rattle.best_run.proofs.Backwards.{AreAlike, Starts, Turned, alike_back, alike_onto, onto_append, walk_turned, worth_back}
+use Rattle.best_run.proofs.Backwards.{AreCanonical, Starts, Turned, canonical_back, canonical_onto, onto_append, walk_turned, worth_back}
 use Rattle.best_run.proofs.Complete.{AreAhead, CanFinish, CanGo, Stands, can_go, next_stop, passes_by, settle_here, stands_at_stop, visited_first, walk_on}
 use Rattle.best_run.proofs.Prefix.{Holds, holds_first, onto}
 use Rattle.best_run.proofs.Split.{HasHome, cut, find_home, holds_part, either_way, number_of, onto_put, own_length}
@@ -34,38 +34,38 @@ pub record Used (others : List ℕ) (settled : Settled) : Type 0 where
   pub whole : length settled.used ≡ 279
 
 -- the same borders in another order
-used_alike : (xs ys others : List ℕ) → AreAlike xs ys → (settled : Settled) → Used (xs ++ others) settled → Used (ys ++ others) settled
-used_alike xs ys others alike settled used =
+used_canonical : (xs ys others : List ℕ) → AreCanonical xs ys → (settled : Settled) → Used (xs ++ others) settled → Used (ys ++ others) settled
+used_canonical xs ys others canonical settled used =
     record {
       used = λ border.
           let first = among_both border xs others in
           let second = among_both border ys others in (
             λ marked. elim (first.0 ((used.used border).0 marked)) [
-              | inl here ↦ second.1 (inl ((alike.among border).0 here))
+              | inl here ↦ second.1 (inl ((canonical.among border).0 here))
               | inr other ↦ second.1 (inr other)
             ],
             λ among. (used.used border).1 (elim (second.0 among) [
-              | inl here ↦ first.1 (inl ((alike.among border).1 here))
+              | inl here ↦ first.1 (inl ((canonical.among border).1 here))
               | inr other ↦ first.1 (inr other)
             ]),
           );
       whole = used.whole;
     }
 
-ahead_alike : (task : Task) (home : ℕ) (xs ys : List Stop) → AreAlike xs ys → AreAhead task home xs → AreAhead task home ys
-ahead_alike task home xs ys alike ahead spot stop there among = ahead spot stop there ((alike.among stop).1 among)
+ahead_canonical : (task : Task) (home : ℕ) (xs ys : List Stop) → AreCanonical xs ys → AreAhead task home xs → AreAhead task home ys
+ahead_canonical task home xs ys canonical ahead spot stop there among = ahead spot stop there ((canonical.among stop).1 among)
 
 -- one walk visits the same stops as another, and crosses the same borders
 pub record AreOne (position : Position) (walk other : List Step) : Type 0 where
-  pub stops : AreAlike (visited walk) (visited other)
-  pub borders : AreAlike (crossed walk) (crossed other)
+  pub stops : AreCanonical (visited walk) (visited other)
+  pub borders : AreCanonical (crossed walk) (crossed other)
   pub worth : worth position (visited walk) ≡ worth position (visited other)
 
 one_back : (position : Position) (walk other : List Step) → AreOne position walk other → AreOne position other walk
 one_back position walk other one =
     record {
-      stops = alike_back (visited walk) (visited other) one.stops;
-      borders = alike_back (crossed walk) (crossed other) one.borders;
+      stops = canonical_back (visited walk) (visited other) one.stops;
+      borders = canonical_back (crossed walk) (crossed other) one.borders;
       worth = sym one.worth;
     }
 
@@ -99,8 +99,8 @@ module _ (position : Position) (company : Company) (lawful : IsLawful position) 
   pub one_turned : (most : ℕ) (others : List ℕ) (step : Step) (before : List Step) → (turned : Turned position lawful company most others step before) → AreOne position (step ∷ before) (turned.last ∷ turned.rest)
   one_turned most others step before turned =
       record {
-        stops = subst (AreAlike (visited (step ∷ before))) (sym turned.visits) (alike_onto (visited (step ∷ before)));
-        borders = subst (AreAlike (crossed (step ∷ before))) (sym turned.crosses) (alike_onto (crossed (step ∷ before)));
+        stops = subst (AreCanonical (visited (step ∷ before))) (sym turned.visits) (canonical_onto (visited (step ∷ before)));
+        borders = subst (AreCanonical (crossed (step ∷ before))) (sym turned.crosses) (canonical_onto (crossed (step ∷ before)));
         worth = sym (ap (worth position) turned.visits ∙ worth_back position (visited (step ∷ before)));
       }
 
@@ -143,8 +143,8 @@ module _ (position : Position) (company : Company) (lawful : IsLawful position) 
     MayEarn walk = may_earn settled.kind settled.cap most (earned position walk) ≡ true
 
     -- the first step of a run from a token
-    begin_run : (step : Step) (home : Stop) → stop_of (entered_at step) ≡ Some home → HasToken position home company → (index : ℕ) (piece : Piece) → LeadsFrom task (spot_number (entered_at step)) index piece → IsPieceOf step piece → Holds position company most others (step ∷ []) → AreAhead task (spot_number (entered_at step)) (visited (step ∷ [])) → (Tells task position company most others (left_at step) (visited (step ∷ [])) (crossed (step ∷ [])) (using settled piece) (along task (begun task settled (spot_number (entered_at step)) index) piece) → CanFinish task (standing (using settled piece) (along task (begun task settled (spot_number (entered_at step)) index) piece)) total) → CanFinish task (between settled) total
-    begin_run step home there token index piece leads is first ahead rest =
+    begin_run : (step : Step) (home : Stop) → stop_of (entered_at step) ≡ Some home → HasToken position home company → (index : ℕ) (segment : Segment) → LeadsFrom task (spot_number (entered_at step)) index segment → IsSegmentOf step segment → Holds position company most others (step ∷ []) → AreAhead task (spot_number (entered_at step)) (visited (step ∷ [])) → (Tells task position company most others (left_at step) (visited (step ∷ [])) (crossed (step ∷ [])) (using settled segment) (along task (begun task settled (spot_number (entered_at step)) index) segment) → CanFinish task (partial (using settled segment) (along task (begun task settled (spot_number (entered_at step)) index) segment)) total) → CanFinish task (between settled) total
+    begin_run step home there token index segment leads is first ahead rest =
         let at = entered_at step in
         let node : IsStopNode position company home (node_at task (spot_number at)) = node_left position company kinds task describes at (Some home) there in
         let visits : visited (step ∷ []) ≡ listed (stop_of (left_at step)) ++ (home ∷ []) = ap (λ o. listed (stop_of (left_at step)) ++ (listed o ++ [])) there in
@@ -152,24 +152,24 @@ module _ (position : Position) (company : Company) (lawful : IsLawful position) 
         let run = begun task settled (spot_number at) index in
         let tells = begun_tells others settled used most index most_is some at home there in
         let near : AreAhead task (spot_number at) (listed (stop_of (left_at step))) = λ spot stop at_stop among. ahead spot stop at_stop ((among_both stop (listed (stop_of (left_at step))) _).1 (inl among)) in
-        let can : CanGo position company kinds task describes most others at (home ∷ []) [] settled run step piece = can_go position company kinds task describes most others at (home ∷ []) [] settled run tells step piece is
+        let can : CanGo position company kinds task describes most others at (home ∷ []) [] settled run step segment = can_go position company kinds task describes most others at (home ∷ []) [] settled run tells step segment is
         (subst AreDistinct visits first.stops) (subst (λ vs. length vs ≤ most) visits first.few) first.borders first.free near in
-        let told = subst (λ vs. Tells task position company most others (left_at step) vs (crossed (step ∷ [])) (using settled piece) (along task run piece)) (sym visits) can.told in
+        let told = subst (λ vs. Tells task position company most others (left_at step) vs (crossed (step ∷ [])) (using settled segment) (along task run segment)) (sym visits) can.told in
         let end = rest told in
-        (begin (spot_number at) index piece ∷ end.0, (record { train = train; begins = node.stops; token = node.own.1 token; leads = leads; taken = can.taken }, end.1), end.2)
+        (begin (spot_number at) index segment ∷ end.0, (record { train = train; begins = node.stops; token = node.own.1 token; leads = leads; taken = can.taken }, end.1), end.2)
       where
         some_left : (stops : List Stop) (stop : Stop) → length (stops ++ (stop ∷ [])) ≤ most → 0 < most
         some_left [] stop few = omega arith
         some_left (other ∷ stops) stop few = omega arith
 
     -- a run that has been gone over is settled
-    finish_here : (walk : List Step) (last : Spot) (after : Settled) (done : Standing) → after.next ≡ settled.next → after.total ≡ settled.total → after.kind ≡ settled.kind → after.cap ≡ settled.cap → done.most ≡ most → Tells task position company most others last (visited walk) (crossed walk) after done → Stands walk last → EndsAtStop walk → MayEarn walk → Done walk → CanFinish task (standing after done) total
+    finish_here : (walk : List Step) (last : Spot) (after : Settled) (done : PartialRun) → after.next ≡ settled.next → after.total ≡ settled.total → after.kind ≡ settled.kind → after.cap ≡ settled.cap → done.most ≡ most → Tells task position company most others last (visited walk) (crossed walk) after done → Stands walk last → EndsAtStop walk → MayEarn walk → Done walk → CanFinish task (partial after done) total
     finish_here walk last after done next_is total_is kind_is cap_is most_same tells stands ends may rest =
         settle_here position company kinds task describes most others walk last after done total tells stands ends
         (ap (λ (k : ℕ). may_earn k after.cap done.most (earned position walk)) kind_is
         ∙ (ap (λ (c : ℕ). may_earn settled.kind c done.most (earned position walk)) cap_is
         ∙ (ap (λ (m : ℕ). may_earn settled.kind settled.cap m (earned position walk)) most_same ∙ may)))
-        (rest (settling after done) (omega (arith, next_is)) (omega (arith, total_is, tells.value)) most_same tells.value
+        (rest (with_run_settled after done) (omega (arith, next_is)) (omega (arith, total_is, tells.value)) most_same tells.value
         (record {
           used = λ border. let all : IsAmong border (crossed walk ++ others) ↔ (IsAmong border (crossed walk) ⊎ IsAmong border others) = among_both border (crossed walk) others in
               (λ marked. all.1 ((tells.used border).0 marked), λ among. (tells.used border).1 (all.0 among));
@@ -186,13 +186,13 @@ module _ (position : Position) (company : Company) (lawful : IsLawful position) 
         let at = entered_at step in
         let first : Holds position company most others (step ∷ []) = holds_first position company most others later step [] holds in
         let goes : GoesFrom (spot_number at) step = record { spot = at; number_is = refl; joined = inl (home, there, there) } in
-        let has : HasPieceOf task (spot_number at) step = describes.complete (spot_number at) step first.walk.0 goes in
-        begin_run step home there token has.index has.piece has.leads has.piece_is first (ahead_first later step [] (spot_number at) ahead)
-        (λ told. walk_on position company kinds task describes most others later step [] (using settled has.piece) (along task (begun task settled (spot_number at) has.index) has.piece) total told holds ahead
+        let has : HasSegmentOf task (spot_number at) step = describes.complete (spot_number at) step first.walk.0 goes in
+        begin_run step home there token has.index has.segment has.leads has.segment_is first (ahead_first later step [] (spot_number at) ahead)
+        (λ told. walk_on position company kinds task describes most others later step [] (using settled has.segment) (along task (begun task settled (spot_number at) has.index) has.segment) total told holds ahead
         (λ last after done stays stands tells. finish_here (onto later (step ∷ [])) last after done stays.next stays.total stays.kind stays.cap (stays.most ∙ most_is) tells stands ends may rest))
 
     -- a run along one arm from its token, and then along another; the first arm, turned about, comes before the second
-    two_arms : (first : Step) (along_first : List Step) (last : Step) (before : List Step) (second : Step) (along_second : List Step) (home : Stop) → AreOne position (onto along_first (first ∷ [])) (last ∷ before) → stop_of (entered_at first) ≡ Some home → stop_of (left_at last) ≡ Some home → HasToken position home company → (i j : ℕ) (p q : Piece) → LeadsFrom task (spot_number (entered_at first)) i p → IsPieceOf first p → LeadsFrom task (spot_number (entered_at first)) j q → IsPieceOf second q → i ≤ j → AreAhead task (spot_number (entered_at first)) (visited (onto along_second (second ∷ last ∷ before))) → Holds position company most others (onto along_first (first ∷ [])) → EndsAtStop (onto along_first (first ∷ [])) → Holds position company most others (onto along_second (second ∷ last ∷ before)) → EndsAtStop (onto along_second (second ∷ last ∷ before)) → MayEarn (onto along_second (second ∷ last ∷ before)) → Done (onto along_second (second ∷ last ∷ before)) → CanFinish task (between settled) total
+    two_arms : (first : Step) (along_first : List Step) (last : Step) (before : List Step) (second : Step) (along_second : List Step) (home : Stop) → AreOne position (onto along_first (first ∷ [])) (last ∷ before) → stop_of (entered_at first) ≡ Some home → stop_of (left_at last) ≡ Some home → HasToken position home company → (i j : ℕ) (p q : Segment) → LeadsFrom task (spot_number (entered_at first)) i p → IsSegmentOf first p → LeadsFrom task (spot_number (entered_at first)) j q → IsSegmentOf second q → i ≤ j → AreAhead task (spot_number (entered_at first)) (visited (onto along_second (second ∷ last ∷ before))) → Holds position company most others (onto along_first (first ∷ [])) → EndsAtStop (onto along_first (first ∷ [])) → Holds position company most others (onto along_second (second ∷ last ∷ before)) → EndsAtStop (onto along_second (second ∷ last ∷ before)) → MayEarn (onto along_second (second ∷ last ∷ before)) → Done (onto along_second (second ∷ last ∷ before)) → CanFinish task (between settled) total
     two_arms first along_first last before second along_second home one enters leaves token i j p q leads_i is_p leads_j is_q order ahead holds_one ends_one holds ends may rest =
         let at = entered_at first in
         let arm = onto along_first (first ∷ []) in
@@ -201,7 +201,7 @@ module _ (position : Position) (company : Company) (lawful : IsLawful position) 
         let one_step : Holds position company most others (first ∷ []) = holds_first position company most others along_first first [] holds_one in
         let two_steps : Holds position company most others (second ∷ back) = holds_first position company most others along_second second back holds in
         let ahead_back : AreAhead task (spot_number at) (visited back) = ahead_before in
-        let ahead_arm : AreAhead task (spot_number at) (visited arm) = ahead_alike task (spot_number at) (visited back) (visited arm) (alike_back (visited arm) (visited back) one.stops) ahead_back in
+        let ahead_arm : AreAhead task (spot_number at) (visited arm) = ahead_canonical task (spot_number at) (visited back) (visited arm) (canonical_back (visited arm) (visited back) one.stops) ahead_back in
         begin_run first home enters token i p leads_i is_p one_step (ahead_first along_first first [] (spot_number at) ahead_arm)
         (λ told. walk_on position company kinds task describes most others along_first first [] (using settled p) (along task (begun task settled (spot_number at) i) p) total told holds_one ahead_arm
         (λ there after done stays stands tells.
@@ -213,7 +213,7 @@ module _ (position : Position) (company : Company) (lawful : IsLawful position) 
         let can : CanGo position company kinds task describes most others (left_at last) (visited back) (crossed back) after (turned_back done) second q = can_go position company kinds task describes most others (left_at last) (visited back) (crossed back) after (turned_back done) tells_back second q is_q two_steps.stops two_steps.few two_steps.borders two_steps.free near in
         let passes : ends_in (node_at task done.home) ≡ false = passes_by position company kinds task describes most others (left_at last) (stop_of (left_at last)) refl done.home at_home (entered_at second) two_steps.walk.1 two_steps.red.0 two_steps.full.0 in
         let stops : stop_in (node_at task done.head) ≡ true = stands_at_stop position company kinds task describes most others arm there stands ends_one done.head tells.head in
-        let end : CanFinish task (standing (using after q) (along task (turned_back done) q)) total =
+        let end : CanFinish task (partial (using after q) (along task (turned_back done) q)) total =
         walk_on position company kinds task describes most others along_second second back (using after q) (along task (turned_back done) q) total can.told holds
         (subst (λ (n : ℕ). AreAhead task n (visited walk)) (sym same) ahead)
         (λ where_it_is later finished keeps stands_there tells_there.
@@ -228,7 +228,7 @@ module _ (position : Position) (company : Company) (lawful : IsLawful position) 
     -- the same for a walk that is one with another
     done_one : (walk other : List Step) → AreOne position walk other → Done walk → Done other
     done_one walk other one rest after next_is total_is kind_is cap_is used_after =
-        rest after next_is (omega (arith, total_is, one.worth)) kind_is (cap_is ∙ sym one.worth) (used_alike (crossed other) (crossed walk) others (alike_back (crossed walk) (crossed other) one.borders) after used_after)
+        rest after next_is (omega (arith, total_is, one.worth)) kind_is (cap_is ∙ sym one.worth) (used_canonical (crossed other) (crossed walk) others (canonical_back (crossed walk) (crossed other) one.borders) after used_after)
 
     may_one : (walk other : List Step) → AreOne position walk other → MayEarn walk → MayEarn other
     may_one walk other one may = subst (λ (v : ℕ). may_earn settled.kind settled.cap most v ≡ true) one.worth may
@@ -255,7 +255,7 @@ module _ (position : Position) (company : Company) (lawful : IsLawful position) 
           holds = turned.holds;
           ends = (run.holds.begins.0, ap stop_of turned.stands ∙ run.holds.begins.1);
           token = run.token;
-          ahead = ahead_alike task (number_of home) (visited (step ∷ before)) (visited walk) one.stops run.ahead;
+          ahead = ahead_canonical task (number_of home) (visited (step ∷ before)) (visited walk) one.stops run.ahead;
           may = may_one (step ∷ before) walk one run.may;
           rest = done_one (step ∷ before) walk one run.rest;
         })
@@ -271,7 +271,7 @@ module _ (position : Position) (company : Company) (lawful : IsLawful position) 
         from_start home (flipped step) (returning before) (run_turned home step before run) (ap stop_of (flip_enters step) ∙ there)
 
     -- the arm by which it came is gone along first
-    came_first : (home : Stop) (last : Step) (before : List Step) (step : Step) (later : List Step) → IsRun home (onto later (step ∷ last ∷ before)) → stop_of (left_at last) ≡ Some home → (i j : ℕ) (p q : Piece) → LeadsFrom task (spot_number (entered_at (flipped last))) i p → IsPieceOf (flipped last) p → LeadsFrom task (spot_number (entered_at (flipped last))) j q → IsPieceOf step q → i ≤ j → CanFinish task (between settled) total
+    came_first : (home : Stop) (last : Step) (before : List Step) (step : Step) (later : List Step) → IsRun home (onto later (step ∷ last ∷ before)) → stop_of (left_at last) ≡ Some home → (i j : ℕ) (p q : Segment) → LeadsFrom task (spot_number (entered_at (flipped last))) i p → IsSegmentOf (flipped last) p → LeadsFrom task (spot_number (entered_at (flipped last))) j q → IsSegmentOf step q → i ≤ j → CanFinish task (between settled) total
     came_first home last before step later run there i j p q leads_i is_p leads_j is_q order =
         let holds : Holds position company most others (last ∷ before) = holds_first position company most others (step ∷ later) last before run.holds in
         let turned : Turned position lawful company most others last before = walk_turned position lawful company most others last before holds (home, there) in
@@ -285,7 +285,7 @@ module _ (position : Position) (company : Company) (lawful : IsLawful position) 
         run.holds run.ends run.may run.rest
 
     -- the arm by which it leaves is gone along first
-    left_first : (home : Stop) (last : Step) (before : List Step) (step : Step) (later : List Step) → IsRun home (onto later (step ∷ last ∷ before)) → stop_of (left_at last) ≡ Some home → stop_of (entered_at step) ≡ Some home → (i j : ℕ) (p q : Piece) → LeadsFrom task (spot_number (entered_at step)) i p → IsPieceOf step p → LeadsFrom task (spot_number (entered_at step)) j q → IsPieceOf (flipped last) q → i ≤ j → CanFinish task (between settled) total
+    left_first : (home : Stop) (last : Step) (before : List Step) (step : Step) (later : List Step) → IsRun home (onto later (step ∷ last ∷ before)) → stop_of (left_at last) ≡ Some home → stop_of (entered_at step) ≡ Some home → (i j : ℕ) (p q : Segment) → LeadsFrom task (spot_number (entered_at step)) i p → IsSegmentOf step p → LeadsFrom task (spot_number (entered_at step)) j q → IsSegmentOf (flipped last) q → i ≤ j → CanFinish task (between settled) total
     left_first home last before step later run there enters i j p q leads_i is_p leads_j is_q order =
         let some : HasLatest (onto later (step ∷ [])) = latest_of later step [] in
         let top = some.last in
@@ -315,14 +315,14 @@ module _ (position : Position) (company : Company) (lawful : IsLawful position) 
         let back : stop_of (entered_at (flipped last)) ≡ Some home = ap stop_of (flip_enters last) ∙ there in
         let n = spot_number (entered_at (flipped last)) in
         let one : n ≡ spot_number (entered_at step) = one_number (entered_at (flipped last)) (entered_at step) home back enters in
-        let came : HasPieceOf task n (flipped last) = describes.complete n (flipped last) two.walk.2.0 (record { spot = entered_at (flipped last); number_is = refl; joined = inl (home, back, back) }) in
-        let leaves : HasPieceOf task n step = describes.complete n step two.walk.0 (record { spot = entered_at (flipped last); number_is = refl; joined = inl (home, back, enters) }) in
+        let came : HasSegmentOf task n (flipped last) = describes.complete n (flipped last) two.walk.2.0 (record { spot = entered_at (flipped last); number_is = refl; joined = inl (home, back, back) }) in
+        let leaves : HasSegmentOf task n step = describes.complete n step two.walk.0 (record { spot = entered_at (flipped last); number_is = refl; joined = inl (home, back, enters) }) in
         elim (either_way came.index leaves.index) [
-          | inl order ↦ came_first home last before step later run there came.index leaves.index came.piece leaves.piece came.leads came.piece_is leaves.leads leaves.piece_is order
+          | inl order ↦ came_first home last before step later run there came.index leaves.index came.segment leaves.segment came.leads came.segment_is leaves.leads leaves.segment_is order
           | inr order ↦
-              left_first home last before step later run there enters leaves.index came.index leaves.piece came.piece
-              (subst (λ (k : ℕ). LeadsFrom task k leaves.index leaves.piece) one leaves.leads) leaves.piece_is
-              (subst (λ (k : ℕ). LeadsFrom task k came.index came.piece) one came.leads) came.piece_is order
+              left_first home last before step later run there enters leaves.index came.index leaves.segment came.segment
+              (subst (λ (k : ℕ). LeadsFrom task k leaves.index leaves.segment) one leaves.leads) leaves.segment_is
+              (subst (λ (k : ℕ). LeadsFrom task k came.index came.segment) one came.leads) came.segment_is order
         ]
 
     -- a run of the train

@@ -48,19 +48,19 @@ worth_onto position [] ys = omega arith
 worth_onto position (x ∷ xs) ys = let rest = worth_onto position xs (x ∷ ys) in omega arith
 
 -- two lists have the same things, and as many
-pub record AreAlike {A : Type 0} (xs ys : List A) : Type 0 where
+pub record AreCanonical {A : Type 0} (xs ys : List A) : Type 0 where
   pub among : (x : A) → IsAmong x xs ↔ IsAmong x ys
   pub long : length xs ≡ length ys
 
-pub alike_onto : {A : Type 0} (xs : List A) → AreAlike xs (onto xs [])
-alike_onto xs =
+pub canonical_onto : {A : Type 0} (xs : List A) → AreCanonical xs (onto xs [])
+canonical_onto xs =
     record {
       among = λ x. let both = among_onto x xs [] in (λ is. both.1 (inl is), λ is. elim (both.0 is) [ inl found ↦ found | inr none ↦ absurd none ]);
       long = let long = length_onto xs [] in omega arith;
     }
 
-pub alike_back : {A : Type 0} (xs ys : List A) → AreAlike xs ys → AreAlike ys xs
-alike_back xs ys alike = record { among = λ x. ((alike.among x).1, (alike.among x).0); long = sym alike.long }
+pub canonical_back : {A : Type 0} (xs ys : List A) → AreCanonical xs ys → AreCanonical ys xs
+canonical_back xs ys canonical = record { among = λ x. ((canonical.among x).1, (canonical.among x).0); long = sym canonical.long }
 
 pub worth_back : (position : Position) (stops : List Stop) → worth position (onto stops []) ≡ worth position stops
 worth_back position stops = let both = worth_onto position stops [] in omega arith
@@ -252,10 +252,10 @@ module _ (position : Position) (lawful : IsLawful position) where
         holds = record {
           walk = subst (IsWalk position) end.is (walks_back all [] holds.walk tt tt);
           begins = subst (BeginsAt (λ stop. Unit {0})) end.is (begins_back before (flipped step) [] (ends.0, (ap stop_of (flip_enters step) ∙ ends.1), tt));
-          few = let long = (alike_onto (visited all)).long in omega (arith, ap length visits, holds.few);
+          few = let long = (canonical_onto (visited all)).long in omega (arith, ap length visits, holds.few);
           stops = subst AreDistinct (sym visits) (distinct_onto (visited all) [] holds.stops tt (λ x here none. none));
           borders = subst AreDistinct (sym crosses) (distinct_onto (crossed all) [] holds.borders tt (λ x here none. none));
-          free = λ border among. holds.free border (((alike_onto (crossed all)).among border).1 (subst (IsAmong border) crosses among));
+          free = λ border among. holds.free border (((canonical_onto (crossed all)).among border).1 (subst (IsAmong border) crosses among));
           red = subst (PassesOnly (λ stop. ¬ (is_red position stop ≡ true))) end.is (passes_back (λ stop. ¬ (is_red position stop ≡ true)) all [] holds.walk holds.red tt tt);
           full = subst (PassesOnly (λ stop. ¬ IsFull position stop company)) end.is (passes_back (λ stop. ¬ IsFull position stop company) all [] holds.walk holds.full tt tt);
         };

@@ -2,7 +2,7 @@
 use Rattle.std.proofs.Common.{◌≡◌, ℕ, zero, suc, ◌+◌, ◌-◌, ◌*◌, ◌<◌, ◌≤◌, max, Bool, true, false, Some, List, [], ◌∷◌, length, get_or, set, slice_get, replicate, refl, sym, ap, subst, ◌∙◌, arith}
 use Rattle.best_run.specs.declared.task.Node.{Node}
 use Rattle.best_run.specs.declared.task.Task.{Task}
-use Rattle.best_run.specs.declared.state.Standing.{Standing}
+use Rattle.best_run.specs.declared.state.PartialRun.{PartialRun}
 use Rattle.best_run.specs.declared.worth.Worth.{Worth}
 use Rattle.best_run.specs.Ahead.{HasPassed, HasRanked, IsLeast, IsWorth, beyond, ends_by, goes_back, goes_on, if_ending, if_passed, most_ahead, one_end, two_ends}
 use Rattle.best_run.specs.Fit.{IsFit}
@@ -237,7 +237,7 @@ ends_less false true one two first second less both = less
 ends_less false false one two first second less both = omega arith
 
 -- what is known of the stops ahead bounds what a run may earn there
-pub level_ahead : (task : Task) (nodes : List Node) (run : Standing) (ahead : List Bool) (worth : Worth) (on back : Bool) (most : ℕ) → IsWorth nodes ahead worth → goes_on task run ≡ on → goes_back task run ≡ back → IsLeast worth run.left on back most → (level : ℕ) × (most_ahead level task nodes run ahead ≤ most)
+pub level_ahead : (task : Task) (nodes : List Node) (run : PartialRun) (ahead : List Bool) (worth : Worth) (on back : Bool) (most : ℕ) → IsWorth nodes ahead worth → goes_on task run ≡ on → goes_back task run ≡ back → IsLeast worth run.left on back most → (level : ℕ) × (most_ahead level task nodes run ahead ≤ most)
 level_ahead task nodes run ahead worth on back most known is_on is_back least =
     let passed = known.passed least.0 least.1 in
     let counts = ends_less on back (one_end (10 * least.0) nodes ahead) (two_ends (10 * least.0) nodes ahead) (worth.first - 10 * least.0) ((worth.first - 10 * least.0) + (worth.second - 10 * least.0)) (known.one (10 * least.0)) (known.two (10 * least.0)) in

@@ -2,10 +2,10 @@
 use Rattle.std.proofs.Common.{◌≡◌, ℕ, zero, suc, ◌+◌, ◌-◌, ◌<◌, ◌≤◌, Bool, true, false, ◌==◌, ◌⊎◌, inl, inr, Some, List, [], ◌∷◌, ◌++◌, length, replicate, set, slice_get, refl, sym, ap, subst, ◌∙◌, arith, length-append, length-set}
 use Rattle.std.proofs.lemmas.Bool.{cases_eq, eq-eqb, eqb-true}
 use Rattle.std.proofs.lemmas.Option.{slice_get_within}
-use Rattle.best_run.specs.declared.pieces.Entry.{Entry}
-use Rattle.best_run.specs.declared.pieces.Tail.{Tail}
-use Rattle.best_run.specs.declared.task.Piece.{Piece}
-use Rattle.best_run.specs.Pieces.{AreChained, HasPlace, IsTail, StandsThere, piece_if, pieces_from}
+use Rattle.best_run.specs.declared.segments.Entry.{Entry}
+use Rattle.best_run.specs.declared.segments.Tail.{Tail}
+use Rattle.best_run.specs.declared.task.Segment.{Segment}
+use Rattle.best_run.specs.Segments.{AreChained, HasPlace, IsTail, StandsThere, segment_if, segments_from}
 
 -- what stands in a list stands there still where one more is added, and that one stands at its end
 pub more_at : {A : Type 0} (xs ys : List A) (i : ℕ) (x : A) → slice_get xs i ≡ Some x → slice_get (xs ++ ys) i ≡ Some x
@@ -37,15 +37,15 @@ set_at (x ∷ xs) (suc place) (suc i) new found at =
     ]
 
 -- the pieces from a spot where one more is in the table
-from_more : (spot : ℕ) (entries : List Entry) (entry : Entry) → pieces_from spot (entries ++ entry ∷ []) ≡ pieces_from spot entries ++ piece_if (entry.from == spot) entry.piece []
+from_more : (spot : ℕ) (entries : List Entry) (entry : Entry) → segments_from spot (entries ++ entry ∷ []) ≡ segments_from spot entries ++ segment_if (entry.from == spot) entry.segment []
 from_more spot [] entry = refl
 from_more spot (first ∷ entries) entry =
-    ap (piece_if (first.from == spot) first.piece) (from_more spot entries entry)
-    ∙ by_test (first.from == spot) first.piece (pieces_from spot entries)
+    ap (segment_if (first.from == spot) first.segment) (from_more spot entries entry)
+    ∙ by_test (first.from == spot) first.segment (segments_from spot entries)
   where
-    by_test : (test : Bool) (piece : Piece) (pieces : List Piece) → piece_if test piece (pieces ++ piece_if (entry.from == spot) entry.piece []) ≡ piece_if test piece pieces ++ piece_if (entry.from == spot) entry.piece []
-    by_test true piece pieces = refl
-    by_test false piece pieces = refl
+    by_test : (test : Bool) (segment : Segment) (segments : List Segment) → segment_if test segment (segments ++ segment_if (entry.from == spot) entry.segment []) ≡ segment_if test segment segments ++ segment_if (entry.from == spot) entry.segment []
+    by_test true segment segments = refl
+    by_test false segment segments = refl
 
 none_behind : {A : Type 0} (xs : List A) → xs ++ [] ≡ xs
 none_behind [] = refl
@@ -58,24 +58,24 @@ not_same a b other = by_test (a == b) refl
     by_test false is = refl
     by_test true is = absurd (other (eqb-true a b is))
 
-pub from_here : (spot : ℕ) (entries : List Entry) (entry : Entry) → entry.from ≡ spot → pieces_from spot (entries ++ entry ∷ []) ≡ pieces_from spot entries ++ entry.piece ∷ []
+pub from_here : (spot : ℕ) (entries : List Entry) (entry : Entry) → entry.from ≡ spot → segments_from spot (entries ++ entry ∷ []) ≡ segments_from spot entries ++ entry.segment ∷ []
 from_here spot entries entry is =
-    from_more spot entries entry ∙ ap (λ test. pieces_from spot entries ++ piece_if test entry.piece []) (eq-eqb entry.from spot is)
+    from_more spot entries entry ∙ ap (λ test. segments_from spot entries ++ segment_if test entry.segment []) (eq-eqb entry.from spot is)
 
-pub from_other : (spot : ℕ) (entries : List Entry) (entry : Entry) → (entry.from ≡ spot → ⊥) → pieces_from spot (entries ++ entry ∷ []) ≡ pieces_from spot entries
+pub from_other : (spot : ℕ) (entries : List Entry) (entry : Entry) → (entry.from ≡ spot → ⊥) → segments_from spot (entries ++ entry ∷ []) ≡ segments_from spot entries
 from_other spot entries entry other =
     from_more spot entries entry
-    ∙ (ap (λ test. pieces_from spot entries ++ piece_if test entry.piece []) (not_same entry.from spot other) ∙ none_behind (pieces_from spot entries))
+    ∙ (ap (λ test. segments_from spot entries ++ segment_if test entry.segment []) (not_same entry.from spot other) ∙ none_behind (segments_from spot entries))
 
 -- there are no more of them than in the table
-one_few : (test : Bool) (piece : Piece) (pieces : List Piece) (most : ℕ) → length pieces ≤ most → length (piece_if test piece pieces) ≤ suc most
-one_few true piece pieces most few = omega (arith, few)
-one_few false piece pieces most few = omega (arith, few)
+one_few : (test : Bool) (segment : Segment) (segments : List Segment) (most : ℕ) → length segments ≤ most → length (segment_if test segment segments) ≤ suc most
+one_few true segment segments most few = omega (arith, few)
+one_few false segment segments most few = omega (arith, few)
 
-pub from_few : (spot : ℕ) (entries : List Entry) → length (pieces_from spot entries) ≤ length entries
+pub from_few : (spot : ℕ) (entries : List Entry) → length (segments_from spot entries) ≤ length entries
 from_few spot [] = omega arith
 from_few spot (entry ∷ entries) =
-    one_few (entry.from == spot) entry.piece (pieces_from spot entries) (length entries) (from_few spot entries)
+    one_few (entry.from == spot) entry.segment (segments_from spot entries) (length entries) (from_few spot entries)
 
 -- an empty table
 pub chained_none : (tails : List Tail) (tail : Tail) → tail.count ≡ 0 → tails ≡ replicate 744 tail → AreChained [] tails
@@ -110,12 +110,12 @@ module _ (entries : List Entry) (tails : List Tail) (are : AreChained entries ta
   has_more : (other : Entry) → HasPlace entries other → HasPlace (entries ++ entry ∷ []) other
   has_more other has =
       record {
-        piece_is = elim (cases_eq entry.from other.from) [
+        segment_is = elim (cases_eq entry.from other.from) [
           | inl same ↦
-              subst (λ (ps : List Piece). slice_get ps other.place ≡ Some other.piece) (sym (from_here other.from entries entry same))
-              (more_at (pieces_from other.from entries) (entry.piece ∷ []) other.place other.piece has.piece_is)
+              subst (λ (ps : List Segment). slice_get ps other.place ≡ Some other.segment) (sym (from_here other.from entries entry same))
+              (more_at (segments_from other.from entries) (entry.segment ∷ []) other.place other.segment has.segment_is)
           | inr apart ↦
-              subst (λ (ps : List Piece). slice_get ps other.place ≡ Some other.piece) (sym (from_other other.from entries entry apart)) has.piece_is
+              subst (λ (ps : List Segment). slice_get ps other.place ≡ Some other.segment) (sym (from_other other.from entries entry apart)) has.segment_is
         ];
         before = λ place one. stands_more entries entry other.before other.from place (has.before place one);
       }
@@ -123,11 +123,11 @@ module _ (entries : List Entry) (tails : List Tail) (are : AreChained entries ta
   has_here : HasPlace (entries ++ entry ∷ []) entry
   has_here =
       record {
-        piece_is =
-            let at : entry.place ≡ length (pieces_from entry.from entries) = place_is ∙ old_is.count in
-            subst (λ (n : ℕ). slice_get (pieces_from entry.from (entries ++ entry ∷ [])) n ≡ Some entry.piece) (sym at)
-            (subst (λ (ps : List Piece). slice_get ps (length (pieces_from entry.from entries)) ≡ Some entry.piece) (sym (from_here entry.from entries entry refl))
-            (end_at (pieces_from entry.from entries) entry.piece));
+        segment_is =
+            let at : entry.place ≡ length (segments_from entry.from entries) = place_is ∙ old_is.count in
+            subst (λ (n : ℕ). slice_get (segments_from entry.from (entries ++ entry ∷ [])) n ≡ Some entry.segment) (sym at)
+            (subst (λ (ps : List Segment). slice_get ps (length (segments_from entry.from entries)) ≡ Some entry.segment) (sym (from_here entry.from entries entry refl))
+            (end_at (segments_from entry.from entries) entry.segment));
         before = λ place one.
             subst (λ (n : ℕ). StandsThere (entries ++ entry ∷ []) n entry.from place) (sym before_is)
             (stands_more entries entry old.last entry.from place (old_is.last place (one ∙ place_is)));
@@ -151,7 +151,7 @@ module _ (entries : List Entry) (tails : List Tail) (are : AreChained entries ta
       tail_here spot same =
           subst (λ (n : ℕ). IsTail (entries ++ entry ∷ []) n new) (sym same)
           (record {
-            count = omega (arith, count, old_is.count, ap length (from_here entry.from entries entry refl), length-append (pieces_from entry.from entries) (entry.piece ∷ []));
+            count = omega (arith, count, old_is.count, ap length (from_here entry.from entries entry refl), length-append (segments_from entry.from entries) (entry.segment ∷ []));
             last = λ place one.
                 record {
                   entry = entry;
@@ -174,7 +174,7 @@ pub record IsAbove (entries : List Entry) (there spot place left : ℕ) : Type 0
   pub stands : StandsThere entries there spot here
   pub is : here ≡ place + left
 
-pub above_last : (entries : List Entry) (tails : List Tail) → AreChained entries tails → (spot : ℕ) (tail : Tail) → slice_get tails spot ≡ Some tail → (place : ℕ) → place < length (pieces_from spot entries) → IsAbove entries tail.last spot place (tail.count - (place + 1))
+pub above_last : (entries : List Entry) (tails : List Tail) → AreChained entries tails → (spot : ℕ) (tail : Tail) → slice_get tails spot ≡ Some tail → (place : ℕ) → place < length (segments_from spot entries) → IsAbove entries tail.last spot place (tail.count - (place + 1))
 above_last entries tails are spot tail at place low =
     let is : IsTail entries spot tail = are.tails_are spot tail at in
     let some : tail.count - 1 + 1 ≡ tail.count = omega (arith, is.count, low) in
@@ -192,13 +192,13 @@ above_before entries tails are there spot place left entry at some above =
       is = omega (arith, above.is, some);
     }
 
-pub above_it : (entries : List Entry) (tails : List Tail) → AreChained entries tails → (there spot place left : ℕ) (entry : Entry) → slice_get entries there ≡ Some entry → left ≡ 0 → IsAbove entries there spot place left → slice_get (pieces_from spot entries) place ≡ Some entry.piece
+pub above_it : (entries : List Entry) (tails : List Tail) → AreChained entries tails → (there spot place left : ℕ) (entry : Entry) → slice_get entries there ≡ Some entry → left ≡ 0 → IsAbove entries there spot place left → slice_get (segments_from spot entries) place ≡ Some entry.segment
 above_it entries tails are there spot place left entry at none above =
     let same : above.stands.entry ≡ entry = let e : Some above.stands.entry ≡ Some entry = sym above.stands.there_is ∙ at in cc in
     let place_is : entry.place ≡ place = ap (λ (e : Entry). e.place) (sym same) ∙ (above.stands.place_is ∙ omega (arith, above.is, none)) in
     let from_is : entry.from ≡ spot = ap (λ (e : Entry). e.from) (sym same) ∙ above.stands.from_is in
-    subst (λ (n : ℕ). slice_get (pieces_from n entries) place ≡ Some entry.piece) from_is
-    (subst (λ (n : ℕ). slice_get (pieces_from entry.from entries) n ≡ Some entry.piece) place_is (are.places there entry at).piece_is)
+    subst (λ (n : ℕ). slice_get (segments_from n entries) place ≡ Some entry.segment) from_is
+    (subst (λ (n : ℕ). slice_get (segments_from entry.from entries) n ≡ Some entry.segment) place_is (are.places there entry at).segment_is)
 
 pub above_low : (entries : List Entry) (there spot place left : ℕ) → IsAbove entries there spot place left → there < length entries
 above_low entries there spot place left above = slice_get_within entries there above.stands.entry above.stands.there_is

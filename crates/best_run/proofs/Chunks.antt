@@ -3,16 +3,16 @@
 use Rattle.std.proofs.Common.{◌≡◌, ℕ, zero, suc, ◌+◌, ◌<◌, ◌≤◌, Bool, true, false, not, ◌&&◌, nat_lt, ◌⊎◌, inl, inr, List, [], ◌∷◌, ◌++◌, length, get_or, set, refl, sym, ap, subst, ◌∙◌, arith, length-set}
 use Rattle.reach.proofs.Marking.{set_cases}
 use Rattle.certificate.proofs.Marks.{among_both}
-use Rattle.best_run.specs.declared.task.Piece.{Piece}
+use Rattle.best_run.specs.declared.task.Segment.{Segment}
 use Rattle.best_run.specs.declared.task.Task.{Task}
 use Rattle.best_run.specs.declared.state.Settled.{Settled}
-use Rattle.best_run.specs.declared.state.Standing.{Standing}
-use Rattle.best_run.specs.declared.trail.Mark.{Mark}
-use Rattle.best_run.specs.declared.trail.Mark.TheVariants.{Go}
-use Rattle.best_run.specs.Trail.{go_along}
+use Rattle.best_run.specs.declared.state.PartialRun.{PartialRun}
+use Rattle.best_run.specs.declared.move_path.Mark.{Mark}
+use Rattle.best_run.specs.declared.move_path.Mark.TheVariants.{Go}
+use Rattle.best_run.specs.MovePath.{go_along}
 use Rattle.best_run.specs.Fit.{BordersFit, IsFit}
-use Rattle.best_run.specs.Moves.{Completes, LeadsFrom, Move, along, begin, can_take, ends_in, go, left_after, marked_all, marked_if, marks_of, may_come, may_earn, misses, node_at, pass, settle, standing, stop_in, total_after, turn, using, value_in}
-use Rattle.best_run.specs.Ways.{AreFree, Hop, LeadsTo, borders_by, none_used, steps_by}
+use Rattle.best_run.specs.Moves.{Completes, LeadsFrom, Move, along, begin, can_take, ends_in, go, left_after, marked_all, marked_if, marks_of, may_come, may_earn, misses, node_at, pass, settle, partial, stop_in, total_after, turn, using, value_in}
+use Rattle.best_run.specs.Legs.{AreFree, Hop, LeadsTo, borders_by, none_used, steps_by}
 use Rattle.best_run.specs.Marks.{IsMarked}
 use Rattle.best_run.proofs.Advance.{free_misses, misses_free}
 use Rattle.best_run.proofs.Eased.{freer_all, freer_marked}
@@ -46,24 +46,24 @@ marked_stays marks [] m is = is
 marked_stays marks (border ∷ borders) m is = marked_stays (set marks border true) borders m (set_stays marks border m is)
 
 -- what some pieces cross is free where they are
-pub free_all : (piece : Piece) (hops : List Hop) (used : List Bool) → AreFree used piece hops → misses used (borders_by piece hops) ≡ true
-free_all piece [] used free = free
-free_all piece (hop ∷ hops) used free =
-    let here = piece.borders.items in
-    let rest : misses (marked_all used here) (borders_by hop.piece hops) ≡ true = free_all hop.piece hops (marked_all used here) free.1 in
-    free_misses used (here ++ borders_by hop.piece hops)
-    (λ border among marked. elim ((among_both border here (borders_by hop.piece hops)).0 among) [
+pub free_all : (segment : Segment) (hops : List Hop) (used : List Bool) → AreFree used segment hops → misses used (borders_by segment hops) ≡ true
+free_all segment [] used free = free
+free_all segment (hop ∷ hops) used free =
+    let here = segment.borders.items in
+    let rest : misses (marked_all used here) (borders_by hop.segment hops) ≡ true = free_all hop.segment hops (marked_all used here) free.1 in
+    free_misses used (here ++ borders_by hop.segment hops)
+    (λ border among marked. elim ((among_both border here (borders_by hop.segment hops)).0 among) [
       | inl first ↦ misses_free used here free.0 border first marked
-      | inr later ↦ misses_free (marked_all used here) (borders_by hop.piece hops) rest border later (marked_stays used here border marked)
+      | inr later ↦ misses_free (marked_all used here) (borders_by hop.segment hops) rest border later (marked_stays used here border marked)
     ])
 
 -- they are free where fewer borders are used
-pub free_freer : (piece : Piece) (hops : List Hop) (used others : List Bool) → Freer used others → AreFree used piece hops → AreFree others piece hops
-free_freer piece [] used others freer free =
-    free_misses others piece.borders.items (λ border among marked. misses_free used piece.borders.items free border among (freer_marked used others border freer marked))
-free_freer piece (hop ∷ hops) used others freer free = (
-  free_misses others piece.borders.items (λ border among marked. misses_free used piece.borders.items free.0 border among (freer_marked used others border freer marked)),
-  free_freer hop.piece hops (marked_all used piece.borders.items) (marked_all others piece.borders.items) (freer_all piece.borders.items used others freer) free.1,
+pub free_freer : (segment : Segment) (hops : List Hop) (used others : List Bool) → Freer used others → AreFree used segment hops → AreFree others segment hops
+free_freer segment [] used others freer free =
+    free_misses others segment.borders.items (λ border among marked. misses_free used segment.borders.items free border among (freer_marked used others border freer marked))
+free_freer segment (hop ∷ hops) used others freer free = (
+  free_misses others segment.borders.items (λ border among marked. misses_free used segment.borders.items free.0 border among (freer_marked used others border freer marked)),
+  free_freer hop.segment hops (marked_all used segment.borders.items) (marked_all others segment.borders.items) (freer_all segment.borders.items used others freer) free.1,
 )
 
 -- what is marked is marked in one of two others
@@ -105,39 +105,39 @@ misses_right first xs ys free =
     free_misses first ys (λ border among marked. misses_free first (xs ++ ys) free border ((among_both border xs ys).1 (inr among)) marked)
 
 -- pieces that are free by themselves are free where none of their borders is used
-free_in : (piece : Piece) (hops : List Hop) (used others first : List Bool) → length others ≡ 279 → IsOfBoth used others first → BordersFit (borders_by piece hops) → AreFree others piece hops → misses first (borders_by piece hops) ≡ true → AreFree used piece hops
-free_in piece [] used others first whole both fit free misses_it =
-    free_misses used piece.borders.items (λ border among marked. elim (both border marked) [
-      | inl other ↦ misses_free others piece.borders.items free border among other
-      | inr known ↦ misses_free first piece.borders.items misses_it border among known
+free_in : (segment : Segment) (hops : List Hop) (used others first : List Bool) → length others ≡ 279 → IsOfBoth used others first → BordersFit (borders_by segment hops) → AreFree others segment hops → misses first (borders_by segment hops) ≡ true → AreFree used segment hops
+free_in segment [] used others first whole both fit free misses_it =
+    free_misses used segment.borders.items (λ border among marked. elim (both border marked) [
+      | inl other ↦ misses_free others segment.borders.items free border among other
+      | inr known ↦ misses_free first segment.borders.items misses_it border among known
     ])
-free_in piece (hop ∷ hops) used others first whole both fit free misses_it =
-    let here = piece.borders.items in
-    let rest = borders_by hop.piece hops in (
+free_in segment (hop ∷ hops) used others first whole both fit free misses_it =
+    let here = segment.borders.items in
+    let rest = borders_by hop.segment hops in (
       free_misses used here (λ border among marked. elim (both border marked) [
         | inl other ↦ misses_free others here free.0 border among other
         | inr known ↦ misses_free first (here ++ rest) misses_it border ((among_both border here rest).1 (inl among)) known
       ]),
-      free_in hop.piece hops (marked_all used here) (marked_all others here) first (length_marked others here ∙ whole)
+      free_in hop.segment hops (marked_all used here) (marked_all others here) first (length_marked others here ∙ whole)
           (all_of_both here used others first (fits_left here rest fit) whole both) (fits_right here rest fit) free.1 (misses_right first here rest misses_it),
     )
 
-pub free_used : (piece : Piece) (hops : List Hop) (used : List Bool) → BordersFit (borders_by piece hops) → AreFree none_used piece hops → misses used (borders_by piece hops) ≡ true → AreFree used piece hops
-free_used piece hops used fit free misses_it =
-    free_in piece hops used none_used used (length_replicate 279 false) (λ border marked. inr marked) fit free misses_it
+pub free_used : (segment : Segment) (hops : List Hop) (used : List Bool) → BordersFit (borders_by segment hops) → AreFree none_used segment hops → misses used (borders_by segment hops) ≡ true → AreFree used segment hops
+free_used segment hops used fit free misses_it =
+    free_in segment hops used none_used used (length_replicate 279 false) (λ border marked. inr marked) fit free misses_it
 
 -- the borders of some pieces have numbers
-pub fits_by : (task : Task) → IsFit task → (piece : Piece) (hops : List Hop) (to : ℕ) → BordersFit piece.borders.items → LeadsTo task piece hops to → BordersFit (borders_by piece hops)
-fits_by task fit piece [] to fits leads = fits
-fits_by task fit piece (hop ∷ hops) to fits leads =
-    let next = leading_fits task fit piece.to hop.place hop.piece leads.1 in
-    fits_both piece.borders.items (borders_by hop.piece hops) fits (fits_by task fit hop.piece hops to next.1.borders leads.2)
+pub fits_by : (task : Task) → IsFit task → (segment : Segment) (hops : List Hop) (to : ℕ) → BordersFit segment.borders.items → LeadsTo task segment hops to → BordersFit (borders_by segment hops)
+fits_by task fit segment [] to fits leads = fits
+fits_by task fit segment (hop ∷ hops) to fits leads =
+    let next = leading_fits task fit segment.to hop.place hop.segment leads.1 in
+    fits_both segment.borders.items (borders_by hop.segment hops) fits (fits_by task fit hop.segment hops to next.1.borders leads.2)
 
 -- some borders are used, and a run has come to a stop
 abbrev pub over : Settled → List ℕ → Settled
 over settled borders = record settled { used = marked_all settled.used borders }
 
-abbrev pub arrived : Task → Standing → ℕ → Standing
+abbrev pub arrived : Task → PartialRun → ℕ → PartialRun
 arrived task run to =
     record run {
       head = to;
@@ -148,113 +148,113 @@ arrived task run to =
 
 module _ (task : Task) (fit : IsFit task) where
   -- a side on the way changes nothing
-  arrived_by : (run : Standing) (piece : Piece) (to : ℕ) → stop_in (node_at task piece.to) ≡ false → arrived task (along task run piece) to ≡ arrived task run to
-  arrived_by run piece to side =
-      let At : ℕ → ℕ → List Bool → Standing = λ left value visited. record run {
+  arrived_by : (run : PartialRun) (segment : Segment) (to : ℕ) → stop_in (node_at task segment.to) ≡ false → arrived task (along task run segment) to ≡ arrived task run to
+  arrived_by run segment to side =
+      let At : ℕ → ℕ → List Bool → PartialRun = λ left value visited. record run {
         head = to;
         left = left_after (stop_in (node_at task to)) left;
         value = value + value_in (node_at task to);
         visited = marked_if (stop_in (node_at task to)) visited to;
       } in
-      let one : left_after (stop_in (node_at task piece.to)) run.left ≡ run.left = ap (λ b. left_after b run.left) side in
-      let two : run.value + value_in (node_at task piece.to) ≡ run.value = omega (arith, side_value task fit piece.to side) in
-      let three : marked_if (stop_in (node_at task piece.to)) run.visited piece.to ≡ run.visited = ap (λ b. marked_if b run.visited piece.to) side in
-      ap (λ (l : ℕ). At l (run.value + value_in (node_at task piece.to)) (marked_if (stop_in (node_at task piece.to)) run.visited piece.to)) one
-      ∙ ap (λ (v : ℕ). At run.left v (marked_if (stop_in (node_at task piece.to)) run.visited piece.to)) two
+      let one : left_after (stop_in (node_at task segment.to)) run.left ≡ run.left = ap (λ b. left_after b run.left) side in
+      let two : run.value + value_in (node_at task segment.to) ≡ run.value = omega (arith, side_value task fit segment.to side) in
+      let three : marked_if (stop_in (node_at task segment.to)) run.visited segment.to ≡ run.visited = ap (λ b. marked_if b run.visited segment.to) side in
+      ap (λ (l : ℕ). At l (run.value + value_in (node_at task segment.to)) (marked_if (stop_in (node_at task segment.to)) run.visited segment.to)) one
+      ∙ ap (λ (v : ℕ). At run.left v (marked_if (stop_in (node_at task segment.to)) run.visited segment.to)) two
       ∙ ap (λ (m : List Bool). At run.left run.value m) three
 
-  come_by : (run : Standing) (piece : Piece) (to : ℕ) → stop_in (node_at task piece.to) ≡ false → may_come true (along task run piece) to ≡ may_come true run to
-  come_by run piece to side =
-      let one : left_after (stop_in (node_at task piece.to)) run.left ≡ run.left = ap (λ b. left_after b run.left) side in
-      let three : marked_if (stop_in (node_at task piece.to)) run.visited piece.to ≡ run.visited = ap (λ b. marked_if b run.visited piece.to) side in
-      ap (λ (l : ℕ). nat_lt 0 l && not (get_or (marked_if (stop_in (node_at task piece.to)) run.visited piece.to) to false)) one
+  come_by : (run : PartialRun) (segment : Segment) (to : ℕ) → stop_in (node_at task segment.to) ≡ false → may_come true (along task run segment) to ≡ may_come true run to
+  come_by run segment to side =
+      let one : left_after (stop_in (node_at task segment.to)) run.left ≡ run.left = ap (λ b. left_after b run.left) side in
+      let three : marked_if (stop_in (node_at task segment.to)) run.visited segment.to ≡ run.visited = ap (λ b. marked_if b run.visited segment.to) side in
+      ap (λ (l : ℕ). nat_lt 0 l && not (get_or (marked_if (stop_in (node_at task segment.to)) run.visited segment.to) to false)) one
       ∙ ap (λ (m : List Bool). nat_lt 0 run.left && not (get_or m to false)) three
 
   -- what comes after a piece begins with a way
-  pub record Chunk (settled : Settled) (run : Standing) (piece : Piece) (moves : List Move) : Type 0 where
+  pub record Chunk (settled : Settled) (run : PartialRun) (segment : Segment) (moves : List Move) : Type 0 where
     pub hops : List Hop
     pub to : ℕ
     pub later : List Move
     pub shorter : length later ≤ length moves
-    pub leads : LeadsTo task piece hops to
-    pub free : AreFree settled.used piece hops
+    pub leads : LeadsTo task segment hops to
+    pub free : AreFree settled.used segment hops
     pub come : may_come true run to ≡ true
-    pub completes : Completes task (standing (over settled (borders_by piece hops)) (arrived task run to)) later
-    pub total : total_after task (standing (using settled piece) (along task run piece)) moves ≡ total_after task (standing (over settled (borders_by piece hops)) (arrived task run to)) later
+    pub completes : Completes task (partial (over settled (borders_by segment hops)) (arrived task run to)) later
+    pub total : total_after task (partial (using settled segment) (along task run segment)) moves ≡ total_after task (partial (over settled (borders_by segment hops)) (arrived task run to)) later
 
-  chunk_more : (settled : Settled) (run : Standing) (piece next : Piece) (place : ℕ) (moves : List Move) → stop_in (node_at task piece.to) ≡ false → ends_in (node_at task piece.to) ≡ false → LeadsFrom task piece.to place next → misses settled.used piece.borders.items ≡ true → Chunk (using settled piece) (along task run piece) next moves → Chunk settled run piece (go place next ∷ moves)
-  chunk_more settled run piece next place moves side passes leads free rest =
-      let same : standing (over (using settled piece) (borders_by next rest.hops)) (arrived task (along task run piece) rest.to) ≡ standing (over settled (piece.borders.items ++ borders_by next rest.hops)) (arrived task run rest.to) =
-      ap (λ (u : List Bool). standing (record settled { used = u }) (arrived task (along task run piece) rest.to)) (marked_append settled.used piece.borders.items (borders_by next rest.hops))
-      ∙ ap (λ (r : Standing). standing (over settled (piece.borders.items ++ borders_by next rest.hops)) r) (arrived_by run piece rest.to side)
+  chunk_more : (settled : Settled) (run : PartialRun) (segment next : Segment) (place : ℕ) (moves : List Move) → stop_in (node_at task segment.to) ≡ false → ends_in (node_at task segment.to) ≡ false → LeadsFrom task segment.to place next → misses settled.used segment.borders.items ≡ true → Chunk (using settled segment) (along task run segment) next moves → Chunk settled run segment (go place next ∷ moves)
+  chunk_more settled run segment next place moves side passes leads free rest =
+      let same : partial (over (using settled segment) (borders_by next rest.hops)) (arrived task (along task run segment) rest.to) ≡ partial (over settled (segment.borders.items ++ borders_by next rest.hops)) (arrived task run rest.to) =
+      ap (λ (u : List Bool). partial (record settled { used = u }) (arrived task (along task run segment) rest.to)) (marked_append settled.used segment.borders.items (borders_by next rest.hops))
+      ∙ ap (λ (r : PartialRun). partial (over settled (segment.borders.items ++ borders_by next rest.hops)) r) (arrived_by run segment rest.to side)
       in
       record {
-        hops = record { place = place; piece = next } ∷ rest.hops;
+        hops = record { place = place; segment = next } ∷ rest.hops;
         to = rest.to;
         later = rest.later;
         shorter = omega (arith, rest.shorter);
         leads = ((side, passes), leads, rest.leads);
         free = (free, rest.free);
-        come = sym (come_by run piece rest.to side) ∙ rest.come;
+        come = sym (come_by run segment rest.to side) ∙ rest.come;
         completes = subst (λ s. Completes task s rest.later) same rest.completes;
         total = rest.total ∙ ap (λ s. total_after task s rest.later) same;
       }
 
-  pub chunk_of : (moves : List Move) (settled : Settled) (run : Standing) (piece : Piece) (stop : Bool) → stop_in (node_at task piece.to) ≡ stop → can_take task run settled.used piece ≡ true → Completes task (standing (using settled piece) (along task run piece)) moves → Chunk settled run piece moves
-  chunk_of moves settled run piece true is can completes =
+  pub chunk_of : (moves : List Move) (settled : Settled) (run : PartialRun) (segment : Segment) (stop : Bool) → stop_in (node_at task segment.to) ≡ stop → can_take task run settled.used segment ≡ true → Completes task (partial (using settled segment) (along task run segment)) moves → Chunk settled run segment moves
+  chunk_of moves settled run segment true is can completes =
       record {
         hops = [];
-        to = piece.to;
+        to = segment.to;
         later = moves;
         shorter = omega arith;
         leads = (is, refl);
-        free = take_free task run settled.used piece can;
-        come = sym (ap (λ b. may_come b run piece.to) is) ∙ both_first (may_come (stop_in (node_at task piece.to)) run piece.to) (misses settled.used piece.borders.items) can;
+        free = take_free task run settled.used segment can;
+        come = sym (ap (λ b. may_come b run segment.to) is) ∙ both_first (may_come (stop_in (node_at task segment.to)) run segment.to) (misses settled.used segment.borders.items) can;
         completes = completes;
         total = refl;
       }
-  chunk_of [] settled run piece false is can completes = absurd completes
-  chunk_of (pass ∷ moves) settled run piece false is can completes = absurd completes.0
-  chunk_of (begin stop place next ∷ moves) settled run piece false is can completes = absurd completes.0
-  chunk_of (go place next ∷ moves) settled run piece false is can completes =
+  chunk_of [] settled run segment false is can completes = absurd completes
+  chunk_of (pass ∷ moves) settled run segment false is can completes = absurd completes.0
+  chunk_of (begin stop place next ∷ moves) settled run segment false is can completes = absurd completes.0
+  chunk_of (go place next ∷ moves) settled run segment false is can completes =
       let may = completes.0 in
-      chunk_more settled run piece next place moves is may.passes may.leads (take_free task run settled.used piece can)
-      (chunk_of moves (using settled piece) (along task run piece) next (stop_in (node_at task next.to)) refl may.taken completes.1)
-  chunk_of (turn place next ∷ moves) settled run piece false is can completes =
+      chunk_more settled run segment next place moves is may.passes may.leads (take_free task run settled.used segment can)
+      (chunk_of moves (using settled segment) (along task run segment) next (stop_in (node_at task next.to)) refl may.taken completes.1)
+  chunk_of (turn place next ∷ moves) settled run segment false is can completes =
       absurd (let wrong : false ≡ true = sym is ∙ completes.0.stands in cc)
-  chunk_of (settle ∷ moves) settled run piece false is can completes =
-      absurd (let wrong : false ≡ true = sym is ∙ both_first (stop_in (node_at task piece.to)) (may_earn settled.kind settled.cap (along task run piece).most (along task run piece).value) completes.0 in cc)
+  chunk_of (settle ∷ moves) settled run segment false is can completes =
+      absurd (let wrong : false ≡ true = sym is ∙ both_first (stop_in (node_at task segment.to)) (may_earn settled.kind settled.cap (along task run segment).most (along task run segment).value) completes.0 in cc)
 
   -- whatever comes after a way comes after its pieces
-  pub record Back (settled : Settled) (run : Standing) (piece : Piece) (hops : List Hop) (to : ℕ) (later : List Move) : Type 0 where
-    pub can : can_take task run settled.used piece ≡ true
+  pub record Back (settled : Settled) (run : PartialRun) (segment : Segment) (hops : List Hop) (to : ℕ) (later : List Move) : Type 0 where
+    pub can : can_take task run settled.used segment ≡ true
     pub moves : List Move
-    pub completes : Completes task (standing (using settled piece) (along task run piece)) moves
-    pub total : total_after task (standing (using settled piece) (along task run piece)) moves ≡ total_after task (standing (over settled (borders_by piece hops)) (arrived task run to)) later
-    pub marks_are : Go piece.step ∷ marks_of moves ≡ go_along (steps_by piece hops) ++ marks_of later
+    pub completes : Completes task (partial (using settled segment) (along task run segment)) moves
+    pub total : total_after task (partial (using settled segment) (along task run segment)) moves ≡ total_after task (partial (over settled (borders_by segment hops)) (arrived task run to)) later
+    pub marks_are : Go segment.step ∷ marks_of moves ≡ go_along (steps_by segment hops) ++ marks_of later
 
-  pub chunk_back : (hops : List Hop) (settled : Settled) (run : Standing) (piece : Piece) (to : ℕ) (later : List Move) → LeadsTo task piece hops to → AreFree settled.used piece hops → may_come true run to ≡ true → Completes task (standing (over settled (borders_by piece hops)) (arrived task run to)) later → Back settled run piece hops to later
-  chunk_back [] settled run piece to later leads free come completes =
-      let same : to ≡ piece.to = sym leads.1 in
+  pub chunk_back : (hops : List Hop) (settled : Settled) (run : PartialRun) (segment : Segment) (to : ℕ) (later : List Move) → LeadsTo task segment hops to → AreFree settled.used segment hops → may_come true run to ≡ true → Completes task (partial (over settled (borders_by segment hops)) (arrived task run to)) later → Back settled run segment hops to later
+  chunk_back [] settled run segment to later leads free come completes =
+      let same : to ≡ segment.to = sym leads.1 in
       record {
-        can = both_are (may_come (stop_in (node_at task piece.to)) run piece.to) (misses settled.used piece.borders.items)
-            (ap (λ b. may_come b run piece.to) leads.0 ∙ (ap (λ (n : ℕ). may_come true run n) leads.1 ∙ come)) free;
+        can = both_are (may_come (stop_in (node_at task segment.to)) run segment.to) (misses settled.used segment.borders.items)
+            (ap (λ b. may_come b run segment.to) leads.0 ∙ (ap (λ (n : ℕ). may_come true run n) leads.1 ∙ come)) free;
         moves = later;
-        completes = subst (λ (n : ℕ). Completes task (standing (using settled piece) (arrived task run n)) later) same completes;
-        total = ap (λ (n : ℕ). total_after task (standing (using settled piece) (arrived task run n)) later) leads.1;
+        completes = subst (λ (n : ℕ). Completes task (partial (using settled segment) (arrived task run n)) later) same completes;
+        total = ap (λ (n : ℕ). total_after task (partial (using settled segment) (arrived task run n)) later) leads.1;
         marks_are = refl;
       }
-  chunk_back (hop ∷ hops) settled run piece to later leads free come completes =
+  chunk_back (hop ∷ hops) settled run segment to later leads free come completes =
       let side = leads.0.0 in
-      let same : standing (over (using settled piece) (borders_by hop.piece hops)) (arrived task (along task run piece) to) ≡ standing (over settled (piece.borders.items ++ borders_by hop.piece hops)) (arrived task run to) =
-      ap (λ (u : List Bool). standing (record settled { used = u }) (arrived task (along task run piece) to)) (marked_append settled.used piece.borders.items (borders_by hop.piece hops))
-      ∙ ap (λ (r : Standing). standing (over settled (piece.borders.items ++ borders_by hop.piece hops)) r) (arrived_by run piece to side)
+      let same : partial (over (using settled segment) (borders_by hop.segment hops)) (arrived task (along task run segment) to) ≡ partial (over settled (segment.borders.items ++ borders_by hop.segment hops)) (arrived task run to) =
+      ap (λ (u : List Bool). partial (record settled { used = u }) (arrived task (along task run segment) to)) (marked_append settled.used segment.borders.items (borders_by hop.segment hops))
+      ∙ ap (λ (r : PartialRun). partial (over settled (segment.borders.items ++ borders_by hop.segment hops)) r) (arrived_by run segment to side)
       in
-      let rest : Back (using settled piece) (along task run piece) hop.piece hops to later = chunk_back hops (using settled piece) (along task run piece) hop.piece to later leads.2 free.1 (come_by run piece to side ∙ come) (subst (λ s. Completes task s later) (sym same) completes) in
+      let rest : Back (using settled segment) (along task run segment) hop.segment hops to later = chunk_back hops (using settled segment) (along task run segment) hop.segment to later leads.2 free.1 (come_by run segment to side ∙ come) (subst (λ s. Completes task s later) (sym same) completes) in
       record {
-        can = both_are (may_come (stop_in (node_at task piece.to)) run piece.to) (misses settled.used piece.borders.items) (ap (λ b. may_come b run piece.to) side) free.0;
-        moves = go hop.place hop.piece ∷ rest.moves;
+        can = both_are (may_come (stop_in (node_at task segment.to)) run segment.to) (misses settled.used segment.borders.items) (ap (λ b. may_come b run segment.to) side) free.0;
+        moves = go hop.place hop.segment ∷ rest.moves;
         completes = (record { passes = leads.0.1; leads = leads.1; taken = rest.can }, rest.completes);
         total = rest.total ∙ ap (λ s. total_after task s later) same;
-        marks_are = ap (λ (marks : List Mark). Go piece.step ∷ marks) rest.marks_are;
+        marks_are = ap (λ (marks : List Mark). Go segment.step ∷ marks) rest.marks_are;
       }

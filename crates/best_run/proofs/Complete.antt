@@ -14,12 +14,12 @@ use Rattle.tables.specs.declared.rolling_stock.Kind.{Kind}
 use Rattle.tables.specs.declared.roster.Company.{Company}
 use Rattle.certificate.specs.Legal.{AreDistinct, EndsAtStop, border_at, crossed, earned, listed, visited}
 use Rattle.certificate.proofs.Marks.{among_both}
-use Rattle.best_run.specs.declared.task.Piece.{Piece}
+use Rattle.best_run.specs.declared.task.Segment.{Segment}
 use Rattle.best_run.specs.declared.task.Task.{Task}
 use Rattle.best_run.specs.declared.state.Settled.{Settled}
-use Rattle.best_run.specs.declared.state.Standing.{Standing}
-use Rattle.best_run.specs.Described.{Describes, GoesFrom, HasPieceOf, IsPieceOf, IsSideNode, IsStopNode}
-use Rattle.best_run.specs.Moves.{Completes, Move, State, along, between, can_take, ends_in, go, may_come, may_earn, misses, node_at, own_before, settle, settling, standing, stop_in, total_after, using}
+use Rattle.best_run.specs.declared.state.PartialRun.{PartialRun}
+use Rattle.best_run.specs.Described.{Describes, GoesFrom, HasSegmentOf, IsSegmentOf, IsSideNode, IsStopNode}
+use Rattle.best_run.specs.Moves.{Completes, Move, State, along, between, can_take, ends_in, go, may_come, may_earn, misses, node_at, own_before, settle, with_run_settled, partial, stop_in, total_after, using}
 use Rattle.best_run.specs.Marks.{IsMarked}
 use Rattle.best_run.proofs.Advance.{Tells, free_misses, node_left, to_side, to_stop}
 use Rattle.best_run.proofs.Prefix.{Holds, distinct_apart, holds_first, onto}
@@ -65,7 +65,7 @@ AreAhead task home stops =
     (spot : Spot) (stop : Stop) → stop_of spot ≡ Some stop → IsAmong stop stops → ¬ IsMarked (own_before task home) (spot_number spot)
 
 -- what a run keeps as it goes on
-pub record StaysSo (settled after : Settled) (run done : Standing) : Type 0 where
+pub record StaysSo (settled after : Settled) (run done : PartialRun) : Type 0 where
   pub next : after.next ≡ settled.next
   pub total : after.total ≡ settled.total
   pub kind : after.kind ≡ settled.kind
@@ -77,19 +77,19 @@ pub record StaysSo (settled after : Settled) (run done : Standing) : Type 0 wher
 
 module _ (position : Position) (company : Company) (kinds : List Kind) (task : Task) (describes : Describes position company kinds task) (most : ℕ) (others : List ℕ) where
   -- what some moves tell of a run
-  abbrev pub Told : Spot → List Stop → List ℕ → Settled → Standing → Type 0
+  abbrev pub Told : Spot → List Stop → List ℕ → Settled → PartialRun → Type 0
   Told at stops borders settled run = Tells task position company most others at stops borders settled run
 
   -- the next step of a walk that holds, by its piece
-  pub record CanGo (at : Spot) (stops : List Stop) (borders : List ℕ) (settled : Settled) (run : Standing) (step : Step) (piece : Piece) : Type 0 where
-    pub taken : can_take task run settled.used piece ≡ true
-    pub told : Told (left_at step) (listed (stop_of (left_at step)) ++ stops) (border_at (entered_at step).hex (entered_at step).end ++ borders) (using settled piece) (along task run piece)
+  pub record CanGo (at : Spot) (stops : List Stop) (borders : List ℕ) (settled : Settled) (run : PartialRun) (step : Step) (segment : Segment) : Type 0 where
+    pub taken : can_take task run settled.used segment ≡ true
+    pub told : Told (left_at step) (listed (stop_of (left_at step)) ++ stops) (border_at (entered_at step).hex (entered_at step).end ++ borders) (using settled segment) (along task run segment)
 
   -- the borders of a step are free
-  step_free : (at : Spot) (stops : List Stop) (borders : List ℕ) (settled : Settled) (run : Standing) → Told at stops borders settled run → (step : Step) (piece : Piece) → IsPieceOf step piece → AreDistinct (border_at (entered_at step).hex (entered_at step).end ++ borders) → ((border : ℕ) → IsAmong border (border_at (entered_at step).hex (entered_at step).end ++ borders) → ¬ IsAmong border others) → misses settled.used piece.borders.items ≡ true
-  step_free at stops borders settled run tells step piece is distinct free =
+  step_free : (at : Spot) (stops : List Stop) (borders : List ℕ) (settled : Settled) (run : PartialRun) → Told at stops borders settled run → (step : Step) (segment : Segment) → IsSegmentOf step segment → AreDistinct (border_at (entered_at step).hex (entered_at step).end ++ borders) → ((border : ℕ) → IsAmong border (border_at (entered_at step).hex (entered_at step).end ++ borders) → ¬ IsAmong border others) → misses settled.used segment.borders.items ≡ true
+  step_free at stops borders settled run tells step segment is distinct free =
       let new = border_at (entered_at step).hex (entered_at step).end in
-      free_misses settled.used piece.borders.items
+      free_misses settled.used segment.borders.items
       (λ border among marked.
       let here : IsAmong border new = subst (IsAmong border) is.borders among in
       elim ((tells.used border).0 marked) [
@@ -98,32 +98,32 @@ module _ (position : Position) (company : Company) (kinds : List Kind) (task : T
       ])
 
   -- so the step can be taken
-  by_left : (at : Spot) (stops : List Stop) (borders : List ℕ) (settled : Settled) (run : Standing) → Told at stops borders settled run → (step : Step) (piece : Piece) → IsPieceOf step piece → misses settled.used piece.borders.items ≡ true → (found : Option Stop) → stop_of (left_at step) ≡ found → AreDistinct (listed found ++ stops) → length (listed found ++ stops) ≤ most → AreAhead task run.home (listed found) → CanGo at stops borders settled run step piece
-  by_left at stops borders settled run tells step piece is free None side distinct few ahead =
-      let node : IsSideNode (node_at task piece.to) = subst (λ (n : ℕ). IsSideNode (node_at task n)) (sym is.to) (node_left position company kinds task describes (left_at step) None side) in
+  by_left : (at : Spot) (stops : List Stop) (borders : List ℕ) (settled : Settled) (run : PartialRun) → Told at stops borders settled run → (step : Step) (segment : Segment) → IsSegmentOf step segment → misses settled.used segment.borders.items ≡ true → (found : Option Stop) → stop_of (left_at step) ≡ found → AreDistinct (listed found ++ stops) → length (listed found ++ stops) ≤ most → AreAhead task run.home (listed found) → CanGo at stops borders settled run step segment
+  by_left at stops borders settled run tells step segment is free None side distinct few ahead =
+      let node : IsSideNode (node_at task segment.to) = subst (λ (n : ℕ). IsSideNode (node_at task n)) (sym is.to) (node_left position company kinds task describes (left_at step) None side) in
       record {
-        taken = both (may_come (stop_in (node_at task piece.to)) run piece.to) (misses settled.used piece.borders.items) (ap (λ b. may_come b run piece.to) node.stops) free;
-        told = subst (λ o. Told (left_at step) (listed o ++ stops) (border_at (entered_at step).hex (entered_at step).end ++ borders) (using settled piece) (along task run piece)) (sym side)
-            (to_side position company kinds task describes most others at stops borders settled run tells step piece is side);
+        taken = both (may_come (stop_in (node_at task segment.to)) run segment.to) (misses settled.used segment.borders.items) (ap (λ b. may_come b run segment.to) node.stops) free;
+        told = subst (λ o. Told (left_at step) (listed o ++ stops) (border_at (entered_at step).hex (entered_at step).end ++ borders) (using settled segment) (along task run segment)) (sym side)
+            (to_side position company kinds task describes most others at stops borders settled run tells step segment is side);
       }
-  by_left at stops borders settled run tells step piece is free (Some stop) there distinct few ahead =
-      let node : IsStopNode position company stop (node_at task piece.to) = subst (λ (n : ℕ). IsStopNode position company stop (node_at task n)) (sym is.to) (node_left position company kinds task describes (left_at step) (Some stop) there) in
+  by_left at stops borders settled run tells step segment is free (Some stop) there distinct few ahead =
+      let node : IsStopNode position company stop (node_at task segment.to) = subst (λ (n : ℕ). IsStopNode position company stop (node_at task n)) (sym is.to) (node_left position company kinds task describes (left_at step) (Some stop) there) in
       let left : 0 < run.left = omega (arith, tells.left) in
-      let new : IsMarked run.visited piece.to → ⊥ = λ marked. elim ((tells.visited (left_at step) stop there).0 (subst (IsMarked run.visited) is.to marked)) [
+      let new : IsMarked run.visited segment.to → ⊥ = λ marked. elim ((tells.visited (left_at step) stop there).0 (subst (IsMarked run.visited) is.to marked)) [
         | inl here ↦ distinct.0 here
         | inr passed ↦ ahead (left_at step) stop there (inl refl) passed
       ] in
       record {
-        taken = both (may_come (stop_in (node_at task piece.to)) run piece.to) (misses settled.used piece.borders.items)
-            (ap (λ b. may_come b run piece.to) node.stops ∙ both (ltb 0 run.left) (not (get_or run.visited piece.to false)) (lt-ltb 0 run.left left) (not_marked (get_or run.visited piece.to false) new)) free;
-        told = subst (λ o. Told (left_at step) (listed o ++ stops) (border_at (entered_at step).hex (entered_at step).end ++ borders) (using settled piece) (along task run piece)) (sym there)
-            (to_stop position company kinds task describes most others at stops borders settled run tells step piece is stop there left);
+        taken = both (may_come (stop_in (node_at task segment.to)) run segment.to) (misses settled.used segment.borders.items)
+            (ap (λ b. may_come b run segment.to) node.stops ∙ both (ltb 0 run.left) (not (get_or run.visited segment.to false)) (lt-ltb 0 run.left left) (not_marked (get_or run.visited segment.to false) new)) free;
+        told = subst (λ o. Told (left_at step) (listed o ++ stops) (border_at (entered_at step).hex (entered_at step).end ++ borders) (using settled segment) (along task run segment)) (sym there)
+            (to_stop position company kinds task describes most others at stops borders settled run tells step segment is stop there left);
       }
 
-  pub can_go : (at : Spot) (stops : List Stop) (borders : List ℕ) (settled : Settled) (run : Standing) → Told at stops borders settled run → (step : Step) (piece : Piece) → IsPieceOf step piece → AreDistinct (listed (stop_of (left_at step)) ++ stops) → length (listed (stop_of (left_at step)) ++ stops) ≤ most → AreDistinct (border_at (entered_at step).hex (entered_at step).end ++ borders) → ((border : ℕ) → IsAmong border (border_at (entered_at step).hex (entered_at step).end ++ borders) → ¬ IsAmong border others) → AreAhead task run.home (listed (stop_of (left_at step))) → CanGo at stops borders settled run step piece
-  can_go at stops borders settled run tells step piece is stops_once few borders_once free ahead =
-      by_left at stops borders settled run tells step piece is
-      (step_free at stops borders settled run tells step piece is borders_once free)
+  pub can_go : (at : Spot) (stops : List Stop) (borders : List ℕ) (settled : Settled) (run : PartialRun) → Told at stops borders settled run → (step : Step) (segment : Segment) → IsSegmentOf step segment → AreDistinct (listed (stop_of (left_at step)) ++ stops) → length (listed (stop_of (left_at step)) ++ stops) ≤ most → AreDistinct (border_at (entered_at step).hex (entered_at step).end ++ borders) → ((border : ℕ) → IsAmong border (border_at (entered_at step).hex (entered_at step).end ++ borders) → ¬ IsAmong border others) → AreAhead task run.home (listed (stop_of (left_at step))) → CanGo at stops borders settled run step segment
+  can_go at stops borders settled run tells step segment is stops_once few borders_once free ahead =
+      by_left at stops borders settled run tells step segment is
+      (step_free at stops borders settled run tells step segment is borders_once free)
       (stop_of (left_at step)) refl stops_once few ahead
 
   -- a run may go on from a spot with this number
@@ -146,25 +146,25 @@ module _ (position : Position) (company : Company) (kinds : List Kind) (task : T
       subst (λ (n : ℕ). stop_in (node_at task n) ≡ true) (sym is) node.stops
 
   -- a run that has been gone over is settled, if what comes after it can be finished
-  pub settle_here : (walk : List Step) (at : Spot) (settled : Settled) (run : Standing) (total : ℕ) → Told at (visited walk) (crossed walk) settled run → Stands walk at → EndsAtStop walk → may_earn settled.kind settled.cap run.most (earned position walk) ≡ true → CanFinish task (between (settling settled run)) total → CanFinish task (standing settled run) total
+  pub settle_here : (walk : List Step) (at : Spot) (settled : Settled) (run : PartialRun) (total : ℕ) → Told at (visited walk) (crossed walk) settled run → Stands walk at → EndsAtStop walk → may_earn settled.kind settled.cap run.most (earned position walk) ≡ true → CanFinish task (between (with_run_settled settled run)) total → CanFinish task (partial settled run) total
   settle_here walk at settled run total tells stands ends may rest =
       let stops : stop_in (node_at task run.head) ≡ true = stands_at_stop walk at stands ends run.head tells.head in
       let earns : may_earn settled.kind settled.cap run.most run.value ≡ true = subst (λ (v : ℕ). may_earn settled.kind settled.cap run.most v ≡ true) (sym tells.value) may in
       (settle ∷ rest.0, (both (stop_in (node_at task run.head)) (may_earn settled.kind settled.cap run.most run.value) stops earns, rest.1), rest.2)
 
   -- the steps to the end of a walk, if what comes after them can be finished
-  pub walk_on : (later : List Step) (step : Step) (before : List Step) (settled : Settled) (run : Standing) (total : ℕ) → Told (left_at step) (visited (step ∷ before)) (crossed (step ∷ before)) settled run → Holds position company most others (onto later (step ∷ before)) → AreAhead task run.home (visited (onto later (step ∷ before))) → ((last : Spot) (after : Settled) (done : Standing) → StaysSo settled after run done → Stands (onto later (step ∷ before)) last → Told last (visited (onto later (step ∷ before))) (crossed (onto later (step ∷ before))) after done → CanFinish task (standing after done) total) → CanFinish task (standing settled run) total
+  pub walk_on : (later : List Step) (step : Step) (before : List Step) (settled : Settled) (run : PartialRun) (total : ℕ) → Told (left_at step) (visited (step ∷ before)) (crossed (step ∷ before)) settled run → Holds position company most others (onto later (step ∷ before)) → AreAhead task run.home (visited (onto later (step ∷ before))) → ((last : Spot) (after : Settled) (done : PartialRun) → StaysSo settled after run done → Stands (onto later (step ∷ before)) last → Told last (visited (onto later (step ∷ before))) (crossed (onto later (step ∷ before))) after done → CanFinish task (partial after done) total) → CanFinish task (partial settled run) total
   walk_on [] step before settled run total tells holds ahead done =
       done (left_at step) settled run (record { next = refl; total = refl; kind = refl; cap = refl; most = refl; home = refl; first = refl; turned = refl }) refl tells
   walk_on (next ∷ later) step before settled run total tells holds ahead done =
       let first : Holds position company most others (next ∷ step ∷ before) = holds_first position company most others later next (step ∷ before) holds in
       let goes : GoesFrom run.head next = record { spot = left_at step; number_is = sym tells.head; joined = first.walk.1 } in
-      let has : HasPieceOf task run.head next = describes.complete run.head next first.walk.0 goes in
+      let has : HasSegmentOf task run.head next = describes.complete run.head next first.walk.0 goes in
       let near : AreAhead task run.home (listed (stop_of (left_at next))) = λ spot stop there among. ahead spot stop there (visited_first later next (step ∷ before) stop ((among_both stop (listed (stop_of (left_at next))) (visited (step ∷ before))).1 (inl among))) in
-      let go_next : CanGo (left_at step) (visited (step ∷ before)) (crossed (step ∷ before)) settled run next has.piece = can_go (left_at step) (visited (step ∷ before)) (crossed (step ∷ before)) settled run tells next has.piece has.piece_is first.stops first.few first.borders first.free near in
+      let go_next : CanGo (left_at step) (visited (step ∷ before)) (crossed (step ∷ before)) settled run next has.segment = can_go (left_at step) (visited (step ∷ before)) (crossed (step ∷ before)) settled run tells next has.segment has.segment_is first.stops first.few first.borders first.free near in
       let passes : ends_in (node_at task run.head) ≡ false = passes_by (left_at step) (stop_of (left_at step)) refl run.head tells.head (entered_at next) first.walk.1 first.red.0 first.full.0 in
-      let rest : CanFinish task (standing (using settled has.piece) (along task run has.piece)) total =
-      walk_on later next (step ∷ before) (using settled has.piece) (along task run has.piece) total go_next.told holds ahead
+      let rest : CanFinish task (partial (using settled has.segment) (along task run has.segment)) total =
+      walk_on later next (step ∷ before) (using settled has.segment) (along task run has.segment) total go_next.told holds ahead
       (λ last after run_done stays stands told. done last after run_done (record { next = stays.next; total = stays.total; kind = stays.kind; cap = stays.cap; most = stays.most; home = stays.home; first = stays.first; turned = stays.turned }) stands told)
       in
-      (go has.index has.piece ∷ rest.0, (record { passes = passes; leads = has.leads; taken = go_next.taken }, rest.1), rest.2)
+      (go has.index has.segment ∷ rest.0, (record { passes = passes; leads = has.leads; taken = go_next.taken }, rest.1), rest.2)

@@ -1,7 +1,7 @@
 -- What is done with the set of some borders is done with each of them.
 use Rattle.std.proofs.Common.{◌≡◌, ◌↔◌, ℕ, zero, suc, Bool, true, false, ◌⊎◌, inl, inr, Option, None, Some, List, [], ◌∷◌, length, get_or, set, refl, sym, ap, ◌∙◌, length-set}
 use Rattle.reach.specs.Position.{IsAmong}
-use Rattle.best_run.specs.Alike.{cleared_all}
+use Rattle.best_run.specs.Canonical.{cleared_all}
 use Rattle.best_run.specs.Crossed.{IsShared, numbers_in}
 use Rattle.best_run.specs.Kept.{Freer}
 use Rattle.best_run.specs.Marks.{AreApart, AreBoth, AreOnly, IsMarked, IsOneOf}

@@ -19,11 +19,11 @@ use Rattle.tables.specs.declared.roster.Company.{Company}
 use Rattle.certificate.specs.Legal.{border_at}
 use Rattle.certificate.proofs.Written.{ordered, stop_to_stop}
 use Rattle.best_run.specs.declared.task.Node.{Node}
-use Rattle.best_run.specs.declared.task.Piece.{Piece}
+use Rattle.best_run.specs.declared.task.Segment.{Segment}
 use Rattle.best_run.specs.declared.task.Task.{Task}
-use Rattle.best_run.specs.Described.{AreNumbered, ArePieces, AreSteps, ComesFrom, Describes, GoesFrom, HasPieceOf, IsNodeAt, IsNumbered, IsOfStep, IsSideNode, IsStepFrom, IsStopNode, most_of_all, number_before}
-use Rattle.best_run.specs.Fit.{BordersFit, IsFit, IsSide, PieceFits}
-use Rattle.best_run.specs.Moves.{LeadsFrom, node_at, own_in, pieces_at, stop_in}
+use Rattle.best_run.specs.Described.{AreNumbered, AreSegments, AreSteps, ComesFrom, Describes, GoesFrom, HasSegmentOf, IsNodeAt, IsNumbered, IsOfStep, IsSideNode, IsStepFrom, IsStopNode, most_of_all, number_before}
+use Rattle.best_run.specs.Fit.{BordersFit, IsFit, IsSide, SegmentFits}
+use Rattle.best_run.specs.Moves.{LeadsFrom, node_at, own_in, segments_at, stop_in}
 use Rattle.best_run.proofs.Advance.{border_fits, one_number, spot_low}
 
 -- what stands at a place is among a list
@@ -63,7 +63,7 @@ to_end position lawful hex (AtSide side) spot joined =
       | inr over ↦ ap (option_map spot_number) (back position lawful spot (spot_at hex (AtSide side)) over).0
     ]
 
-module _ (position : Position) (company : Company) (lawful : IsLawful position) (kinds : List Kind) (steps : List Step) (are_steps : AreSteps position steps) (task : Task) (numbered : AreNumbered position company task.spots.items) (pieces : ArePieces steps task.pieces) where
+module _ (position : Position) (company : Company) (lawful : IsLawful position) (kinds : List Kind) (steps : List Step) (are_steps : AreSteps position steps) (task : Task) (numbered : AreNumbered position company task.spots.items) (segments : AreSegments steps task.segments) where
   -- the node at a number, and what it is
   node_there : (number : ℕ) → number < 744 → (node : Node) × (node_at task number ≡ Some node) × IsNumbered position company number node
   node_there number low = by_found (node_at task number) refl
@@ -83,27 +83,27 @@ module _ (position : Position) (company : Company) (lawful : IsLawful position) 
       let there = node_there (spot_number spot) (spot_low spot) in
       subst (IsNodeAt position company (stop_of spot)) (sym there.1) (there.2.spot spot refl)
 
-  sound_there : (number index : ℕ) (piece : Piece) → LeadsFrom task number index piece → IsStepFrom position number piece
-  sound_there number index piece leads =
-      let of : IsOfStep number steps piece = (pieces number).sound piece (among_place (pieces_at task number) index piece leads) in
+  sound_there : (number index : ℕ) (segment : Segment) → LeadsFrom task number index segment → IsStepFrom position number segment
+  sound_there number index segment leads =
+      let of : IsOfStep number steps segment = (segments number).sound segment (among_place (segments_at task number) index segment leads) in
       let from = from_end (entered_at of.step).hex (entered_at of.step).end number of.comes position lawful in
       record {
         step = of.step;
         track = (are_steps of.step).0 of.among;
         goes = record { spot = from.0; number_is = from.1; joined = from.2 };
-        piece_is = of.piece_is;
+        segment_is = of.segment_is;
       }
 
-  complete_there : (number : ℕ) (step : Step) → IsTrack position step → GoesFrom number step → HasPieceOf task number step
+  complete_there : (number : ℕ) (step : Step) → IsTrack position step → GoesFrom number step → HasSegmentOf task number step
   complete_there number step track goes =
       let comes : ComesFrom number step = to_end position lawful (entered_at step).hex (entered_at step).end goes.spot goes.joined ∙ ap (λ n. Some n) goes.number_is in
-      let has = (pieces number).complete step ((are_steps step).1 track) comes in
-      let place = place_among (pieces_at task number) has.piece has.among in
+      let has = (segments number).complete step ((are_steps step).1 track) comes in
+      let place = place_among (segments_at task number) has.segment has.among in
       record {
         index = place.0;
-        piece = has.piece;
+        segment = has.segment;
         leads = place.1;
-        piece_is = has.piece_is;
+        segment_is = has.segment_is;
       }
 
   pub describes_it : task.trains.items ≡ most_of_all kinds → Describes position company kinds task
@@ -152,21 +152,21 @@ module _ (position : Position) (company : Company) (lawful : IsLawful position) 
       across_none hex (AtSide side) to is = refl
       across_none hex (AtStop place) to is = absurd cc
 
-  piece_fits_there : (number index : ℕ) (piece : Piece) → LeadsFrom task number index piece → PieceFits task (stop_in (node_at task number)) piece
-  piece_fits_there number index piece leads =
-      let from : IsStepFrom position number piece = sound_there number index piece leads in
+  segment_fits_there : (number index : ℕ) (segment : Segment) → LeadsFrom task number index segment → SegmentFits task (stop_in (node_at task number)) segment
+  segment_fits_there number index segment leads =
+      let from : IsStepFrom position number segment = sound_there number index segment leads in
       let step = from.step in
       let node_stop : stop_in (node_at task (spot_number from.goes.spot)) ≡ stop_in (node_at task number) = ap (λ (n : ℕ). stop_in (node_at task n)) from.goes.number_is in
       let same : stop_of from.goes.spot ≡ stop_of (entered_at step) = enters from.goes.spot (entered_at step) from.goes.joined in
       record {
-        to = subst (λ n. n < 744) (sym from.piece_is.to) (spot_low (left_at step));
-        borders = subst BordersFit (sym from.piece_is.borders) (border_fits (entered_at step).hex (entered_at step).end);
+        to = subst (λ n. n < 744) (sym from.segment_is.to) (spot_low (left_at step));
+        borders = subst BordersFit (sym from.segment_is.borders) (border_fits (entered_at step).hex (entered_at step).end);
         to_side = λ stops.
             let stop = stop_found from.goes.spot (stop_of from.goes.spot) refl (node_stop ∙ stops) in
-            ap (λ (n : ℕ). stop_in (node_at task n)) from.piece_is.to ∙ to_side_there (left_at step) (side_left step from.track stop.0 (sym same ∙ stop.1));
+            ap (λ (n : ℕ). stop_in (node_at task n)) from.segment_is.to ∙ to_side_there (left_at step) (side_left step from.track stop.0 (sym same ∙ stop.1));
         over = λ side.
             let none : stop_of (entered_at step) ≡ None = sym same ∙ side_found from.goes.spot (stop_of from.goes.spot) refl (node_stop ∙ side) in
-            subst (λ bs. 0 < length bs) (sym from.piece_is.borders) (over_border (entered_at step).hex (entered_at step).end none);
+            subst (λ bs. 0 < length bs) (sym from.segment_is.borders) (over_border (entered_at step).hex (entered_at step).end none);
       }
 
   -- the sides by their numbers
@@ -187,6 +187,6 @@ module _ (position : Position) (company : Company) (lawful : IsLawful position) 
           value = (numbered.each number node there).value;
           side = (numbered.each number node there).side;
         };
-        pieces = piece_fits_there;
+        segments = segment_fits_there;
         sides = sides_there;
       }

@@ -2,20 +2,20 @@
 -- more than they do by themselves.
 use Rattle.std.proofs.Common.{◌≡◌, ℕ, zero, suc, ◌+◌, ◌-◌, ◌<◌, ◌≤◌, Bool, true, false, not, ◌&&◌, ◌||◌, nat_le, ◌==◌, ◌⊎◌, inl, inr, Some, None, List, [], ◌∷◌, ◌++◌, length, set, replicate, slice_get, refl, sym, ap, subst, ◌∙◌, arith, add-one, le_trans}
 use Rattle.std.proofs.lemmas.Bool.{le-leb, leb-true}
-use Rattle.best_run.specs.declared.task.Piece.{Piece}
+use Rattle.best_run.specs.declared.task.Segment.{Segment}
 use Rattle.best_run.specs.declared.task.Task.{Task}
-use Rattle.best_run.specs.declared.explored.Found.{Found}
+use Rattle.best_run.specs.declared.memo.Found.{Found}
 use Rattle.best_run.specs.declared.state.Settled.{Settled}
-use Rattle.best_run.specs.declared.state.Standing.{Standing}
-use Rattle.best_run.specs.Moves.{AreExplored, Completes, Earns, Explores, IsTraced, Move, State, along, begin, begun, between, can_take, go, marked_all, may_come, may_earn, misses, node_at, pass, passed, settle, settling, standing, start, stop_in, total_after, total_of, turn, turned_back, using}
+use Rattle.best_run.specs.declared.state.PartialRun.{PartialRun}
+use Rattle.best_run.specs.Moves.{AreInMemo, Completes, Earns, Explores, IsTraced, Move, State, along, begin, begun, between, can_take, go, marked_all, may_come, may_earn, misses, node_at, pass, passed, settle, with_run_settled, partial, start, stop_in, total_after, total_of, turn, turned_back, using}
 use Rattle.best_run.specs.Kept.{Freer}
 use Rattle.best_run.specs.Suffix.{AreBounds, EarnAtMost, FallShort, IsSolved, IsTop, nothing_before}
 use Rattle.best_run.specs.Marks.{IsMarked}
 use Rattle.best_run.proofs.Advance.{free_misses, misses_free}
-use Rattle.best_run.specs.Trail.{IsWritten, marks_in}
-use Rattle.best_run.specs.declared.trail.Mark.{Mark}
-use Rattle.best_run.specs.declared.trail.Mark.TheVariants.{Pass}
-use Rattle.best_run.specs.declared.trail.Trail.{Trail}
+use Rattle.best_run.specs.MovePath.{IsWritten, marks_in}
+use Rattle.best_run.specs.declared.move_path.Mark.{Mark}
+use Rattle.best_run.specs.declared.move_path.Mark.TheVariants.{Pass}
+use Rattle.best_run.specs.declared.move_path.MovePath.{MovePath}
 use Rattle.best_run.proofs.Traced.{earns_by, traced_none}
 use Rattle.best_run.proofs.Tried.{leads_pass}
 
@@ -52,10 +52,10 @@ both_true true b c makes is = makes is
 both_true false b c makes is = is
 
 -- a piece that may be taken
-freer_take : (task : Task) (run : Standing) (used others : List Bool) (piece : Piece) → Freer used others → can_take task run used piece ≡ true → can_take task run others piece ≡ true
-freer_take task run used others piece freer =
-    both_true (may_come (stop_in (node_at task piece.to)) run piece.to) (misses used piece.borders.items) (misses others piece.borders.items)
-    (λ free. free_misses others piece.borders.items (λ border among marked. misses_free used piece.borders.items free border among (freer_marked used others border freer marked)))
+freer_take : (task : Task) (run : PartialRun) (used others : List Bool) (segment : Segment) → Freer used others → can_take task run used segment ≡ true → can_take task run others segment ≡ true
+freer_take task run used others segment freer =
+    both_true (may_come (stop_in (node_at task segment.to)) run segment.to) (misses used segment.borders.items) (misses others segment.borders.items)
+    (λ free. free_misses others segment.borders.items (λ border among marked. misses_free used segment.borders.items free border among (freer_marked used others border freer marked)))
 
 -- there is no cap, or one that is no lower, for trains of the same kind
 abbrev pub Looser : ℕ → ℕ → ℕ → ℕ → Type 0
@@ -68,7 +68,7 @@ eased kind cap settled total used =
 
 abbrev eased_state : ℕ → ℕ → State → ℕ → List Bool → State
 eased_state kind cap (between settled) total used = between (eased kind cap settled total used)
-eased_state kind cap (standing settled run) total used = standing (eased kind cap settled total used) run
+eased_state kind cap (partial settled run) total used = partial (eased kind cap settled total used) run
 
 either_true : (a b c : Bool) → (b ≡ true → c ≡ true) → (a || b) ≡ true → (a || c) ≡ true
 either_true true b c makes is = refl
@@ -83,11 +83,11 @@ earns_eased before low kind cap most value (inr same) may =
 
 abbrev cap_of : (ℕ → ℕ → Type 0) → State → Type 0
 cap_of P (between settled) = P settled.kind settled.cap
-cap_of P (standing settled run) = P settled.kind settled.cap
+cap_of P (partial settled run) = P settled.kind settled.cap
 
 abbrev marks_of : State → List Bool
 marks_of (between settled) = settled.used
-marks_of (standing settled run) = settled.used
+marks_of (partial settled run) = settled.used
 
 pub record Eased (task : Task) (kind cap : ℕ) (state : State) (moves : List Move) (total : ℕ) (used : List Bool) : Type 0 where
   pub completes : Completes task (eased_state kind cap state total used) moves
@@ -102,39 +102,39 @@ within a b total bound best same low enough = omega arith
 
 pub ease : (task : Task) (moves : List Move) (kind cap : ℕ) (state : State) (total : ℕ) (used : List Bool) → cap_of (λ before low. Looser before low kind cap) state → Freer (marks_of state) used → Completes task state moves → Eased task kind cap state moves total used
 ease task [] kind cap (between settled) total used looser freer completes = record { completes = completes; earns = omega arith }
-ease task [] kind cap (standing settled run) total used looser freer completes = absurd completes
+ease task [] kind cap (partial settled run) total used looser freer completes = absurd completes
 ease task (pass ∷ moves) kind cap (between settled) total used looser freer completes =
     let rest : Eased task kind cap (between (passed settled)) moves total used = ease task moves kind cap (between (passed settled)) total used looser freer completes.1 in
     record { completes = (completes.0, rest.completes); earns = rest.earns }
-ease task (pass ∷ moves) kind cap (standing settled run) total used looser freer completes = absurd completes.0
-ease task (begin stop index piece ∷ moves) kind cap (between settled) total used looser freer completes =
-    let rest : Eased task kind cap (standing (using settled piece) (along task (begun task settled stop index) piece)) moves total (marked_all used piece.borders.items) = ease task moves kind cap (standing (using settled piece) (along task (begun task settled stop index) piece)) total (marked_all used piece.borders.items) looser (freer_all piece.borders.items settled.used used freer) completes.1 in
+ease task (pass ∷ moves) kind cap (partial settled run) total used looser freer completes = absurd completes.0
+ease task (begin stop index segment ∷ moves) kind cap (between settled) total used looser freer completes =
+    let rest : Eased task kind cap (partial (using settled segment) (along task (begun task settled stop index) segment)) moves total (marked_all used segment.borders.items) = ease task moves kind cap (partial (using settled segment) (along task (begun task settled stop index) segment)) total (marked_all used segment.borders.items) looser (freer_all segment.borders.items settled.used used freer) completes.1 in
     record {
-      completes = (record { train = completes.0.train; begins = completes.0.begins; token = completes.0.token; leads = completes.0.leads; taken = freer_take task (begun task settled stop index) settled.used used piece freer completes.0.taken }, rest.completes);
+      completes = (record { train = completes.0.train; begins = completes.0.begins; token = completes.0.token; leads = completes.0.leads; taken = freer_take task (begun task settled stop index) settled.used used segment freer completes.0.taken }, rest.completes);
       earns = rest.earns;
     }
-ease task (begin stop index piece ∷ moves) kind cap (standing settled run) total used looser freer completes = absurd completes.0
-ease task (go index piece ∷ moves) kind cap (between settled) total used looser freer completes = absurd completes.0
-ease task (go index piece ∷ moves) kind cap (standing settled run) total used looser freer completes =
-    let rest : Eased task kind cap (standing (using settled piece) (along task run piece)) moves total (marked_all used piece.borders.items) = ease task moves kind cap (standing (using settled piece) (along task run piece)) total (marked_all used piece.borders.items) looser (freer_all piece.borders.items settled.used used freer) completes.1 in
+ease task (begin stop index segment ∷ moves) kind cap (partial settled run) total used looser freer completes = absurd completes.0
+ease task (go index segment ∷ moves) kind cap (between settled) total used looser freer completes = absurd completes.0
+ease task (go index segment ∷ moves) kind cap (partial settled run) total used looser freer completes =
+    let rest : Eased task kind cap (partial (using settled segment) (along task run segment)) moves total (marked_all used segment.borders.items) = ease task moves kind cap (partial (using settled segment) (along task run segment)) total (marked_all used segment.borders.items) looser (freer_all segment.borders.items settled.used used freer) completes.1 in
     record {
-      completes = (record { passes = completes.0.passes; leads = completes.0.leads; taken = freer_take task run settled.used used piece freer completes.0.taken }, rest.completes);
+      completes = (record { passes = completes.0.passes; leads = completes.0.leads; taken = freer_take task run settled.used used segment freer completes.0.taken }, rest.completes);
       earns = rest.earns;
     }
-ease task (turn index piece ∷ moves) kind cap (between settled) total used looser freer completes = absurd completes.0
-ease task (turn index piece ∷ moves) kind cap (standing settled run) total used looser freer completes =
+ease task (turn index segment ∷ moves) kind cap (between settled) total used looser freer completes = absurd completes.0
+ease task (turn index segment ∷ moves) kind cap (partial settled run) total used looser freer completes =
     let may = completes.0 in
-    let rest : Eased task kind cap (standing (using settled piece) (along task (turned_back run) piece)) moves total (marked_all used piece.borders.items) = ease task moves kind cap (standing (using settled piece) (along task (turned_back run) piece)) total (marked_all used piece.borders.items) looser (freer_all piece.borders.items settled.used used freer) completes.1 in
+    let rest : Eased task kind cap (partial (using settled segment) (along task (turned_back run) segment)) moves total (marked_all used segment.borders.items) = ease task moves kind cap (partial (using settled segment) (along task (turned_back run) segment)) total (marked_all used segment.borders.items) looser (freer_all segment.borders.items settled.used used freer) completes.1 in
     record {
-      completes = (record { once = may.once; stands = may.stands; later = may.later; passes = may.passes; leads = may.leads; taken = freer_take task (turned_back run) settled.used used piece freer may.taken }, rest.completes);
+      completes = (record { once = may.once; stands = may.stands; later = may.later; passes = may.passes; leads = may.leads; taken = freer_take task (turned_back run) settled.used used segment freer may.taken }, rest.completes);
       earns = rest.earns;
     }
 ease task (settle ∷ moves) kind cap (between settled) total used looser freer completes = absurd completes.0
-ease task (settle ∷ moves) kind cap (standing settled run) total used looser freer completes =
-    let rest : Eased task run.most run.value (between (settling settled run)) moves (total + run.value) used = ease task moves run.most run.value (between (settling settled run)) (total + run.value) used (inr (refl, omega arith)) freer completes.1 in
+ease task (settle ∷ moves) kind cap (partial settled run) total used looser freer completes =
+    let rest : Eased task run.most run.value (between (with_run_settled settled run)) moves (total + run.value) used = ease task moves run.most run.value (between (with_run_settled settled run)) (total + run.value) used (inr (refl, omega arith)) freer completes.1 in
     record {
       completes = (both_true (stop_in (node_at task run.head)) (may_earn settled.kind settled.cap run.most run.value) (may_earn kind cap run.most run.value) (earns_eased settled.kind settled.cap kind cap run.most run.value looser) completes.0, rest.completes);
-      earns = less_both (total_after task (between (settling settled run)) moves) (total_after task (between (eased run.most run.value (settling settled run) (total + run.value) used)) moves) total run.value settled.total rest.earns;
+      earns = less_both (total_after task (between (with_run_settled settled run)) moves) (total_after task (between (eased run.most run.value (with_run_settled settled run) (total + run.value) used)) moves) total run.value settled.total rest.earns;
     }
 
 -- what is settled and what the trains that are left earn by themselves
@@ -145,8 +145,8 @@ rest_low task settled bound most whole moves completes =
     within (total_after task (between settled) moves) (total_after task (between (nothing_before settled.next)) moves) settled.total bound (settled.total + bound) easy.earns (most moves easy.completes) (omega arith)
 
 -- what falls short need not be tried
-pub falls_short : (task : Task) (bounds : List ℕ) (settled : Settled) (best : Found) → AreBounds task bounds → length settled.used ≡ 279 → settled.next ≤ length task.trains.items → FallShort task bounds settled best.amount → Explores task (between settled) best best
-falls_short task bounds settled best are whole next short =
+pub is_pruned_by_suffix : (task : Task) (bounds : List ℕ) (settled : Settled) (best : Found) → AreBounds task bounds → length settled.used ≡ 279 → settled.next ≤ length task.trains.items → FallShort task bounds settled best.amount → Explores task (between settled) best best
+is_pruned_by_suffix task bounds settled best are whole next short =
     record { grows = omega arith; traced = traced_none task (between settled) best; known = λ known. known; most = λ known. most }
   where
     most : (moves : List Move) → Completes task (between settled) moves → total_after task (between settled) moves ≤ best.amount
@@ -160,7 +160,7 @@ slice_push (z ∷ xs) x zero y is = inl is
 slice_push (z ∷ xs) x (suc i) y is =
     elim (slice_push xs x i y is) [ inl old ↦ inl old | inr new ↦ inr (ap suc new.0, new.1) ]
 
-pub solved_none : (task : Task) (found : Found) → found.amount ≡ 0 → marks_in found.trail ≡ [] → AreExplored task found → IsSolved task 0 [] found
+pub solved_none : (task : Task) (found : Found) → found.amount ≡ 0 → marks_in found.move_path ≡ [] → AreInMemo task found → IsSolved task 0 [] found
 solved_none task found nothing empty known =
     record {
       all = refl;
@@ -176,8 +176,8 @@ solved_none task found nothing empty known =
 -- what is found is earned from a state on, if what was found before is
 still_earned :
     (task : Task) (state : State) (old new : Found) → IsTraced task state old new →
-    (old.trail.refused ≡ None → Earns task state (marks_in old.trail) old.amount) → new.trail.refused ≡ None →
-    Earns task state (marks_in new.trail) new.amount
+    (old.move_path.refused ≡ None → Earns task state (marks_in old.move_path) old.amount) → new.move_path.refused ≡ None →
+    Earns task state (marks_in new.move_path) new.amount
 still_earned task state old new traced earns none =
     elim (traced.told none) [
       | inl same ↦
@@ -188,10 +188,10 @@ still_earned task state old new traced earns none =
 
 -- one train more is solved for; with those before it, it may pass
 pub solved_more :
-    (task : Task) (count : ℕ) (bounds : List ℕ) (old new : Found) (trail : Trail) → count < length task.trains.items → IsSolved task count bounds old →
-    Explores task (between (nothing_before (length task.trains.items - count))) old new → IsWritten (Pass ∷ []) new.trail trail →
-    IsSolved task (count + 1) (bounds ++ new.amount ∷ []) (record new { trail = trail })
-solved_more task count bounds old new trail low before explores written =
+    (task : Task) (count : ℕ) (bounds : List ℕ) (old new : Found) (move_path : MovePath) → count < length task.trains.items → IsSolved task count bounds old →
+    Explores task (between (nothing_before (length task.trains.items - count))) old new → IsWritten (Pass ∷ []) new.move_path move_path →
+    IsSolved task (count + 1) (bounds ++ new.amount ∷ []) (record new { move_path = move_path })
+solved_more task count bounds old new move_path low before explores written =
     record {
       all = length_push bounds ∙ (ap suc before.all ∙ sym (add-one count));
       true_bounds = bounds_more;
@@ -212,23 +212,23 @@ solved_more task count bounds old new trail low before explores written =
               subst (λ (n : ℕ). EarnAtMost task n bound) (sym here) (subst (EarnAtMost task (length task.trains.items - count)) last.1 (explores.most before.known))
         ]
 
-    by_pass : trail.refused ≡ None → Earns task (between (nothing_before (length task.trains.items - (count + 1)))) (marks_in trail) new.amount
+    by_pass : move_path.refused ≡ None → Earns task (between (nothing_before (length task.trains.items - (count + 1)))) (marks_in move_path) new.amount
     by_pass none =
         let next = length task.trains.items - (count + 1) in
         let here : length task.trains.items - count ≡ next + 1 = omega (arith, low) in
-        let last : Earns task (between (nothing_before (length task.trains.items - count))) (marks_in new.trail) new.amount = still_earned task (between (nothing_before (length task.trains.items - count))) old new explores.traced before.earns (written.refused none) in
-        let later : Earns task (between (passed (nothing_before next))) (marks_in new.trail) new.amount = subst (λ (n : ℕ). Earns task (between (nothing_before n)) (marks_in new.trail) new.amount) here last in
+        let last : Earns task (between (nothing_before (length task.trains.items - count))) (marks_in new.move_path) new.amount = still_earned task (between (nothing_before (length task.trains.items - count))) old new explores.traced before.earns (written.refused none) in
+        let later : Earns task (between (passed (nothing_before next))) (marks_in new.move_path) new.amount = subst (λ (n : ℕ). Earns task (between (nothing_before n)) (marks_in new.move_path) new.amount) here last in
         subst (λ (marks : List Mark). Earns task (between (nothing_before next)) marks new.amount) (sym (written.marks_are none))
-        (earns_by task (between (nothing_before next)) (between (passed (nothing_before next))) (Pass ∷ []) (marks_in new.trail) new.amount (leads_pass task (nothing_before next) (omega (arith, low))) later)
+        (earns_by task (between (nothing_before next)) (between (passed (nothing_before next))) (Pass ∷ []) (marks_in new.move_path) new.amount (leads_pass task (nothing_before next) (omega (arith, low))) later)
 
 -- all trains are solved for
 pub solved_all :
     (task : Task) (count : ℕ) (bounds : List ℕ) (old new : Found) → count ≡ length task.trains.items →
     IsSolved task (length task.trains.items) bounds old → Explores task (between (nothing_before (length task.trains.items - count))) old new →
-    new.trail.refused ≡ None → IsTop task new
+    new.move_path.refused ≡ None → IsTop task new
 solved_all task count bounds old new all before explores granted =
     record {
-      earns = still_earned task start old new from_start.traced (subst (λ (n : ℕ). old.trail.refused ≡ None → Earns task (between (nothing_before n)) (marks_in old.trail) old.amount) none before.earns) granted;
+      earns = still_earned task start old new from_start.traced (subst (λ (n : ℕ). old.move_path.refused ≡ None → Earns task (between (nothing_before n)) (marks_in old.move_path) old.amount) none before.earns) granted;
       most = from_start.most before.known;
     }
   where

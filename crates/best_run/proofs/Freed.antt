@@ -2,13 +2,13 @@
 -- many more or more than there are borders; it earns as much more as it has earned more.
 use Rattle.std.proofs.Common.{◌≡◌, ℕ, ◌+◌, ◌<◌, ◌≤◌, Bool, true, false, not, ◌&&◌, ◌||◌, nat_le, nat_lt, ◌==◌, ◌⊎◌, inl, inr, List, [], ◌∷◌, length, get_or, refl, sym, ap, subst, ◌∙◌, arith}
 use Rattle.std.proofs.lemmas.Bool.{le-leb, leb-true, lt-ltb, ltb-true}
-use Rattle.best_run.specs.declared.task.Piece.{Piece}
+use Rattle.best_run.specs.declared.task.Segment.{Segment}
 use Rattle.best_run.specs.declared.task.Task.{Task}
 use Rattle.best_run.specs.declared.state.Settled.{Settled}
-use Rattle.best_run.specs.declared.state.Standing.{Standing}
-use Rattle.best_run.specs.Fit.{IsFit, PieceFits, unused}
+use Rattle.best_run.specs.declared.state.PartialRun.{PartialRun}
+use Rattle.best_run.specs.Fit.{IsFit, SegmentFits, unused}
 use Rattle.best_run.specs.Kept.{Freer}
-use Rattle.best_run.specs.Moves.{Completes, LeadsFrom, Move, along, begin, between, can_take, ends_in, go, left_after, marked_all, marked_if, may_come, may_earn, misses, node_at, pass, settle, settling, standing, stop_in, total_after, turn, turned_back, using, value_in}
+use Rattle.best_run.specs.Moves.{Completes, LeadsFrom, Move, along, begin, between, can_take, ends_in, go, left_after, marked_all, marked_if, may_come, may_earn, misses, node_at, pass, settle, with_run_settled, partial, stop_in, total_after, turn, turned_back, using, value_in}
 use Rattle.best_run.proofs.Advance.{free_misses, misses_free}
 use Rattle.best_run.proofs.Eased.{Eased, ease, eased, freer_all, freer_marked, freer_set}
 use Rattle.best_run.proofs.Hopeless.{take_back}
@@ -28,7 +28,7 @@ both_are true b first second = second
 both_are false b first second = absurd cc
 
 -- another run at the same stop
-abbrev pub freed : Standing → ℕ → ℕ → ℕ → ℕ → List Bool → Standing
+abbrev pub freed : PartialRun → ℕ → ℕ → ℕ → ℕ → List Bool → PartialRun
 freed run home first left value visited =
     record { home = home; first = first; turned = run.turned; head = run.head; most = run.most; left = left; value = value; visited = visited }
 
@@ -37,7 +37,7 @@ abbrev pub HasLeft : List Bool → ℕ → ℕ → Type 0
 HasLeft used left more = (left ≤ more) ⊎ (unused used ≤ more)
 
 -- one run may do what another may
-pub record Frees (settled : Settled) (run : Standing) (home first left value : ℕ) (visited used : List Bool) (kind cap more : ℕ) : Type 0 where
+pub record Frees (settled : Settled) (run : PartialRun) (home first left value : ℕ) (visited used : List Bool) (kind cap more : ℕ) : Type 0 where
   pub back : run.turned ≡ false → (home ≡ run.home) × (first ≡ run.first)
   pub left_is : HasLeft used run.left left
   pub value_is : value ≡ run.value + more
@@ -46,9 +46,9 @@ pub record Frees (settled : Settled) (run : Standing) (home first left value : �
   pub looser : (kind ≡ 0) ⊎ ((settled.kind ≡ kind) × (settled.cap + more ≤ cap))
   pub whole : length used ≡ 279
 
-pub record Freed (task : Task) (settled : Settled) (run other : Standing) (used : List Bool) (kind cap more total : ℕ) (moves : List Move) : Type 0 where
-  pub completes : Completes task (standing (eased kind cap settled total used) other) moves
-  pub earns : total_after task (standing settled run) moves + (total + more) ≡ total_after task (standing (eased kind cap settled total used) other) moves + settled.total
+pub record Freed (task : Task) (settled : Settled) (run other : PartialRun) (used : List Bool) (kind cap more total : ℕ) (moves : List Move) : Type 0 where
+  pub completes : Completes task (partial (eased kind cap settled total used) other) moves
+  pub earns : total_after task (partial settled run) moves + (total + more) ≡ total_after task (partial (eased kind cap settled total used) other) moves + settled.total
 
 some_left : (used : List Bool) (left more : ℕ) → HasLeft used left more → nat_lt 0 left ≡ true → (borders : List ℕ) → 0 < unused used → nat_lt 0 more ≡ true
 some_left used left more (inl most) some borders free = lt-ltb 0 more (omega (arith, most, ltb-true 0 left some))
@@ -70,57 +70,57 @@ freer_if true visited others n freer = freer_set visited others n freer
 freer_if false visited others n freer = freer
 
 -- a piece that comes to a stop crosses a border
-fewer_left : (task : Task) (from to : Bool) (piece : Piece) → PieceFits task from piece → stop_in (node_at task piece.to) ≡ true → (used : List Bool) → length used ≡ 279 → misses used piece.borders.items ≡ true → unused (marked_all used piece.borders.items) + 1 ≤ unused used
-fewer_left task true to piece fits stop used whole free = let wrong : true ≡ false = sym stop ∙ fits.to_side refl in absurd cc
-fewer_left task false to piece fits stop used whole free = marked_fewer used piece.borders.items whole fits.borders (fits.over refl) free
+fewer_left : (task : Task) (from to : Bool) (segment : Segment) → SegmentFits task from segment → stop_in (node_at task segment.to) ≡ true → (used : List Bool) → length used ≡ 279 → misses used segment.borders.items ≡ true → unused (marked_all used segment.borders.items) + 1 ≤ unused used
+fewer_left task true to segment fits stop used whole free = let wrong : true ≡ false = sym stop ∙ fits.to_side refl in absurd cc
+fewer_left task false to segment fits stop used whole free = marked_fewer used segment.borders.items whole fits.borders (fits.over refl) free
 
 module _ (task : Task) (fit : IsFit task) where
-  free_of : (settled : Settled) (run : Standing) (used : List Bool) → Freer settled.used used → (piece : Piece) → can_take task run settled.used piece ≡ true → misses used piece.borders.items ≡ true
-  free_of settled run used borders piece taken =
-      let free : misses settled.used piece.borders.items ≡ true = both_second (may_come (stop_in (node_at task piece.to)) run piece.to) (misses settled.used piece.borders.items) taken in
-      free_misses used piece.borders.items (λ border among marked. misses_free settled.used piece.borders.items free border among (freer_marked settled.used used border borders marked))
+  free_of : (settled : Settled) (run : PartialRun) (used : List Bool) → Freer settled.used used → (segment : Segment) → can_take task run settled.used segment ≡ true → misses used segment.borders.items ≡ true
+  free_of settled run used borders segment taken =
+      let free : misses settled.used segment.borders.items ≡ true = both_second (may_come (stop_in (node_at task segment.to)) run segment.to) (misses settled.used segment.borders.items) taken in
+      free_misses used segment.borders.items (λ border among marked. misses_free settled.used segment.borders.items free border among (freer_marked settled.used used border borders marked))
 
   -- a piece that may be taken
-  frees_take : (settled : Settled) (run : Standing) (home first left value : ℕ) (visited used : List Bool) (kind cap more : ℕ) → Frees settled run home first left value visited used kind cap more → (spot index : ℕ) (piece : Piece) → LeadsFrom task spot index piece → can_take task run settled.used piece ≡ true → can_take task (freed run home first left value visited) used piece ≡ true
-  frees_take settled run home first left value visited used kind cap more frees spot index piece leads taken =
-      both_are (may_come stop (freed run home first left value visited) piece.to) (misses used piece.borders.items) (come stop refl (both_first (may_come stop run piece.to) (misses settled.used piece.borders.items) taken)) free
+  frees_take : (settled : Settled) (run : PartialRun) (home first left value : ℕ) (visited used : List Bool) (kind cap more : ℕ) → Frees settled run home first left value visited used kind cap more → (spot index : ℕ) (segment : Segment) → LeadsFrom task spot index segment → can_take task run settled.used segment ≡ true → can_take task (freed run home first left value visited) used segment ≡ true
+  frees_take settled run home first left value visited used kind cap more frees spot index segment leads taken =
+      both_are (may_come stop (freed run home first left value visited) segment.to) (misses used segment.borders.items) (come stop refl (both_first (may_come stop run segment.to) (misses settled.used segment.borders.items) taken)) free
     where
       stop : Bool
-      stop = stop_in (node_at task piece.to)
+      stop = stop_in (node_at task segment.to)
 
-      free : misses used piece.borders.items ≡ true
-      free = free_of settled run used frees.borders piece taken
+      free : misses used segment.borders.items ≡ true
+      free = free_of settled run used frees.borders segment taken
 
-      come : (b : Bool) → stop_in (node_at task piece.to) ≡ b → may_come b run piece.to ≡ true → may_come b (freed run home first left value visited) piece.to ≡ true
+      come : (b : Bool) → stop_in (node_at task segment.to) ≡ b → may_come b run segment.to ≡ true → may_come b (freed run home first left value visited) segment.to ≡ true
       come false is came = refl
       come true is came =
-          let fits = leading_fits task fit spot index piece leads in
-          both_are (nat_lt 0 left) (not (get_or visited piece.to false))
-          (some_left used run.left left frees.left_is (both_first (nat_lt 0 run.left) (not (get_or run.visited piece.to false)) came) piece.borders.items (omega (arith, fewer_left task fits.0 true piece fits.1 is used frees.whole free)))
-          (not_marked run.visited visited piece.to frees.freer (both_second (nat_lt 0 run.left) (not (get_or run.visited piece.to false)) came))
+          let fits = leading_fits task fit spot index segment leads in
+          both_are (nat_lt 0 left) (not (get_or visited segment.to false))
+          (some_left used run.left left frees.left_is (both_first (nat_lt 0 run.left) (not (get_or run.visited segment.to false)) came) segment.borders.items (omega (arith, fewer_left task fits.0 true segment fits.1 is used frees.whole free)))
+          (not_marked run.visited visited segment.to frees.freer (both_second (nat_lt 0 run.left) (not (get_or run.visited segment.to false)) came))
 
   -- what is left after it
-  left_next : (used : List Bool) (left more : ℕ) → HasLeft used left more → (piece : Piece) (b : Bool) → (b ≡ true → unused (marked_all used piece.borders.items) + 1 ≤ unused used) → HasLeft (marked_all used piece.borders.items) (left_after b left) (left_after b more)
-  left_next used left more (inl most) piece true fewer = inl (omega (arith, most))
-  left_next used left more (inl most) piece false fewer = inl most
-  left_next used left more (inr most) piece true fewer = inr (omega (arith, most, fewer refl))
-  left_next used left more (inr most) piece false fewer = inr (omega (arith, most, marked_most used piece.borders.items))
+  left_next : (used : List Bool) (left more : ℕ) → HasLeft used left more → (segment : Segment) (b : Bool) → (b ≡ true → unused (marked_all used segment.borders.items) + 1 ≤ unused used) → HasLeft (marked_all used segment.borders.items) (left_after b left) (left_after b more)
+  left_next used left more (inl most) segment true fewer = inl (omega (arith, most))
+  left_next used left more (inl most) segment false fewer = inl most
+  left_next used left more (inr most) segment true fewer = inr (omega (arith, most, fewer refl))
+  left_next used left more (inr most) segment false fewer = inr (omega (arith, most, marked_most used segment.borders.items))
 
-  frees_next : (settled : Settled) (run : Standing) (home first left value : ℕ) (visited used : List Bool) (kind cap more : ℕ) → Frees settled run home first left value visited used kind cap more → (spot index : ℕ) (piece : Piece) → LeadsFrom task spot index piece → can_take task run settled.used piece ≡ true → Frees (using settled piece) (along task run piece) home first (left_after (stop_in (node_at task piece.to)) left) (value + value_in (node_at task piece.to)) (marked_if (stop_in (node_at task piece.to)) visited piece.to) (marked_all used piece.borders.items) kind cap more
-  frees_next settled run home first left value visited used kind cap more frees spot index piece leads taken =
-      let fits = leading_fits task fit spot index piece leads in
+  frees_next : (settled : Settled) (run : PartialRun) (home first left value : ℕ) (visited used : List Bool) (kind cap more : ℕ) → Frees settled run home first left value visited used kind cap more → (spot index : ℕ) (segment : Segment) → LeadsFrom task spot index segment → can_take task run settled.used segment ≡ true → Frees (using settled segment) (along task run segment) home first (left_after (stop_in (node_at task segment.to)) left) (value + value_in (node_at task segment.to)) (marked_if (stop_in (node_at task segment.to)) visited segment.to) (marked_all used segment.borders.items) kind cap more
+  frees_next settled run home first left value visited used kind cap more frees spot index segment leads taken =
+      let fits = leading_fits task fit spot index segment leads in
       record {
         back = frees.back;
-        left_is = left_next used run.left left frees.left_is piece (stop_in (node_at task piece.to)) (λ is. fewer_left task fits.0 true piece fits.1 is used frees.whole (free_of settled run used frees.borders piece taken));
+        left_is = left_next used run.left left frees.left_is segment (stop_in (node_at task segment.to)) (λ is. fewer_left task fits.0 true segment fits.1 is used frees.whole (free_of settled run used frees.borders segment taken));
         value_is = omega (arith, frees.value_is);
-        freer = freer_if (stop_in (node_at task piece.to)) run.visited visited piece.to frees.freer;
-        borders = freer_all piece.borders.items settled.used used frees.borders;
+        freer = freer_if (stop_in (node_at task segment.to)) run.visited visited segment.to frees.freer;
+        borders = freer_all segment.borders.items settled.used used frees.borders;
         looser = frees.looser;
-        whole = length_marked used piece.borders.items ∙ frees.whole;
+        whole = length_marked used segment.borders.items ∙ frees.whole;
       }
 
   -- it has turned back
-  frees_back : (settled : Settled) (run : Standing) (home first left value : ℕ) (visited used : List Bool) (kind cap more : ℕ) → Frees settled run home first left value visited used kind cap more → Frees settled (turned_back run) home first left value visited used kind cap more
+  frees_back : (settled : Settled) (run : PartialRun) (home first left value : ℕ) (visited used : List Bool) (kind cap more : ℕ) → Frees settled run home first left value visited used kind cap more → Frees settled (turned_back run) home first left value visited used kind cap more
   frees_back settled run home first left value visited used kind cap more frees =
       record {
         back = λ wrong. absurd (let w : true ≡ false = wrong in cc);
@@ -146,26 +146,26 @@ module _ (task : Task) (fit : IsFit task) where
   more_both : (a b total value more settled : ℕ) → a + (total + (value + more)) ≡ b + (settled + value) → a + (total + more) ≡ b + settled
   more_both a b total value more settled same = omega (arith, same)
 
-  pub free : (moves : List Move) (settled : Settled) (run : Standing) (home first left value : ℕ) (visited used : List Bool) (kind cap more total : ℕ) → Frees settled run home first left value visited used kind cap more → Completes task (standing settled run) moves → Freed task settled run (freed run home first left value visited) used kind cap more total moves
+  pub free : (moves : List Move) (settled : Settled) (run : PartialRun) (home first left value : ℕ) (visited used : List Bool) (kind cap more total : ℕ) → Frees settled run home first left value visited used kind cap more → Completes task (partial settled run) moves → Freed task settled run (freed run home first left value visited) used kind cap more total moves
   free [] settled run home first left value visited used kind cap more total frees completes = absurd completes
   free (pass ∷ moves) settled run home first left value visited used kind cap more total frees completes = absurd completes.0
-  free (begin stop index piece ∷ moves) settled run home first left value visited used kind cap more total frees completes = absurd completes.0
-  free (go index piece ∷ moves) settled run home first left value visited used kind cap more total frees completes =
+  free (begin stop index segment ∷ moves) settled run home first left value visited used kind cap more total frees completes = absurd completes.0
+  free (go index segment ∷ moves) settled run home first left value visited used kind cap more total frees completes =
       let may = completes.0 in
-      let stop = stop_in (node_at task piece.to) in
-      let rest : Freed task (using settled piece) (along task run piece) (along task (freed run home first left value visited) piece) (marked_all used piece.borders.items) kind cap more total moves = free moves (using settled piece) (along task run piece) home first (left_after stop left) (value + value_in (node_at task piece.to)) (marked_if stop visited piece.to) (marked_all used piece.borders.items) kind cap more total (frees_next settled run home first left value visited used kind cap more frees run.head index piece may.leads may.taken) completes.1 in
+      let stop = stop_in (node_at task segment.to) in
+      let rest : Freed task (using settled segment) (along task run segment) (along task (freed run home first left value visited) segment) (marked_all used segment.borders.items) kind cap more total moves = free moves (using settled segment) (along task run segment) home first (left_after stop left) (value + value_in (node_at task segment.to)) (marked_if stop visited segment.to) (marked_all used segment.borders.items) kind cap more total (frees_next settled run home first left value visited used kind cap more frees run.head index segment may.leads may.taken) completes.1 in
       record {
-        completes = (record { passes = may.passes; leads = may.leads; taken = frees_take settled run home first left value visited used kind cap more frees run.head index piece may.leads may.taken }, rest.completes);
+        completes = (record { passes = may.passes; leads = may.leads; taken = frees_take settled run home first left value visited used kind cap more frees run.head index segment may.leads may.taken }, rest.completes);
         earns = rest.earns;
       }
-  free (turn index piece ∷ moves) settled run home first left value visited used kind cap more total frees completes =
+  free (turn index segment ∷ moves) settled run home first left value visited used kind cap more total frees completes =
       let may = completes.0 in
-      let stop = stop_in (node_at task piece.to) in
+      let stop = stop_in (node_at task segment.to) in
       let back = frees.back may.once in
       let other = freed run home first left value visited in
       let turned : Frees settled (turned_back run) home first left value visited used kind cap more = frees_back settled run home first left value visited used kind cap more frees in
-      let rest : Freed task (using settled piece) (along task (turned_back run) piece) (along task (turned_back other) piece) (marked_all used piece.borders.items) kind cap more total moves = free moves (using settled piece) (along task (turned_back run) piece) home first (left_after stop left) (value + value_in (node_at task piece.to)) (marked_if stop visited piece.to) (marked_all used piece.borders.items) kind cap more total (frees_next settled (turned_back run) home first left value visited used kind cap more turned run.home index piece may.leads may.taken) completes.1 in
-      let taken : can_take task other used piece ≡ true = frees_take settled run home first left value visited used kind cap more frees run.home index piece may.leads (sym (take_back task run settled.used piece) ∙ may.taken) in
+      let rest : Freed task (using settled segment) (along task (turned_back run) segment) (along task (turned_back other) segment) (marked_all used segment.borders.items) kind cap more total moves = free moves (using settled segment) (along task (turned_back run) segment) home first (left_after stop left) (value + value_in (node_at task segment.to)) (marked_if stop visited segment.to) (marked_all used segment.borders.items) kind cap more total (frees_next settled (turned_back run) home first left value visited used kind cap more turned run.home index segment may.leads may.taken) completes.1 in
+      let taken : can_take task other used segment ≡ true = frees_take settled run home first left value visited used kind cap more frees run.home index segment may.leads (sym (take_back task run settled.used segment) ∙ may.taken) in
       record {
         completes = (
           record {
@@ -173,8 +173,8 @@ module _ (task : Task) (fit : IsFit task) where
             stands = may.stands;
             later = omega (arith, may.later, back.1);
             passes = subst (λ (n : ℕ). ends_in (node_at task n) ≡ false) (sym back.0) may.passes;
-            leads = subst (λ (n : ℕ). LeadsFrom task n index piece) (sym back.0) may.leads;
-            taken = take_back task other used piece ∙ taken;
+            leads = subst (λ (n : ℕ). LeadsFrom task n index segment) (sym back.0) may.leads;
+            taken = take_back task other used segment ∙ taken;
           },
           rest.completes,
         );
@@ -182,7 +182,7 @@ module _ (task : Task) (fit : IsFit task) where
       }
   free (settle ∷ moves) settled run home first left value visited used kind cap more total frees completes =
       let looser : (run.most ≡ 0) ⊎ ((run.most ≡ run.most) × (run.value ≤ value)) = inr (refl, omega (arith, frees.value_is)) in
-      let rest : Eased task run.most value (between (settling settled run)) moves (total + value) used = ease task moves run.most value (between (settling settled run)) (total + value) used looser frees.borders completes.1 in
+      let rest : Eased task run.most value (between (with_run_settled settled run)) moves (total + value) used = ease task moves run.most value (between (with_run_settled settled run)) (total + value) used looser frees.borders completes.1 in
       let is = completes.0 in
       record {
         completes = (
@@ -191,5 +191,5 @@ module _ (task : Task) (fit : IsFit task) where
               (earns_freed settled.kind settled.cap kind cap run.most run.value more value frees.looser frees.value_is (both_second (stop_in (node_at task run.head)) (may_earn settled.kind settled.cap run.most run.value) is)),
           rest.completes,
         );
-        earns = more_both (total_after task (between (settling settled run)) moves) (total_after task (between (eased run.most value (settling settled run) (total + value) used)) moves) total run.value more settled.total (omega (arith, rest.earns, frees.value_is));
+        earns = more_both (total_after task (between (with_run_settled settled run)) moves) (total_after task (between (eased run.most value (with_run_settled settled run) (total + value) used)) moves) total run.value more settled.total (omega (arith, rest.earns, frees.value_is));
       }

@@ -11,14 +11,14 @@ use Rattle.certificate.specs.Law.{AreItsPlaces}
 use Rattle.certificate.specs.Set.{IsGreatest, IsLegalSet, IsMost, RunsLegally, TrainRun, revenue_of}
 use Rattle.certificate.specs.Written.{places_of}
 use Rattle.certificate.proofs.Written.{legal_written}
-use Rattle.best_run.specs.declared.explored.Found.{Found}
+use Rattle.best_run.specs.declared.memo.Found.{Found}
 use Rattle.best_run.specs.declared.task.Task.{Task}
 use Rattle.best_run.specs.declared.state.Settled.{Settled}
-use Rattle.best_run.specs.declared.trail.Mark.{Mark}
+use Rattle.best_run.specs.declared.move_path.Mark.{Mark}
 use Rattle.best_run.specs.Described.{Describes}
 use Rattle.best_run.specs.Moves.{Earns, marks_of, start, total_after}
 use Rattle.best_run.specs.Suffix.{IsTop}
-use Rattle.best_run.specs.Trail.{CanBeClaimed, marks_in, runs_told, written}
+use Rattle.best_run.specs.MovePath.{CanBeClaimed, marks_in, runs_told, written}
 use Rattle.best_run.proofs.Complete.{CanFinish}
 use Rattle.best_run.proofs.Few.{length_replicate}
 use Rattle.best_run.proofs.Arms.{Used}
@@ -84,8 +84,8 @@ module _ (position : Position) (company : Company) (lawful : IsLawful position) 
   -- what has been explored from the start is the greatest
   pub greatest_found : (found : Found) → IsTop task found → IsGreatest position company kinds found.amount
   greatest_found found top =
-      let told : TellSet (marks_in found.trail) found.amount = tell_set (marks_in found.trail) found.amount top.earns in
-      record { earned = (runs_told kinds [] (marks_in found.trail), told.set, told.earns); most = most }
+      let told : TellSet (marks_in found.move_path) found.amount = tell_set (marks_in found.move_path) found.amount top.earns in
+      record { earned = (runs_told kinds [] (marks_in found.move_path), told.set, told.earns); most = most }
     where
       most : IsMost position company kinds found.amount
       most runs set =

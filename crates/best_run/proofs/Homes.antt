@@ -1,12 +1,12 @@
 -- The spots where the company has tokens are all from which runs begin: between them there is nothing to try, and no token.
 use Rattle.std.proofs.Common.{◌≡◌, ℕ, zero, suc, ◌+◌, ◌-◌, ◌*◌, ◌≤◌, Bool, true, false, inl, inr, List, [], ◌∷◌, ◌++◌, length, replicate, refl, sym, ap, subst, ◌∙◌, add-one, arith}
 use Rattle.std.proofs.lemmas.Bool.{cases_lt}
-use Rattle.best_run.specs.declared.explored.Found.{Found}
+use Rattle.best_run.specs.declared.memo.Found.{Found}
 use Rattle.best_run.specs.declared.state.Settled.{Settled}
 use Rattle.best_run.specs.declared.task.Task.{Task}
 use Rattle.best_run.specs.Fit.{IsFit}
 use Rattle.best_run.specs.Moves.{Any, Below, IsBegin, IsBeginAt, Tries, between, marked_if, node_at, own_before, own_in}
-use Rattle.best_run.specs.Ways.{AreHomes, HasNoHome}
+use Rattle.best_run.specs.Legs.{AreHomes, HasNoHome}
 use Rattle.best_run.proofs.Places.{below_next}
 use Rattle.best_run.proofs.Tried.{begin_every, begin_first, begin_more, begin_none}
 

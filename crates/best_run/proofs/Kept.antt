@@ -2,41 +2,41 @@
 -- be kept.
 use Rattle.std.proofs.Common.{◌≡◌, ℕ, Bool, zero, suc, ◌-◌, ◌<◌, ◌≤◌, ◌⊎◌, inl, inr, Option, None, Some, Ok, List, [], ◌∷◌, ◌++◌, length, set, slice_get, refl, sym, ap, subst, ◌∙◌, arith}
 use Rattle.std.specs.declared.alloc.AllocError.{AllocError}
-use Rattle.best_run.specs.declared.explored.Found.{Found}
-use Rattle.best_run.specs.declared.stage.Stage.{Stage}
+use Rattle.best_run.specs.declared.memo.Found.{Found}
+use Rattle.best_run.specs.declared.search_state.SearchState.{SearchState}
 use Rattle.best_run.specs.declared.state.Settled.{Settled}
-use Rattle.best_run.specs.declared.state.Standing.{Standing}
+use Rattle.best_run.specs.declared.state.PartialRun.{PartialRun}
 use Rattle.best_run.specs.declared.task.Task.{Task}
-use Rattle.best_run.specs.declared.trail.Trail.{Trail}
+use Rattle.best_run.specs.declared.move_path.MovePath.{MovePath}
 use Rattle.best_run.specs.Fit.{IsFit}
-use Rattle.best_run.specs.Kept.{Covers, CoversAny, CoversRun, CoversStage, IsCovered, IsHeld, IsKept, IsNothing, found_or, unless_refused}
-use Rattle.best_run.specs.Moves.{AreExplored, Completes, Explores, LeadsToAtMost, State, between, standing, state_at, state_by, total_after}
-use Rattle.best_run.specs.Trail.{marks_in}
+use Rattle.best_run.specs.Kept.{Dominates, DominatesAny, DominatesRun, DominatesStage, IsCovered, IsHeld, IsKept, IsNothing, found_or, unless_refused}
+use Rattle.best_run.specs.Moves.{AreInMemo, Completes, Explores, LeadsToAtMost, State, between, partial, state_at, state_by, total_after}
+use Rattle.best_run.specs.MovePath.{marks_in}
 use Rattle.best_run.proofs.Eased.{Eased, ease, freer_length}
 use Rattle.best_run.proofs.Freed.{Freed, Frees, HasLeft, free, freed}
 use Rattle.best_run.proofs.Marks.{unused_most}
 use Rattle.best_run.proofs.Traced.{traced_both, traced_none}
 
 -- what is covered earns no more
-low_between : (task : Task) (entry settled : Settled) (most : ℕ) → Covers entry settled → LeadsToAtMost task (between entry) most → LeadsToAtMost task (between settled) most
-low_between task entry settled most covers low moves completes =
-    let easy : Eased task entry.kind entry.cap (between settled) moves entry.total entry.used = ease task moves entry.kind entry.cap (between settled) entry.total entry.used (inr (sym covers.kind, covers.cap)) covers.used completes in
+low_between : (task : Task) (entry settled : Settled) (most : ℕ) → Dominates entry settled → LeadsToAtMost task (between entry) most → LeadsToAtMost task (between settled) most
+low_between task entry settled most dominates low moves completes =
+    let easy : Eased task entry.kind entry.cap (between settled) moves entry.total entry.used = ease task moves entry.kind entry.cap (between settled) entry.total entry.used (inr (sym dominates.kind, dominates.cap)) dominates.used completes in
     let At : ℕ → Settled = λ next. record entry { next = next } in
     let Ends : ℕ → Type 0 = λ next. Completes task (between (At next)) moves → total_after task (between (At next)) moves ≤ most in
     let here : Ends entry.next = low moves in
-    let there : Ends settled.next = subst Ends covers.next here in
-    omega (arith, easy.earns, there easy.completes, covers.total)
+    let there : Ends settled.next = subst Ends dominates.next here in
+    omega (arith, easy.earns, there easy.completes, dominates.total)
 
 -- a run that is covered earns no more
-low_standing : (task : Task) → IsFit task → (entry settled : Settled) (first second : Standing) (most : ℕ) → length entry.used ≡ 279 → Covers entry settled → entry.kind ≡ 0 → CoversRun first second → LeadsToAtMost task (standing entry first) most → LeadsToAtMost task (standing settled second) most
-low_standing task fit entry settled first second most whole covers none run low moves completes =
+low_partial : (task : Task) → IsFit task → (entry settled : Settled) (first second : PartialRun) (most : ℕ) → length entry.used ≡ 279 → Dominates entry settled → entry.kind ≡ 0 → DominatesRun first second → LeadsToAtMost task (partial entry first) most → LeadsToAtMost task (partial settled second) most
+low_partial task fit entry settled first second most whole dominates none run low moves completes =
     let more = first.value - second.value in
     let frees : Frees settled second first.home first.first first.left first.value first.visited entry.used entry.kind entry.cap more = record {
       back = run.back;
       left_is = has_left run.left;
       value_is = omega (arith, run.value);
       freer = run.visited;
-      borders = covers.used;
+      borders = dominates.used;
       looser = inl none;
       whole = whole;
     } in
@@ -44,39 +44,39 @@ low_standing task fit entry settled first second most whole covers none run low 
     let easy : Freed task settled second other entry.used entry.kind entry.cap more entry.total moves = free task fit moves settled second first.home first.first first.left first.value first.visited entry.used entry.kind entry.cap more entry.total frees completes in
     let same : first ≡ other = same_run first second.turned second.head second.most run.turned run.head run.most in
     let At : ℕ → Settled = λ next. record entry { next = next } in
-    let Ends : ℕ → Type 0 = λ next. Completes task (standing (At next) other) moves → total_after task (standing (At next) other) moves ≤ most in
-    let here : Ends entry.next = subst (λ (r : Standing). LeadsToAtMost task (standing entry r) most) same low moves in
-    let there : Ends settled.next = subst Ends covers.next here in
-    omega (arith, easy.earns, there easy.completes, covers.total)
+    let Ends : ℕ → Type 0 = λ next. Completes task (partial (At next) other) moves → total_after task (partial (At next) other) moves ≤ most in
+    let here : Ends entry.next = subst (λ (r : PartialRun). LeadsToAtMost task (partial entry r) most) same low moves in
+    let there : Ends settled.next = subst Ends dominates.next here in
+    omega (arith, easy.earns, there easy.completes, dominates.total)
   where
     has_left : (second.left ≤ first.left) ⊎ (279 ≤ first.left) → HasLeft entry.used second.left first.left
     has_left (inl most) = inl most
     has_left (inr most) = inr (omega (arith, most, unused_most entry.used, whole))
 
-    same_run : (r : Standing) (turned : Bool) (head many : ℕ) → r.turned ≡ turned → r.head ≡ head → r.most ≡ many → r ≡ record { home = r.home; first = r.first; turned = turned; head = head; most = many; left = r.left; value = r.value; visited = r.visited }
+    same_run : (r : PartialRun) (turned : Bool) (head many : ℕ) → r.turned ≡ turned → r.head ≡ head → r.most ≡ many → r ≡ record { home = r.home; first = r.first; turned = turned; head = head; most = many; left = r.left; value = r.value; visited = r.visited }
     same_run r turned head many is_turned is_head is_most = rw (← is_turned, ← is_head, ← is_most) refl
 
-low_covered : (task : Task) → IsFit task → (entry stage : Stage) (most : ℕ) → length stage.settled.used ≡ 279 → CoversStage entry stage → LeadsToAtMost task (state_at entry) most → LeadsToAtMost task (state_at stage) most
-low_covered task fit entry stage most whole covers low = by_runs entry.run stage.run covers.run low
+low_covered : (task : Task) → IsFit task → (entry search_state : SearchState) (most : ℕ) → length search_state.settled.used ≡ 279 → DominatesStage entry search_state → LeadsToAtMost task (state_at entry) most → LeadsToAtMost task (state_at search_state) most
+low_covered task fit entry search_state most whole dominates low = by_runs entry.run search_state.run dominates.run low
   where
-    by_runs : (first second : Option Standing) → CoversAny entry.settled.kind first second → LeadsToAtMost task (state_by entry.settled first) most → LeadsToAtMost task (state_by stage.settled second) most
-    by_runs None None run low = low_between task entry.settled stage.settled most covers.settled low
+    by_runs : (first second : Option PartialRun) → DominatesAny entry.settled.kind first second → LeadsToAtMost task (state_by entry.settled first) most → LeadsToAtMost task (state_by search_state.settled second) most
+    by_runs None None run low = low_between task entry.settled search_state.settled most dominates.settled low
     by_runs None (Some second) run low = absurd run
     by_runs (Some first) None run low = absurd run
-    by_runs (Some first) (Some second) run low = low_standing task fit entry.settled stage.settled first second most (sym (freer_length stage.settled.used entry.settled.used covers.settled.used) ∙ whole) covers.settled run.0 run.1 low
+    by_runs (Some first) (Some second) run low = low_partial task fit entry.settled search_state.settled first second most (sym (freer_length search_state.settled.used entry.settled.used dominates.settled.used) ∙ whole) dominates.settled run.0 run.1 low
 
-pub explores_covered : (task : Task) → IsFit task → (state : State) (like : Stage) (best : Found) → length like.settled.used ≡ 279 → ((most : ℕ) → LeadsToAtMost task (state_at like) most → LeadsToAtMost task state most) → IsCovered best like → Explores task state best best
-explores_covered task fit state like best whole alike is =
+pub explores_covered : (task : Task) → IsFit task → (state : State) (like : SearchState) (best : Found) → length like.settled.used ≡ 279 → ((most : ℕ) → LeadsToAtMost task (state_at like) most → LeadsToAtMost task state most) → IsCovered best like → Explores task state best best
+explores_covered task fit state like best whole canonical is =
     record {
       grows = omega arith;
       traced = traced_none task state best;
       known = λ known. known;
-      most = λ known. alike best.amount (low_covered task fit is.entry like best.amount whole is.covers (known is.place is.entry is.there));
+      most = λ known. canonical best.amount (low_covered task fit is.entry like best.amount whole is.dominates (known is.place is.entry is.there));
     }
 
 -- a state is kept once it has been explored
-pub explores_kept : (task : Task) (state : State) (like : Stage) (old new kept : Found) → ((most : ℕ) → LeadsToAtMost task state most → LeadsToAtMost task (state_at like) most) → Explores task state old new → IsKept like new kept → Explores task state old kept
-explores_kept task state like old new kept alike explores is =
+pub explores_kept : (task : Task) (state : State) (like : SearchState) (old new kept : Found) → ((most : ℕ) → LeadsToAtMost task state most → LeadsToAtMost task (state_at like) most) → Explores task state old new → IsKept like new kept → Explores task state old kept
+explores_kept task state like old new kept canonical explores is =
     record {
       grows = omega (arith, explores.grows, is.amount);
       traced = traced_both task state old new kept explores.grows (omega (arith, is.amount)) explores.traced (record {
@@ -85,65 +85,65 @@ explores_kept task state like old new kept alike explores is =
       });
       known = λ known place entry there. subst (λ (n : ℕ). LeadsToAtMost task (state_at entry) n) (sym is.amount) (elim (is.only place entry there) [
         | inl held ↦ explores.known known held.0 entry held.1
-        | inr same ↦ subst (λ (s : Stage). LeadsToAtMost task (state_at s) new.amount) same (alike new.amount (explores.most known))
+        | inr same ↦ subst (λ (s : SearchState). LeadsToAtMost task (state_at s) new.amount) same (canonical new.amount (explores.most known))
       ]);
       most = λ known. subst (λ (n : ℕ). LeadsToAtMost task state n) (sym is.amount) (explores.most known);
     }
 
 -- no memory has been refused where what is found is answered
-pub granted : (best found : Found) → unless_refused best ≡ Ok found → (found ≡ best) × (best.trail.refused ≡ None)
-granted best found is = by_error best.trail.refused is
+pub granted : (best found : Found) → unless_refused best ≡ Ok found → (found ≡ best) × (best.move_path.refused ≡ None)
+granted best found is = by_error best.move_path.refused is
   where
     by_error : (refused : Option AllocError) → found_or best refused ≡ Ok found → (found ≡ best) × (refused ≡ None)
     by_error None told = (let same : best ≡ found = cc in sym same, refl)
     by_error (Some error) told = absurd cc
 
 -- no state is kept at first
-pub nothing_explored : (task : Task) (found : Found) → IsNothing found → AreExplored task found
-nothing_explored task found is place entry there =
-    never place (subst (λ (entries : List Stage). slice_get entries place ≡ Some entry) is.none there)
+pub empty_memo : (task : Task) (found : Found) → IsNothing found → AreInMemo task found
+empty_memo task found is place entry there =
+    never place (subst (λ (entries : List SearchState). slice_get entries place ≡ Some entry) is.none there)
   where
     never : (at : ℕ) → slice_get [] at ≡ Some entry → LeadsToAtMost task (state_at entry) found.amount
     never zero none = absurd cc
     never (suc at) none = absurd cc
 
 -- a place is written
-pub set_only : (entries : List Stage) (n place : ℕ) (stage entry : Stage) → slice_get (set entries n stage) place ≡ Some entry → (slice_get entries place ≡ Some entry) ⊎ (stage ≡ entry)
-set_only [] n place stage entry is = inl is
-set_only (one ∷ entries) zero zero stage entry is = inr (let e : Some stage ≡ Some entry = is in cc)
-set_only (one ∷ entries) zero (suc place) stage entry is = inl is
-set_only (one ∷ entries) (suc n) zero stage entry is = inl is
-set_only (one ∷ entries) (suc n) (suc place) stage entry is = set_only entries n place stage entry is
+pub set_only : (entries : List SearchState) (n place : ℕ) (search_state entry : SearchState) → slice_get (set entries n search_state) place ≡ Some entry → (slice_get entries place ≡ Some entry) ⊎ (search_state ≡ entry)
+set_only [] n place search_state entry is = inl is
+set_only (one ∷ entries) zero zero search_state entry is = inr (let e : Some search_state ≡ Some entry = is in cc)
+set_only (one ∷ entries) zero (suc place) search_state entry is = inl is
+set_only (one ∷ entries) (suc n) zero search_state entry is = inl is
+set_only (one ∷ entries) (suc n) (suc place) search_state entry is = set_only entries n place search_state entry is
 
 -- one more is pushed
-pub push_only : (one : Stage) (entries : List Stage) (place : ℕ) (entry : Stage) → slice_get (entries ++ one ∷ []) place ≡ Some entry → (slice_get entries place ≡ Some entry) ⊎ (one ≡ entry)
+pub push_only : (one : SearchState) (entries : List SearchState) (place : ℕ) (entry : SearchState) → slice_get (entries ++ one ∷ []) place ≡ Some entry → (slice_get entries place ≡ Some entry) ⊎ (one ≡ entry)
 push_only one [] zero entry is = inr (let e : Some one ≡ Some entry = is in cc)
 push_only one [] (suc place) entry is = inl is
 push_only one (other ∷ entries) zero entry is = inl is
 push_only one (other ∷ entries) (suc place) entry is = push_only one entries place entry is
 
 -- and the state that is put there stands there
-pub set_held : (entries : List Stage) (n : ℕ) (stage : Stage) → n < length entries → slice_get (set entries n stage) n ≡ Some stage
-set_held [] n stage low = absurd (omega (arith, low))
-set_held (one ∷ entries) zero stage low = refl
-set_held (one ∷ entries) (suc n) stage low = set_held entries n stage (omega (arith, low))
+pub set_held : (entries : List SearchState) (n : ℕ) (search_state : SearchState) → n < length entries → slice_get (set entries n search_state) n ≡ Some search_state
+set_held [] n search_state low = absurd (omega (arith, low))
+set_held (one ∷ entries) zero search_state low = refl
+set_held (one ∷ entries) (suc n) search_state low = set_held entries n search_state (omega (arith, low))
 
 -- one that is held is held once more
-pub kept_twin : (stage twin : Stage) (old now new : Found) (place : ℕ) → IsKept stage old now → slice_get now.explored.items place ≡ Some twin → new.amount ≡ now.amount → new.trail ≡ now.trail → new.explored.items ≡ now.explored.items ++ twin ∷ [] → IsKept stage old new
-kept_twin stage twin old now new place is at amount trail items =
+pub kept_twin : (search_state twin : SearchState) (old now new : Found) (place : ℕ) → IsKept search_state old now → slice_get now.memo.items place ≡ Some twin → new.amount ≡ now.amount → new.move_path ≡ now.move_path → new.memo.items ≡ now.memo.items ++ twin ∷ [] → IsKept search_state old new
+kept_twin search_state twin old now new place is at amount move_path items =
     record {
       amount = amount ∙ is.amount;
-      marks = ap marks_in trail ∙ is.marks;
-      refused = λ none. is.refused (ap (λ (t : Trail). t.refused) (sym trail) ∙ none);
-      only = λ other entry there. elim (push_only twin now.explored.items other entry (subst (λ (entries : List Stage). slice_get entries other ≡ Some entry) items there)) [
+      marks = ap marks_in move_path ∙ is.marks;
+      refused = λ none. is.refused (ap (λ (t : MovePath). t.refused) (sym move_path) ∙ none);
+      only = λ other entry there. elim (push_only twin now.memo.items other entry (subst (λ (entries : List SearchState). slice_get entries other ≡ Some entry) items there)) [
         | inl before ↦ is.only other entry before
-        | inr same ↦ subst (λ (s : Stage). IsHeld old s ⊎ (stage ≡ s)) same (is.only place twin at)
+        | inr same ↦ subst (λ (s : SearchState). IsHeld old s ⊎ (search_state ≡ s)) same (is.only place twin at)
       ];
     }
 
 -- a state is kept once more
-pub kept_again : (stage : Stage) (old now new : Found) → IsKept stage old now → IsKept stage now new → IsKept stage old new
-kept_again stage old now new first again =
+pub kept_again : (search_state : SearchState) (old now new : Found) → IsKept search_state old now → IsKept search_state now new → IsKept search_state old new
+kept_again search_state old now new first again =
     record {
       amount = again.amount ∙ first.amount;
       marks = again.marks ∙ first.marks;

@@ -23,11 +23,11 @@ use Rattle.reach.proofs.Lists.{among_before, among_cases, among_end}
 use Rattle.tables.specs.Train.{stops_of}
 use Rattle.tables.specs.declared.rolling_stock.Kind.{Kind}
 use Rattle.tables.specs.declared.roster.Company.{Company}
-use Rattle.best_run.specs.declared.pieces.Entry.{Entry}
+use Rattle.best_run.specs.declared.segments.Entry.{Entry}
 use Rattle.best_run.specs.declared.task.Node.{Node}
-use Rattle.best_run.specs.declared.task.Piece.{Piece}
-use Rattle.best_run.specs.Pieces.{AddsPiece, pieces_from}
-use Rattle.best_run.specs.Described.{Adds, AreLaid, AreNumbered, AreNumberedBefore, ArePieces, ArePiecesFrom, ComesFrom, IsNodeAt, IsNumbered, IsPieceOf, IsSideNode, IsStopNode, LaidBefore, StepsBefore, TakesStep, code_before, most_of, most_of_all, number_before, number_or_none}
+use Rattle.best_run.specs.declared.task.Segment.{Segment}
+use Rattle.best_run.specs.Segments.{AddsSegment, segments_from}
+use Rattle.best_run.specs.Described.{Adds, AreLaid, AreNumbered, AreNumberedBefore, AreSegments, AreSegmentsFrom, ComesFrom, IsNodeAt, IsNumbered, IsSegmentOf, IsSideNode, IsStopNode, LaidBefore, StepsBefore, TakesStep, code_before, most_of, most_of_all, number_before, number_or_none}
 use Rattle.best_run.proofs.Advance.{spot_low}
 use Rattle.best_run.proofs.Chained.{from_here, from_other, set_at}
 use Rattle.best_run.proofs.Places.{below_next}
@@ -112,10 +112,10 @@ steps_all position steps index all before step =
     (before.only step, λ track. before.added step (omega (arith, index_low step.link.hex)) track)
 
 -- no step has come
-pieces_none : ArePieces [] []
-pieces_none number =
+segments_none : AreSegments [] []
+segments_none number =
     record {
-      sound = λ piece none. absurd none;
+      sound = λ segment none. absurd none;
       complete = λ step none comes. absurd none;
     }
 
@@ -125,7 +125,7 @@ laid_none position =
     record {
       steps = [];
       before = record { added = λ step low track. absurd (omega (arith, low)); only = λ step none. absurd none };
-      pieces = pieces_none;
+      segments = segments_none;
     }
 
 -- the steps of the first links of a hex have come, after those of the hexes before it
@@ -134,11 +134,11 @@ pub record LaidIn (position : Position) (index : ℕ) (links : List Link) (entri
   pub before : StepsBefore position first index
   pub steps : List Step
   pub adds : Adds (λ link. IsAmong link links) first steps
-  pub pieces : ArePieces steps entries
+  pub segments : AreSegments steps entries
 
 pub laid_in : (position : Position) (index : ℕ) (links : List Link) (entries : List Entry) → LaidBefore position index entries → LaidIn position index (take 0 links) entries
 laid_in position index links entries laid =
-    record { first = laid.steps; before = laid.before; steps = laid.steps; adds = adds_none laid.steps links; pieces = laid.pieces }
+    record { first = laid.steps; before = laid.before; steps = laid.steps; adds = adds_none laid.steps links; segments = laid.segments }
 
 pub laid_next : (position : Position) (index : ℕ) (here links : List Link) → here ≡ links → (i : ℕ) (d : Link) (old middle new : List Entry) → i < length here → LaidIn position index (take i links) old → TakesStep (taking (get_or here i d) false) old middle → TakesStep (taking (get_or here i d) true) middle new → LaidIn position index (take (i + 1) links) new
 laid_next position index here links is i d old middle new low laid forward back =
@@ -150,19 +150,19 @@ laid_next position index here links is i d old middle new low laid forward back 
       before = laid.before;
       steps = more;
       adds = subst (λ ls. Adds (λ l. IsAmong l (take (i + 1) ls)) laid.first more) is (adds_next laid.first laid.steps more here i d low before (both_added link laid.steps));
-      pieces = back (laid.steps ++ taking link false ∷ []) (forward laid.steps laid.pieces);
+      segments = back (laid.steps ++ taking link false ∷ []) (forward laid.steps laid.segments);
     }
 
 pub laid_hex : (position : Position) → IsLawful position → (hex : Hex) (index : ℕ) → index_of hex ≡ index → (here : List Link) → here ≡ links_of position hex → (i : ℕ) (entries : List Entry) → length here ≤ i → LaidIn position index (take i (links_of position hex)) entries → LaidBefore position (index + 1) entries
 laid_hex position lawful hex index is here same i entries all laid =
     let links : List Link = links_of position hex in
     let adds : Adds (λ l. IsAmong l links) laid.first laid.steps = adds_all laid.first laid.steps links i (subst (λ (ls : List Link). length ls ≤ i) same all) laid.adds in
-    record { steps = laid.steps; before = steps_more position lawful hex index is laid.first laid.steps laid.before adds; pieces = laid.pieces }
+    record { steps = laid.steps; before = steps_more position lawful hex index is laid.first laid.steps laid.before adds; segments = laid.segments }
 
 -- all hexes have come
 pub laid_all : (position : Position) (index : ℕ) (entries : List Entry) → 93 ≤ index → LaidBefore position index entries → AreLaid position entries
 laid_all position index entries all laid =
-    record { steps = laid.steps; all = steps_all position laid.steps index all laid.before; pieces = laid.pieces }
+    record { steps = laid.steps; all = steps_all position laid.steps index all laid.before; segments = laid.segments }
 
 -- a spot from which a step is taken has a number
 before_low : (hex : Hex) (end : End) (number : ℕ) → number_before hex end ≡ Some number → number < 744
@@ -194,12 +194,12 @@ pub code_is : (number : ℕ) (spot : Spot) (step : Step) → spot ≡ entered_at
 code_is number spot step same is = is ∙ ap (λ (s : Spot). number_or_none (number_before s.hex s.end)) same
 
 -- the next step may not be taken
-pieces_same : (number : ℕ) (steps : List Step) (pieces : List Piece) (next : Step) → (ComesFrom number next → ⊥) → ArePiecesFrom number steps pieces → ArePiecesFrom number (steps ++ next ∷ []) pieces
-pieces_same number steps pieces next fails before =
+segments_same : (number : ℕ) (steps : List Step) (segments : List Segment) (next : Step) → (ComesFrom number next → ⊥) → AreSegmentsFrom number steps segments → AreSegmentsFrom number (steps ++ next ∷ []) segments
+segments_same number steps segments next fails before =
     record {
-      sound = λ piece among.
-          let of = before.sound piece among in
-          record { step = of.step; among = among_before steps of.step next of.among; comes = of.comes; piece_is = of.piece_is };
+      sound = λ segment among.
+          let of = before.sound segment among in
+          record { step = of.step; among = among_before steps of.step next of.among; comes = of.comes; segment_is = of.segment_is };
       complete = λ step among comes. elim (among_cases steps step next among) [
         | inl sooner ↦ before.complete step sooner comes
         | inr same ↦ absurd (fails (subst (ComesFrom number) (sym same) comes))
@@ -207,20 +207,20 @@ pieces_same number steps pieces next fails before =
     }
 
 -- the piece of the next step is added
-pieces_more : (number : ℕ) (steps : List Step) (pieces : List Piece) (next : Step) → ComesFrom number next → (piece : Piece) → IsPieceOf next piece → ArePiecesFrom number steps pieces → ArePiecesFrom number (steps ++ next ∷ []) (pieces ++ piece ∷ [])
-pieces_more number steps pieces next comes piece is before =
+segments_more : (number : ℕ) (steps : List Step) (segments : List Segment) (next : Step) → ComesFrom number next → (segment : Segment) → IsSegmentOf next segment → AreSegmentsFrom number steps segments → AreSegmentsFrom number (steps ++ next ∷ []) (segments ++ segment ∷ [])
+segments_more number steps segments next comes segment is before =
     record {
-      sound = λ other among. elim (among_cases pieces other piece among) [
+      sound = λ other among. elim (among_cases segments other segment among) [
         | inl old ↦
             let of = before.sound other old in
-            record { step = of.step; among = among_before steps of.step next of.among; comes = of.comes; piece_is = of.piece_is }
-        | inr same ↦ record { step = next; among = among_end steps next; comes = comes; piece_is = subst (IsPieceOf next) same is }
+            record { step = of.step; among = among_before steps of.step next of.among; comes = of.comes; segment_is = of.segment_is }
+        | inr same ↦ record { step = next; among = among_end steps next; comes = comes; segment_is = subst (IsSegmentOf next) same is }
       ];
       complete = λ step among step_comes. elim (among_cases steps step next among) [
         | inl sooner ↦
             let has = before.complete step sooner step_comes in
-            record { piece = has.piece; among = among_before pieces has.piece piece has.among; piece_is = has.piece_is }
-        | inr same ↦ record { piece = piece; among = among_end pieces piece; piece_is = subst (λ (s : Step). IsPieceOf s piece) same is }
+            record { segment = has.segment; among = among_before segments has.segment segment has.among; segment_is = has.segment_is }
+        | inr same ↦ record { segment = segment; among = among_end segments segment; segment_is = subst (λ (s : Step). IsSegmentOf s segment) same is }
       ];
     }
 
@@ -322,23 +322,23 @@ numbered_all position company hex nodes all before =
 -- the next step may be taken from no spot
 pub takes_none : (step : Step) (entries : List Entry) → 744 ≤ code_before step → TakesStep step entries entries
 takes_none step entries none steps before number =
-    pieces_same number steps (pieces_from number entries) step
+    segments_same number steps (segments_from number entries) step
     (λ comes. let low = comes_low number step comes in omega (arith, none, low.0, low.1)) (before number)
 
 -- its piece is added behind those from the spot from which it may be taken
-pub takes_piece : (step : Step) (old new : List Entry) (piece : Piece) → code_before step < 744 → IsPieceOf step piece → AddsPiece (code_before step) piece old new → TakesStep step old new
-takes_piece step old new piece few is adds steps before number =
+pub takes_segment : (step : Step) (old new : List Entry) (segment : Segment) → code_before step < 744 → IsSegmentOf step segment → AddsSegment (code_before step) segment old new → TakesStep step old new
+takes_segment step old new segment few is adds steps before number =
     elim (cases_eq adds.entry.from number) [
       | inl here ↦
-          let more : pieces_from number new ≡ pieces_from number old ++ adds.entry.piece ∷ [] = ap (pieces_from number) adds.more ∙ from_here number old adds.entry here in
+          let more : segments_from number new ≡ segments_from number old ++ adds.entry.segment ∷ [] = ap (segments_from number) adds.more ∙ from_here number old adds.entry here in
           let code : code_before step ≡ number = sym adds.from_is ∙ here in
           let comes : ComesFrom number step = (comes_by_code number step (omega (arith, few, code))).0 code in
-          subst (ArePiecesFrom number (steps ++ step ∷ [])) (sym more)
-          (pieces_more number steps (pieces_from number old) step comes adds.entry.piece (subst (IsPieceOf step) (sym adds.piece_is) is) (before number))
+          subst (AreSegmentsFrom number (steps ++ step ∷ [])) (sym more)
+          (segments_more number steps (segments_from number old) step comes adds.entry.segment (subst (IsSegmentOf step) (sym adds.segment_is) is) (before number))
       | inr apart ↦
-          let same : pieces_from number new ≡ pieces_from number old = ap (pieces_from number) adds.more ∙ from_other number old adds.entry apart in
-          subst (ArePiecesFrom number (steps ++ step ∷ [])) (sym same)
-          (pieces_same number steps (pieces_from number old) step (λ comes. apart (adds.from_is ∙ (comes_low number step comes).1)) (before number))
+          let same : segments_from number new ≡ segments_from number old = ap (segments_from number) adds.more ∙ from_other number old adds.entry apart in
+          subst (AreSegmentsFrom number (steps ++ step ∷ [])) (sym same)
+          (segments_same number steps (segments_from number old) step (λ comes. apart (adds.from_is ∙ (comes_low number step comes).1)) (before number))
     ]
 
 -- one more train

@@ -3,28 +3,28 @@ use Rattle.std.proofs.Common.{◌≡◌, ℕ, zero, suc, ◌+◌, ◌-◌, ◌*�
 use Rattle.reach.specs.Position.{IsAmong}
 use Rattle.best_run.specs.declared.task.Node.{Node}
 use Rattle.best_run.specs.declared.task.Task.{Task}
-use Rattle.best_run.specs.declared.task.Way.{Way}
+use Rattle.best_run.specs.declared.task.Leg.{Leg}
 use Rattle.best_run.specs.declared.state.Settled.{Settled}
-use Rattle.best_run.specs.declared.state.Standing.{Standing}
+use Rattle.best_run.specs.declared.state.PartialRun.{PartialRun}
 use Rattle.best_run.specs.declared.worth.Worth.{Worth}
 use Rattle.best_run.specs.Ahead.{HasPassed, HasRanked, HasTakenBack, IsLeast, IsWorth, beyond, goes_back, goes_on, if_ending, if_passed, one_end, two_ends}
 use Rattle.best_run.specs.Fit.{BordersFit, IsFit}
 use Rattle.best_run.specs.Last.{Counts, CountsAsPassed, EarnsAhead, EndsThere, HasWorth, IsLast}
 use Rattle.best_run.specs.Moves.{ends_in, marked_all, misses, node_at, value_in}
-use Rattle.best_run.specs.Ways.{ways_at}
+use Rattle.best_run.specs.Legs.{legs_at}
 use Rattle.best_run.proofs.Advance.{free_misses, marks_more, misses_free}
 use Rattle.best_run.proofs.Beyond.{level_ahead, most_of, not_free, same_node, worth_ended, worth_passed}
 use Rattle.best_run.proofs.Places.{value_low}
 
 -- a run that has come to a last stop by a way goes on from there by none
-pub last_stuck : (task : Task) (used now : List Bool) (stop place : ℕ) (way : Way) → IsLast task used way.piece.to → slice_get (ways_at task stop) place ≡ Some way → BordersFit way.piece.borders.items → length now ≡ 279 → misses used way.piece.borders.items ≡ true → (index : ℕ) (other : Way) → slice_get (ways_at task way.piece.to) index ≡ Some other → misses used other.piece.borders.items ≡ true → misses (marked_all now way.piece.borders.items) other.piece.borders.items ≡ true → ⊥
-last_stuck task used now stop place way last at fits whole missed index other stands free left =
-    let mirror = last.0 stop place way at in
+pub last_stuck : (task : Task) (used now : List Bool) (stop place : ℕ) (leg : Leg) → IsLast task used leg.segment.to → slice_get (legs_at task stop) place ≡ Some leg → BordersFit leg.segment.borders.items → length now ≡ 279 → misses used leg.segment.borders.items ≡ true → (index : ℕ) (other : Leg) → slice_get (legs_at task leg.segment.to) index ≡ Some other → misses used other.segment.borders.items ≡ true → misses (marked_all now leg.segment.borders.items) other.segment.borders.items ≡ true → ⊥
+last_stuck task used now stop place leg last at fits whole missed index other stands free left =
+    let mirror = last.0 stop place leg at in
     let border = last.1.0 in
-    let back : misses used mirror.back.piece.borders.items ≡ true = free_misses used mirror.back.piece.borders.items (λ b among marked. misses_free used way.piece.borders.items missed b (mirror.within b among) marked) in
-    let came : IsAmong border way.piece.borders.items = mirror.within border (last.1.1 mirror.place mirror.back mirror.stands back) in
-    let goes : IsAmong border other.piece.borders.items = last.1.1 index other stands free in
-    misses_free (marked_all now way.piece.borders.items) other.piece.borders.items left border goes ((marks_more now way.piece.borders.items fits whole border).1 (inl came))
+    let back : misses used mirror.back.segment.borders.items ≡ true = free_misses used mirror.back.segment.borders.items (λ b among marked. misses_free used leg.segment.borders.items missed b (mirror.within b among) marked) in
+    let came : IsAmong border leg.segment.borders.items = mirror.within border (last.1.1 mirror.place mirror.back mirror.stands back) in
+    let goes : IsAmong border other.segment.borders.items = last.1.1 index other stands free in
+    misses_free (marked_all now leg.segment.borders.items) other.segment.borders.items left border goes ((marks_more now leg.segment.borders.items fits whole border).1 (inl came))
 
 -- another node at a place
 set_at : (nodes : List Node) (n m : ℕ) (node : Node) → n < length nodes → ((n ≡ m) × (slice_get (set nodes n node) m ≡ Some node)) ⊎ (slice_get (set nodes n node) m ≡ slice_get nodes m)
@@ -92,20 +92,20 @@ worth_free nodes ahead n node worth free known =
     }
 
 -- the stops count as they are
-pub counts_plain : (task : Task) (settled : Settled) (run : Standing) → Counts task settled run task.spots.items
+pub counts_plain : (task : Task) (settled : Settled) (run : PartialRun) → Counts task settled run task.spots.items
 counts_plain task settled run =
     record { all = refl; value = λ spot. refl; ends = λ spot ending. inl ending; plain = λ none. refl }
 
-pub has_plain : (task : Task) (settled : Settled) (run : Standing) (ahead : List Bool) (worth : Worth) → IsWorth task.spots.items ahead worth → HasWorth task settled run ahead worth
+pub has_plain : (task : Task) (settled : Settled) (run : PartialRun) (ahead : List Bool) (worth : Worth) → IsWorth task.spots.items ahead worth → HasWorth task settled run ahead worth
 has_plain task settled run ahead worth known =
     record { nodes = task.spots.items; counts = counts_plain task settled run; known = known }
 
-pub plain_has : (task : Task) (settled : Settled) (run : Standing) (ahead : List Bool) (worth : Worth) → run.most ≡ 0 → HasWorth task settled run ahead worth → IsWorth task.spots.items ahead worth
+pub plain_has : (task : Task) (settled : Settled) (run : PartialRun) (ahead : List Bool) (worth : Worth) → run.most ≡ 0 → HasWorth task settled run ahead worth → IsWorth task.spots.items ahead worth
 plain_has task settled run ahead worth none has =
     subst (λ (nodes : List Node). IsWorth nodes ahead worth) (has.counts.plain none) has.known
 
 -- one stop counts otherwise
-counts_set : (task : Task) (settled : Settled) (run : Standing) (nodes : List Node) (n : ℕ) (node other : Node) → node_at task n ≡ Some node → n < length task.spots.items → other.value ≡ node.value → (other.ends ≡ true → EndsThere task settled run n) → (run.most ≡ 0 → other ≡ node) → Counts task settled run nodes → Counts task settled run (set nodes n other)
+counts_set : (task : Task) (settled : Settled) (run : PartialRun) (nodes : List Node) (n : ℕ) (node other : Node) → node_at task n ≡ Some node → n < length task.spots.items → other.value ≡ node.value → (other.ends ≡ true → EndsThere task settled run n) → (run.most ≡ 0 → other ≡ node) → Counts task settled run nodes → Counts task settled run (set nodes n other)
 counts_set task settled run nodes n node other at low value ends plain counts =
     let within : n < length nodes = omega (arith, low, counts.all) in
     record {
@@ -121,7 +121,7 @@ counts_set task settled run nodes n node other at low value ends plain counts =
       plain = λ none. ap (λ (xs : List Node). set xs n other) (counts.plain none) ∙ (ap (λ (x : Node). set task.spots.items n x) (plain none) ∙ set_same task.spots.items n node at);
     }
 
-module _ (task : Task) (settled : Settled) (run : Standing) (ahead : List Bool) (n : ℕ) (node : Node) (at : node_at task n ≡ Some node) (placed : n < length task.spots.items) (small : node.value ≤ 80) (free : get_or ahead n false ≡ false) (low : n < length ahead) (old new : Worth) (has : HasWorth task settled run ahead old) where
+module _ (task : Task) (settled : Settled) (run : PartialRun) (ahead : List Bool) (n : ℕ) (node : Node) (at : node_at task n ≡ Some node) (placed : n < length task.spots.items) (small : node.value ≤ 80) (free : get_or ahead n false ≡ false) (low : n < length ahead) (old new : Worth) (has : HasWorth task settled run ahead old) where
   -- a run may pass one stop more
   pub has_passing : ends_in (node_at task n) ≡ false → HasPassed node.value old new → CountsAsPassed task settled run n (set ahead n true) new
   has_passing passes adds =
@@ -200,7 +200,7 @@ worth_turned nodes ahead n other old middle new lies low passed ending value sma
 none_most : (most : ℕ) → 0 < most → most ≡ 0 → ⊥
 none_most most some none = omega (arith, some, none)
 
-pub turned_ends : (task : Task) (settled : Settled) (run : Standing) (ahead : List Bool) (n : ℕ) (node : Node) → node_at task n ≡ Some node → n < length task.spots.items → node.value ≤ 80 → get_or ahead n false ≡ true → (old middle new : Worth) → CountsAsPassed task settled run n ahead old → (0 < run.most) × IsLast task settled.used n → HasTakenBack node.value old middle → HasRanked node.value middle new → HasWorth task settled run ahead new
+pub turned_ends : (task : Task) (settled : Settled) (run : PartialRun) (ahead : List Bool) (n : ℕ) (node : Node) → node_at task n ≡ Some node → n < length task.spots.items → node.value ≤ 80 → get_or ahead n false ≡ true → (old middle new : Worth) → CountsAsPassed task settled run n ahead old → (0 < run.most) × IsLast task settled.used n → HasTakenBack node.value old middle → HasRanked node.value middle new → HasWorth task settled run ahead new
 turned_ends task settled run ahead n node at placed small lies old middle new counted last back ranks =
     let has = counted.has in
     let other : Node = record node { ends = true } in
@@ -212,7 +212,7 @@ turned_ends task settled run ahead n node at placed small lies old middle new co
     }
 
 -- stops that are worth at most 80 dollars each
-pub has_most : (task : Task) → IsFit task → (settled : Settled) (run : Standing) (ahead : List Bool) (worth : Worth) → HasWorth task settled run ahead worth → (place : ℕ) → place < worth.levels → get_or worth.beyond place 0 ≤ 59520
+pub has_most : (task : Task) → IsFit task → (settled : Settled) (run : PartialRun) (ahead : List Bool) (worth : Worth) → HasWorth task settled run ahead worth → (place : ℕ) → place < worth.levels → get_or worth.beyond place 0 ≤ 59520
 has_most task fit settled run ahead worth has place small =
     omega (arith, fit.all, has.counts.all, has.known.passed place small, most_of (10 * place) has.nodes ahead (λ n node at. each n node at))
   where
@@ -222,7 +222,7 @@ has_most task fit settled run ahead worth has place small =
         omega (arith, same, value_low task fit n)
 
 -- what is known of the stops ahead bounds what a run may earn there
-pub earns_ahead : (task : Task) (settled : Settled) (run : Standing) (ahead : List Bool) (worth : Worth) (on back : Bool) (most : ℕ) → HasWorth task settled run ahead worth → goes_on task run ≡ on → goes_back task run ≡ back → IsLeast worth run.left on back most → EarnsAhead task settled run ahead most
+pub earns_ahead : (task : Task) (settled : Settled) (run : PartialRun) (ahead : List Bool) (worth : Worth) (on back : Bool) (most : ℕ) → HasWorth task settled run ahead worth → goes_on task run ≡ on → goes_back task run ≡ back → IsLeast worth run.left on back most → EarnsAhead task settled run ahead most
 earns_ahead task settled run ahead worth on back most has is_on is_back least =
     let found = level_ahead task has.nodes run ahead worth on back most has.known is_on is_back least in
     record { nodes = has.nodes; counts = has.counts; level = found.0; low = found.1 }

@@ -5,24 +5,24 @@ use Rattle.std.proofs.lemmas.Option.{slice_get_within}
 use Rattle.reach.proofs.Collected.{none_marked}
 use Rattle.reach.proofs.Marking.{set_cases, set_keeps}
 use Rattle.reach.specs.Position.{IsAmong}
-use Rattle.best_run.specs.declared.stage.Stage.{Stage}
+use Rattle.best_run.specs.declared.search_state.SearchState.{SearchState}
 use Rattle.best_run.specs.declared.state.Settled.{Settled}
-use Rattle.best_run.specs.declared.state.Standing.{Standing}
+use Rattle.best_run.specs.declared.state.PartialRun.{PartialRun}
 use Rattle.best_run.specs.declared.task.Departures.{Departures}
 use Rattle.best_run.specs.declared.task.Node.{Node}
-use Rattle.best_run.specs.declared.task.Piece.{Piece}
+use Rattle.best_run.specs.declared.task.Segment.{Segment}
 use Rattle.best_run.specs.declared.task.Task.{Task}
-use Rattle.best_run.specs.declared.task.Way.{Way}
+use Rattle.best_run.specs.declared.task.Leg.{Leg}
 use Rattle.best_run.specs.Ahead.{LiesAhead, WidensBelow}
-use Rattle.best_run.specs.Alike.{AllLead, AreHeld, AreOpen, AreOpenBelow, Holds, IsAlike, IsInReach, IsRunAlike, IsShut, IsShutBelow, MayGoOn, Opens, ReachesBelow, ReachesPast, SetsOut, WidensTo, anywhere, cleared_all, sets_out}
-use Rattle.best_run.specs.Fit.{BordersFit, IsFit, PieceFits}
+use Rattle.best_run.specs.Canonical.{AllLead, AreHeld, AreOpen, AreOpenBelow, Holds, IsCanonical, IsInReach, IsRunCanonical, IsShut, IsShutBelow, MayGoOn, Opens, ReachesBelow, ReachesPast, SetsOut, WidensTo, anywhere, cleared_all, sets_out}
+use Rattle.best_run.specs.Fit.{BordersFit, IsFit, SegmentFits}
 use Rattle.best_run.specs.Kept.{Freer}
-use Rattle.best_run.specs.Moves.{Completes, LeadsFrom, LeadsToAtMost, Move, State, along, begin, begun, between, can_take, ends_in, go, marked_all, marked_if, may_come, misses, node_at, own_before, own_in, pass, passed, settle, settling, standing, state_at, state_by, stop_in, total_after, turn, turned_back, using}
-use Rattle.best_run.specs.Ways.{AreReady, AreWaysOf, IsListed, IsStop, ways_at, ways_in}
+use Rattle.best_run.specs.Moves.{Completes, LeadsFrom, LeadsToAtMost, Move, State, along, begin, begun, between, can_take, ends_in, go, marked_all, marked_if, may_come, misses, node_at, own_before, own_in, pass, passed, settle, with_run_settled, partial, state_at, state_by, stop_in, total_after, turn, turned_back, using}
+use Rattle.best_run.specs.Legs.{AreReady, AreLegsOf, IsListed, IsStop, legs_at, legs_in}
 use Rattle.best_run.specs.Marks.{IsMarked}
 use Rattle.best_run.proofs.Advance.{free_misses, marks_more, misses_free}
 use Rattle.best_run.proofs.Ahead.{falsely}
-use Rattle.best_run.proofs.Along.{ByPieces, ByWay, by_pieces, by_way, way_fits}
+use Rattle.best_run.proofs.Along.{BySegments, ByLeg, by_segments, by_leg, leg_fits}
 use Rattle.best_run.proofs.Departing.{none_at}
 use Rattle.best_run.proofs.Described.{among_place}
 use Rattle.best_run.proofs.Eased.{Eased, ease, freer_length}
@@ -46,29 +46,29 @@ both_are true b first second = second
 both_are false b first second = absurd cc
 
 -- a run that has visited nothing takes each piece whose borders are not used
-takes_free : (task : Task) (used : List Bool) (piece : Piece) → can_take task anywhere used piece ≡ misses used piece.borders.items
-takes_free task used piece = ap (λ b. b && misses used piece.borders.items) (by_stop (stop_in (node_at task piece.to)))
+takes_free : (task : Task) (used : List Bool) (segment : Segment) → can_take task anywhere used segment ≡ misses used segment.borders.items
+takes_free task used segment = ap (λ b. b && misses used segment.borders.items) (by_stop (stop_in (node_at task segment.to)))
   where
-    by_stop : (stop : Bool) → may_come stop anywhere piece.to ≡ true
-    by_stop true = ap not (none_marked 744 piece.to)
+    by_stop : (stop : Bool) → may_come stop anywhere segment.to ≡ true
+    by_stop true = ap not (none_marked 744 segment.to)
     by_stop false = refl
 
 -- no way leads from a stop that has none
-none_lead : (task : Task) (used reach : List Bool) (spot : ℕ) → ways_at task spot ≡ [] → AllLead task used reach spot
-none_lead task used reach spot none place way at free =
-    absurd (no_way place (ap (λ (ways : List Way). slice_get ways place) (sym none) ∙ at))
+none_lead : (task : Task) (used reach : List Bool) (spot : ℕ) → legs_at task spot ≡ [] → AllLead task used reach spot
+none_lead task used reach spot none place leg at free =
+    absurd (no_leg place (ap (λ (legs : List Leg). slice_get legs place) (sym none) ∙ at))
   where
-    no_way : (place : ℕ) → slice_get [] place ≡ Some way → ⊥
-    no_way zero at = cc
-    no_way (suc place) at = cc
+    no_leg : (place : ℕ) → slice_get [] place ≡ Some leg → ⊥
+    no_leg zero at = cc
+    no_leg (suc place) at = cc
 
-none_open : (task : Task) (used : List Bool) (spot : ℕ) (shut : List Bool) → ways_at task spot ≡ [] → AreOpen task used spot shut
-none_open task used spot shut none place way at missed =
-    absurd (no_way place (ap (λ (ways : List Way). slice_get ways place) (sym none) ∙ at))
+none_open : (task : Task) (used : List Bool) (spot : ℕ) (shut : List Bool) → legs_at task spot ≡ [] → AreOpen task used spot shut
+none_open task used spot shut none place leg at missed =
+    absurd (no_leg place (ap (λ (legs : List Leg). slice_get legs place) (sym none) ∙ at))
   where
-    no_way : (place : ℕ) → slice_get [] place ≡ Some way → ⊥
-    no_way zero at = cc
-    no_way (suc place) at = cc
+    no_leg : (place : ℕ) → slice_get [] place ≡ Some leg → ⊥
+    no_leg zero at = cc
+    no_leg (suc place) at = cc
 
 -- a listed stop is the next one, or one before it
 same_stop : (stops : List ℕ) (place other : ℕ) (stop found : ℕ) → slice_get stops place ≡ Some stop → slice_get stops other ≡ Some found → other ≡ place → stop ≡ found
@@ -91,13 +91,13 @@ reach_none task used =
       all = λ spot lies. absurd (falsely (get_or (replicate 744 false) spot false) lies (none_marked 744 spot));
     }
 
-pub widens_all : (task : Task) (settled : Settled) (spot : ℕ) (ways : List Way) (count : ℕ) (old new : List Bool) → ways_at task spot ≡ ways → length ways ≤ count → WidensBelow task settled anywhere spot count old new → WidensTo task settled spot old new
-widens_all task settled spot ways count old new there all below =
+pub widens_all : (task : Task) (settled : Settled) (spot : ℕ) (legs : List Leg) (count : ℕ) (old new : List Bool) → legs_at task spot ≡ legs → length legs ≤ count → WidensBelow task settled anywhere spot count old new → WidensTo task settled spot old new
+widens_all task settled spot legs count old new there all below =
     record {
       widens = below.widens;
-      here = λ place way at free.
-          let low : place < length ways = slice_get_within ways place way (ap (λ ws. slice_get ws place) (sym there) ∙ at) in
-          below.leads place way (omega (arith, low, all)) at (takes_free task settled.used way.piece ∙ free);
+      here = λ place leg at free.
+          let low : place < length legs = slice_get_within legs place leg (ap (λ ws. slice_get ws place) (sym there) ∙ at) in
+          below.leads place leg (omega (arith, low, all)) at (takes_free task settled.used leg.segment ∙ free);
     }
 
 -- a stop lay in reach before, or does so now
@@ -116,19 +116,19 @@ pub reach_more : (task : Task) (settled : Settled) (place stop : ℕ) (old middl
 reach_more task settled place stop old middle new at before holds more =
     record {
       own = λ spot listed own. elim (next_listed task.stops.items place stop spot at listed) [
-        | inl less ↦ λ index way stands free. more.widens.kept way.piece.to (holds.kept way.piece.to (before.own spot less own index way stands free))
+        | inl less ↦ λ index leg stands free. more.widens.kept leg.segment.to (holds.kept leg.segment.to (before.own spot less own index leg stands free))
         | inr same ↦ subst (AllLead task settled.used new) same more.here
       ];
       held = λ spot listed own. elim (next_listed task.stops.items place stop spot at listed) [
         | inl less ↦ more.widens.kept spot (holds.kept spot (before.held spot less own))
         | inr same ↦ subst (LiesAhead new) same (more.widens.kept stop holds.lies)
       ];
-      all = λ spot lies passes index way stands free. elim (more.widens.over spot lies) [
+      all = λ spot lies passes index leg stands free. elim (more.widens.over spot lies) [
         | inl known ↦ elim (holds.over spot known) [
-          | inl was ↦ more.widens.kept way.piece.to (holds.kept way.piece.to (before.all spot was passes index way stands free))
-          | inr same ↦ subst (AllLead task settled.used new) same more.here index way stands free
+          | inl was ↦ more.widens.kept leg.segment.to (holds.kept leg.segment.to (before.all spot was passes index leg stands free))
+          | inr same ↦ subst (AllLead task settled.used new) same more.here index leg stands free
         ]
-        | inr over ↦ over passes index way stands (takes_free task settled.used way.piece ∙ free)
+        | inr over ↦ over passes index leg stands (takes_free task settled.used leg.segment ∙ free)
       ];
     }
 
@@ -211,57 +211,57 @@ freer_full (mark ∷ used) = ((λ is. refl), freer_full used)
 pub opens_none : (used shut : List Bool) → Opens used shut shut
 opens_none used shut = record { fewer = λ borders free. free; kept = λ freer. freer }
 
-one_way : (ways : List Way) (place other : ℕ) (way found : Way) → slice_get ways place ≡ Some way → slice_get ways other ≡ Some found → other ≡ place → way ≡ found
-one_way ways place other way found at finds same =
-    let e : Some way ≡ Some found = sym at ∙ (ap (λ i. slice_get ways i) (sym same) ∙ finds) in cc
+one_leg : (legs : List Leg) (place other : ℕ) (leg found : Leg) → slice_get legs place ≡ Some leg → slice_get legs other ≡ Some found → other ≡ place → leg ≡ found
+one_leg legs place other leg found at finds same =
+    let e : Some leg ≡ Some found = sym at ∙ (ap (λ i. slice_get legs i) (sym same) ∙ finds) in cc
 
 cleared_open : (marks : List Bool) (borders others : List ℕ) → misses marks others ≡ true → misses (cleared_all marks borders) others ≡ true
 cleared_open marks borders others free =
     free_misses (cleared_all marks borders) others (λ border among is. misses_free marks others free border among (cleared_fewer borders marks border is))
 
-pub open_more : (task : Task) (used : List Bool) (spot place : ℕ) (way : Way) (first shut : List Bool) → slice_get (ways_at task spot) place ≡ Some way → misses used way.piece.borders.items ≡ true → Opens used first shut × AreOpenBelow task used spot place shut → Opens used first (cleared_all shut way.piece.borders.items) × AreOpenBelow task used spot (place + 1) (cleared_all shut way.piece.borders.items)
-open_more task used spot place way first shut here free before = (
+pub open_more : (task : Task) (used : List Bool) (spot place : ℕ) (leg : Leg) (first shut : List Bool) → slice_get (legs_at task spot) place ≡ Some leg → misses used leg.segment.borders.items ≡ true → Opens used first shut × AreOpenBelow task used spot place shut → Opens used first (cleared_all shut leg.segment.borders.items) × AreOpenBelow task used spot (place + 1) (cleared_all shut leg.segment.borders.items)
+open_more task used spot place leg first shut here free before = (
   record {
-    fewer = λ borders missed. cleared_open shut way.piece.borders.items borders (before.0.fewer borders missed);
-    kept = λ freer. freer_cleared way.piece.borders.items shut used (before.0.kept freer) (misses_free used way.piece.borders.items free);
+    fewer = λ borders missed. cleared_open shut leg.segment.borders.items borders (before.0.fewer borders missed);
+    kept = λ freer. freer_cleared leg.segment.borders.items shut used (before.0.kept freer) (misses_free used leg.segment.borders.items free);
   },
   λ other found low at missed. elim (below_next other place low) [
-    | inl less ↦ cleared_open shut way.piece.borders.items found.piece.borders.items (before.1 other found less at missed)
+    | inl less ↦ cleared_open shut leg.segment.borders.items found.segment.borders.items (before.1 other found less at missed)
     | inr same ↦
-        let is : way ≡ found = one_way (ways_at task spot) place other way found here at same in
-        subst (λ (w : Way). misses (cleared_all shut way.piece.borders.items) w.piece.borders.items ≡ true) is
-        (free_misses (cleared_all shut way.piece.borders.items) way.piece.borders.items (λ border among marked. cleared_here way.piece.borders.items shut border among marked))
+        let is : leg ≡ found = one_leg (legs_at task spot) place other leg found here at same in
+        subst (λ (w : Leg). misses (cleared_all shut leg.segment.borders.items) w.segment.borders.items ≡ true) is
+        (free_misses (cleared_all shut leg.segment.borders.items) leg.segment.borders.items (λ border among marked. cleared_here leg.segment.borders.items shut border among marked))
   ],
 )
 
-pub open_same : (task : Task) (used : List Bool) (spot place : ℕ) (way : Way) (shut : List Bool) → slice_get (ways_at task spot) place ≡ Some way → misses used way.piece.borders.items ≡ false → AreOpenBelow task used spot place shut → AreOpenBelow task used spot (place + 1) shut
-open_same task used spot place way shut here met before other found low at missed =
+pub open_same : (task : Task) (used : List Bool) (spot place : ℕ) (leg : Leg) (shut : List Bool) → slice_get (legs_at task spot) place ≡ Some leg → misses used leg.segment.borders.items ≡ false → AreOpenBelow task used spot place shut → AreOpenBelow task used spot (place + 1) shut
+open_same task used spot place leg shut here met before other found low at missed =
     elim (below_next other place low) [
       | inl less ↦ before other found less at missed
       | inr same ↦
-          let is : way ≡ found = one_way (ways_at task spot) place other way found here at same in
-          absurd (falsely (misses used found.piece.borders.items) missed (ap (λ (w : Way). misses used w.piece.borders.items) (sym is) ∙ met))
+          let is : leg ≡ found = one_leg (legs_at task spot) place other leg found here at same in
+          absurd (falsely (misses used found.segment.borders.items) missed (ap (λ (w : Leg). misses used w.segment.borders.items) (sym is) ∙ met))
     ]
 
-pub open_all : (task : Task) (used : List Bool) (spot : ℕ) (ways : List Way) (count : ℕ) (shut : List Bool) → ways_at task spot ≡ ways → length ways ≤ count → AreOpenBelow task used spot count shut → AreOpen task used spot shut
-open_all task used spot ways count shut there all below place way at missed =
-    let low : place < length ways = slice_get_within ways place way (ap (λ ws. slice_get ws place) (sym there) ∙ at) in
-    below place way (omega (arith, low, all)) at missed
+pub open_all : (task : Task) (used : List Bool) (spot : ℕ) (legs : List Leg) (count : ℕ) (shut : List Bool) → legs_at task spot ≡ legs → length legs ≤ count → AreOpenBelow task used spot count shut → AreOpen task used spot shut
+open_all task used spot legs count shut there all below place leg at missed =
+    let low : place < length legs = slice_get_within legs place leg (ap (λ ws. slice_get ws place) (sym there) ∙ at) in
+    below place leg (omega (arith, low, all)) at missed
 
 -- the ways from no stop are open, those from one more are, those from one need not be, and all are
 pub shut_none : (task : Task) (used reach : List Bool) → length used ≡ 279 → IsShutBelow task used reach 0 (replicate 279 true)
 shut_none task used reach whole =
     record {
       kept = subst (λ (n : ℕ). Freer (replicate n true) used) whole (freer_full used);
-      open_ways = λ spot listed. absurd (let low = listed.1 in omega arith);
+      open_legs = λ spot listed. absurd (let low = listed.1 in omega arith);
     }
 
 pub shut_more : (task : Task) (used reach : List Bool) (place stop : ℕ) (old new : List Bool) → slice_get task.stops.items place ≡ Some stop → IsShutBelow task used reach place old → Opens used old new → AreOpen task used stop new → IsShutBelow task used reach (place + 1) new
 shut_more task used reach place stop old new at before opens here =
     record {
       kept = opens.kept before.kept;
-      open_ways = λ spot listed out. elim (next_listed task.stops.items place stop spot at listed) [
-        | inl less ↦ λ index way stands free. opens.fewer way.piece.borders.items (before.open_ways spot less out index way stands free)
+      open_legs = λ spot listed out. elim (next_listed task.stops.items place stop spot at listed) [
+        | inl less ↦ λ index leg stands free. opens.fewer leg.segment.borders.items (before.open_legs spot less out index leg stands free)
         | inr same ↦ subst (λ (n : ℕ). AreOpen task used n new) same here
       ];
     }
@@ -270,9 +270,9 @@ pub shut_all : (task : Task) → AreReady task → (used reach : List Bool) (mos
 shut_all task ready used reach most shut all below =
     record {
       kept = below.kept;
-      open_ways = λ spot is out. elim (ready.stops.each spot is.0 is.1) [
+      open_legs = λ spot is out. elim (ready.stops.each spot is.0 is.1) [
         | inl none ↦ none_open task used spot shut none
-        | inr listed ↦ below.open_ways spot (listed.0, (let low = listed.1 in omega arith), listed.2) out
+        | inr listed ↦ below.open_legs spot (listed.0, (let low = listed.1 in omega arith), listed.2) out
       ];
     }
 
@@ -290,8 +290,8 @@ pub shut_same : (task : Task) (used reach : List Bool) (place stop : ℕ) (shut 
 shut_same task used reach place stop shut is at none before =
     record {
       kept = before.kept;
-      open_ways = λ spot listed out. elim (next_listed task.stops.items place stop spot at listed) [
-        | inl less ↦ before.open_ways spot less out
+      open_legs = λ spot listed out. elim (next_listed task.stops.items place stop spot at listed) [
+        | inl less ↦ before.open_legs spot less out
         | inr same ↦ absurd (falsely (sets_out task reach stop) (does_set_out task reach stop is.1 (subst (SetsOut task reach) (sym same) out)) none)
       ];
     }
@@ -300,12 +300,12 @@ shut_same task used reach place stop shut is at none before =
 abbrev with_used : Settled → List Bool → Settled
 with_used settled used = record settled { used = used }
 
-abbrev with_marks : Standing → List Bool → Standing
+abbrev with_marks : PartialRun → List Bool → PartialRun
 with_marks run marks = record run { visited = marks }
 
 abbrev state_with : State → List Bool → List Bool → State
 state_with (between settled) used marks = between (with_used settled used)
-state_with (standing settled run) used marks = standing (with_used settled used) (with_marks run marks)
+state_with (partial settled run) used marks = partial (with_used settled used) (with_marks run marks)
 
 module _ (task : Task) (fit : IsFit task) (ready : AreReady task) (first reach shut : List Bool) (reaches : IsInReach task first reach) (shuts : IsShut task first reach shut) where
   -- borders that are used since then are used in both
@@ -331,11 +331,11 @@ module _ (task : Task) (fit : IsFit task) (ready : AreReady task) (first reach s
       }
 
   -- what is marked of the stops in reach is visited
-  abbrev Sees : Standing → List Bool → Type 0
+  abbrev Sees : PartialRun → List Bool → Type 0
   Sees run marks = (spot : ℕ) → LiesAhead reach spot → IsMarked marks spot → IsMarked run.visited spot
 
   -- a run that goes on
-  record Goes (settled : Settled) (run : Standing) (others marks : List Bool) : Type 0 where
+  record Goes (settled : Settled) (run : PartialRun) (others marks : List Bool) : Type 0 where
     pub shares : Shares settled.used others
     pub sees : Sees run marks
     pub spots : length run.visited ≡ 744
@@ -346,12 +346,12 @@ module _ (task : Task) (fit : IsFit task) (ready : AreReady task) (first reach s
 
   abbrev GoesOn : State → List Bool → List Bool → Type 0
   GoesOn (between settled) others marks = Shares settled.used others
-  GoesOn (standing settled run) others marks = Goes settled run others marks
+  GoesOn (partial settled run) others marks = Goes settled run others marks
 
-  ways_of : (stop : ℕ) → IsStop task stop → AreWaysOf task stop (ways_at task stop)
-  ways_of stop is = by_from (slice_get task.departures.items stop) refl
+  legs_of : (stop : ℕ) → IsStop task stop → AreLegsOf task stop (legs_at task stop)
+  legs_of stop is = by_from (slice_get task.departures.items stop) refl
     where
-      by_from : (found : Option Departures) → slice_get task.departures.items stop ≡ found → AreWaysOf task stop (ways_in found)
+      by_from : (found : Option Departures) → slice_get task.departures.items stop ≡ found → AreLegsOf task stop (legs_in found)
       by_from None at = absurd (none_at task.departures.items stop at (omega (arith, is.0, ready.long)))
       by_from (Some from) at = ready.each stop from at is.1
 
@@ -363,13 +363,13 @@ module _ (task : Task) (fit : IsFit task) (ready : AreReady task) (first reach s
       by_node (Some node) at is = omega (arith, fit.all, slice_get_within task.spots.items spot node at)
 
   -- the next way
-  record Takes_it (others marks : List Bool) (run : Standing) (way : Way) : Type 0 where
-    pub can : can_take task (with_marks run marks) others way.piece ≡ true
-    pub lies : LiesAhead reach way.piece.to
-    pub fits : PieceFits task false way.piece
-    pub stop : IsStop task way.piece.to
+  record Takes_it (others marks : List Bool) (run : PartialRun) (leg : Leg) : Type 0 where
+    pub can : can_take task (with_marks run marks) others leg.segment ≡ true
+    pub lies : LiesAhead reach leg.segment.to
+    pub fits : SegmentFits task false leg.segment
+    pub stop : IsStop task leg.segment.to
 
-  comes : (run : Standing) (marks : List Bool) (spot : ℕ) → LiesAhead reach spot → Sees run marks → (stop : Bool) → may_come stop run spot ≡ true → may_come stop (with_marks run marks) spot ≡ true
+  comes : (run : PartialRun) (marks : List Bool) (spot : ℕ) → LiesAhead reach spot → Sees run marks → (stop : Bool) → may_come stop run spot ≡ true → may_come stop (with_marks run marks) spot ≡ true
   comes run marks spot lies sees false came = refl
   comes run marks spot lies sees true came =
       both_are (nat_lt 0 run.left) (not (get_or marks spot false)) (both_first (nat_lt 0 run.left) (not (get_or run.visited spot false)) came)
@@ -383,21 +383,21 @@ module _ (task : Task) (fit : IsFit task) (ready : AreReady task) (first reach s
       unmarked true is = absurd (not_both (get_or run.visited spot false) (sees spot lies is) (both_second (nat_lt 0 run.left) (not (get_or run.visited spot false)) came))
       unmarked false is = refl
 
-  takes_it : (used others : List Bool) → Shares used others → (spot : ℕ) → IsStop task spot → SetsOut task reach spot → (place : ℕ) (way : Way) → slice_get (ways_at task spot) place ≡ Some way → (run : Standing) (marks : List Bool) → Sees run marks → can_take task run used way.piece ≡ true → Takes_it others marks run way
-  takes_it used others shares spot is out place way at run marks sees can =
-      let borders = way.piece.borders.items in
-      let come = both_first (may_come (stop_in (node_at task way.piece.to)) run way.piece.to) (misses used borders) can in
-      let free : misses used borders ≡ true = both_second (may_come (stop_in (node_at task way.piece.to)) run way.piece.to) (misses used borders) can in
+  takes_it : (used others : List Bool) → Shares used others → (spot : ℕ) → IsStop task spot → SetsOut task reach spot → (place : ℕ) (leg : Leg) → slice_get (legs_at task spot) place ≡ Some leg → (run : PartialRun) (marks : List Bool) → Sees run marks → can_take task run used leg.segment ≡ true → Takes_it others marks run leg
+  takes_it used others shares spot is out place leg at run marks sees can =
+      let borders = leg.segment.borders.items in
+      let come = both_first (may_come (stop_in (node_at task leg.segment.to)) run leg.segment.to) (misses used borders) can in
+      let free : misses used borders ≡ true = both_second (may_come (stop_in (node_at task leg.segment.to)) run leg.segment.to) (misses used borders) can in
       let before : misses first borders ≡ true = free_misses first borders (λ border among marked. misses_free used borders free border among (shares.still border marked)) in
-      let open_way : misses shut borders ≡ true = shuts.open_ways spot is out place way at before in
-      let fits = way_fits task fit spot (ways_at task spot) (ways_of spot is) is.1 way (among_place (ways_at task spot) place way at) in
+      let open_leg : misses shut borders ≡ true = shuts.open_legs spot is out place leg at before in
+      let fits = leg_fits task fit spot (legs_at task spot) (legs_of spot is) is.1 leg (among_place (legs_at task spot) place leg at) in
       record {
-        can = both_are (may_come (stop_in (node_at task way.piece.to)) (with_marks run marks) way.piece.to) (misses others borders) (comes run marks way.piece.to (reaches spot is out place way at before) sees (stop_in (node_at task way.piece.to)) come)
+        can = both_are (may_come (stop_in (node_at task leg.segment.to)) (with_marks run marks) leg.segment.to) (misses others borders) (comes run marks leg.segment.to (reaches spot is out place leg at before) sees (stop_in (node_at task leg.segment.to)) come)
             (free_misses others borders (λ border among marked. elim (shares.either border marked) [
               | inl used_it ↦ misses_free used borders free border among used_it
-              | inr shut_it ↦ misses_free shut borders open_way border among shut_it
+              | inr shut_it ↦ misses_free shut borders open_leg border among shut_it
             ]));
-        lies = reaches spot is out place way at before;
+        lies = reaches spot is out place leg at before;
         fits = fits.0;
         stop = (fits.0.to, fits.1);
       }
@@ -410,12 +410,12 @@ module _ (task : Task) (fit : IsFit task) (ready : AreReady task) (first reach s
       ]
   sees_next false visited marks to low sees spot lies is = sees spot lies is
 
-  goes_next : (settled : Settled) (run : Standing) (others marks : List Bool) → Shares settled.used others → Sees run marks → length run.visited ≡ 744 → IsStop task run.home → (ends_in (node_at task run.home) ≡ false → SetsOut task reach run.home) → (way : Way) → Takes_it others marks run way → Goes (using settled way.piece) (along task run way.piece) (marked_all others way.piece.borders.items) (marked_if (stop_in (node_at task way.piece.to)) marks way.piece.to)
-  goes_next settled run others marks shares sees spots begins home way takes =
+  goes_next : (settled : Settled) (run : PartialRun) (others marks : List Bool) → Shares settled.used others → Sees run marks → length run.visited ≡ 744 → IsStop task run.home → (ends_in (node_at task run.home) ≡ false → SetsOut task reach run.home) → (leg : Leg) → Takes_it others marks run leg → Goes (using settled leg.segment) (along task run leg.segment) (marked_all others leg.segment.borders.items) (marked_if (stop_in (node_at task leg.segment.to)) marks leg.segment.to)
+  goes_next settled run others marks shares sees spots begins home leg takes =
       record {
-        shares = shares_more settled.used others way.piece.borders.items takes.fits.borders shares;
-        sees = sees_next (stop_in (node_at task way.piece.to)) run.visited marks way.piece.to (omega (arith, spots, takes.fits.to)) sees;
-        spots = mark_length (stop_in (node_at task way.piece.to)) run.visited way.piece.to ∙ spots;
+        shares = shares_more settled.used others leg.segment.borders.items takes.fits.borders shares;
+        sees = sees_next (stop_in (node_at task leg.segment.to)) run.visited marks leg.segment.to (omega (arith, spots, takes.fits.to)) sees;
+        spots = mark_length (stop_in (node_at task leg.segment.to)) run.visited leg.segment.to ∙ spots;
         stands = takes.stop;
         begins = begins;
         head = λ passes. inr (takes.lies, passes);
@@ -430,60 +430,60 @@ module _ (task : Task) (fit : IsFit task) (ready : AreReady task) (first reach s
 
   move_by : (fuel : ℕ) (moves : List Move) → length moves ≤ fuel → (state : State) (others marks : List Bool) → GoesOn state others marks → Completes task state moves → Moved (state_with state others marks) (total_after task state moves)
   move_by fuel [] enough (between settled) others marks goes completes = record { moves = []; completes = completes; same = refl }
-  move_by fuel [] enough (standing settled run) others marks goes completes = absurd completes
+  move_by fuel [] enough (partial settled run) others marks goes completes = absurd completes
   move_by zero (move ∷ moves) enough state others marks goes completes = absurd (omega (arith, enough))
   move_by (suc fuel) (pass ∷ moves) enough (between settled) others marks goes completes =
       let rest : Moved (between (with_used (passed settled) others)) (total_after task (between (passed settled)) moves) = move_by fuel moves (omega (arith, enough)) (between (passed settled)) others marks goes completes.1 in
       record { moves = pass ∷ rest.moves; completes = (completes.0, rest.completes); same = rest.same }
-  move_by (suc fuel) (pass ∷ moves) enough (standing settled run) others marks goes completes = absurd completes.0
-  move_by (suc fuel) (begin stop index piece ∷ moves) enough (between settled) others marks goes completes =
+  move_by (suc fuel) (pass ∷ moves) enough (partial settled run) others marks goes completes = absurd completes.0
+  move_by (suc fuel) (begin stop index segment ∷ moves) enough (between settled) others marks goes completes =
       let may = completes.0 in
       let is : IsStop task stop = is_stop stop may.begins in
       let run = begun task settled stop index in
-      let by : ByWay task fit stop may.begins (ways_at task stop) (ways_of stop is) settled run index piece moves = by_way task fit stop may.begins (ways_at task stop) (ways_of stop is) settled run goes.whole index piece moves may.leads may.taken completes.1 in
+      let by : ByLeg task fit stop may.begins (legs_at task stop) (legs_of stop is) settled run index segment moves = by_leg task fit stop may.begins (legs_at task stop) (legs_of stop is) settled run goes.whole index segment moves may.leads may.taken completes.1 in
       let marks = run.visited in
       let spots : length marks ≡ 744 = length-set (own_before task stop) stop true ∙ own_length task stop in
-      let takes : Takes_it others marks run by.way = takes_it settled.used others goes stop is (inl may.token) by.place_of by.way by.stands run marks (λ spot lies was. was) by.can in
-      let rest : Moved (standing (using (with_used settled others) by.way.piece) (along task (with_marks run marks) by.way.piece)) (total_after task (standing (using settled by.way.piece) (along task run by.way.piece)) by.later) = move_by fuel by.later (omega (arith, by.shorter, enough)) (standing (using settled by.way.piece) (along task run by.way.piece)) (marked_all others by.way.piece.borders.items) (marked_if (stop_in (node_at task by.way.piece.to)) marks by.way.piece.to) (goes_next settled run others marks goes (λ spot lies was. was) spots is (λ passes. inl may.token) by.way takes) by.completes in
-      let back : ByPieces task fit stop may.begins (ways_at task stop) (ways_of stop is) (with_used settled others) (with_marks run marks) by.way rest.moves = by_pieces task fit stop may.begins (ways_at task stop) (ways_of stop is) (with_used settled others) (with_marks run marks) by.way (among_place (ways_at task stop) by.place_of by.way by.stands) takes.can rest.moves rest.completes in
+      let takes : Takes_it others marks run by.leg = takes_it settled.used others goes stop is (inl may.token) by.place_of by.leg by.stands run marks (λ spot lies was. was) by.can in
+      let rest : Moved (partial (using (with_used settled others) by.leg.segment) (along task (with_marks run marks) by.leg.segment)) (total_after task (partial (using settled by.leg.segment) (along task run by.leg.segment)) by.later) = move_by fuel by.later (omega (arith, by.shorter, enough)) (partial (using settled by.leg.segment) (along task run by.leg.segment)) (marked_all others by.leg.segment.borders.items) (marked_if (stop_in (node_at task by.leg.segment.to)) marks by.leg.segment.to) (goes_next settled run others marks goes (λ spot lies was. was) spots is (λ passes. inl may.token) by.leg takes) by.completes in
+      let back : BySegments task fit stop may.begins (legs_at task stop) (legs_of stop is) (with_used settled others) (with_marks run marks) by.leg rest.moves = by_segments task fit stop may.begins (legs_at task stop) (legs_of stop is) (with_used settled others) (with_marks run marks) by.leg (among_place (legs_at task stop) by.place_of by.leg by.stands) takes.can rest.moves rest.completes in
       record {
-        moves = begin stop index back.piece ∷ back.moves;
-        completes = (record { train = may.train; begins = may.begins; token = may.token; leads = subst (λ (n : ℕ). LeadsFrom task stop n back.piece) by.first back.leads; taken = back.can }, back.completes);
+        moves = begin stop index back.segment ∷ back.moves;
+        completes = (record { train = may.train; begins = may.begins; token = may.token; leads = subst (λ (n : ℕ). LeadsFrom task stop n back.segment) by.first back.leads; taken = back.can }, back.completes);
         same = back.total ∙ (rest.same ∙ sym by.total);
       }
-  move_by (suc fuel) (begin stop index piece ∷ moves) enough (standing settled run) others marks goes completes = absurd completes.0
-  move_by (suc fuel) (go index piece ∷ moves) enough (between settled) others marks goes completes = absurd completes.0
-  move_by (suc fuel) (go index piece ∷ moves) enough (standing settled run) others marks goes completes =
+  move_by (suc fuel) (begin stop index segment ∷ moves) enough (partial settled run) others marks goes completes = absurd completes.0
+  move_by (suc fuel) (go index segment ∷ moves) enough (between settled) others marks goes completes = absurd completes.0
+  move_by (suc fuel) (go index segment ∷ moves) enough (partial settled run) others marks goes completes =
       let may = completes.0 in
       let stop = run.head in
       let is : IsStop task stop = goes.stands in
-      let by : ByWay task fit stop is.1 (ways_at task stop) (ways_of stop is) settled run index piece moves = by_way task fit stop is.1 (ways_at task stop) (ways_of stop is) settled run goes.shares.whole index piece moves may.leads may.taken completes.1 in
-      let takes : Takes_it others marks run by.way = takes_it settled.used others goes.shares stop is (goes.head may.passes) by.place_of by.way by.stands run marks goes.sees by.can in
-      let rest : Moved (standing (using (with_used settled others) by.way.piece) (along task (with_marks run marks) by.way.piece)) (total_after task (standing (using settled by.way.piece) (along task run by.way.piece)) by.later) = move_by fuel by.later (omega (arith, by.shorter, enough)) (standing (using settled by.way.piece) (along task run by.way.piece)) (marked_all others by.way.piece.borders.items) (marked_if (stop_in (node_at task by.way.piece.to)) marks by.way.piece.to) (goes_next settled run others marks goes.shares goes.sees goes.spots goes.begins goes.home by.way takes) by.completes in
-      let back : ByPieces task fit stop is.1 (ways_at task stop) (ways_of stop is) (with_used settled others) (with_marks run marks) by.way rest.moves = by_pieces task fit stop is.1 (ways_at task stop) (ways_of stop is) (with_used settled others) (with_marks run marks) by.way (among_place (ways_at task stop) by.place_of by.way by.stands) takes.can rest.moves rest.completes in
+      let by : ByLeg task fit stop is.1 (legs_at task stop) (legs_of stop is) settled run index segment moves = by_leg task fit stop is.1 (legs_at task stop) (legs_of stop is) settled run goes.shares.whole index segment moves may.leads may.taken completes.1 in
+      let takes : Takes_it others marks run by.leg = takes_it settled.used others goes.shares stop is (goes.head may.passes) by.place_of by.leg by.stands run marks goes.sees by.can in
+      let rest : Moved (partial (using (with_used settled others) by.leg.segment) (along task (with_marks run marks) by.leg.segment)) (total_after task (partial (using settled by.leg.segment) (along task run by.leg.segment)) by.later) = move_by fuel by.later (omega (arith, by.shorter, enough)) (partial (using settled by.leg.segment) (along task run by.leg.segment)) (marked_all others by.leg.segment.borders.items) (marked_if (stop_in (node_at task by.leg.segment.to)) marks by.leg.segment.to) (goes_next settled run others marks goes.shares goes.sees goes.spots goes.begins goes.home by.leg takes) by.completes in
+      let back : BySegments task fit stop is.1 (legs_at task stop) (legs_of stop is) (with_used settled others) (with_marks run marks) by.leg rest.moves = by_segments task fit stop is.1 (legs_at task stop) (legs_of stop is) (with_used settled others) (with_marks run marks) by.leg (among_place (legs_at task stop) by.place_of by.leg by.stands) takes.can rest.moves rest.completes in
       record {
-        moves = go by.way.first back.piece ∷ back.moves;
+        moves = go by.leg.first back.segment ∷ back.moves;
         completes = (record { passes = may.passes; leads = back.leads; taken = back.can }, back.completes);
         same = back.total ∙ (rest.same ∙ sym by.total);
       }
-  move_by (suc fuel) (turn index piece ∷ moves) enough (between settled) others marks goes completes = absurd completes.0
-  move_by (suc fuel) (turn index piece ∷ moves) enough (standing settled ran) others marks goes completes =
+  move_by (suc fuel) (turn index segment ∷ moves) enough (between settled) others marks goes completes = absurd completes.0
+  move_by (suc fuel) (turn index segment ∷ moves) enough (partial settled ran) others marks goes completes =
       let may = completes.0 in
       let run = turned_back ran in
       let stop = ran.home in
       let is : IsStop task stop = goes.begins in
-      let by : ByWay task fit stop is.1 (ways_at task stop) (ways_of stop is) settled run index piece moves = by_way task fit stop is.1 (ways_at task stop) (ways_of stop is) settled run goes.shares.whole index piece moves may.leads may.taken completes.1 in
-      let takes : Takes_it others marks run by.way = takes_it settled.used others goes.shares stop is (goes.home may.passes) by.place_of by.way by.stands run marks goes.sees by.can in
-      let rest : Moved (standing (using (with_used settled others) by.way.piece) (along task (with_marks run marks) by.way.piece)) (total_after task (standing (using settled by.way.piece) (along task run by.way.piece)) by.later) = move_by fuel by.later (omega (arith, by.shorter, enough)) (standing (using settled by.way.piece) (along task run by.way.piece)) (marked_all others by.way.piece.borders.items) (marked_if (stop_in (node_at task by.way.piece.to)) marks by.way.piece.to) (goes_next settled run others marks goes.shares goes.sees goes.spots goes.begins goes.home by.way takes) by.completes in
-      let back : ByPieces task fit stop is.1 (ways_at task stop) (ways_of stop is) (with_used settled others) (with_marks run marks) by.way rest.moves = by_pieces task fit stop is.1 (ways_at task stop) (ways_of stop is) (with_used settled others) (with_marks run marks) by.way (among_place (ways_at task stop) by.place_of by.way by.stands) takes.can rest.moves rest.completes in
+      let by : ByLeg task fit stop is.1 (legs_at task stop) (legs_of stop is) settled run index segment moves = by_leg task fit stop is.1 (legs_at task stop) (legs_of stop is) settled run goes.shares.whole index segment moves may.leads may.taken completes.1 in
+      let takes : Takes_it others marks run by.leg = takes_it settled.used others goes.shares stop is (goes.home may.passes) by.place_of by.leg by.stands run marks goes.sees by.can in
+      let rest : Moved (partial (using (with_used settled others) by.leg.segment) (along task (with_marks run marks) by.leg.segment)) (total_after task (partial (using settled by.leg.segment) (along task run by.leg.segment)) by.later) = move_by fuel by.later (omega (arith, by.shorter, enough)) (partial (using settled by.leg.segment) (along task run by.leg.segment)) (marked_all others by.leg.segment.borders.items) (marked_if (stop_in (node_at task by.leg.segment.to)) marks by.leg.segment.to) (goes_next settled run others marks goes.shares goes.sees goes.spots goes.begins goes.home by.leg takes) by.completes in
+      let back : BySegments task fit stop is.1 (legs_at task stop) (legs_of stop is) (with_used settled others) (with_marks run marks) by.leg rest.moves = by_segments task fit stop is.1 (legs_at task stop) (legs_of stop is) (with_used settled others) (with_marks run marks) by.leg (among_place (legs_at task stop) by.place_of by.leg by.stands) takes.can rest.moves rest.completes in
       record {
-        moves = turn by.way.first back.piece ∷ back.moves;
+        moves = turn by.leg.first back.segment ∷ back.moves;
         completes = (record { once = may.once; stands = may.stands; later = omega (arith, may.later, by.first); passes = may.passes; leads = back.leads; taken = back.can }, back.completes);
         same = back.total ∙ (rest.same ∙ sym by.total);
       }
   move_by (suc fuel) (settle ∷ moves) enough (between settled) others marks goes completes = absurd completes.0
-  move_by (suc fuel) (settle ∷ moves) enough (standing settled run) others marks goes completes =
-      let rest : Moved (between (with_used (settling settled run) others)) (total_after task (between (settling settled run)) moves) = move_by fuel moves (omega (arith, enough)) (between (settling settled run)) others marks goes.shares completes.1 in
+  move_by (suc fuel) (settle ∷ moves) enough (partial settled run) others marks goes completes =
+      let rest : Moved (between (with_used (with_run_settled settled run) others)) (total_after task (between (with_run_settled settled run)) moves) = move_by fuel moves (omega (arith, enough)) (between (with_run_settled settled run)) others marks goes.shares completes.1 in
       record { moves = settle ∷ rest.moves; completes = (completes.0, rest.completes); same = rest.same }
 
 -- more stops lie in reach
@@ -499,16 +499,16 @@ reach_past task settled stop old middle new holds more =
             | inl was ↦ still spot (reaches spot is (inr (was, on.1)))
             | inr same ↦ subst (AllLead task settled.used new) same more.here
           ]
-          | inr over ↦ λ index way stands free. over on.1 index way stands (takes_free task settled.used way.piece ∙ free)
+          | inr over ↦ λ index leg stands free. over on.1 index leg stands (takes_free task settled.used leg.segment ∙ free)
         ]
       ];
     }
   where
     still : (spot : ℕ) → AllLead task settled.used old spot → AllLead task settled.used new spot
-    still spot leads index way stands free = more.widens.kept way.piece.to (holds.kept way.piece.to (leads index way stands free))
+    still spot leads index leg stands free = more.widens.kept leg.segment.to (holds.kept leg.segment.to (leads index leg stands free))
 
 -- a run may go on from its head and from its home, as these lie in reach
-pub goes_past : (task : Task) (used : List Bool) (run : Standing) (old middle new : List Bool) → IsStop task run.head → IsStop task run.home → length run.visited ≡ 744 → ReachesPast task used run.head old middle → ReachesPast task used run.home middle new → MayGoOn task new run
+pub goes_past : (task : Task) (used : List Bool) (run : PartialRun) (old middle new : List Bool) → IsStop task run.head → IsStop task run.home → length run.visited ≡ 744 → ReachesPast task used run.head old middle → ReachesPast task used run.home middle new → MayGoOn task new run
 goes_past task used run old middle new stands begins spots head home =
     record {
       head = (stands, λ passes. inr (home.kept run.head head.lies, passes));
@@ -517,63 +517,63 @@ goes_past task used run old middle new stands begins spots head home =
     }
 
 -- a state that is alike has as many borders
-pub alike_whole : (task : Task) (settled : Settled) (run : Option Standing) (like : Stage) → length settled.used ≡ 279 → IsAlike task settled run like → length like.settled.used ≡ 279
-alike_whole task settled run like whole alike = freer_length like.settled.used settled.used alike.off.shut.kept ∙ whole
+pub canonical_whole : (task : Task) (settled : Settled) (run : Option PartialRun) (like : SearchState) → length settled.used ≡ 279 → IsCanonical task settled run like → length like.settled.used ≡ 279
+canonical_whole task settled run like whole canonical = freer_length like.settled.used settled.used canonical.off.shut.kept ∙ whole
 
 -- what is earned from a state is earned from one that is alike
-pub low_alike : (task : Task) → IsFit task → AreReady task → (settled : Settled) (run : Option Standing) (like : Stage) → length settled.used ≡ 279 → IsAlike task settled run like → (most : ℕ) → LeadsToAtMost task (state_at like) most → LeadsToAtMost task (state_by settled run) most
-low_alike task fit ready settled run like whole alike most low =
-    by_runs run like.run alike.begun (subst (λ (s : Settled). LeadsToAtMost task (state_by s like.run) most) alike.off.same low)
+pub low_canonical : (task : Task) → IsFit task → AreReady task → (settled : Settled) (run : Option PartialRun) (like : SearchState) → length settled.used ≡ 279 → IsCanonical task settled run like → (most : ℕ) → LeadsToAtMost task (state_at like) most → LeadsToAtMost task (state_by settled run) most
+low_canonical task fit ready settled run like whole canonical most low =
+    by_runs run like.run canonical.begun (subst (λ (s : Settled). LeadsToAtMost task (state_by s like.run) most) canonical.off.same low)
   where
     used : List Bool
     used = like.settled.used
 
-    shares : Shares task fit ready settled.used alike.reach used alike.reaches alike.off.shut settled.used used
-    shares = record { still = λ border is. is; either = λ border is. inr is; whole = whole; other_whole = alike_whole task settled run like whole alike }
+    shares : Shares task fit ready settled.used canonical.reach used canonical.reaches canonical.off.shut settled.used used
+    shares = record { still = λ border is. is; either = λ border is. inr is; whole = whole; other_whole = canonical_whole task settled run like whole canonical }
 
-    moved : (state : State) (marks : List Bool) → GoesOn task fit ready settled.used alike.reach used alike.reaches alike.off.shut state used marks → LeadsToAtMost task (state_with state used marks) most → LeadsToAtMost task state most
+    moved : (state : State) (marks : List Bool) → GoesOn task fit ready settled.used canonical.reach used canonical.reaches canonical.off.shut state used marks → LeadsToAtMost task (state_with state used marks) most → LeadsToAtMost task state most
     moved state marks goes low moves completes =
-        let there : Moved task fit ready settled.used alike.reach used alike.reaches alike.off.shut (state_with state used marks) (total_after task state moves) = move_by task fit ready settled.used alike.reach used alike.reaches alike.off.shut (length moves) moves (omega arith) state used marks goes completes in
+        let there : Moved task fit ready settled.used canonical.reach used canonical.reaches canonical.off.shut (state_with state used marks) (total_after task state moves) = move_by task fit ready settled.used canonical.reach used canonical.reaches canonical.off.shut (length moves) moves (omega arith) state used marks goes completes in
         subst (λ (n : ℕ). n ≤ most) there.same (low there.moves there.completes)
 
-    by_runs : (run other : Option Standing) → IsRunAlike task alike.reach run other → LeadsToAtMost task (state_by (with_used settled used) other) most → LeadsToAtMost task (state_by settled run) most
+    by_runs : (run other : Option PartialRun) → IsRunCanonical task canonical.reach run other → LeadsToAtMost task (state_by (with_used settled used) other) most → LeadsToAtMost task (state_by settled run) most
     by_runs None None like_it low = moved (between settled) [] shares low
     by_runs None (Some other) like_it low = absurd like_it
     by_runs (Some run) None like_it low = absurd like_it
     by_runs (Some run) (Some other) like_it low =
         let on = like_it.0 in
         let barred = like_it.1 in
-        moved (standing settled run) other.visited
+        moved (partial settled run) other.visited
         (record { shares = shares; sees = barred.marks.only; spots = on.spots; stands = on.head.0; begins = on.home.0; head = on.head.1; home = on.home.1 })
-        (subst (λ (r : Standing). LeadsToAtMost task (standing (with_used settled used) r) most) barred.same low)
+        (subst (λ (r : PartialRun). LeadsToAtMost task (partial (with_used settled used) r) most) barred.same low)
 
 -- and the other way round
-pub low_back : (task : Task) → IsFit task → (settled : Settled) (run : Option Standing) (like : Stage) → length settled.used ≡ 279 → IsAlike task settled run like → (most : ℕ) → LeadsToAtMost task (state_by settled run) most → LeadsToAtMost task (state_at like) most
-low_back task fit settled run like whole alike most low =
-    subst (λ (s : Settled). LeadsToAtMost task (state_by s like.run) most) (sym alike.off.same) (by_runs run like.run alike.begun low)
+pub low_back : (task : Task) → IsFit task → (settled : Settled) (run : Option PartialRun) (like : SearchState) → length settled.used ≡ 279 → IsCanonical task settled run like → (most : ℕ) → LeadsToAtMost task (state_by settled run) most → LeadsToAtMost task (state_at like) most
+low_back task fit settled run like whole canonical most low =
+    subst (λ (s : Settled). LeadsToAtMost task (state_by s like.run) most) (sym canonical.off.same) (by_runs run like.run canonical.begun low)
   where
     used : List Bool
     used = like.settled.used
 
-    from_barred : (run : Standing) (marks : List Bool) → Freer marks run.visited → LeadsToAtMost task (standing settled run) most → LeadsToAtMost task (standing (with_used settled used) (with_marks run marks)) most
+    from_barred : (run : PartialRun) (marks : List Bool) → Freer marks run.visited → LeadsToAtMost task (partial settled run) most → LeadsToAtMost task (partial (with_used settled used) (with_marks run marks)) most
     from_barred run marks freer low moves completes =
         let frees : Frees (with_used settled used) (with_marks run marks) run.home run.first run.left run.value run.visited settled.used settled.kind settled.cap 0 = record {
           back = λ once. (refl, refl);
           left_is = inl (omega arith);
           value_is = omega arith;
           freer = freer;
-          borders = alike.off.shut.kept;
+          borders = canonical.off.shut.kept;
           looser = inr (refl, omega arith);
           whole = whole;
         } in
         let easy : Freed task (with_used settled used) (with_marks run marks) run settled.used settled.kind settled.cap 0 settled.total moves = free task fit moves (with_used settled used) (with_marks run marks) run.home run.first run.left run.value run.visited settled.used settled.kind settled.cap 0 settled.total frees completes in
         omega (arith, easy.earns, low moves easy.completes)
 
-    by_runs : (run other : Option Standing) → IsRunAlike task alike.reach run other → LeadsToAtMost task (state_by settled run) most → LeadsToAtMost task (state_by (with_used settled used) other) most
+    by_runs : (run other : Option PartialRun) → IsRunCanonical task canonical.reach run other → LeadsToAtMost task (state_by settled run) most → LeadsToAtMost task (state_by (with_used settled used) other) most
     by_runs None None like_it low = λ moves completes.
-        let easy : Eased task settled.kind settled.cap (between (with_used settled used)) moves settled.total settled.used = ease task moves settled.kind settled.cap (between (with_used settled used)) settled.total settled.used (inr (refl, omega arith)) alike.off.shut.kept completes in
+        let easy : Eased task settled.kind settled.cap (between (with_used settled used)) moves settled.total settled.used = ease task moves settled.kind settled.cap (between (with_used settled used)) settled.total settled.used (inr (refl, omega arith)) canonical.off.shut.kept completes in
         omega (arith, easy.earns, low moves easy.completes)
     by_runs None (Some other) like_it low = absurd like_it
     by_runs (Some run) None like_it low = absurd like_it
     by_runs (Some run) (Some other) like_it low =
-        subst (λ (r : Standing). LeadsToAtMost task (standing (with_used settled used) r) most) (sym like_it.1.same) (from_barred run other.visited (freer_from other.visited run.visited like_it.1.marks.whole like_it.1.marks.kept) low)
+        subst (λ (r : PartialRun). LeadsToAtMost task (partial (with_used settled used) r) most) (sym like_it.1.same) (from_barred run other.visited (freer_from other.visited run.visited like_it.1.marks.whole like_it.1.marks.kept) low)

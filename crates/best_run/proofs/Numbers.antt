@@ -7,7 +7,7 @@ use Rattle.best_run.specs.Crossed.{before_if, numbers_from, numbers_in}
 use Rattle.best_run.specs.Fit.{BordersFit}
 use Rattle.best_run.specs.Marks.{IsMarked}
 use Rattle.best_run.specs.Moves.{marked_all, misses}
-use Rattle.best_run.specs.Ways.{none_used}
+use Rattle.best_run.specs.Legs.{none_used}
 use Rattle.best_run.proofs.Advance.{free_misses, marks_more, misses_free}
 use Rattle.best_run.proofs.Ahead.{falsely}
 use Rattle.best_run.proofs.Chunks.{marked_stays}

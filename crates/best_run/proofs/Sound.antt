@@ -22,22 +22,22 @@ use Rattle.certificate.specs.Legal.{AreAtMost, AreDistinct, EndsAtStop, HasSuch,
 use Rattle.certificate.specs.Set.{RunsLegally, ShareNoBorder, TrainRun, revenue_of}
 use Rattle.certificate.proofs.Marks.{among_both}
 use Rattle.certificate.proofs.TwoTrain.{returning}
-use Rattle.best_run.specs.declared.task.Piece.{Piece}
+use Rattle.best_run.specs.declared.task.Segment.{Segment}
 use Rattle.best_run.specs.declared.task.Task.{Task}
 use Rattle.best_run.specs.declared.state.Settled.{Settled}
-use Rattle.best_run.specs.declared.state.Standing.{Standing}
-use Rattle.best_run.specs.declared.trail.Mark.{Mark}
-use Rattle.best_run.specs.declared.trail.Mark.TheVariants.{Pass, Go, Turn, Settle}
-use Rattle.best_run.specs.Trail.{runs_told, turned_about, turned_step}
-use Rattle.best_run.specs.Described.{Describes, IsPieceOf, IsSideNode, IsStepFrom, IsStopNode, most_of, most_of_all}
-use Rattle.best_run.specs.Moves.{Allows, Completes, Move, State, along, begin, begun, between, can_take, ends_in, go, marks_of, may_come, may_earn, misses, node_at, pass, passed, settle, settling, standing, stop_in, total_after, turn, turned_back, using}
+use Rattle.best_run.specs.declared.state.PartialRun.{PartialRun}
+use Rattle.best_run.specs.declared.move_path.Mark.{Mark}
+use Rattle.best_run.specs.declared.move_path.Mark.TheVariants.{Pass, Go, Turn, Settle}
+use Rattle.best_run.specs.MovePath.{runs_told, turned_about, turned_step}
+use Rattle.best_run.specs.Described.{Describes, IsSegmentOf, IsSideNode, IsStepFrom, IsStopNode, most_of, most_of_all}
+use Rattle.best_run.specs.Moves.{Allows, Completes, Move, State, along, begin, begun, between, can_take, ends_in, go, marks_of, may_come, may_earn, misses, node_at, pass, passed, settle, with_run_settled, partial, stop_in, total_after, turn, turned_back, using}
 use Rattle.best_run.specs.Marks.{IsMarked}
 use Rattle.best_run.proofs.Advance.{Tells, misses_free, node_left, one_number, to_home, to_side, to_stop}
 use Rattle.best_run.proofs.Complete.{next_stop}
 use Rattle.best_run.proofs.Prefix.{Holds, onto}
 use Rattle.best_run.proofs.Arms.{AreOne, Used, begun_tells, one_turned}
 use Rattle.best_run.proofs.Backwards.{Turned, walk_turned}
-use Rattle.best_run.proofs.Split.{such_alike, such_later}
+use Rattle.best_run.proofs.Split.{such_canonical, such_later}
 use Rattle.best_run.proofs.Runs.{drop_first, drop_none}
 use Rattle.best_run.proofs.Sets.{Avoids, IsSetFor}
 
@@ -99,42 +99,42 @@ turned_walk steps = all_turned steps []
     all_turned (step ∷ before) done = all_turned before (step ∷ done)
 
 module _ (position : Position) (company : Company) (lawful : IsLawful position) (kinds : List Kind) (task : Task) (describes : Describes position company kinds task) where
-  abbrev Told : ℕ → List ℕ → Spot → List Stop → List ℕ → Settled → Standing → Type 0
+  abbrev Told : ℕ → List ℕ → Spot → List Stop → List ℕ → Settled → PartialRun → Type 0
   Told most others at stops borders settled run = Tells task position company most others at stops borders settled run
 
   -- what a piece that is taken tells of its step
-  record Went (most : ℕ) (others : List ℕ) (stops : List Stop) (borders : List ℕ) (settled : Settled) (run : Standing) (step : Step) (piece : Piece) : Type 0 where
-    pub told : Told most others (left_at step) (listed (stop_of (left_at step)) ++ stops) (border_at (entered_at step).hex (entered_at step).end ++ borders) (using settled piece) (along task run piece)
+  record Went (most : ℕ) (others : List ℕ) (stops : List Stop) (borders : List ℕ) (settled : Settled) (run : PartialRun) (step : Step) (segment : Segment) : Type 0 where
+    pub told : Told most others (left_at step) (listed (stop_of (left_at step)) ++ stops) (border_at (entered_at step).hex (entered_at step).end ++ borders) (using settled segment) (along task run segment)
     pub stops_once : AreDistinct stops → AreDistinct (listed (stop_of (left_at step)) ++ stops)
     pub few : length (listed (stop_of (left_at step)) ++ stops) ≤ most
     pub new : (border : ℕ) → IsAmong border (border_at (entered_at step).hex (entered_at step).end) → ¬ IsAmong border borders
     pub free : (border : ℕ) → IsAmong border (border_at (entered_at step).hex (entered_at step).end) → ¬ IsAmong border others
 
-  went_by : (most : ℕ) (others : List ℕ) (at : Spot) (stops : List Stop) (borders : List ℕ) (settled : Settled) (run : Standing) → Told most others at stops borders settled run → (step : Step) (piece : Piece) → IsPieceOf step piece → can_take task run settled.used piece ≡ true → (found : Option Stop) → stop_of (left_at step) ≡ found → Went most others stops borders settled run step piece
-  went_by most others at stops borders settled run tells step piece is taken None side =
-      let free : misses settled.used piece.borders.items ≡ true = second_true (may_come (stop_in (node_at task piece.to)) run piece.to) (misses settled.used piece.borders.items) taken in
+  went_by : (most : ℕ) (others : List ℕ) (at : Spot) (stops : List Stop) (borders : List ℕ) (settled : Settled) (run : PartialRun) → Told most others at stops borders settled run → (step : Step) (segment : Segment) → IsSegmentOf step segment → can_take task run settled.used segment ≡ true → (found : Option Stop) → stop_of (left_at step) ≡ found → Went most others stops borders settled run step segment
+  went_by most others at stops borders settled run tells step segment is taken None side =
+      let free : misses settled.used segment.borders.items ≡ true = second_true (may_come (stop_in (node_at task segment.to)) run segment.to) (misses settled.used segment.borders.items) taken in
       record {
-        told = subst (λ o. Told most others (left_at step) (listed o ++ stops) (border_at (entered_at step).hex (entered_at step).end ++ borders) (using settled piece) (along task run piece)) (sym side)
-            (to_side position company kinds task describes most others at stops borders settled run tells step piece is side);
+        told = subst (λ o. Told most others (left_at step) (listed o ++ stops) (border_at (entered_at step).hex (entered_at step).end ++ borders) (using settled segment) (along task run segment)) (sym side)
+            (to_side position company kinds task describes most others at stops borders settled run tells step segment is side);
         stops_once = λ once. subst (λ o. AreDistinct (listed o ++ stops)) (sym side) once;
         few = subst (λ o. length (listed o ++ stops) ≤ most) (sym side) (omega (arith, tells.left));
-        new = λ border here before. misses_free settled.used piece.borders.items free border (subst (IsAmong border) (sym is.borders) here) ((tells.used border).1 (inl before));
-        free = λ border here other. misses_free settled.used piece.borders.items free border (subst (IsAmong border) (sym is.borders) here) ((tells.used border).1 (inr other));
+        new = λ border here before. misses_free settled.used segment.borders.items free border (subst (IsAmong border) (sym is.borders) here) ((tells.used border).1 (inl before));
+        free = λ border here other. misses_free settled.used segment.borders.items free border (subst (IsAmong border) (sym is.borders) here) ((tells.used border).1 (inr other));
       }
-  went_by most others at stops borders settled run tells step piece is taken (Some stop) there =
-      let node : IsStopNode position company stop (node_at task piece.to) = subst (λ (n : ℕ). IsStopNode position company stop (node_at task n)) (sym is.to) (node_left position company kinds task describes (left_at step) (Some stop) there) in
-      let free : misses settled.used piece.borders.items ≡ true = second_true (may_come (stop_in (node_at task piece.to)) run piece.to) (misses settled.used piece.borders.items) taken in
-      let come : may_come true run piece.to ≡ true = ap (λ b. may_come b run piece.to) (sym node.stops) ∙ first_true (may_come (stop_in (node_at task piece.to)) run piece.to) (misses settled.used piece.borders.items) taken in
-      let left : 0 < run.left = ltb-true 0 run.left (first_true (ltb 0 run.left) (not (get_or run.visited piece.to false)) come) in
-      let fresh : IsMarked run.visited piece.to → ⊥ = not_set (get_or run.visited piece.to false) (second_true (ltb 0 run.left) (not (get_or run.visited piece.to false)) come) in
+  went_by most others at stops borders settled run tells step segment is taken (Some stop) there =
+      let node : IsStopNode position company stop (node_at task segment.to) = subst (λ (n : ℕ). IsStopNode position company stop (node_at task n)) (sym is.to) (node_left position company kinds task describes (left_at step) (Some stop) there) in
+      let free : misses settled.used segment.borders.items ≡ true = second_true (may_come (stop_in (node_at task segment.to)) run segment.to) (misses settled.used segment.borders.items) taken in
+      let come : may_come true run segment.to ≡ true = ap (λ b. may_come b run segment.to) (sym node.stops) ∙ first_true (may_come (stop_in (node_at task segment.to)) run segment.to) (misses settled.used segment.borders.items) taken in
+      let left : 0 < run.left = ltb-true 0 run.left (first_true (ltb 0 run.left) (not (get_or run.visited segment.to false)) come) in
+      let fresh : IsMarked run.visited segment.to → ⊥ = not_set (get_or run.visited segment.to false) (second_true (ltb 0 run.left) (not (get_or run.visited segment.to false)) come) in
       record {
-        told = subst (λ o. Told most others (left_at step) (listed o ++ stops) (border_at (entered_at step).hex (entered_at step).end ++ borders) (using settled piece) (along task run piece)) (sym there)
-            (to_stop position company kinds task describes most others at stops borders settled run tells step piece is stop there left);
+        told = subst (λ o. Told most others (left_at step) (listed o ++ stops) (border_at (entered_at step).hex (entered_at step).end ++ borders) (using settled segment) (along task run segment)) (sym there)
+            (to_stop position company kinds task describes most others at stops borders settled run tells step segment is stop there left);
         stops_once = λ once. subst (λ o. AreDistinct (listed o ++ stops)) (sym there)
             ((λ among. fresh (subst (IsMarked run.visited) (sym is.to) ((tells.visited (left_at step) stop there).1 (inl among)))), once);
         few = subst (λ o. length (listed o ++ stops) ≤ most) (sym there) (omega (arith, tells.left));
-        new = λ border here before. misses_free settled.used piece.borders.items free border (subst (IsAmong border) (sym is.borders) here) ((tells.used border).1 (inl before));
-        free = λ border here other. misses_free settled.used piece.borders.items free border (subst (IsAmong border) (sym is.borders) here) ((tells.used border).1 (inr other));
+        new = λ border here before. misses_free settled.used segment.borders.items free border (subst (IsAmong border) (sym is.borders) here) ((tells.used border).1 (inl before));
+        free = λ border here other. misses_free settled.used segment.borders.items free border (subst (IsAmong border) (sym is.borders) here) ((tells.used border).1 (inr other));
       }
 
   -- a run goes on only where it may pass
@@ -178,20 +178,20 @@ module _ (position : Position) (company : Company) (lawful : IsLawful position) 
 
   -- the borders of a piece change nothing in what the others earn
   keep_settled :
-      (others : List ℕ) (kind : Kind) (left : List Kind) (settled : Settled) (piece : Piece) (total : ℕ) (runs : List TrainRun) →
-      RunTold others kind left (using settled piece) total runs → RunTold others kind left settled total runs
-  keep_settled others kind left settled piece total runs told =
+      (others : List ℕ) (kind : Kind) (left : List Kind) (settled : Settled) (segment : Segment) (total : ℕ) (runs : List TrainRun) →
+      RunTold others kind left (using settled segment) total runs → RunTold others kind left settled total runs
+  keep_settled others kind left settled segment total runs told =
       record { steps = told.steps; legal = told.legal; avoids = told.avoids; runs = told.runs; set = told.set; earns = told.earns; are = told.are }
 
   -- a run that has not turned back began where its walk does
-  abbrev pub BeginsHome : Standing → Step → List Step → Type 0
+  abbrev pub BeginsHome : PartialRun → Step → List Step → Type 0
   BeginsHome run step before = run.turned ≡ false → run.home ≡ spot_number (begins_at step before)
 
   -- from a state on some marks tell such runs
   abbrev pub SoundFrom : State → ℕ → List Mark → Type 0
   SoundFrom (between settled) total marks =
       (others : List ℕ) (left : List Kind) → Used others settled → drop settled.next task.trains.items ≡ most_of_all left → RunsTold others left settled total (runs_told left [] marks)
-  SoundFrom (standing settled run) total marks =
+  SoundFrom (partial settled run) total marks =
       (others : List ℕ) (kind : Kind) (left : List Kind) (step : Step) (before : List Step) → Told (most_of (stops_of kind)) others (left_at step) (visited (step ∷ before)) (crossed (step ∷ before)) settled run → Holds position company (most_of (stops_of kind)) others (step ∷ before) → HasSuch (λ stop. HasToken position stop company) (visited (step ∷ before)) → BeginsHome run step before → drop (settled.next + 1) task.trains.items ≡ most_of_all left → RunTold others kind left settled total (runs_told (kind ∷ left) (step ∷ before) marks)
 
   -- the end: all trains are settled
@@ -216,8 +216,8 @@ module _ (position : Position) (company : Company) (lawful : IsLawful position) 
 
   -- a run is settled
   has_settled :
-      (settled : Settled) (run : Standing) (total : ℕ) (marks : List Mark) → stop_in (node_at task run.head) ≡ true →
-      SoundFrom (between (settling settled run)) total marks → SoundFrom (standing settled run) total (Settle ∷ marks)
+      (settled : Settled) (run : PartialRun) (total : ℕ) (marks : List Mark) → stop_in (node_at task run.head) ≡ true →
+      SoundFrom (between (with_run_settled settled run)) total marks → SoundFrom (partial settled run) total (Settle ∷ marks)
   has_settled settled run total marks may rest others kind left step before tells holds own home trains =
       ends_by (stop_of (left_at step)) refl
     where
@@ -229,7 +229,7 @@ module _ (position : Position) (company : Company) (lawful : IsLawful position) 
           let stops : stop_in (node_at task (spot_number (left_at step))) ≡ true = subst (λ (n : ℕ). stop_in (node_at task n) ≡ true) tells.head may in
           absurd (let wrong : true ≡ false = sym stops ∙ node.stops in cc)
       ends_by (Some stop) there =
-          let told : RunsTold (crossed (step ∷ before) ++ others) left (settling settled run) total (runs_told left [] marks) =
+          let told : RunsTold (crossed (step ∷ before) ++ others) left (with_run_settled settled run) total (runs_told left [] marks) =
           rest (crossed (step ∷ before) ++ others) left
           (record {
             used = λ border. let all : IsAmong border (crossed (step ∷ before) ++ others) ↔ (IsAmong border (crossed (step ∷ before)) ⊎ IsAmong border others) = among_both border (crossed (step ∷ before)) others in
@@ -263,16 +263,16 @@ module _ (position : Position) (company : Company) (lawful : IsLawful position) 
 
   -- a run goes on
   has_gone :
-      (settled : Settled) (run : Standing) (index : ℕ) (piece : Piece) (total : ℕ) (marks : List Mark) →
-      Allows task (standing settled run) (go index piece) → SoundFrom (standing (using settled piece) (along task run piece)) total marks →
-      SoundFrom (standing settled run) total (Go piece.step ∷ marks)
-  has_gone settled run index piece total marks may rest others kind left step before tells holds own home trains =
-      let from : IsStepFrom position run.head piece = describes.sound run.head index piece may.leads in
+      (settled : Settled) (run : PartialRun) (index : ℕ) (segment : Segment) (total : ℕ) (marks : List Mark) →
+      Allows task (partial settled run) (go index segment) → SoundFrom (partial (using settled segment) (along task run segment)) total marks →
+      SoundFrom (partial settled run) total (Go segment.step ∷ marks)
+  has_gone settled run index segment total marks may rest others kind left step before tells holds own home trains =
+      let from : IsStepFrom position run.head segment = describes.sound run.head index segment may.leads in
       let next = from.step in
       let joined : AreJoined (left_at step) (entered_at next) = joined_here (left_at step) run.head tells.head from.goes.spot (entered_at next) from.goes.number_is from.goes.joined in
-      let went : Went (most_of (stops_of kind)) others (visited (step ∷ before)) (crossed (step ∷ before)) settled run next piece = went_by (most_of (stops_of kind)) others (left_at step) (visited (step ∷ before)) (crossed (step ∷ before)) settled run tells next piece from.piece_is may.taken (stop_of (left_at next)) refl in
+      let went : Went (most_of (stops_of kind)) others (visited (step ∷ before)) (crossed (step ∷ before)) settled run next segment = went_by (most_of (stops_of kind)) others (left_at step) (visited (step ∷ before)) (crossed (step ∷ before)) settled run tells next segment from.segment_is may.taken (stop_of (left_at next)) refl in
       let passes = may_pass (left_at step) (stop_of (left_at step)) refl (entered_at next) joined (subst (λ (n : ℕ). ends_in (node_at task n) ≡ false) tells.head may.passes) in
-      let told : RunTold others kind left (using settled piece) total (runs_told (kind ∷ left) (next ∷ step ∷ before) marks) =
+      let told : RunTold others kind left (using settled segment) total (runs_told (kind ∷ left) (next ∷ step ∷ before) marks) =
       rest others kind left next (step ∷ before) went.told
       (record {
         walk = (from.track, joined, holds.walk);
@@ -287,8 +287,8 @@ module _ (position : Position) (company : Company) (lawful : IsLawful position) 
       (such_later (λ stop. HasToken position stop company) (listed (stop_of (left_at next))) (visited (step ∷ before)) own) home trains
       in
       let runs : Step → List TrainRun = λ last. runs_told (kind ∷ left) (last ∷ step ∷ before) marks in
-      keep_settled others kind left settled piece total (runs piece.step)
-      (subst (λ (last : Step). RunTold others kind left (using settled piece) total (runs last)) (sym from.piece_is.step_is) told)
+      keep_settled others kind left settled segment total (runs segment.step)
+      (subst (λ (last : Step). RunTold others kind left (using settled segment) total (runs last)) (sym from.segment_is.step_is) told)
 
   -- where a run stands at a stop, its walk ends at one
   ends_there : (step : Step) (before : List Step) (number : ℕ) → number ≡ spot_number (left_at step) → stop_in (node_at task number) ≡ true → (found : Option Stop) → stop_of (left_at step) ≡ found → EndsAtStop (step ∷ before)
@@ -299,10 +299,10 @@ module _ (position : Position) (company : Company) (lawful : IsLawful position) 
 
   -- a run turns back: its walk is turned about, and goes on where it began
   has_turned :
-      (settled : Settled) (run : Standing) (index : ℕ) (piece : Piece) (total : ℕ) (marks : List Mark) →
-      Allows task (standing settled run) (turn index piece) → SoundFrom (standing (using settled piece) (along task (turned_back run) piece)) total marks →
-      SoundFrom (standing settled run) total (Turn ∷ Go piece.step ∷ marks)
-  has_turned settled run index piece total marks may rest others kind left step before tells holds own home trains =
+      (settled : Settled) (run : PartialRun) (index : ℕ) (segment : Segment) (total : ℕ) (marks : List Mark) →
+      Allows task (partial settled run) (turn index segment) → SoundFrom (partial (using settled segment) (along task (turned_back run) segment)) total marks →
+      SoundFrom (partial settled run) total (Turn ∷ Go segment.step ∷ marks)
+  has_turned settled run index segment total marks may rest others kind left step before tells holds own home trains =
       let most = most_of (stops_of kind) in
       let ends : EndsAtStop (step ∷ before) = ends_there step before run.head tells.head may.stands (stop_of (left_at step)) refl in
       let turned : Turned position lawful company most others step before = walk_turned position lawful company most others step before holds ends in
@@ -311,9 +311,9 @@ module _ (position : Position) (company : Company) (lawful : IsLawful position) 
       let at_home : run.home ≡ spot_number (left_at turned.last) = home may.once ∙ ap spot_number (sym turned.stands) in
       let tells_back : Told most others (left_at turned.last) (visited walk) (crossed walk) settled (turned_back run) = to_home position company kinds task describes most others (left_at step) (visited (step ∷ before)) (crossed (step ∷ before)) settled run tells (left_at turned.last) (visited walk) (crossed walk) at_home one.stops one.worth one.borders in
       let about : turned_about (step ∷ before) ≡ walk = turned_walk (step ∷ before) ∙ turned.is in
-      subst (λ (steps : List Step). RunTold others kind left settled total (runs_told (kind ∷ left) steps (Go piece.step ∷ marks))) (sym about)
-      (has_gone settled (turned_back run) index piece total marks (record { passes = may.passes; leads = may.leads; taken = may.taken }) rest others kind left turned.last turned.rest tells_back turned.holds
-      (such_alike (λ stop. HasToken position stop company) (visited (step ∷ before)) (visited walk) one.stops own)
+      subst (λ (steps : List Step). RunTold others kind left settled total (runs_told (kind ∷ left) steps (Go segment.step ∷ marks))) (sym about)
+      (has_gone settled (turned_back run) index segment total marks (record { passes = may.passes; leads = may.leads; taken = may.taken }) rest others kind left turned.last turned.rest tells_back turned.holds
+      (such_canonical (λ stop. HasToken position stop company) (visited (step ∷ before)) (visited walk) one.stops own)
       (λ once. absurd (let wrong : true ≡ false = once in cc)) trains)
 
   -- a step leads from a stop with this number
@@ -326,8 +326,8 @@ module _ (position : Position) (company : Company) (lawful : IsLawful position) 
       (stop, same, sym number_is ∙ one_number spot next stop there same)
 
   -- the first step of a run holds
-  first_holds : (most : ℕ) (others : List ℕ) (settled : Settled) (run : Standing) (step : Step) (piece : Piece) (stop : Stop) → stop_of (entered_at step) ≡ Some stop → IsTrack position step → Went most others (stop ∷ []) [] settled run step piece → Holds position company most others (step ∷ [])
-  first_holds most others settled run step piece stop there track went =
+  first_holds : (most : ℕ) (others : List ℕ) (settled : Settled) (run : PartialRun) (step : Step) (segment : Segment) (stop : Stop) → stop_of (entered_at step) ≡ Some stop → IsTrack position step → Went most others (stop ∷ []) [] settled run step segment → Holds position company most others (step ∷ [])
+  first_holds most others settled run step segment stop there track went =
       let visits : visited (step ∷ []) ≡ listed (stop_of (left_at step)) ++ (stop ∷ []) = ap (λ o. listed (stop_of (left_at step)) ++ (listed o ++ [])) there in
       record {
         walk = (track, tt, tt);
@@ -366,45 +366,45 @@ module _ (position : Position) (company : Company) (lawful : IsLawful position) 
 
   -- a run begins
   has_begun :
-      (settled : Settled) (number index : ℕ) (piece : Piece) (total : ℕ) (marks : List Mark) → Allows task (between settled) (begin number index piece) →
-      SoundFrom (standing (using settled piece) (along task (begun task settled number index) piece)) total marks →
-      SoundFrom (between settled) total (Go piece.step ∷ marks)
-  has_begun settled number index piece total marks may rest others [] used trains = absurd (omega (arith, may.train, drop_none task.trains.items settled.next trains))
-  has_begun settled number index piece total marks may rest others (kind ∷ left) used trains =
+      (settled : Settled) (number index : ℕ) (segment : Segment) (total : ℕ) (marks : List Mark) → Allows task (between settled) (begin number index segment) →
+      SoundFrom (partial (using settled segment) (along task (begun task settled number index) segment)) total marks →
+      SoundFrom (between settled) total (Go segment.step ∷ marks)
+  has_begun settled number index segment total marks may rest others [] used trains = absurd (omega (arith, may.train, drop_none task.trains.items settled.next trains))
+  has_begun settled number index segment total marks may rest others (kind ∷ left) used trains =
       let most = most_of (stops_of kind) in
       let next = drop_first task.trains.items settled.next most (most_of_all left) trains in
-      let from : IsStepFrom position number piece = describes.sound number index piece may.leads in
+      let from : IsStepFrom position number segment = describes.sound number index segment may.leads in
       let step = from.step in
       let entered = enters_stop number may.begins from.goes.spot (entered_at step) from.goes.number_is from.goes.joined (stop_of from.goes.spot) refl in
       let stop = entered.0 in
       let some : 0 < most = two_at_least kind in
       let tells = begun_tells position company lawful kinds task describes others settled used most index next.1 some (entered_at step) stop entered.1 in
       let here : Tells task position company most others (entered_at step) (stop ∷ []) [] settled (begun task settled number index) = subst (λ (n : ℕ). Tells task position company most others (entered_at step) (stop ∷ []) [] settled (begun task settled n index)) (sym entered.2) tells in
-      let went : Went most others (stop ∷ []) [] settled (begun task settled number index) step piece = went_by most others (entered_at step) (stop ∷ []) [] settled (begun task settled number index) here step piece from.piece_is may.taken (stop_of (left_at step)) refl in
+      let went : Went most others (stop ∷ []) [] settled (begun task settled number index) step segment = went_by most others (entered_at step) (stop ∷ []) [] settled (begun task settled number index) here step segment from.segment_is may.taken (stop_of (left_at step)) refl in
       let visits : visited (step ∷ []) ≡ listed (stop_of (left_at step)) ++ (stop ∷ []) = ap (λ o. listed (stop_of (left_at step)) ++ (listed o ++ [])) entered.1 in
-      let told = subst (λ vs. Tells task position company most others (left_at step) vs (crossed (step ∷ [])) (using settled piece) (along task (begun task settled number index) piece)) (sym visits) went.told in
+      let told = subst (λ vs. Tells task position company most others (left_at step) vs (crossed (step ∷ [])) (using settled segment) (along task (begun task settled number index) segment)) (sym visits) went.told in
       let node : IsStopNode position company stop (node_at task number) = subst (λ (n : ℕ). IsStopNode position company stop (node_at task n)) (sym entered.2) (node_left position company kinds task describes (entered_at step) (Some stop) entered.1) in
       let own : HasSuch (λ s. HasToken position s company) (visited (step ∷ [])) = subst (HasSuch (λ s. HasToken position s company)) (sym visits) (such_later (λ s. HasToken position s company) (listed (stop_of (left_at step))) (stop ∷ []) (inl (node.own.0 may.token))) in
       let runs : Step → List TrainRun = λ first. runs_told (kind ∷ left) (first ∷ []) marks in
-      set_more others kind left settled total (runs piece.step)
-      (keep_settled others kind left settled piece total (runs piece.step)
-      (subst (λ (first : Step). RunTold others kind left (using settled piece) total (runs first)) (sym from.piece_is.step_is)
-      (rest others kind left step [] told (first_holds most others settled (begun task settled number index) step piece stop entered.1 from.track went) own (λ once. entered.2) next.2)))
+      set_more others kind left settled total (runs segment.step)
+      (keep_settled others kind left settled segment total (runs segment.step)
+      (subst (λ (first : Step). RunTold others kind left (using settled segment) total (runs first)) (sym from.segment_is.step_is)
+      (rest others kind left step [] told (first_holds most others settled (begun task settled number index) step segment stop entered.1 from.track went) own (λ once. entered.2) next.2)))
 
   pub sound_from : (moves : List Move) (state : State) → Completes task state moves → SoundFrom state (total_after task state moves) (marks_of moves)
   sound_from [] (between settled) completes = at_end settled completes
-  sound_from [] (standing settled run) completes = absurd completes
+  sound_from [] (partial settled run) completes = absurd completes
   sound_from (pass ∷ moves) (between settled) completes = has_passed settled (total_after task (between (passed settled)) moves) (marks_of moves) completes.0 (sound_from moves (between (passed settled)) completes.1)
-  sound_from (pass ∷ moves) (standing settled run) completes = absurd completes.0
-  sound_from (begin number index piece ∷ moves) (between settled) completes =
-      has_begun settled number index piece (total_after task (standing (using settled piece) (along task (begun task settled number index) piece)) moves) (marks_of moves) completes.0 (sound_from moves (standing (using settled piece) (along task (begun task settled number index) piece)) completes.1)
-  sound_from (begin number index piece ∷ moves) (standing settled run) completes = absurd completes.0
-  sound_from (go index piece ∷ moves) (between settled) completes = absurd completes.0
-  sound_from (go index piece ∷ moves) (standing settled run) completes =
-      has_gone settled run index piece (total_after task (standing (using settled piece) (along task run piece)) moves) (marks_of moves) completes.0 (sound_from moves (standing (using settled piece) (along task run piece)) completes.1)
-  sound_from (turn index piece ∷ moves) (between settled) completes = absurd completes.0
-  sound_from (turn index piece ∷ moves) (standing settled run) completes =
-      has_turned settled run index piece (total_after task (standing (using settled piece) (along task (turned_back run) piece)) moves) (marks_of moves) completes.0 (sound_from moves (standing (using settled piece) (along task (turned_back run) piece)) completes.1)
+  sound_from (pass ∷ moves) (partial settled run) completes = absurd completes.0
+  sound_from (begin number index segment ∷ moves) (between settled) completes =
+      has_begun settled number index segment (total_after task (partial (using settled segment) (along task (begun task settled number index) segment)) moves) (marks_of moves) completes.0 (sound_from moves (partial (using settled segment) (along task (begun task settled number index) segment)) completes.1)
+  sound_from (begin number index segment ∷ moves) (partial settled run) completes = absurd completes.0
+  sound_from (go index segment ∷ moves) (between settled) completes = absurd completes.0
+  sound_from (go index segment ∷ moves) (partial settled run) completes =
+      has_gone settled run index segment (total_after task (partial (using settled segment) (along task run segment)) moves) (marks_of moves) completes.0 (sound_from moves (partial (using settled segment) (along task run segment)) completes.1)
+  sound_from (turn index segment ∷ moves) (between settled) completes = absurd completes.0
+  sound_from (turn index segment ∷ moves) (partial settled run) completes =
+      has_turned settled run index segment (total_after task (partial (using settled segment) (along task (turned_back run) segment)) moves) (marks_of moves) completes.0 (sound_from moves (partial (using settled segment) (along task (turned_back run) segment)) completes.1)
   sound_from (settle ∷ moves) (between settled) completes = absurd completes.0
-  sound_from (settle ∷ moves) (standing settled run) completes =
-      has_settled settled run (total_after task (between (settling settled run)) moves) (marks_of moves) (first_true (stop_in (node_at task run.head)) (may_earn settled.kind settled.cap run.most run.value) completes.0) (sound_from moves (between (settling settled run)) completes.1)
+  sound_from (settle ∷ moves) (partial settled run) completes =
+      has_settled settled run (total_after task (between (with_run_settled settled run)) moves) (marks_of moves) (first_true (stop_in (node_at task run.head)) (may_earn settled.kind settled.cap run.most run.value) completes.0) (sound_from moves (between (with_run_settled settled run)) completes.1)

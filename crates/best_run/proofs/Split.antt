@@ -21,7 +21,7 @@ use Rattle.best_run.specs.Described.{Describes, IsStopNode}
 use Rattle.best_run.specs.Moves.{marked_if, node_at, own_before, own_in}
 use Rattle.best_run.specs.Marks.{IsMarked}
 use Rattle.best_run.proofs.Advance.{mark_more, node_left, spot_low}
-use Rattle.best_run.proofs.Backwards.{AreAlike}
+use Rattle.best_run.proofs.Backwards.{AreCanonical}
 use Rattle.best_run.proofs.Complete.{AreAhead}
 use Rattle.best_run.proofs.Few.{length_replicate}
 use Rattle.best_run.proofs.Prefix.{Holds, onto}
@@ -145,10 +145,10 @@ among_such P [] stop among is = among
 among_such P (other ∷ stops) stop among is =
     elim among [ inl here ↦ inl (subst P (sym here) is) | inr later ↦ inr (among_such P stops stop later is) ]
 
-pub such_alike : (P : Stop → Type 0) (stops others : List Stop) → AreAlike stops others → HasSuch P stops → HasSuch P others
-such_alike P stops others alike has =
+pub such_canonical : (P : Stop → Type 0) (stops others : List Stop) → AreCanonical stops others → HasSuch P stops → HasSuch P others
+such_canonical P stops others canonical has =
     let one : (stop : Stop) × IsAmong stop stops × P stop = such_among P stops has in
-    among_such P others one.0 ((alike.among one.0).0 one.1) one.2
+    among_such P others one.0 ((canonical.among one.0).0 one.1) one.2
 
 pub such_later : (P : Stop → Type 0) (first stops : List Stop) → HasSuch P stops → HasSuch P (first ++ stops)
 such_later P [] stops has = has

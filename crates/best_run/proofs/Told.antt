@@ -9,8 +9,8 @@ use Rattle.tables.specs.declared.rolling_stock.Kind.{Kind}
 use Rattle.certificate.specs.Set.{TrainRun}
 use Rattle.certificate.specs.Written.{places_of}
 use Rattle.certificate.specs.declared.claim.ClaimedRun.{ClaimedRun}
-use Rattle.best_run.specs.declared.trail.Mark.{Mark}
-use Rattle.best_run.specs.Trail.{CanBeClaimed, IsWalkRead, after_walk, runs_told, steps_of, turned_about, turned_step, walk_told, with_run, written}
+use Rattle.best_run.specs.declared.move_path.Mark.{Mark}
+use Rattle.best_run.specs.MovePath.{CanBeClaimed, IsWalkRead, after_walk, runs_told, steps_of, turned_about, turned_step, walk_told, with_run, written}
 
 reversed_map : (xs : List Step) → reverse (map turned_step xs) ≡ map turned_step (reverse xs)
 reversed_map [] = refl

@@ -1,16 +1,16 @@
 -- How the best found is earned: while nothing more is found the trail stays, and what is found from a state on is found from
 -- one before it, by the marks of the moves between them.
 use Rattle.std.proofs.Common.{◌≡◌, ℕ, ◌<◌, ◌≤◌, true, ◌⊎◌, inl, inr, None, List, ◌++◌, slice_get, refl, sym, ap, subst, ◌∙◌, arith}
-use Rattle.best_run.specs.declared.explored.Found.{Found}
-use Rattle.best_run.specs.declared.stage.Stage.{Stage}
+use Rattle.best_run.specs.declared.memo.Found.{Found}
+use Rattle.best_run.specs.declared.search_state.SearchState.{SearchState}
 use Rattle.best_run.specs.declared.state.Settled.{Settled}
-use Rattle.best_run.specs.declared.state.Standing.{Standing}
+use Rattle.best_run.specs.declared.state.PartialRun.{PartialRun}
 use Rattle.best_run.specs.declared.task.Task.{Task}
-use Rattle.best_run.specs.declared.task.Way.{Way}
-use Rattle.best_run.specs.declared.trail.Mark.{Mark}
-use Rattle.best_run.specs.declared.trail.Trail.{Trail}
-use Rattle.best_run.specs.Moves.{AreExplored, Completes, Earns, Explores, IsAsBefore, IsBetter, IsTraced, Move, State, Takes, Traces, along, can_take, marks_of, standing, total_after, using, LeadsToAtMost, state_at}
-use Rattle.best_run.specs.Trail.{IsWritten, marks_in}
+use Rattle.best_run.specs.declared.task.Leg.{Leg}
+use Rattle.best_run.specs.declared.move_path.Mark.{Mark}
+use Rattle.best_run.specs.declared.move_path.MovePath.{MovePath}
+use Rattle.best_run.specs.Moves.{AreInMemo, Completes, Earns, Explores, IsAsBefore, IsBetter, IsTraced, Move, State, Takes, Traces, along, can_take, marks_of, partial, total_after, using, LeadsToAtMost, state_at}
+use Rattle.best_run.specs.MovePath.{IsWritten, marks_in}
 use Rattle.std.proofs.lemmas.List.{append_assoc}
 
 -- nothing has been found
@@ -31,11 +31,11 @@ traced_both task state old middle new grows more first second =
         inr (record {
           more = omega (arith, better.more, same.amount);
           earns = subst (λ (marks : List Mark). Earns task state marks new.amount) (sym same.marks)
-              (subst (λ (n : ℕ). Earns task state (marks_in middle.trail) n) (sym same.amount) better.earns);
+              (subst (λ (n : ℕ). Earns task state (marks_in middle.move_path) n) (sym same.amount) better.earns);
         })
 
     by_second :
-        middle.trail.refused ≡ None → IsAsBefore middle new ⊎ IsBetter task state middle new → IsAsBefore old new ⊎ IsBetter task state old new
+        middle.move_path.refused ≡ None → IsAsBefore middle new ⊎ IsBetter task state middle new → IsAsBefore old new ⊎ IsBetter task state old new
     by_second none (inl same) = by_first same (first.told none)
     by_second none (inr better) = inr (record { more = omega (arith, grows, better.more); earns = better.earns })
 
@@ -65,21 +65,21 @@ earns_by task from to front marks amount leads earns =
 -- what is found from a state on, once the moves that led there are told
 found_before :
     (task : Task) (from to : State) (front : List Mark) (old middle new : Found) → old.amount ≤ middle.amount →
-    (middle.trail.refused ≡ None → old.trail.refused ≡ None) → Traces old.amount front middle new →
-    (middle.trail.refused ≡ None → IsAsBefore old middle ⊎ (Leads task from to front × IsBetter task to old middle)) → IsTraced task from old new
+    (middle.move_path.refused ≡ None → old.move_path.refused ≡ None) → Traces old.amount front middle new →
+    (middle.move_path.refused ≡ None → IsAsBefore old middle ⊎ (Leads task from to front × IsBetter task to old middle)) → IsTraced task from old new
 found_before task from to front old middle new grows refused traces told =
     elim (same_or_more grows) [
       | inl same ↦
-          let as_before : new.trail ≡ middle.trail = traces.as_before (omega arith) in
+          let as_before : new.move_path ≡ middle.move_path = traces.as_before (omega arith) in
           record {
-            refused = λ none. refused (subst (λ (t : Trail). t.refused ≡ None) as_before none);
-            told = λ none. elim (told (subst (λ (t : Trail). t.refused ≡ None) as_before none)) [
+            refused = λ none. refused (subst (λ (t : MovePath). t.refused ≡ None) as_before none);
+            told = λ none. elim (told (subst (λ (t : MovePath). t.refused ≡ None) as_before none)) [
               | inl before ↦ inl (record { amount = traces.amount ∙ before.amount; marks = ap marks_in as_before ∙ before.marks })
               | inr better ↦ absurd (omega (arith, same, better.1.more))
             ];
           }
       | inr more ↦
-          let written : IsWritten front middle.trail new.trail = traces.written more in
+          let written : IsWritten front middle.move_path new.move_path = traces.written more in
           record {
             refused = λ none. refused (written.refused none);
             told = λ none. elim (told (written.refused none)) [
@@ -87,8 +87,8 @@ found_before task from to front old middle new grows refused traces told =
               | inr better ↦ inr (record {
                 more = omega (arith, better.1.more, traces.amount);
                 earns = subst (λ (marks : List Mark). Earns task from marks new.amount) (sym (written.marks_are none))
-                    (subst (λ (n : ℕ). Earns task from (front ++ marks_in middle.trail) n) (sym traces.amount)
-                    (earns_by task from to front (marks_in middle.trail) middle.amount better.0 better.1.earns));
+                    (subst (λ (n : ℕ). Earns task from (front ++ marks_in middle.move_path) n) (sym traces.amount)
+                    (earns_by task from to front (marks_in middle.move_path) middle.amount better.0 better.1.earns));
               })
             ];
           }
@@ -99,18 +99,18 @@ found_before task from to front old middle new grows refused traces told =
 
 -- what is kept as explored stays so where the trail alone grows
 known_traced :
-    (task : Task) (least : ℕ) (front : List Mark) (middle new : Found) → Traces least front middle new → AreExplored task middle →
-    AreExplored task new
+    (task : Task) (least : ℕ) (front : List Mark) (middle new : Found) → Traces least front middle new → AreInMemo task middle →
+    AreInMemo task new
 known_traced task least front middle new traces known place entry there =
     subst (λ (n : ℕ). LeadsToAtMost task (state_at entry) n) (sym traces.amount)
-    (known place entry (ap (λ (entries : List Stage). slice_get entries place) (sym traces.explored) ∙ there))
+    (known place entry (ap (λ (entries : List SearchState). slice_get entries place) (sym traces.memo) ∙ there))
 
 -- all ways from a state on have been tried, and the trail tells of them from one before it
 pub record ExploresFrom (task : Task) (from to : State) (old new : Found) : Type 0 where
   pub grows : old.amount ≤ new.amount
   pub traced : IsTraced task from old new
-  pub known : AreExplored task old → AreExplored task new
-  pub most : AreExplored task old → (moves : List Move) → Completes task to moves → total_after task to moves ≤ new.amount
+  pub known : AreInMemo task old → AreInMemo task new
+  pub most : AreInMemo task old → (moves : List Move) → Completes task to moves → total_after task to moves ≤ new.amount
 
 pub explores_from :
     (task : Task) (from to : State) (front : List Mark) (old middle new : Found) → Leads task from to front → Explores task to old middle →
@@ -125,21 +125,21 @@ explores_from task from to front old middle new leads explores traces =
     }
 
 -- a way has been tried with a run, and the trail tells of it from where it is tried
-pub record TakesFrom (task : Task) (from : State) (settled : Settled) (run : Standing) (way : Way) (old new : Found) : Type 0 where
+pub record TakesFrom (task : Task) (from : State) (settled : Settled) (run : PartialRun) (leg : Leg) (old new : Found) : Type 0 where
   pub grows : old.amount ≤ new.amount
   pub traced : IsTraced task from old new
-  pub known : AreExplored task old → AreExplored task new
+  pub known : AreInMemo task old → AreInMemo task new
   pub most :
-      AreExplored task old → can_take task run settled.used way.piece ≡ true → (moves : List Move) →
-      Completes task (standing (using settled way.piece) (along task run way.piece)) moves →
-      total_after task (standing (using settled way.piece) (along task run way.piece)) moves ≤ new.amount
+      AreInMemo task old → can_take task run settled.used leg.segment ≡ true → (moves : List Move) →
+      Completes task (partial (using settled leg.segment) (along task run leg.segment)) moves →
+      total_after task (partial (using settled leg.segment) (along task run leg.segment)) moves ≤ new.amount
 
 pub takes_from :
-    (task : Task) (from : State) (settled : Settled) (run : Standing) (way : Way) (front : List Mark) (old middle new : Found) →
-    (can_take task run settled.used way.piece ≡ true → Leads task from (standing (using settled way.piece) (along task run way.piece)) front) →
-    Takes task settled run way.piece old middle → Traces old.amount front middle new → TakesFrom task from settled run way old new
-takes_from task from settled run way front old middle new leads takes traces =
-    let there = standing (using settled way.piece) (along task run way.piece) in
+    (task : Task) (from : State) (settled : Settled) (run : PartialRun) (leg : Leg) (front : List Mark) (old middle new : Found) →
+    (can_take task run settled.used leg.segment ≡ true → Leads task from (partial (using settled leg.segment) (along task run leg.segment)) front) →
+    Takes task settled run leg.segment old middle → Traces old.amount front middle new → TakesFrom task from settled run leg old new
+takes_from task from settled run leg front old middle new leads takes traces =
+    let there = partial (using settled leg.segment) (along task run leg.segment) in
     record {
       grows = omega (arith, takes.grows, traces.amount);
       traced = found_before task from there front old middle new takes.grows takes.refused traces
@@ -155,15 +155,15 @@ pub traces_both :
 traces_both least first second old middle new before after =
     record {
       amount = after.amount ∙ before.amount;
-      explored = after.explored ∙ before.explored;
+      memo = after.memo ∙ before.memo;
       as_before = λ low. after.as_before (omega (arith, low, before.amount)) ∙ before.as_before low;
       written = λ more.
-          let one : IsWritten first old.trail middle.trail = before.written more in
-          let two : IsWritten second middle.trail new.trail = after.written (omega (arith, more, before.amount)) in
+          let one : IsWritten first old.move_path middle.move_path = before.written more in
+          let two : IsWritten second middle.move_path new.move_path = after.written (omega (arith, more, before.amount)) in
           record {
             refused = λ none. one.refused (two.refused none);
             marks_are = λ none. two.marks_are none
                 ∙ ap (λ (marks : List Mark). second ++ marks) (one.marks_are (two.refused none))
-                ∙ sym (append_assoc second first (marks_in old.trail));
+                ∙ sym (append_assoc second first (marks_in old.move_path));
           };
     }

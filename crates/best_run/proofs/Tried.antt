@@ -1,24 +1,24 @@
 -- What has been tried: moves of one sort after those of another, a piece as a move, and all moves of a state.
 use Rattle.std.proofs.Common.{◌≡◌, ℕ, ◌+◌, ◌<◌, ◌≤◌, true, false, ◌⊎◌, inl, inr, Option, Some, None, List, [], ◌∷◌, length, refl, sym, ap, ◌∙◌, arith, le_trans}
 use Rattle.std.proofs.lemmas.Option.{slice_get_within}
-use Rattle.best_run.specs.declared.explored.Found.{Found}
+use Rattle.best_run.specs.declared.memo.Found.{Found}
 use Rattle.best_run.specs.declared.task.Node.{Node}
 use Rattle.best_run.specs.declared.task.Task.{Task}
 use Rattle.best_run.specs.declared.state.Settled.{Settled}
-use Rattle.best_run.specs.declared.state.Standing.{Standing}
-use Rattle.best_run.specs.Moves.{Allows, Any, AreExplored, Below, Completes, Explores, IsBegin, IsBeginAt, IsGo, IsTurn, Move, State, Tries, begin, between, ends_in, go, may_settle, node_at, own_in, pass, passed, settle, settling, standing, stop_in, total_after, turn}
-use Rattle.best_run.specs.Trail.{marks_in}
-use Rattle.best_run.specs.declared.trail.Mark.TheVariants.{Pass, Settle}
-use Rattle.best_run.specs.declared.trail.Trail.{Trail}
+use Rattle.best_run.specs.declared.state.PartialRun.{PartialRun}
+use Rattle.best_run.specs.Moves.{Allows, Any, AreInMemo, Below, Completes, Explores, IsBegin, IsBeginAt, IsGo, IsTurn, Move, State, Tries, begin, between, ends_in, go, may_settle, node_at, own_in, pass, passed, settle, with_run_settled, partial, stop_in, total_after, turn}
+use Rattle.best_run.specs.MovePath.{marks_in}
+use Rattle.best_run.specs.declared.move_path.Mark.TheVariants.{Pass, Settle}
+use Rattle.best_run.specs.declared.move_path.MovePath.{MovePath}
 use Rattle.best_run.proofs.Places.{below_next}
 use Rattle.best_run.proofs.Traced.{ExploresFrom, Leads, traced_both, traced_none}
 
 -- a move by which a run goes on
 abbrev pub IsOn : Move → Type 0
 IsOn pass = ⊥
-IsOn (begin stop index piece) = ⊥
-IsOn (go index piece) = Unit {0}
-IsOn (turn index piece) = Unit {0}
+IsOn (begin stop index segment) = ⊥
+IsOn (go index segment) = Unit {0}
+IsOn (turn index segment) = Unit {0}
 IsOn settle = ⊥
 
 -- nothing has been tried
@@ -55,10 +55,10 @@ tries_fewer task state P R old new tries are =
     }
 
 -- no turn is allowed of a run that has turned back, that stands at a side, or that began where none passes
-pub turn_none : (task : Task) (settled : Settled) (run : Standing) (best : Found) → ((run.turned ≡ true) ⊎ ((ends_in (node_at task run.home) ≡ true) ⊎ (stop_in (node_at task run.head) ≡ false))) → Tries task (standing settled run) (IsTurn Any) best best
-turn_none task settled run best why = tries_none task (standing settled run) (IsTurn Any) best none
+pub turn_none : (task : Task) (settled : Settled) (run : PartialRun) (best : Found) → ((run.turned ≡ true) ⊎ ((ends_in (node_at task run.home) ≡ true) ⊎ (stop_in (node_at task run.head) ≡ false))) → Tries task (partial settled run) (IsTurn Any) best best
+turn_none task settled run best why = tries_none task (partial settled run) (IsTurn Any) best none
   where
-    none : (move : Move) → IsTurn Any move → Allows task (standing settled run) move → ⊥
+    none : (move : Move) → IsTurn Any move → Allows task (partial settled run) move → ⊥
     none pass is may = is
     none (begin token i found) is may = is
     none (go i found) is may = is
@@ -82,9 +82,9 @@ over_most task settled new over low (turn i found ∷ moves) completes = absurd 
 over_most task settled new over low (settle ∷ moves) completes = absurd completes.0
 
 pub over_better :
-    (task : Task) (settled : Settled) (old : Found) (trail : Trail) → length task.trains.items ≤ settled.next → old.amount < settled.total →
-    marks_in trail ≡ [] → trail.refused ≡ old.trail.refused → Explores task (between settled) old (record old { amount = settled.total; trail = trail })
-over_better task settled old trail over low empty same =
+    (task : Task) (settled : Settled) (old : Found) (move_path : MovePath) → length task.trains.items ≤ settled.next → old.amount < settled.total →
+    marks_in move_path ≡ [] → move_path.refused ≡ old.move_path.refused → Explores task (between settled) old (record old { amount = settled.total; move_path = move_path })
+over_better task settled old move_path over low empty same =
     record {
       grows = omega (arith, low);
       traced = record {
@@ -111,8 +111,8 @@ leads_pass task settled before later completes =
     record { moves = pass ∷ later; completes = (before, completes); total = refl; marks_are = refl }
 
 pub leads_settle :
-    (task : Task) (settled : Settled) (run : Standing) → may_settle task settled run ≡ true →
-    Leads task (standing settled run) (between (settling settled run)) (Settle ∷ [])
+    (task : Task) (settled : Settled) (run : PartialRun) → may_settle task settled run ≡ true →
+    Leads task (partial settled run) (between (with_run_settled settled run)) (Settle ∷ [])
 leads_settle task settled run may later completes =
     record { moves = settle ∷ later; completes = (may, completes); total = refl; marks_are = refl }
 
@@ -128,7 +128,7 @@ explores_between task settled old middle new first second before =
       most = by_moves;
     }
   where
-    by_moves : AreExplored task old → (moves : List Move) → Completes task (between settled) moves → total_after task (between settled) moves ≤ new.amount
+    by_moves : AreInMemo task old → (moves : List Move) → Completes task (between settled) moves → total_after task (between settled) moves ≤ new.amount
     by_moves known [] completes = absurd (let over : length task.trains.items ≤ settled.next = completes in omega arith)
     by_moves known (pass ∷ moves) completes = second.most (first.known known) moves completes.1
     by_moves known (begin token i found ∷ moves) completes = le_trans (first.most known (begin token i found) moves tt completes) second.grows
@@ -137,11 +137,11 @@ explores_between task settled old middle new first second before =
     by_moves known (settle ∷ moves) completes = absurd completes.0
 
 -- the run has gone on from where it stands, and then from where it began
-pub tries_on : (task : Task) (settled : Settled) (run : Standing) (old middle new : Found) → Tries task (standing settled run) (IsGo Any) old middle → Tries task (standing settled run) (IsTurn Any) middle new → Tries task (standing settled run) IsOn old new
+pub tries_on : (task : Task) (settled : Settled) (run : PartialRun) (old middle new : Found) → Tries task (partial settled run) (IsGo Any) old middle → Tries task (partial settled run) (IsTurn Any) middle new → Tries task (partial settled run) IsOn old new
 tries_on task settled run old middle new first second =
-    tries_both task (standing settled run) (IsGo Any) (IsTurn Any) IsOn old middle new first second either
+    tries_both task (partial settled run) (IsGo Any) (IsTurn Any) IsOn old middle new first second either
   where
-    either : (move : Move) → IsOn move → Allows task (standing settled run) move → IsGo Any move ⊎ IsTurn Any move
+    either : (move : Move) → IsOn move → Allows task (partial settled run) move → IsGo Any move ⊎ IsTurn Any move
     either pass is may = absurd is
     either (begin stop i found) is may = absurd is
     either (go i found) is may = inl tt
@@ -149,19 +149,19 @@ tries_on task settled run old middle new first second =
     either settle is may = absurd is
 
 -- the run has gone on, and has been settled, if it may be
-pub explores_standing :
-    (task : Task) (settled : Settled) (run : Standing) (old middle new : Found) →
-    Tries task (standing settled run) IsOn old middle → ExploresFrom task (standing settled run) (between (settling settled run)) middle new →
-    Explores task (standing settled run) old new
-explores_standing task settled run old middle new first second =
+pub explores_partial :
+    (task : Task) (settled : Settled) (run : PartialRun) (old middle new : Found) →
+    Tries task (partial settled run) IsOn old middle → ExploresFrom task (partial settled run) (between (with_run_settled settled run)) middle new →
+    Explores task (partial settled run) old new
+explores_partial task settled run old middle new first second =
     record {
       grows = le_trans first.grows second.grows;
-      traced = traced_both task (standing settled run) old middle new first.grows second.grows first.traced second.traced;
+      traced = traced_both task (partial settled run) old middle new first.grows second.grows first.traced second.traced;
       known = λ known. second.known (first.known known);
       most = by_moves;
     }
   where
-    by_moves : AreExplored task old → (moves : List Move) → Completes task (standing settled run) moves → total_after task (standing settled run) moves ≤ new.amount
+    by_moves : AreInMemo task old → (moves : List Move) → Completes task (partial settled run) moves → total_after task (partial settled run) moves ≤ new.amount
     by_moves known [] completes = absurd completes
     by_moves known (pass ∷ moves) completes = absurd completes.0
     by_moves known (begin stop i found ∷ moves) completes = absurd completes.0
@@ -169,7 +169,7 @@ explores_standing task settled run old middle new first second =
     by_moves known (turn i found ∷ moves) completes = le_trans (first.most known (turn i found) moves tt completes) second.grows
     by_moves known (settle ∷ moves) completes = second.most (first.known known) moves completes.1
 
-pub explores_on : (task : Task) (settled : Settled) (run : Standing) (old new : Found) → may_settle task settled run ≡ false → Tries task (standing settled run) IsOn old new → Explores task (standing settled run) old new
+pub explores_on : (task : Task) (settled : Settled) (run : PartialRun) (old new : Found) → may_settle task settled run ≡ false → Tries task (partial settled run) IsOn old new → Explores task (partial settled run) old new
 explores_on task settled run old new none second =
     record {
       grows = second.grows;
@@ -178,7 +178,7 @@ explores_on task settled run old new none second =
       most = by_moves;
     }
   where
-    by_moves : AreExplored task old → (moves : List Move) → Completes task (standing settled run) moves → total_after task (standing settled run) moves ≤ new.amount
+    by_moves : AreInMemo task old → (moves : List Move) → Completes task (partial settled run) moves → total_after task (partial settled run) moves ≤ new.amount
     by_moves known [] completes = absurd completes
     by_moves known (pass ∷ moves) completes = absurd completes.0
     by_moves known (begin stop i found ∷ moves) completes = absurd completes.0

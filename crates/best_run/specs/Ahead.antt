@@ -5,72 +5,72 @@
 -- began, so only those count that are worth most.
 use Rattle.std.specs.Prelude.{◌≡◌, ℕ, ◌+◌, ◌-◌, ◌*◌, ◌<◌, ◌≤◌, max, Bool, true, false, not, ◌&&◌, ◌⊎◌, Some, List, [], ◌∷◌, get_or, slice_get}
 use Rattle.best_run.specs.declared.task.Node.{Node}
-use Rattle.best_run.specs.declared.task.Piece.{Piece}
+use Rattle.best_run.specs.declared.task.Segment.{Segment}
 use Rattle.best_run.specs.declared.task.Task.{Task}
-use Rattle.best_run.specs.declared.task.Way.{Way}
+use Rattle.best_run.specs.declared.task.Leg.{Leg}
 use Rattle.best_run.specs.declared.state.Settled.{Settled}
-use Rattle.best_run.specs.declared.state.Standing.{Standing}
+use Rattle.best_run.specs.declared.state.PartialRun.{PartialRun}
 use Rattle.best_run.specs.declared.worth.Worth.{Worth}
 use Rattle.best_run.specs.Fit.{unused}
-use Rattle.best_run.specs.Ways.{ways_at}
-use Rattle.best_run.specs.Moves.{LeadsToAtMost, can_take, ends_in, node_at, standing}
+use Rattle.best_run.specs.Legs.{legs_at}
+use Rattle.best_run.specs.Moves.{LeadsToAtMost, can_take, ends_in, node_at, partial}
 
 -- a stop lies ahead, by its number
 abbrev pub LiesAhead : List Bool → ℕ → Type 0
 LiesAhead ahead spot = get_or ahead spot false ≡ true
 
 -- each way that a run may take from a stop, if it may pass the stop, leads to one that lies ahead
-abbrev pub IsGoneOver : Task → Settled → Standing → List Bool → ℕ → Type 0
+abbrev pub IsGoneOver : Task → Settled → PartialRun → List Bool → ℕ → Type 0
 IsGoneOver task settled run ahead spot =
-    ends_in (node_at task spot) ≡ false → (place : ℕ) (way : Way) → slice_get (ways_at task spot) place ≡ Some way → can_take task run settled.used way.piece ≡ true → LiesAhead ahead way.piece.to
+    ends_in (node_at task spot) ≡ false → (place : ℕ) (leg : Leg) → slice_get (legs_at task spot) place ≡ Some leg → can_take task run settled.used leg.segment ≡ true → LiesAhead ahead leg.segment.to
 
 -- the same for those ways alone of which the first piece does not stand before a place
-abbrev pub IsGoneOverFrom : Task → Settled → Standing → ℕ → List Bool → ℕ → Type 0
+abbrev pub IsGoneOverFrom : Task → Settled → PartialRun → ℕ → List Bool → ℕ → Type 0
 IsGoneOverFrom task settled run least ahead spot =
-    ends_in (node_at task spot) ≡ false → (place : ℕ) (way : Way) → slice_get (ways_at task spot) place ≡ Some way → least ≤ way.first → can_take task run settled.used way.piece ≡ true → LiesAhead ahead way.piece.to
+    ends_in (node_at task spot) ≡ false → (place : ℕ) (leg : Leg) → slice_get (legs_at task spot) place ≡ Some leg → least ≤ leg.first → can_take task run settled.used leg.segment ≡ true → LiesAhead ahead leg.segment.to
 
 -- more stops lie ahead, and each new one is gone over
-pub record Widens (task : Task) (settled : Settled) (run : Standing) (old new : List Bool) : Type 0 where
+pub record Widens (task : Task) (settled : Settled) (run : PartialRun) (old new : List Bool) : Type 0 where
   pub kept : (spot : ℕ) → LiesAhead old spot → LiesAhead new spot
   pub over : (spot : ℕ) → LiesAhead new spot → LiesAhead old spot ⊎ IsGoneOver task settled run new spot
   pub fewer : unused new ≤ unused old
 
 -- a stop is gone over
-pub record WidensFrom (task : Task) (settled : Settled) (run : Standing) (spot : ℕ) (old new : List Bool) : Type 0 where
+pub record WidensFrom (task : Task) (settled : Settled) (run : PartialRun) (spot : ℕ) (old new : List Bool) : Type 0 where
   pub widens : Widens task settled run old new
   pub here : IsGoneOver task settled run new spot
 
 -- a stop lies ahead, and is gone over
-pub record WidensPast (task : Task) (settled : Settled) (run : Standing) (spot : ℕ) (old new : List Bool) : Type 0 where
+pub record WidensPast (task : Task) (settled : Settled) (run : PartialRun) (spot : ℕ) (old new : List Bool) : Type 0 where
   pub widens : Widens task settled run old new
   pub lies : LiesAhead new spot
 
 -- a run may come by a piece to a stop that does not lie ahead
-abbrev pub leads_on : Task → Settled → Standing → List Bool → Piece → Bool
-leads_on task settled run ahead piece = not (get_or ahead piece.to false) && can_take task run settled.used piece
+abbrev pub leads_on : Task → Settled → PartialRun → List Bool → Segment → Bool
+leads_on task settled run ahead segment = not (get_or ahead segment.to false) && can_take task run settled.used segment
 
 -- a piece leads to a stop that lies ahead, if the run may take it
-pub record WidensBy (task : Task) (settled : Settled) (run : Standing) (piece : Piece) (old new : List Bool) : Type 0 where
+pub record WidensBy (task : Task) (settled : Settled) (run : PartialRun) (segment : Segment) (old new : List Bool) : Type 0 where
   pub widens : Widens task settled run old new
-  pub leads : can_take task run settled.used piece ≡ true → LiesAhead new piece.to
+  pub leads : can_take task run settled.used segment ≡ true → LiesAhead new segment.to
 
 -- the ways from a stop before one of them are gone over
-pub record WidensBelow (task : Task) (settled : Settled) (run : Standing) (spot most : ℕ) (old new : List Bool) : Type 0 where
+pub record WidensBelow (task : Task) (settled : Settled) (run : PartialRun) (spot most : ℕ) (old new : List Bool) : Type 0 where
   pub widens : Widens task settled run old new
-  pub leads : (place : ℕ) (way : Way) → place < most → slice_get (ways_at task spot) place ≡ Some way → can_take task run settled.used way.piece ≡ true → LiesAhead new way.piece.to
+  pub leads : (place : ℕ) (leg : Leg) → place < most → slice_get (legs_at task spot) place ≡ Some leg → can_take task run settled.used leg.segment ≡ true → LiesAhead new leg.segment.to
 
 -- the stop where a run began is gone over, as far as the run may turn back
-pub record WidensBack (task : Task) (settled : Settled) (run : Standing) (old new : List Bool) : Type 0 where
+pub record WidensBack (task : Task) (settled : Settled) (run : PartialRun) (old new : List Bool) : Type 0 where
   pub widens : Widens task settled run old new
   pub here : IsGoneOverFrom task settled run run.first new run.home
 
 -- the ways from there before one of them are gone over
-pub record WidensBackBelow (task : Task) (settled : Settled) (run : Standing) (most : ℕ) (old new : List Bool) : Type 0 where
+pub record WidensBackBelow (task : Task) (settled : Settled) (run : PartialRun) (most : ℕ) (old new : List Bool) : Type 0 where
   pub widens : Widens task settled run old new
-  pub leads : (place : ℕ) (way : Way) → place < most → slice_get (ways_at task run.home) place ≡ Some way → run.first ≤ way.first → can_take task run settled.used way.piece ≡ true → LiesAhead new way.piece.to
+  pub leads : (place : ℕ) (leg : Leg) → place < most → slice_get (legs_at task run.home) place ≡ Some leg → run.first ≤ leg.first → can_take task run settled.used leg.segment ≡ true → LiesAhead new leg.segment.to
 
 -- all stops that a run may still come to lie ahead
-pub record IsOutlook (task : Task) (settled : Settled) (run : Standing) (ahead : List Bool) : Type 0 where
+pub record IsOutlook (task : Task) (settled : Settled) (run : PartialRun) (ahead : List Bool) : Type 0 where
   pub head : IsGoneOver task settled run ahead run.head
   pub home : run.turned ≡ false → IsGoneOverFrom task settled run run.first ahead run.home
   pub all : (spot : ℕ) → LiesAhead ahead spot → IsGoneOver task settled run ahead spot
@@ -112,14 +112,14 @@ ends_by true false one two = one
 ends_by false true one two = one
 ends_by false false one two = 0
 
-abbrev pub goes_on : Task → Standing → Bool
+abbrev pub goes_on : Task → PartialRun → Bool
 goes_on task run = not (ends_in (node_at task run.head))
 
-abbrev pub goes_back : Task → Standing → Bool
+abbrev pub goes_back : Task → PartialRun → Bool
 goes_back task run = not run.turned && not (ends_in (node_at task run.home))
 
 -- what a run may still earn at most, at a level, where the stops ahead count as in a list
-abbrev pub most_ahead : ℕ → Task → List Node → Standing → List Bool → ℕ
+abbrev pub most_ahead : ℕ → Task → List Node → PartialRun → List Bool → ℕ
 most_ahead level task nodes run ahead =
     (run.left * level + beyond level nodes ahead)
     + ends_by (goes_on task run) (goes_back task run) (one_end level nodes ahead) (two_ends level nodes ahead)
@@ -168,5 +168,5 @@ abbrev pub IsLeast : Worth → ℕ → Bool → Bool → ℕ → Type 0
 IsLeast worth left on back least = (place : ℕ) × (place < worth.levels) × (at_level worth place left on back ≤ least)
 
 -- all ways on from a run earn at most so much
-abbrev pub EndsAtMost : Task → Settled → Standing → ℕ → Type 0
-EndsAtMost task settled run most = LeadsToAtMost task (standing settled run) most
+abbrev pub EndsAtMost : Task → Settled → PartialRun → ℕ → Type 0
+EndsAtMost task settled run most = LeadsToAtMost task (partial settled run) most

@@ -6,13 +6,13 @@ use Rattle.tables.specs.declared.rolling_stock.Kind.{Kind}
 use Rattle.tables.specs.declared.roster.Company.{Company}
 use Rattle.certificate.specs.Claim.{NameRuns}
 use Rattle.certificate.specs.Set.{IsGreatest, IsLegalSet, revenue_of}
-use Rattle.best_run.specs.declared.explored.Found.{Found}
-use Rattle.best_run.specs.Trail.{CanBeRead, runs_in, written}
+use Rattle.best_run.specs.declared.memo.Found.{Found}
+use Rattle.best_run.specs.MovePath.{CanBeRead, runs_in, written}
 
 pub record IsBest (position : Position) (company : Company) (kinds : List Kind) (found : Found) : Type 0 where
-  pub written_out : CanBeRead kinds found.trail
-  pub names : NameRuns position (written (runs_in kinds found.trail)) (runs_in kinds found.trail)
-  pub set : IsLegalSet position company kinds (runs_in kinds found.trail)
-  pub earns : revenue_of position (runs_in kinds found.trail) ≡ found.amount
+  pub written_out : CanBeRead kinds found.move_path
+  pub names : NameRuns position (written (runs_in kinds found.move_path)) (runs_in kinds found.move_path)
+  pub set : IsLegalSet position company kinds (runs_in kinds found.move_path)
+  pub earns : revenue_of position (runs_in kinds found.move_path) ≡ found.amount
   pub greatest : IsGreatest position company kinds found.amount
   pub small : found.amount < 50000

@@ -16,11 +16,11 @@ use Rattle.tables.specs.Train.{stops_of}
 use Rattle.tables.specs.declared.rolling_stock.Kind.{Kind}
 use Rattle.tables.specs.declared.roster.Company.{Company}
 use Rattle.certificate.specs.Legal.{border_at}
-use Rattle.best_run.specs.declared.pieces.Entry.{Entry}
+use Rattle.best_run.specs.declared.segments.Entry.{Entry}
 use Rattle.best_run.specs.declared.task.Node.{Node}
-use Rattle.best_run.specs.declared.task.Piece.{Piece}
+use Rattle.best_run.specs.declared.task.Segment.{Segment}
 use Rattle.best_run.specs.declared.task.Task.{Task}
-use Rattle.best_run.specs.Pieces.{pieces_from}
+use Rattle.best_run.specs.Segments.{segments_from}
 use Rattle.best_run.specs.Moves.{LeadsFrom, ends_in, node_at, own_in, stop_in, value_in}
 
 -- a step may be taken from a spot, by its number
@@ -30,10 +30,10 @@ pub record GoesFrom (number : ℕ) (step : Step) : Type 0 where
   pub joined : AreJoined spot (entered_at step)
 
 -- a piece is that of a step: it leads to where the step is left, over the border at which it is entered
-pub record IsPieceOf (step : Step) (piece : Piece) : Type 0 where
-  pub to : piece.to ≡ spot_number (left_at step)
-  pub step_is : piece.step ≡ step
-  pub borders : piece.borders.items ≡ border_at (entered_at step).hex (entered_at step).end
+pub record IsSegmentOf (step : Step) (segment : Segment) : Type 0 where
+  pub to : segment.to ≡ spot_number (left_at step)
+  pub step_is : segment.step ≡ step
+  pub borders : segment.borders.items ≡ border_at (entered_at step).hex (entered_at step).end
 
 -- what a stop is to the company
 pub record IsStopNode (position : Position) (company : Company) (stop : Stop) (node : Option Node) : Type 0 where
@@ -63,24 +63,24 @@ most_of_all [] = []
 most_of_all (kind ∷ kinds) = most_of (stops_of kind) ∷ most_of_all kinds
 
 -- a piece is that of a step which may be taken from a spot
-pub record IsStepFrom (position : Position) (number : ℕ) (piece : Piece) : Type 0 where
+pub record IsStepFrom (position : Position) (number : ℕ) (segment : Segment) : Type 0 where
   pub step : Step
   pub track : IsTrack position step
   pub goes : GoesFrom number step
-  pub piece_is : IsPieceOf step piece
+  pub segment_is : IsSegmentOf step segment
 
 -- the piece of a step is among those that lead from a spot
-pub record HasPieceOf (task : Task) (number : ℕ) (step : Step) : Type 0 where
+pub record HasSegmentOf (task : Task) (number : ℕ) (step : Step) : Type 0 where
   pub index : ℕ
-  pub piece : Piece
-  pub leads : LeadsFrom task number index piece
-  pub piece_is : IsPieceOf step piece
+  pub segment : Segment
+  pub leads : LeadsFrom task number index segment
+  pub segment_is : IsSegmentOf step segment
 
 -- what is searched is the position, for these trains of a company
 pub record Describes (position : Position) (company : Company) (kinds : List Kind) (task : Task) : Type 0 where
   pub spots : (spot : Spot) → IsNodeAt position company (stop_of spot) (node_at task (spot_number spot))
-  pub sound : (number index : ℕ) (piece : Piece) → LeadsFrom task number index piece → IsStepFrom position number piece
-  pub complete : (number : ℕ) (step : Step) → IsTrack position step → GoesFrom number step → HasPieceOf task number step
+  pub sound : (number index : ℕ) (segment : Segment) → LeadsFrom task number index segment → IsStepFrom position number segment
+  pub complete : (number : ℕ) (step : Step) → IsTrack position step → GoesFrom number step → HasSegmentOf task number step
   pub trains : task.trains.items ≡ most_of_all kinds
 
 -- the number of the spot from which a step is taken that is entered at an end of a hex
@@ -116,26 +116,26 @@ pub record Adds (P : Link → Type 0) (old new : List Step) : Type 0 where
   pub only : (step : Step) → IsAmong step new → IsAmong step old ⊎ P step.link
 
 -- a piece is that of one of some steps
-pub record IsOfStep (number : ℕ) (steps : List Step) (piece : Piece) : Type 0 where
+pub record IsOfStep (number : ℕ) (steps : List Step) (segment : Segment) : Type 0 where
   pub step : Step
   pub among : IsAmong step steps
   pub comes : ComesFrom number step
-  pub piece_is : IsPieceOf step piece
+  pub segment_is : IsSegmentOf step segment
 
 -- the piece of a step is one of some
-pub record HasIts (pieces : List Piece) (step : Step) : Type 0 where
-  pub piece : Piece
-  pub among : IsAmong piece pieces
-  pub piece_is : IsPieceOf step piece
+pub record HasIts (segments : List Segment) (step : Step) : Type 0 where
+  pub segment : Segment
+  pub among : IsAmong segment segments
+  pub segment_is : IsSegmentOf step segment
 
 -- these are the pieces of those steps that may be taken from a spot with this number
-pub record ArePiecesFrom (number : ℕ) (steps : List Step) (pieces : List Piece) : Type 0 where
-  pub sound : (piece : Piece) → IsAmong piece pieces → IsOfStep number steps piece
-  pub complete : (step : Step) → IsAmong step steps → ComesFrom number step → HasIts pieces step
+pub record AreSegmentsFrom (number : ℕ) (steps : List Step) (segments : List Segment) : Type 0 where
+  pub sound : (segment : Segment) → IsAmong segment segments → IsOfStep number steps segment
+  pub complete : (step : Step) → IsAmong step steps → ComesFrom number step → HasIts segments step
 
 -- these are the pieces of those steps that may be taken from each spot
-abbrev pub ArePieces : List Step → List Entry → Type 0
-ArePieces steps entries = (number : ℕ) → ArePiecesFrom number steps (pieces_from number entries)
+abbrev pub AreSegments : List Step → List Entry → Type 0
+AreSegments steps entries = (number : ℕ) → AreSegmentsFrom number steps (segments_from number entries)
 
 -- what stands at a number: the spot with this number; the first six of each hex are its sides
 pub record IsNumbered (position : Position) (company : Company) (number : ℕ) (node : Node) : Type 0 where
@@ -156,16 +156,16 @@ pub record AreNumberedBefore (position : Position) (company : Company) (most : �
 
 -- to the pieces of some steps that of one more step is added
 abbrev pub TakesStep : Step → List Entry → List Entry → Type 0
-TakesStep step old new = (steps : List Step) → ArePieces steps old → ArePieces (steps ++ step ∷ []) new
+TakesStep step old new = (steps : List Step) → AreSegments steps old → AreSegments (steps ++ step ∷ []) new
 
 -- these are the pieces of steps of a position, among these all that lie in its first hexes
 pub record LaidBefore (position : Position) (index : ℕ) (entries : List Entry) : Type 0 where
   pub steps : List Step
   pub before : StepsBefore position steps index
-  pub pieces : ArePieces steps entries
+  pub segments : AreSegments steps entries
 
 -- these are the pieces of all steps of a position
 pub record AreLaid (position : Position) (entries : List Entry) : Type 0 where
   pub steps : List Step
   pub all : AreSteps position steps
-  pub pieces : ArePieces steps entries
+  pub segments : AreSegments steps entries

@@ -3,7 +3,7 @@
 use Rattle.std.specs.Prelude.{◌≡◌, ℕ, ◌+◌, ◌*◌, ◌%◌, ◌<◌, ◌≤◌, Bool, true, false, Some, List, [], ◌∷◌, length, slice_get}
 use Rattle.std.specs.List.{AllByRecursion}
 use Rattle.best_run.specs.declared.task.Node.{Node}
-use Rattle.best_run.specs.declared.task.Piece.{Piece}
+use Rattle.best_run.specs.declared.task.Segment.{Segment}
 use Rattle.best_run.specs.declared.task.Task.{Task}
 use Rattle.best_run.specs.Moves.{LeadsFrom, node_at, own_in, stop_in}
 
@@ -12,11 +12,11 @@ abbrev pub BordersFit : List ℕ → Type 0
 BordersFit borders = AllByRecursion (λ border. border < 279) borders
 
 -- a piece leads from a stop to a side, or from a side over at least one border
-pub record PieceFits (task : Task) (from_stop : Bool) (piece : Piece) : Type 0 where
-  pub to : piece.to < 744
-  pub borders : BordersFit piece.borders.items
-  pub to_side : from_stop ≡ true → stop_in (node_at task piece.to) ≡ false
-  pub over : from_stop ≡ false → 0 < length piece.borders.items
+pub record SegmentFits (task : Task) (from_stop : Bool) (segment : Segment) : Type 0 where
+  pub to : segment.to < 744
+  pub borders : BordersFit segment.borders.items
+  pub to_side : from_stop ≡ true → stop_in (node_at task segment.to) ≡ false
+  pub over : from_stop ≡ false → 0 < length segment.borders.items
 
 -- a stop is worth at most 80 dollars, a side nothing
 pub record NodeFits (node : Node) : Type 0 where
@@ -31,7 +31,7 @@ IsSide task spot = (stop_in (node_at task spot) ≡ false) × (own_in (node_at t
 pub record IsFit (task : Task) : Type 0 where
   pub all : length task.spots.items ≡ 744
   pub nodes : (spot : ℕ) (node : Node) → slice_get task.spots.items spot ≡ Some node → NodeFits node
-  pub pieces : (spot index : ℕ) (piece : Piece) → LeadsFrom task spot index piece → PieceFits task (stop_in (node_at task spot)) piece
+  pub segments : (spot index : ℕ) (segment : Segment) → LeadsFrom task spot index segment → SegmentFits task (stop_in (node_at task spot)) segment
   pub sides : (spot : ℕ) → spot % 8 < 6 → IsSide task spot
 
 -- a run at a stop has room for one stop less

@@ -1,12 +1,12 @@
 -- States that have been explored, and are kept: another state from which no more can be earned need not be.
 use Rattle.std.specs.Prelude.{◌≡◌, ℕ, ◌≤◌, Bool, true, false, ◌⊎◌, Option, Some, None, Result, Ok, Err, List, [], ◌∷◌, slice_get}
 use Rattle.std.specs.declared.alloc.AllocError.{AllocError}
-use Rattle.best_run.specs.declared.explored.Found.{Found}
-use Rattle.best_run.specs.declared.stage.Stage.{Stage}
+use Rattle.best_run.specs.declared.memo.Found.{Found}
+use Rattle.best_run.specs.declared.search_state.SearchState.{SearchState}
 use Rattle.best_run.specs.declared.state.Settled.{Settled}
-use Rattle.best_run.specs.declared.state.Standing.{Standing}
+use Rattle.best_run.specs.declared.state.PartialRun.{PartialRun}
 use Rattle.best_run.specs.Marks.{AreBarred}
-use Rattle.best_run.specs.Trail.{marks_in}
+use Rattle.best_run.specs.MovePath.{marks_in}
 
 -- what is marked in the second is marked in the first
 abbrev pub Freer : List Bool → List Bool → Type 0
@@ -17,7 +17,7 @@ Freer (mark ∷ marks) (other ∷ others) = (other ≡ true → mark ≡ true) �
 
 -- the same trains are left in two states, with the same kind of train before them; the first has no less settled, no lower cap
 -- and no border used that the second has not
-pub record Covers (first second : Settled) : Type 0 where
+pub record Dominates (first second : Settled) : Type 0 where
   pub next : first.next ≡ second.next
   pub kind : first.kind ≡ second.kind
   pub cap : second.cap ≤ first.cap
@@ -25,12 +25,12 @@ pub record Covers (first second : Settled) : Type 0 where
   pub used : Freer second.used first.used
 
 -- a run may turn back as another one may, or that has turned back before
-abbrev pub TurnsAs : Standing → Standing → Type 0
+abbrev pub TurnsAs : PartialRun → PartialRun → Type 0
 TurnsAs first second = second.turned ≡ false → (first.home ≡ second.home) × (first.first ≡ second.first)
 
 -- two runs stand at one stop; the first has visited no stop that the second has not, and earns no less; it may visit as many
 -- more, or more than there are borders
-pub record CoversRun (first second : Standing) : Type 0 where
+pub record DominatesRun (first second : PartialRun) : Type 0 where
   pub head : first.head ≡ second.head
   pub turned : first.turned ≡ second.turned
   pub most : first.most ≡ second.most
@@ -40,44 +40,44 @@ pub record CoversRun (first second : Standing) : Type 0 where
   pub visited : Freer second.visited first.visited
 
 -- the first covers the second, if any has begun, and no train ran before
-abbrev pub CoversAny : ℕ → Option Standing → Option Standing → Type 0
-CoversAny kind None None = Unit {0}
-CoversAny kind None (Some second) = ⊥
-CoversAny kind (Some first) None = ⊥
-CoversAny kind (Some first) (Some second) = (kind ≡ 0) × CoversRun first second
+abbrev pub DominatesAny : ℕ → Option PartialRun → Option PartialRun → Type 0
+DominatesAny kind None None = Unit {0}
+DominatesAny kind None (Some second) = ⊥
+DominatesAny kind (Some first) None = ⊥
+DominatesAny kind (Some first) (Some second) = (kind ≡ 0) × DominatesRun first second
 
-pub record CoversStage (first second : Stage) : Type 0 where
-  pub settled : Covers first.settled second.settled
-  pub run : CoversAny first.settled.kind first.run second.run
+pub record DominatesStage (first second : SearchState) : Type 0 where
+  pub settled : Dominates first.settled second.settled
+  pub run : DominatesAny first.settled.kind first.run second.run
 
 -- to a run all stops are as visited that are not in reach
-pub record IsBarred (reach : List Bool) (run barred : Standing) : Type 0 where
+pub record IsBarred (reach : List Bool) (run barred : PartialRun) : Type 0 where
   pub same : barred ≡ record run { visited = barred.visited }
   pub marks : AreBarred run.visited reach barred.visited
 
 -- a state that is kept covers another
-pub record IsCovered (found : Found) (stage : Stage) : Type 0 where
+pub record IsCovered (found : Found) (search_state : SearchState) : Type 0 where
   pub place : ℕ
-  pub entry : Stage
-  pub there : slice_get found.explored.items place ≡ Some entry
-  pub covers : CoversStage entry stage
+  pub entry : SearchState
+  pub there : slice_get found.memo.items place ≡ Some entry
+  pub dominates : DominatesStage entry search_state
 
 -- a state stands at some place
-abbrev pub IsHeld : Found → Stage → Type 0
-IsHeld found entry = (place : ℕ) × (slice_get found.explored.items place ≡ Some entry)
+abbrev pub IsHeld : Found → SearchState → Type 0
+IsHeld found entry = (place : ℕ) × (slice_get found.memo.items place ≡ Some entry)
 
 -- a state is kept, if at all; the others that are kept are among those that were, and an earlier refusal of memory stands
-pub record IsKept (stage : Stage) (old new : Found) : Type 0 where
+pub record IsKept (search_state : SearchState) (old new : Found) : Type 0 where
   pub amount : new.amount ≡ old.amount
-  pub marks : marks_in new.trail ≡ marks_in old.trail
-  pub refused : new.trail.refused ≡ None → old.trail.refused ≡ None
-  pub only : (place : ℕ) (entry : Stage) → slice_get new.explored.items place ≡ Some entry → IsHeld old entry ⊎ (stage ≡ entry)
+  pub marks : marks_in new.move_path ≡ marks_in old.move_path
+  pub refused : new.move_path.refused ≡ None → old.move_path.refused ≡ None
+  pub only : (place : ℕ) (entry : SearchState) → slice_get new.memo.items place ≡ Some entry → IsHeld old entry ⊎ (search_state ≡ entry)
 
 -- nothing is found yet, no move is told, and no state is kept
 pub record IsNothing (found : Found) : Type 0 where
   pub amount : found.amount ≡ 0
-  pub marks : marks_in found.trail ≡ []
-  pub none : found.explored.items ≡ []
+  pub marks : marks_in found.move_path ≡ []
+  pub none : found.memo.items ≡ []
 
 -- what is found, or the refusal of memory
 abbrev pub found_or : Found → Option AllocError → Result Found AllocError
@@ -85,4 +85,4 @@ found_or found None = Ok found
 found_or found (Some error) = Err error
 
 abbrev pub unless_refused : Found → Result Found AllocError
-unless_refused found = found_or found found.trail.refused
+unless_refused found = found_or found found.move_path.refused

@@ -2,10 +2,10 @@
 -- equal trains none earns more than the one before.
 use Rattle.std.specs.Prelude.{◌≡◌, ℕ, ◌+◌, ◌-◌, ◌*◌, ◌<◌, ◌≤◌, false, Some, None, List, length, get_or, slice_get, replicate}
 use Rattle.best_run.specs.declared.task.Task.{Task}
-use Rattle.best_run.specs.declared.explored.Found.{Found}
+use Rattle.best_run.specs.declared.memo.Found.{Found}
 use Rattle.best_run.specs.declared.state.Settled.{Settled}
-use Rattle.best_run.specs.Trail.{marks_in}
-use Rattle.best_run.specs.Moves.{AreExplored, Completes, Earns, Move, between, start, total_after}
+use Rattle.best_run.specs.MovePath.{marks_in}
+use Rattle.best_run.specs.Moves.{AreInMemo, Completes, Earns, Move, between, start, total_after}
 
 -- the trains before one do not run, and nothing is used
 abbrev pub nothing_before : ℕ → Settled
@@ -32,7 +32,7 @@ AreEqual task next count most = (train : ℕ) → train < count → get_or task.
 
 -- some trains from one on are of the kind that ran last, and each of them earns no more than the cap: with what is
 -- settled, they and the others that are left can earn no more than has been found
-pub record AreCapped (task : Task) (next kind cap total best : ℕ) : Type 0 where
+pub record ArePrunedByCap (task : Task) (next kind cap total best : ℕ) : Type 0 where
   pub some : 0 < kind
   pub equal : ℕ
   pub bound : ℕ
@@ -45,10 +45,10 @@ pub record AreCapped (task : Task) (next kind cap total best : ℕ) : Type 0 whe
 pub record IsSolved (task : Task) (count : ℕ) (bounds : List ℕ) (found : Found) : Type 0 where
   pub all : length bounds ≡ count
   pub true_bounds : AreBounds task bounds
-  pub known : AreExplored task found
-  pub earns : found.trail.refused ≡ None → Earns task (between (nothing_before (length task.trains.items - count))) (marks_in found.trail) found.amount
+  pub known : AreInMemo task found
+  pub earns : found.move_path.refused ≡ None → Earns task (between (nothing_before (length task.trains.items - count))) (marks_in found.move_path) found.amount
 
 -- what is found is the most that any moves from the start earn, and the trail tells how
 pub record IsTop (task : Task) (found : Found) : Type 0 where
-  pub earns : Earns task start (marks_in found.trail) found.amount
+  pub earns : Earns task start (marks_in found.move_path) found.amount
   pub most : (moves : List Move) → Completes task start moves → total_after task start moves ≤ found.amount

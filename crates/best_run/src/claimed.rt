@@ -1,8 +1,8 @@
 //! The runs that a trail tells, written out by their places.
 ghost use Rattle.std.specs.Prelude.{◌≡◌, IfOk};
-ghost use Rattle.best_run.specs.Trail.{CanBeRead, IsRead, IsWalkRead, turned_about, turned_step};
+ghost use Rattle.best_run.specs.MovePath.{CanBeRead, IsRead, IsWalkRead, turned_about, turned_step};
 
-use crate::trail::{Mark, Trail};
+use crate::move_path::{Mark, MovePath};
 use certificate::{ClaimedRun, ClaimedRuns, write_run};
 use reach::Step;
 use std::alloc::{AllocError, Global};
@@ -52,12 +52,12 @@ fn read_walk(alloc: Global, marks: &mut Vec<Mark>) -> Result<Option<Vec<Step>>, 
 pub(crate) fn claimed_runs(
     alloc: Global,
     kinds: &[Kind],
-    trail: Trail,
+    move_path: MovePath,
 ) -> Result<ClaimedRuns, AllocError>
-    requires { CanBeRead kinds.now trail }
-    ensures { IfOk result (IsRead kinds.now trail) }
+    requires { CanBeRead kinds.now move_path }
+    ensures { IfOk result (IsRead kinds.now move_path) }
 {
-    let mut marks = trail.marks;
+    let mut marks = move_path.marks;
     let mut runs = ClaimedRuns::new(alloc);
     for kind in kinds {
         if let Some(walk) = read_walk(alloc, &mut marks)? {

@@ -1,6 +1,6 @@
 //! Borders that a way crosses: the set of them.
 ghost use Rattle.std.specs.Prelude.{◌≡◌, ℕ, ◌<◌, IsTrue, Some, length};
-ghost use Rattle.best_run.specs.Alike.{cleared_all};
+ghost use Rattle.best_run.specs.Canonical.{cleared_all};
 ghost use Rattle.best_run.specs.Crossed.{IsShared, numbers_in};
 ghost use Rattle.best_run.specs.Moves.{marked_all, misses};
 ghost use Rattle.reach.specs.Position.{IsAmong};

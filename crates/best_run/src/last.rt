@@ -5,10 +5,10 @@ ghost use Rattle.best_run.specs.Ahead.{IsWorth};
 ghost use Rattle.best_run.specs.Fit.{IsFit};
 ghost use Rattle.best_run.specs.Last.{CountsAsPassed, CrossIt, HasWorth, IsLast};
 ghost use Rattle.best_run.specs.Moves.{ends_in, node_at};
-ghost use Rattle.best_run.specs.Ways.{AreReady, ways_at};
+ghost use Rattle.best_run.specs.Legs.{AreReady, legs_at};
 
 use crate::outlook::Outlook;
-use crate::state::{Settled, Standing};
+use crate::state::{PartialRun, Settled};
 use crate::task::Task;
 
 impl Task {
@@ -21,8 +21,8 @@ impl Task {
     {
         let from = &self.departures[spot];
         let mut first = None;
-        for index in 0..from.ways.len() {
-            let borders = &from.ways[index].piece.borders;
+        for index in 0..from.legs.len() {
+            let borders = &from.legs[index].segment.borders;
             if borders.misses(&settled.used) {
                 match first {
                     None => first = Some(borders),
@@ -44,8 +44,8 @@ impl Task {
         ensures { IsTrue result → CrossIt self.now settled.now.used spot border }
     {
         let from = &self.departures[spot];
-        for index in 0..from.ways.len() {
-            let borders = &from.ways[index].piece.borders;
+        for index in 0..from.legs.len() {
+            let borders = &from.legs[index].segment.borders;
             if borders.misses(&settled.used) && !borders.crosses(border) {
                 return false;
             }
@@ -55,7 +55,7 @@ impl Task {
 
     /// Whether a run that comes to a stop ahead ends there, since all its ways that cross no used border cross the
     /// one by which it comes. It is not told of all such stops, and of none to a run that visits no stops.
-    fn is_last(&self, settled: &Settled, run: &Standing, spot: usize) -> bool
+    fn is_last(&self, settled: &Settled, run: &PartialRun, spot: usize) -> bool
         requires ready { AreReady self.now }
         requires spot { spot < 744 }
         ensures { IsTrue result → (0 < run.now.most) × IsLast self.now settled.now.used spot }
@@ -73,7 +73,7 @@ impl Task {
     pub(crate) fn count(
         &self,
         settled: &Settled,
-        run: &Standing,
+        run: &PartialRun,
         spot: usize,
         outlook: &mut Outlook,
     )
@@ -103,7 +103,7 @@ impl Task {
     pub(crate) fn end_at(
         &self,
         settled: &Settled,
-        run: &Standing,
+        run: &PartialRun,
         spot: usize,
         outlook: &mut Outlook,
     )

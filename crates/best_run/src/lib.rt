@@ -3,54 +3,54 @@
 //!
 //! The definitions of a legal set, of the greatest revenue and of what is claimed are those of
 //! `certificate`. Those of this crate, in `specs/`, are of the search alone: `Moves` says what
-//! it goes over, move by move, `Trail` how these are written down and which runs are read from
-//! that, `Described` how a position is laid out for it, `Ways` how pieces of plain track make
+//! it goes over, move by move, `MovePath` how these are written down and which runs are read from
+//! that, `Described` how a position is laid out for it, `Legs` how pieces of plain track make
 //! ways from stop to stop, and where runs may begin, `Fit` what keeps its numbers within their
 //! bounds, `Suffix` what the last trains earn by themselves, and equal trains one after
 //! another, which bounds what they earn behind others, `Ahead` what may lie ahead of a run,
 //! which bounds what it may still earn, `Last` at which of the stops ahead it ends since it can
 //! leave them only as it comes, `Kept` which states need not be explored since another one
-//! was, `Alike` which of them are alike to the trains left, `Marks` how bits in
-//! words are marks, `Crossed` what borders a piece crosses, `Pieces` how the pieces that lead
+//! was, `Canonical` which of them are alike to the trains left, `Marks` how bits in
+//! words are marks, `Crossed` what borders a piece crosses, `Segments` how the pieces that lead
 //! from a spot stand in one table, `Answer` what the search finds in the end, `Keeping` what is
 //! kept of one call after the other.
 //!
 //! Reading order: `revenue` (the public call), `answer`, `trains` (their order), `spots` (the
-//! spots of a position with the pieces of track between them), `ways` (from stop to stop),
+//! spots of a position with the pieces of track between them), `legs` (from stop to stop),
 //! `task`, `bits` (marks of borders and spots, a bit each), `stretch` (a piece of track),
-//! `pieces` (those from all spots), `steps` (those of a way), `crossing` (its borders, a set of
+//! `segments` (those from all spots), `steps` (those of a way), `crossing` (its borders, a set of
 //! them), `state` (the trains settled so far, and the run begun), `outlook` (what lies ahead of
 //! that run) with `worth` (what that is worth), `last` (at which stops ahead it ends) and
-//! `mirror` (whether ways lead back over all ways), `trail` (the moves that earn what has been
-//! found), `stage` (a state that is kept), `explored` (what has been found, and what need not be
-//! explored again), `alike` (states that are alike to the trains left), `search`, `claimed` (the
+//! `mirror` (whether ways lead back over all ways), `move_path` (the moves that earn what has been
+//! found), `search_state` (a state that is kept), `memo` (what has been found, and what need not be
+//! explored again), `canonical` (states that are alike to the trains left), `search`, `claimed` (the
 //! runs that a trail tells),
 //! `runner` (what tells the revenue alone), `keeping` (what keeps the runs and marks as well).
 #![tactic(auto)]
 
-mod alike;
 mod answer;
 mod bits;
+mod canonical;
 mod claimed;
 mod crossing;
-mod explored;
 mod keeping;
 mod last;
+mod legs;
+mod memo;
 mod mirror;
+mod move_path;
 mod outlook;
-mod pieces;
 mod revenue;
 mod runner;
 mod search;
+mod search_state;
+mod segments;
 mod spots;
-mod stage;
 mod state;
 mod steps;
 mod stretch;
 mod task;
-mod trail;
 mod trains;
-mod ways;
 mod worth;
 
 pub use answer::Best;

@@ -1,22 +1,22 @@
 //! Ways that lead back over others: a way is the same track in both directions.
 ghost use Rattle.std.specs.Prelude.{◌≡◌, ◌<◌, IsTrue, length};
-ghost use Rattle.best_run.specs.Ways.{AllLeadBack, HasMirror, IsMirrored};
+ghost use Rattle.best_run.specs.Legs.{AllLeadBack, HasMirror, IsMirrored};
 
-use crate::task::{Task, Way};
+use crate::task::{Leg, Task};
 
 impl Task {
     /// Whether a way leads back over one, from where that comes to, over no borders but those of it.
-    fn leads_back(&self, way: &Way) -> bool
-        ensures { IsTrue result → HasMirror self.now way.now }
+    fn leads_back(&self, leg: &Leg) -> bool
+        ensures { IsTrue result → HasMirror self.now leg.now }
     {
-        let to = way.piece.to;
+        let to = leg.segment.to;
         if to >= self.departures.len() {
             return false;
         }
         let from = &self.departures[to];
-        for index in 0..from.ways.len() {
-            let back = &from.ways[index];
-            if back.piece.borders.is_within(&way.piece.borders) {
+        for index in 0..from.legs.len() {
+            let back = &from.legs[index];
+            if back.segment.borders.is_within(&leg.segment.borders) {
                 return true;
             }
         }
@@ -29,9 +29,9 @@ impl Task {
         ensures { IsTrue result → AllLeadBack self.now spot }
     {
         let from = &self.departures[spot];
-        for index in 0..from.ways.len() {
-            let way = &from.ways[index];
-            if !self.leads_back(way) {
+        for index in 0..from.legs.len() {
+            let leg = &from.legs[index];
+            if !self.leads_back(leg) {
                 return false;
             }
         }

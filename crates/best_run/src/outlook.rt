@@ -5,11 +5,11 @@ ghost use Rattle.best_run.specs.Fit.{IsFit};
 ghost use Rattle.best_run.specs.Last.{EarnsAhead, HasWorth};
 ghost use Rattle.best_run.specs.Moves.{ends_in, node_at, stop_in};
 ghost use Rattle.best_run.specs.Suffix.{AreBounds};
-ghost use Rattle.best_run.specs.Ways.{AreReady, IsStop};
+ghost use Rattle.best_run.specs.Legs.{AreReady, IsStop};
 
 use crate::bits::{SPOTS, Spots};
-use crate::state::{Settled, Standing};
-use crate::task::{Piece, Task};
+use crate::state::{PartialRun, Settled};
+use crate::task::{Segment, Task};
 use crate::worth::{LEVELS, Worth};
 use tables::Amount;
 
@@ -51,15 +51,21 @@ impl Task {
     }
 
     /// Whether a run may come by a piece to a stop that does not lie ahead so far.
-    fn leads_on(&self, settled: &Settled, run: &Standing, piece: &Piece, outlook: &Outlook) -> bool
+    fn leads_on(
+        &self,
+        settled: &Settled,
+        run: &PartialRun,
+        segment: &Segment,
+        outlook: &Outlook,
+    ) -> bool
         requires fit { IsFit self.now }
-        requires to { piece.now.to < 744 }
-        requires stop { stop_in (node_at self.now piece.now.to) ≡ true }
-        ensures { result ≡ leads_on self.now settled.now run.now outlook.now.ahead piece.now }
+        requires to { segment.now.to < 744 }
+        requires stop { stop_in (node_at self.now segment.now.to) ≡ true }
+        ensures { result ≡ leads_on self.now settled.now run.now outlook.now.ahead segment.now }
     {
-        !outlook.ahead.either_has(&run.visited, piece.to)
+        !outlook.ahead.either_has(&run.visited, segment.to)
             && run.left > 0
-            && piece.borders.misses(&settled.used)
+            && segment.borders.misses(&settled.used)
     }
 
     /// Adds to what lies ahead of a run what it may come to from a stop: whether there is anything.
@@ -67,7 +73,7 @@ impl Task {
     fn look_from(
         &self,
         settled: &Settled,
-        run: &Standing,
+        run: &PartialRun,
         spot: usize,
         outlook: &mut Outlook,
     ) -> bool
@@ -85,10 +91,10 @@ impl Task {
         }
         let from = &self.departures[spot];
         let mut leads = false;
-        for index in 0..from.ways.len() {
-            let way = &from.ways[index];
-            if self.leads_on(settled, run, &way.piece, outlook) {
-                self.look_past(settled, run, way.piece.to, outlook);
+        for index in 0..from.legs.len() {
+            let leg = &from.legs[index];
+            if self.leads_on(settled, run, &leg.segment, outlook) {
+                self.look_past(settled, run, leg.segment.to, outlook);
                 leads = true;
             }
         }
@@ -99,7 +105,7 @@ impl Task {
     /// may be last.
     #[cycle(look)]
     #[inline(always)]
-    fn look_past(&self, settled: &Settled, run: &Standing, spot: usize, outlook: &mut Outlook)
+    fn look_past(&self, settled: &Settled, run: &PartialRun, spot: usize, outlook: &mut Outlook)
         requires fit { IsFit self.now }
         requires ready { AreReady self.now }
         requires spot { spot < 744 }
@@ -124,26 +130,26 @@ impl Task {
     pub(crate) fn look_along(
         &self,
         settled: &Settled,
-        run: &Standing,
-        piece: &Piece,
+        run: &PartialRun,
+        segment: &Segment,
         outlook: &mut Outlook,
     )
         requires fit { IsFit self.now }
         requires ready { AreReady self.now }
-        requires to { piece.now.to < 744 }
-        requires stop { stop_in (node_at self.now piece.now.to) ≡ true }
+        requires to { segment.now.to < 744 }
+        requires stop { stop_in (node_at self.now segment.now.to) ≡ true }
         requires known { HasWorth self.now settled.now run.now outlook.old.ahead outlook.old.worth }
-        ensures widens { WidensBy self.now settled.now run.now piece.now outlook.old.ahead outlook.new.ahead }
+        ensures widens { WidensBy self.now settled.now run.now segment.now outlook.old.ahead outlook.new.ahead }
         ensures known { HasWorth self.now settled.now run.now outlook.new.ahead outlook.new.worth }
     {
-        if self.leads_on(settled, run, piece, outlook) {
-            self.look_past(settled, run, piece.to, outlook);
+        if self.leads_on(settled, run, segment, outlook) {
+            self.look_past(settled, run, segment.to, outlook);
         }
     }
 
     /// Adds to what lies ahead of a run what it may come to from where it began, once it turns back: not by
     /// a way before the one by which it began.
-    fn look_back(&self, settled: &Settled, run: &Standing, outlook: &mut Outlook)
+    fn look_back(&self, settled: &Settled, run: &PartialRun, outlook: &mut Outlook)
         requires fit { IsFit self.now }
         requires ready { AreReady self.now }
         requires home { run.now.home < 744 }
@@ -156,16 +162,16 @@ impl Task {
             return;
         }
         let from = &self.departures[run.home];
-        for index in 0..from.ways.len() {
-            let way = &from.ways[index];
-            if run.first <= way.first {
-                self.look_along(settled, run, &way.piece, outlook);
+        for index in 0..from.legs.len() {
+            let leg = &from.legs[index];
+            if run.first <= leg.first {
+                self.look_along(settled, run, &leg.segment, outlook);
             }
         }
     }
 
     /// Finds what lies ahead of a run, where nothing has been found yet.
-    fn look_ahead(&self, settled: &Settled, run: &Standing, outlook: &mut Outlook)
+    fn look_ahead(&self, settled: &Settled, run: &PartialRun, outlook: &mut Outlook)
         requires fit { IsFit self.now }
         requires ready { AreReady self.now }
         requires head { run.now.head < 744 }
@@ -188,7 +194,7 @@ impl Task {
     }
 
     /// Whether a run may go on from where it stands.
-    fn goes_on(&self, run: &Standing) -> bool
+    fn goes_on(&self, run: &PartialRun) -> bool
         requires fit { IsFit self.now }
         requires head { run.now.head < 744 }
         ensures { result ≡ goes_on self.now run.now }
@@ -198,7 +204,7 @@ impl Task {
     }
 
     /// Whether a run may still go on from where it began.
-    fn goes_back(&self, run: &Standing) -> bool
+    fn goes_back(&self, run: &PartialRun) -> bool
         requires fit { IsFit self.now }
         requires home { run.now.home < 744 }
         ensures { result ≡ goes_back self.now run.now }
@@ -208,7 +214,7 @@ impl Task {
     }
 
     /// The most that a run may still earn, in dollars, by what lies ahead.
-    fn most_ahead(&self, settled: &Settled, run: &Standing, outlook: &Outlook) -> Amount
+    fn most_ahead(&self, settled: &Settled, run: &PartialRun, outlook: &Outlook) -> Amount
         requires fit { IsFit self.now }
         requires head { run.now.head < 744 }
         requires home { run.now.home < 744 }
@@ -227,7 +233,7 @@ impl Task {
     fn earns_too_little(
         &self,
         settled: &Settled,
-        run: &Standing,
+        run: &PartialRun,
         outlook: &Outlook,
         bounds: &[Amount],
         best: Amount,
@@ -257,11 +263,11 @@ impl Task {
         if bounds[later] <= best - total {
             return true;
         }
-        self.are_capped(settled.next + 1, run.most, most, total, bounds, best)
+        self.are_pruned_by_cap(settled.next + 1, run.most, most, total, bounds, best)
     }
 
     /// Whether a run earns more than it may, behind another one of a train of its kind.
-    fn earns_too_much(&self, settled: &Settled, run: &Standing) -> bool
+    fn earns_too_much(&self, settled: &Settled, run: &PartialRun) -> bool
         ensures { IsTrue result → (best : ℕ) → EndsAtMost self.now settled.now run.now best }
     {
         if settled.kind == 0 || settled.kind != run.most {
@@ -275,7 +281,7 @@ impl Task {
     pub(crate) fn stops_ahead(
         &self,
         settled: &Settled,
-        run: &Standing,
+        run: &PartialRun,
         bounds: &[Amount],
         best: Amount,
     ) -> Option<usize>

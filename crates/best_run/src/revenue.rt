@@ -3,7 +3,7 @@ ghost use Rattle.best_run.specs.Answer.{IsBest};
 ghost use Rattle.best_run.specs.Fit.{IsFit};
 ghost use Rattle.best_run.specs.Kept.{IsNothing};
 ghost use Rattle.best_run.specs.Moves.{Explores, between};
-ghost use Rattle.best_run.specs.Ways.{AreReady};
+ghost use Rattle.best_run.specs.Legs.{AreReady};
 ghost use Rattle.best_run.specs.Suffix.{AreBounds, IsSolved, IsTop, nothing_before};
 ghost use Rattle.certificate.specs.Filled.{IsAcceptedFilled};
 ghost use Rattle.certificate.specs.Holding.{IsAccepted};
@@ -12,10 +12,10 @@ ghost use Rattle.certificate.specs.Set.{IsGreatest};
 use crate::answer::Best;
 use crate::bits::Borders;
 use crate::claimed::claimed_runs;
-use crate::explored::Found;
+use crate::memo::Found;
+use crate::move_path::Mark;
 use crate::state::Settled;
 use crate::task::Task;
-use crate::trail::Mark;
 use crate::trains::greatest_first;
 use certificate::{Claim, write_marks};
 use reach::Network;
@@ -56,7 +56,7 @@ impl Task {
         for count in 0..self.trains.len() {
             self.settle_last(count, &bounds, best);
             bounds.push(best.amount)?;
-            best.trail.write(Mark::Pass);
+            best.move_path.write(Mark::Pass);
         }
         Ok(bounds)
     }
@@ -131,7 +131,7 @@ pub fn best<N: Network>(
     let kinds = greatest_first(alloc, trains)?;
     let found = find(alloc, network, company, &kinds)?;
     let revenue = found.amount;
-    let runs = claimed_runs(alloc, &kinds, found.trail)?;
+    let runs = claimed_runs(alloc, &kinds, found.move_path)?;
     let marks = write_marks(alloc, network, company, trains, revenue)?;
     Ok(Best {
         claim: Claim { revenue, runs },

@@ -1,14 +1,14 @@
 ghost use Rattle.std.specs.Prelude.{◌≡◌, ◌+◌, ◌<◌, ◌≤◌, true, false, IsTrue, length};
-ghost use Rattle.best_run.specs.Fit.{HasRoom, IsFit, PieceFits, credit};
-ghost use Rattle.best_run.specs.Suffix.{AreBounds, AreCapped, AreEqual, FallShort};
-ghost use Rattle.best_run.specs.Ways.{AreReady};
-ghost use Rattle.best_run.specs.Moves.{Any, Explores, IsBegin, IsBeginAt, IsGo, IsTurn, Takes, Tries, between, node_at, own_before, own_in, standing, stop_in};
+ghost use Rattle.best_run.specs.Fit.{HasRoom, IsFit, SegmentFits, credit};
+ghost use Rattle.best_run.specs.Suffix.{AreBounds, ArePrunedByCap, AreEqual, FallShort};
+ghost use Rattle.best_run.specs.Legs.{AreReady};
+ghost use Rattle.best_run.specs.Moves.{Any, Explores, IsBegin, IsBeginAt, IsGo, IsTurn, Takes, Tries, between, node_at, own_before, own_in, partial, stop_in};
 
 use crate::bits::Spots;
-use crate::explored::Found;
-use crate::state::{Settled, Standing};
-use crate::task::{Piece, Task};
-use crate::trail::Mark;
+use crate::memo::Found;
+use crate::move_path::Mark;
+use crate::state::{PartialRun, Settled};
+use crate::task::{Segment, Task};
 use tables::Amount;
 
 /// How many stops lie ahead of a run at least for which it is asked whether it has been tried before.
@@ -17,7 +17,7 @@ const MANY: usize = 8;
 impl Task {
     /// Whether the trains that are left can earn no more than what has been found, by what they
     /// earn by themselves. It is not told of all of them.
-    fn falls_short(&self, settled: &Settled, bounds: &[Amount], best: Amount) -> bool
+    fn is_pruned_by_suffix(&self, settled: &Settled, bounds: &[Amount], best: Amount) -> bool
         requires { settled.now.next ≤ length self.now.trains.items }
         ensures short { IsTrue result → FallShort self.now bounds.now settled.now best }
         ensures whole { length settled.now.used ≡ 279 }
@@ -47,7 +47,7 @@ impl Task {
 
     /// Whether the trains from a place on can earn no more than what has been found, since those of
     /// the kind that ran last each earn no more than the cap, in dollars. It is not told of all.
-    pub(crate) fn are_capped(
+    pub(crate) fn are_pruned_by_cap(
         &self,
         next: usize,
         kind: usize,
@@ -58,7 +58,7 @@ impl Task {
     ) -> bool
         requires next { next ≤ length self.now.trains.items }
         requires bounds { AreBounds self.now bounds.now }
-        ensures { IsTrue result → AreCapped self.now next kind cap total best }
+        ensures { IsTrue result → ArePrunedByCap self.now next kind cap total best }
     {
         if kind == 0 || cap > 200_000 {
             return false;
@@ -86,14 +86,14 @@ impl Task {
         if settled.next == self.trains.len() {
             if best.amount < settled.total {
                 best.amount = settled.total;
-                best.trail.clear();
+                best.move_path.clear();
             }
             return;
         }
-        if self.falls_short(settled, bounds, best.amount) {
+        if self.is_pruned_by_suffix(settled, bounds, best.amount) {
             return;
         }
-        if self.are_capped(
+        if self.are_pruned_by_cap(
             settled.next,
             settled.kind,
             settled.cap,
@@ -104,11 +104,11 @@ impl Task {
             return;
         }
         let reach = self.reach(settled);
-        if self.reaches_too_little(settled, &reach, bounds, best.amount) {
+        if self.is_pruned_by_reach(settled, &reach, bounds, best.amount) {
             return;
         }
-        let alike = self.alike(settled, &reach.ahead);
-        if best.covers(&alike) {
+        let canonical = self.canonical(settled, &reach.ahead);
+        if best.dominates(&canonical) {
             return;
         }
         self.begin_runs(settled, bounds, best);
@@ -116,7 +116,7 @@ impl Task {
         let passed = settled.passed();
         self.settle_next(&passed, bounds, best);
         best.trace(before, Mark::Pass);
-        best.keep(&alike);
+        best.keep(&canonical);
     }
 
     /// Tries all runs of the next train, from each token of the company.
@@ -165,12 +165,12 @@ impl Task {
         settled.marks_all_borders();
         let from = &self.departures[stop];
         let begun = self.begun(settled, stop, 0, before);
-        for index in 0..from.ways.len() {
-            let way = &from.ways[index];
-            let run = begun.by(way.first);
+        for index in 0..from.legs.len() {
+            let leg = &from.legs[index];
+            let run = begun.by(leg.first);
             let before = best.amount;
-            self.take(settled, &run, &way.piece, bounds, best);
-            best.trace_steps(before, &way.steps);
+            self.take(settled, &run, &leg.segment, bounds, best);
+            best.trace_steps(before, &leg.steps);
         }
     }
 
@@ -179,8 +179,8 @@ impl Task {
     fn take(
         &self,
         settled: &Settled,
-        run: &Standing,
-        piece: &Piece,
+        run: &PartialRun,
+        segment: &Segment,
         bounds: &[Amount],
         best: &mut Found,
     )
@@ -188,16 +188,16 @@ impl Task {
         requires ready { AreReady self.now }
         requires bounds { AreBounds self.now bounds.now }
         requires next { settled.now.next < length self.now.trains.items }
-        requires piece { PieceFits self.now false piece.now }
-        requires to { stop_in (node_at self.now piece.now.to) ≡ true }
+        requires segment { SegmentFits self.now false segment.now }
+        requires to { stop_in (node_at self.now segment.now.to) ≡ true }
         requires home { run.now.home < 744 }
         requires begun { stop_in (node_at self.now run.now.home) ≡ true }
         requires room { HasRoom settled.now.used (settled.now.total + run.now.value) 44720 }
-        ensures { Takes self.now settled.now run.now piece.now best.old best.new }
+        ensures { Takes self.now settled.now run.now segment.now best.old best.new }
     {
-        if self.can_take(run, settled, piece) {
-            let next = self.along(run, piece);
-            let using = settled.using(piece);
+        if self.can_take(run, settled, segment) {
+            let next = self.along(run, segment);
+            let using = settled.using(segment);
             self.stand(&using, &next, bounds, best);
         }
     }
@@ -205,7 +205,7 @@ impl Task {
     /// Tries all ways to the end from a run that has begun. Where it is the first one, others are left behind it, and many
     /// stops lie ahead, it is worth its while to ask whether they have been tried before.
     #[cycle(explore)]
-    fn stand(&self, settled: &Settled, run: &Standing, bounds: &[Amount], best: &mut Found)
+    fn stand(&self, settled: &Settled, run: &PartialRun, bounds: &[Amount], best: &mut Found)
         requires fit { IsFit self.now }
         requires ready { AreReady self.now }
         requires bounds { AreBounds self.now bounds.now }
@@ -216,13 +216,13 @@ impl Task {
         requires begun { stop_in (node_at self.now run.now.home) ≡ true }
         requires room { let more = credit (stop_in (node_at self.now run.now.head)) in
             HasRoom settled.now.used (settled.now.total + (run.now.value + more)) 44720 }
-        ensures { Explores self.now (standing settled.now run.now) best.old best.new }
+        ensures { Explores self.now (partial settled.now run.now) best.old best.new }
     {
         let Some(stops) = self.stops_ahead(settled, run, bounds, best.amount) else {
             return;
         };
         if stops < MANY || settled.kind != 0 || settled.next + 1 == self.trains.len() {
-            self.stand_anew(settled, run, bounds, best);
+            self.stand_again(settled, run, bounds, best);
         } else {
             self.stand_once(settled, run, bounds, best);
         }
@@ -230,7 +230,7 @@ impl Task {
 
     /// Tries all ways to the end from a run that has begun, unless that was done before.
     #[cycle(explore)]
-    fn stand_once(&self, settled: &Settled, run: &Standing, bounds: &[Amount], best: &mut Found)
+    fn stand_once(&self, settled: &Settled, run: &PartialRun, bounds: &[Amount], best: &mut Found)
         requires fit { IsFit self.now }
         requires ready { AreReady self.now }
         requires bounds { AreBounds self.now bounds.now }
@@ -241,20 +241,20 @@ impl Task {
         requires begun { stop_in (node_at self.now run.now.home) ≡ true }
         requires room { let more = credit (stop_in (node_at self.now run.now.head)) in
             HasRoom settled.now.used (settled.now.total + (run.now.value + more)) 44720 }
-        ensures { Explores self.now (standing settled.now run.now) best.old best.new }
+        ensures { Explores self.now (partial settled.now run.now) best.old best.new }
     {
         settled.marks_all_borders();
-        let alike = self.alike_begun(settled, run);
-        if best.covers(&alike) {
+        let canonical = self.canonical_begun(settled, run);
+        if best.dominates(&canonical) {
             return;
         }
-        self.stand_anew(settled, run, bounds, best);
-        best.keep(&alike);
+        self.stand_again(settled, run, bounds, best);
+        best.keep(&canonical);
     }
 
     /// Tries all ways to the end from a run that has begun. Longer runs come first, since they earn more.
     #[cycle(explore)]
-    fn stand_anew(&self, settled: &Settled, run: &Standing, bounds: &[Amount], best: &mut Found)
+    fn stand_again(&self, settled: &Settled, run: &PartialRun, bounds: &[Amount], best: &mut Found)
         requires fit { IsFit self.now }
         requires ready { AreReady self.now }
         requires bounds { AreBounds self.now bounds.now }
@@ -265,21 +265,21 @@ impl Task {
         requires begun { stop_in (node_at self.now run.now.home) ≡ true }
         requires room { let more = credit (stop_in (node_at self.now run.now.head)) in
             HasRoom settled.now.used (settled.now.total + (run.now.value + more)) 44720 }
-        ensures { Explores self.now (standing settled.now run.now) best.old best.new }
+        ensures { Explores self.now (partial settled.now run.now) best.old best.new }
     {
         self.go_on(settled, run, bounds, best);
         self.turn_back(settled, run, bounds, best);
         if self.may_settle(settled, run) {
             let before = best.amount;
-            let settling = settled.settling(run);
-            self.settle_next(&settling, bounds, best);
+            let with_run_settled = settled.with_run_settled(run);
+            self.settle_next(&with_run_settled, bounds, best);
             best.trace(before, Mark::Settle);
         }
     }
 
     /// Tries all ways on from where a run stands.
     #[cycle(explore)]
-    fn go_on(&self, settled: &Settled, run: &Standing, bounds: &[Amount], best: &mut Found)
+    fn go_on(&self, settled: &Settled, run: &PartialRun, bounds: &[Amount], best: &mut Found)
         requires fit { IsFit self.now }
         requires ready { AreReady self.now }
         requires bounds { AreBounds self.now bounds.now }
@@ -290,7 +290,7 @@ impl Task {
         requires begun { stop_in (node_at self.now run.now.home) ≡ true }
         requires room { let more = credit (stop_in (node_at self.now run.now.head)) in
             HasRoom settled.now.used (settled.now.total + (run.now.value + more)) 44720 }
-        ensures { Tries self.now (standing settled.now run.now) (IsGo Any) best.old best.new }
+        ensures { Tries self.now (partial settled.now run.now) (IsGo Any) best.old best.new }
     {
         let head = &self.spots[run.head];
         if head.ends {
@@ -298,17 +298,17 @@ impl Task {
         }
         settled.marks_all_borders();
         let from = &self.departures[run.head];
-        for index in 0..from.ways.len() {
-            let way = &from.ways[index];
+        for index in 0..from.legs.len() {
+            let leg = &from.legs[index];
             let before = best.amount;
-            self.take(settled, run, &way.piece, bounds, best);
-            best.trace_steps(before, &way.steps);
+            self.take(settled, run, &leg.segment, bounds, best);
+            best.trace_steps(before, &leg.steps);
         }
     }
 
     /// Tries all ways on from where a run began, if it stands at a stop and has not turned back before.
     #[cycle(explore)]
-    fn turn_back(&self, settled: &Settled, run: &Standing, bounds: &[Amount], best: &mut Found)
+    fn turn_back(&self, settled: &Settled, run: &PartialRun, bounds: &[Amount], best: &mut Found)
         requires fit { IsFit self.now }
         requires ready { AreReady self.now }
         requires bounds { AreBounds self.now bounds.now }
@@ -319,7 +319,7 @@ impl Task {
         requires begun { stop_in (node_at self.now run.now.home) ≡ true }
         requires room { let more = credit (stop_in (node_at self.now run.now.head)) in
             HasRoom settled.now.used (settled.now.total + (run.now.value + more)) 44720 }
-        ensures { Tries self.now (standing settled.now run.now) (IsTurn Any) best.old best.new }
+        ensures { Tries self.now (partial settled.now run.now) (IsTurn Any) best.old best.new }
     {
         if run.turned || self.spots[run.home].ends {
             return;
@@ -327,12 +327,12 @@ impl Task {
         let back = run.turned_back();
         settled.marks_all_borders();
         let from = &self.departures[run.home];
-        for index in 0..from.ways.len() {
-            let way = &from.ways[index];
-            if run.first <= way.first {
+        for index in 0..from.legs.len() {
+            let leg = &from.legs[index];
+            if run.first <= leg.first {
                 let before = best.amount;
-                self.take(settled, &back, &way.piece, bounds, best);
-                best.trace_steps(before, &way.steps);
+                self.take(settled, &back, &leg.segment, bounds, best);
+                best.trace_steps(before, &leg.steps);
                 best.trace(before, Mark::Turn);
             }
         }

@@ -1,8 +1,8 @@
 //! The spots of a position, and the pieces of track that lead from them.
 ghost use Rattle.std.specs.Prelude.{◌≡◌, ◌+◌, ◌<◌, ◌≤◌, ◌%◌, IfOk, OnOk, Some, option_to_list};
-ghost use Rattle.best_run.specs.Described.{AreLaid, AreNumbered, AreNumberedBefore, Describes, IsPieceOf, IsSideNode, IsStopNode, LaidBefore, TakesStep, most_of, most_of_all, number_before, number_or_none};
+ghost use Rattle.best_run.specs.Described.{AreLaid, AreNumbered, AreNumberedBefore, Describes, IsSegmentOf, IsSideNode, IsStopNode, LaidBefore, TakesStep, most_of, most_of_all, number_before, number_or_none};
 ghost use Rattle.best_run.specs.Fit.{IsFit};
-ghost use Rattle.best_run.specs.Ways.{AreHomes, AreReady};
+ghost use Rattle.best_run.specs.Legs.{AreHomes, AreReady};
 ghost use Rattle.certificate.specs.Legal.{border_at};
 ghost use Rattle.map_tables.specs.Hex.{index_of};
 ghost use Rattle.map_tables.specs.Place.{stop_index_of};
@@ -10,7 +10,7 @@ ghost use Rattle.reach.specs.Lawful.{IsLawful};
 ghost use Rattle.reach.specs.Walk.{entered_at};
 ghost use Rattle.tables.specs.Train.{stops_of};
 
-use crate::pieces::Pieces;
+use crate::segments::Segments;
 use crate::stretch::Stretch;
 use crate::task::{Node, Task};
 use certificate::border_to;
@@ -60,9 +60,9 @@ fn origin_of(spot: Spot) -> Origin
 }
 
 /// The piece of a step, over the border at which it is entered.
-fn piece_of(step: Step, border: Option<usize>) -> Stretch
+fn segment_of(step: Step, border: Option<usize>) -> Stretch
     requires { let entered = entered_at step in option_to_list border ≡ border_at entered.hex entered.end }
-    ensures { IsPieceOf step result }
+    ensures { IsSegmentOf step result }
 {
     Stretch::of(spot_number(step.left()), step, border)
 }
@@ -147,23 +147,23 @@ fn all_spots<N: Network>(
 
 /// Adds the piece of a step to those of the spot from which it may be taken, if there is one. The only
 /// error is want of memory.
-fn add_step(step: Step, pieces: &mut Pieces) -> Result<(), AllocError>
-    ensures { OnOk result (TakesStep step pieces.old pieces.new) }
+fn add_step(step: Step, segments: &mut Segments) -> Result<(), AllocError>
+    ensures { OnOk result (TakesStep step segments.old segments.new) }
 {
     let from = origin_of(step.entered());
     if from.number < SPOTS {
-        let piece = piece_of(step, from.border);
-        pieces.add(from.number, piece)?;
+        let segment = segment_of(step, from.border);
+        segments.add(from.number, segment)?;
     }
     Ok(())
 }
 
 /// Adds the pieces of the steps in a hex: each link in both directions. The only error is want of memory.
-fn add_steps<N: Network>(network: &N, hex: Hex, pieces: &mut Pieces) -> Result<(), AllocError>
+fn add_steps<N: Network>(network: &N, hex: Hex, segments: &mut Segments) -> Result<(), AllocError>
     requires lawful { IsLawful (N.position network.now) }
-    requires laid { LaidBefore (N.position network.now) (index_of hex) pieces.old }
+    requires laid { LaidBefore (N.position network.now) (index_of hex) segments.old }
     ensures { let position = N.position network.now in
-        OnOk result (LaidBefore position (index_of hex + 1) pieces.new) }
+        OnOk result (LaidBefore position (index_of hex + 1) segments.new) }
 {
     let links = network.links(hex);
     for link in links.as_slice() {
@@ -173,23 +173,23 @@ fn add_steps<N: Network>(network: &N, hex: Hex, pieces: &mut Pieces) -> Result<(
                 link,
                 turned: false,
             },
-            pieces,
+            segments,
         )?;
-        add_step(Step { link, turned: true }, pieces)?;
+        add_step(Step { link, turned: true }, segments)?;
     }
     Ok(())
 }
 
 /// The pieces from all spots. The only error is want of memory.
-fn all_pieces<N: Network>(alloc: Global, network: &N) -> Result<Pieces, AllocError>
+fn all_segments<N: Network>(alloc: Global, network: &N) -> Result<Segments, AllocError>
     requires { IsLawful (N.position network.now) }
     ensures { IfOk result (AreLaid (N.position network.now)) }
 {
-    let mut pieces = Pieces::new(alloc)?;
+    let mut segments = Segments::new(alloc)?;
     for index in 0..HEXES {
-        add_steps(network, Hex::at_index(index), &mut pieces)?;
+        add_steps(network, Hex::at_index(index), &mut segments)?;
     }
-    Ok(pieces)
+    Ok(segments)
 }
 
 /// The most stops of a run of a train. The borders allow no more than 280, so that of a Diesel never has fewer left than
@@ -253,14 +253,14 @@ impl Task {
         ensures described { let position = N.position network.now in
             IfOk result (Describes position company kinds.now) }
         ensures fit { IfOk result IsFit }
-        ensures ways { IfOk result AreReady }
+        ensures legs { IfOk result AreReady }
     {
         let spots = all_spots(alloc, network, company)?;
-        let pieces = all_pieces(alloc, network)?;
+        let segments = all_segments(alloc, network)?;
         let trains = most_of_all(alloc, kinds)?;
         let mut task = Task {
             spots,
-            pieces,
+            segments,
             departures: Vec::new(alloc),
             stops: Vec::new(alloc),
             homes: Vec::new(alloc),

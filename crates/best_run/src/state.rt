@@ -1,10 +1,10 @@
 ghost use Rattle.std.specs.Prelude.{◌≡◌, ◌+◌, ◌-◌, ◌*◌, ◌^◌, ◌<◌, ◌≤◌, IsTrue, false, length, true};
 ghost use Rattle.best_run.specs.Fit.{BordersFit, IsFit};
-ghost use Rattle.best_run.specs.Kept.{Covers, CoversRun, Freer, IsBarred, TurnsAs};
-ghost use Rattle.best_run.specs.Moves.{along, begun, begun_by, can_take, left_after, marked_all, may_come, may_earn, may_settle, misses, node_at, own_before, passed, settling, stop_in, turned_back, using};
+ghost use Rattle.best_run.specs.Kept.{Dominates, DominatesRun, Freer, IsBarred, TurnsAs};
+ghost use Rattle.best_run.specs.Moves.{along, begun, begun_by, can_take, left_after, marked_all, may_come, may_earn, may_settle, misses, node_at, own_before, passed, with_run_settled, stop_in, turned_back, using};
 
 use crate::bits::{BORDERS, Borders, Spots};
-use crate::task::{Piece, Task};
+use crate::task::{Segment, Task};
 use tables::Amount;
 
 /// The trains settled so far.
@@ -24,7 +24,7 @@ pub(crate) struct Settled {
 
 /// A run that has begun.
 #[derive(Drop)]
-pub(crate) struct Standing {
+pub(crate) struct PartialRun {
     /// Where it began: at a token of the company.
     pub(crate) home: usize,
     /// By which of the pieces from there.
@@ -66,8 +66,8 @@ impl Settled {
 
     /// Whether each run that may come after another state may come after this one as well, and as much
     /// is earned. It is not told of all such states.
-    pub(crate) fn covers(&self, other: &Settled) -> bool
-        ensures { IsTrue result → Covers self.now other.now }
+    pub(crate) fn dominates(&self, other: &Settled) -> bool
+        ensures { IsTrue result → Dominates self.now other.now }
     {
         self.next == other.next
             && self.kind == other.kind
@@ -91,17 +91,17 @@ impl Settled {
     }
 
     /// Whether a run earns no more than the last one of a train of its kind.
-    fn may_earn(&self, run: &Standing) -> bool
+    fn may_earn(&self, run: &PartialRun) -> bool
         ensures { result ≡ may_earn self.now.kind self.now.cap run.now.most run.now.value }
     {
         self.kind == 0 || self.kind != run.most || run.value <= self.cap
     }
 
     /// The run begun is settled.
-    pub(crate) fn settling(&self, run: &Standing) -> Settled
+    pub(crate) fn with_run_settled(&self, run: &PartialRun) -> Settled
         requires next { self.now.next < 2 ^ 63 }
         requires room { self.now.total + run.now.value ≤ 44640 }
-        ensures { result ≡ settling self.now run.now }
+        ensures { result ≡ with_run_settled self.now run.now }
     {
         Settled {
             next: self.next + 1,
@@ -113,8 +113,8 @@ impl Settled {
     }
 
     /// The borders of a piece are used.
-    pub(crate) fn using(&self, piece: &Piece) -> Settled
-        ensures using { result ≡ using self.now piece.now }
+    pub(crate) fn using(&self, segment: &Segment) -> Settled
+        ensures using { result ≡ using self.now segment.now }
         ensures whole { length self.now.used ≡ 279 }
     {
         self.used.is_whole();
@@ -123,22 +123,22 @@ impl Settled {
             total: self.total,
             kind: self.kind,
             cap: self.cap,
-            used: piece.borders.marked_in(&self.used),
+            used: segment.borders.marked_in(&self.used),
         }
     }
 }
 
-impl Standing {
+impl PartialRun {
     /// The same run.
-    pub(crate) fn copy(&self) -> Standing
+    pub(crate) fn copy(&self) -> PartialRun
         ensures { result ≡ self.now }
     {
         self.by(self.first)
     }
 
     /// Whether the run may go on as another one may, and earns no less then. It is not told of all such runs.
-    pub(crate) fn covers(&self, other: &Standing) -> bool
-        ensures { IsTrue result → CoversRun self.now other.now }
+    pub(crate) fn dominates(&self, other: &PartialRun) -> bool
+        ensures { IsTrue result → DominatesRun self.now other.now }
     {
         self.head == other.head
             && self.turned == other.turned
@@ -150,17 +150,17 @@ impl Standing {
     }
 
     /// Whether the run may turn back as another one may: neither may where both have.
-    fn may_turn_as(&self, other: &Standing) -> bool
+    fn may_turn_as(&self, other: &PartialRun) -> bool
         ensures { IsTrue result → TurnsAs self.now other.now }
     {
         other.turned || (self.home == other.home && self.first == other.first)
     }
 
     /// The same run, to which all stops are as visited that are not in reach.
-    pub(crate) fn within(&self, reach: &Spots) -> Standing
+    pub(crate) fn within(&self, reach: &Spots) -> PartialRun
         ensures { IsBarred reach.now self.now result }
     {
-        Standing {
+        PartialRun {
             home: self.home,
             first: self.first,
             turned: self.turned,
@@ -173,10 +173,10 @@ impl Standing {
     }
 
     /// The same run, begun by the piece at another place.
-    pub(crate) fn by(&self, first: usize) -> Standing
+    pub(crate) fn by(&self, first: usize) -> PartialRun
         ensures { result ≡ begun_by self.now first }
     {
-        Standing {
+        PartialRun {
             home: self.home,
             first,
             turned: self.turned,
@@ -189,10 +189,10 @@ impl Standing {
     }
 
     /// The run turns back to where it began.
-    pub(crate) fn turned_back(&self) -> Standing
+    pub(crate) fn turned_back(&self) -> PartialRun
         ensures { result ≡ turned_back self.now }
     {
-        Standing {
+        PartialRun {
             home: self.home,
             first: self.first,
             turned: true,
@@ -222,12 +222,12 @@ fn left_after(stop: bool, left: usize) -> usize
 
 impl Task {
     /// Whether a run may take a piece to a stop.
-    pub(crate) fn can_take(&self, run: &Standing, settled: &Settled, piece: &Piece) -> bool
-        requires to { piece.now.to < 744 }
-        requires stop { stop_in (node_at self.now piece.now.to) ≡ true }
-        ensures { result ≡ can_take self.now run.now settled.now.used piece.now }
+    pub(crate) fn can_take(&self, run: &PartialRun, settled: &Settled, segment: &Segment) -> bool
+        requires to { segment.now.to < 744 }
+        requires stop { stop_in (node_at self.now segment.now.to) ≡ true }
+        ensures { result ≡ can_take self.now run.now settled.now.used segment.now }
     {
-        run.may_come(piece.to) && piece.borders.misses(&settled.used)
+        run.may_come(segment.to) && segment.borders.misses(&settled.used)
     }
 
     /// Marks a spot behind those before it, if the company has a token there.
@@ -250,7 +250,7 @@ impl Task {
         stop: usize,
         first: usize,
         before: &Spots,
-    ) -> Standing
+    ) -> PartialRun
         requires fit { IsFit self.now }
         requires stop { stop < 744 }
         requires next { settled.now.next < length self.now.trains.items }
@@ -259,7 +259,7 @@ impl Task {
     {
         let mut visited = before.copy();
         visited.mark(stop);
-        Standing {
+        PartialRun {
             home: stop,
             first,
             turned: false,
@@ -272,7 +272,7 @@ impl Task {
     }
 
     /// Whether a run may be settled.
-    pub(crate) fn may_settle(&self, settled: &Settled, run: &Standing) -> bool
+    pub(crate) fn may_settle(&self, settled: &Settled, run: &PartialRun) -> bool
         requires fit { IsFit self.now }
         requires head { run.now.head < 744 }
         ensures { result ≡ may_settle self.now settled.now run.now }
@@ -281,22 +281,22 @@ impl Task {
     }
 
     /// A run after a piece.
-    pub(crate) fn along(&self, run: &Standing, piece: &Piece) -> Standing
+    pub(crate) fn along(&self, run: &PartialRun, segment: &Segment) -> PartialRun
         requires fit { IsFit self.now }
-        requires to { piece.now.to < 744 }
+        requires to { segment.now.to < 744 }
         requires room { run.now.value ≤ 50000 }
-        ensures { result ≡ along self.now run.now piece.now }
+        ensures { result ≡ along self.now run.now segment.now }
     {
-        let node = &self.spots[piece.to];
+        let node = &self.spots[segment.to];
         let mut visited = run.visited.copy();
         if node.stop {
-            visited.mark(piece.to);
+            visited.mark(segment.to);
         }
-        Standing {
+        PartialRun {
             home: run.home,
             first: run.first,
             turned: run.turned,
-            head: piece.to,
+            head: segment.to,
             most: run.most,
             left: left_after(node.stop, run.left),
             value: run.value + node.value,

@@ -17,19 +17,19 @@ pub(crate) struct Stretch {
 
 impl Model for Stretch {
     ghost use Rattle.std.specs.Prelude.{option_to_list};
-    ghost use Rattle.best_run.specs.declared.task.Piece.{Piece};
+    ghost use Rattle.best_run.specs.declared.task.Segment.{Segment};
 
-    ghost Value = { Piece };
+    ghost Value = { Segment };
 
     ghost use Rattle.best_run.specs.Fit.{BordersFit};
 
-    ghost view = { λ piece. record {
-      to = piece.to;
-      step = piece.step;
-      borders = record { items = option_to_list piece.border };
+    ghost view = { λ segment. record {
+      to = segment.to;
+      step = segment.step;
+      borders = record { items = option_to_list segment.border };
     } };
 
-    ghost invariant = { λ piece. BordersFit (option_to_list piece.border) };
+    ghost invariant = { λ segment. BordersFit (option_to_list segment.border) };
 }
 
 impl Stretch {

@@ -1,14 +1,14 @@
 ghost use Rattle.std.specs.Prelude.{◌≡◌};
 
 use crate::crossing::Crossing;
-use crate::pieces::Pieces;
+use crate::segments::Segments;
 use crate::steps::Steps;
 use reach::Step;
 use tables::Amount;
 
 /// Track that leads from a spot to another: what a way comes to, and what each `Stretch` is to the contracts.
 #[derive(Drop)]
-pub(crate) struct Piece {
+pub(crate) struct Segment {
     /// The spot to which it leads, by its number.
     pub(crate) to: usize,
     /// The step that it is; the last one of a way.
@@ -32,20 +32,20 @@ pub(crate) struct Node {
 
 /// A way of plain track from a stop to the next one.
 #[derive(Drop)]
-pub(crate) struct Way {
+pub(crate) struct Leg {
     /// The place of its first piece among those that lead from the stop.
     pub(crate) first: usize,
     /// The steps of its pieces, in order.
     pub(crate) steps: Steps,
     /// The stop to which it leads, and the borders that it crosses.
-    pub(crate) piece: Piece,
+    pub(crate) segment: Segment,
 }
 
 /// The ways from a stop.
 #[derive(Drop)]
 pub(crate) struct Departures {
     /// The ways, in the order of their first pieces.
-    pub(crate) ways: Vec<Way>,
+    pub(crate) legs: Vec<Leg>,
 }
 
 /// What is searched: the spots of the map, and how many stops each train may visit.
@@ -54,7 +54,7 @@ pub(crate) struct Task {
     /// The spots, by their numbers.
     pub(crate) spots: Vec<Node>,
     /// The pieces of track that lead from them.
-    pub(crate) pieces: Pieces,
+    pub(crate) segments: Segments,
     /// For each spot that is a stop, by its number, the ways from there.
     pub(crate) departures: Vec<Departures>,
     /// The stops from which ways lead, by their numbers.

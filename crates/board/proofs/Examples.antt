@@ -2,9 +2,9 @@
 use Rattle.std.proofs.Common.{◌≡◌, refl, inl, inr, true, false, [], ◌∷◌, Some, pos, Ok, Err}
 use Rattle.board.specs.Example.{WorkedExamples, beginner, city_beside, erie_at_home, pennsylvania_at_home, tile_59}
 use Rattle.map_tables.specs.Fit.{has_bad_side, is_wrong_kind}
-use Rattle.board.specs.Ground.{position_of, with_lay}
-use Rattle.map_tables.specs.Lying.{tile_on}
-use Rattle.board.specs.LayRules.{IsConnected, cost_or, ground_rules, is_blocked, is_colour_closed, is_lay_used, is_none_left, is_wrong_colour, lay_cost_of, lay_rules, loses_track, lying_of}
+use Rattle.board.specs.MapState.{position_of, with_lay}
+use Rattle.map_tables.specs.OnMap.{tile_on}
+use Rattle.board.specs.LayRules.{IsConnected, cost_or, map_rules, is_blocked, is_colour_closed, is_lay_used, is_none_left, is_wrong_colour, lay_cost_of, lay_rules, loses_track, on_map_of}
 use Rattle.board.specs.Powers.{is_cs_lay, is_dh_lay, is_dh_token}
 use Rattle.board.specs.TokenRules.{IsReachedPlace, has_none_left, has_token_in, is_no_free_slot, is_token_used, kept_at, laid_by, token_cost_of, token_rules}
 use Rattle.map_tables.specs.declared.rules.LayRule.TheVariants.{ColourClosed}
@@ -27,13 +27,13 @@ use Rattle.tables.specs.declared.roster.Company.TheVariants.{Erie, Pennsylvania}
 use Rattle.tables.specs.declared.rolling_stock.Kind.TheVariants.{Two, Three}
 
 -- in phase 2 no green tile is laid
-early : Some ColourClosed ≡ first_broken (ground_rules (erie_at_home Two) (beginner Erie (pos 0)) (tile_59 false))
-unfolding is_cs_lay is_dh_lay is_lay_used is_none_left lying_of is_colour_closed tile_on index_of groups plain_hexes print_of printed tile_index_of hexes
+early : Some ColourClosed ≡ first_broken (map_rules (erie_at_home Two) (beginner Erie (pos 0)) (tile_59 false))
+unfolding is_cs_lay is_dh_lay is_lay_used is_none_left on_map_of is_colour_closed tile_on index_of groups plain_hexes print_of printed tile_index_of hexes
 early = refl
 
 -- the lay with its stops swapped breaks no rule, and costs nothing
 allowed : Ok (pos 0) ≡ cost_or (lay_cost_of (erie_at_home Three).lays E11) (first_broken (lay_rules (erie_at_home Three) (beginner Erie (pos 0)) (tile_59 true) true))
-unfolding is_cs_lay is_dh_lay is_lay_used is_none_left lying_of is_colour_closed is_wrong_colour is_wrong_kind loses_track has_bad_side is_blocked lay_cost_of tile_on index_of groups plain_hexes print_of printed_links_of printed tile_index_of hexes laid_links_of laid_track_of neighbour_of adjacent hex_at site_of
+unfolding is_cs_lay is_dh_lay is_lay_used is_none_left on_map_of is_colour_closed is_wrong_colour is_wrong_kind loses_track has_bad_side is_blocked lay_cost_of tile_on index_of groups plain_hexes print_of printed_links_of printed tile_index_of hexes laid_links_of laid_track_of neighbour_of adjacent hex_at site_of
 allowed = refl
 
 -- the Erie's own token is reached

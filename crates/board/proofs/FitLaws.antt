@@ -2,9 +2,9 @@
 use Rattle.std.proofs.Common.{◌≡◌, ◌∙◌, ap, sym, subst, refl, ◌+◌, ◌≤◌, inl, inr, true, false, cond, List, [], ◌∷◌, ◌++◌, Some, None, arith}
 use Rattle.std.proofs.lemmas.Bool.{or_parts}
 use Rattle.std.proofs.lemmas.List.Sums.{sum_by_push}
-use Rattle.board.specs.Ground.{Ground, with_lay, with_token}
+use Rattle.board.specs.MapState.{MapState, with_lay, with_token}
 use Rattle.board.specs.Homes.{Fits, FitsWithoutHomes, HomeKeepsFit, LayKeepsFit, TokenKeepsFit}
-use Rattle.board.specs.LayRules.{ground_rules, is_wrong_colour}
+use Rattle.board.specs.LayRules.{map_rules, is_wrong_colour}
 use Rattle.board.specs.TokenRules.{is_full_at, is_no_free_slot, kept_at, slot_rules}
 use Rattle.board.specs.declared.asker.Asker.{Asker}
 use Rattle.board.proofs.Fitting.{named, no_fault, none_push, room, slots_for_all}
@@ -12,7 +12,7 @@ use Rattle.board.proofs.Growing.{stop_grows}
 use Rattle.board.proofs.KeptHomes.{among_append, among_first, free_where, home_named, home_takes_kept, home_there, homes_take, homes_take_no_more, kept_less, place_named}
 use Rattle.map_tables.specs.Fit.{AreFit, has_bad_side, is_wrong_kind, home_token, homes_to_come}
 use Rattle.map_tables.specs.Home.{home_of}
-use Rattle.map_tables.specs.Lying.{names, slots_at, taken_at}
+use Rattle.map_tables.specs.OnMap.{names, slots_at, taken_at}
 use Rattle.map_tables.specs.Place.{joined_stop_of, stop_of}
 use Rattle.map_tables.specs.declared.lay.Lay.{Lay}
 use Rattle.map_tables.specs.declared.place.Place.{Place}
@@ -22,13 +22,13 @@ use Rattle.tables.specs.Rules.{first_broken}
 use Rattle.tables.specs.declared.roster.Company.{Company}
 
 -- what lies, with the home tokens to come
-abbrev with_homes : Ground → Ground
+abbrev with_homes : MapState → MapState
 with_homes laid = record laid { tokens = laid.tokens ++ homes_to_come laid.tokens }
 
 -- a lay on what is fit
-lay_keeps : (laid : Ground) (asker : Asker) (lay : Lay) → AreFit laid.lays laid.tokens → first_broken (ground_rules laid asker lay) ≡ None → AreFit (laid.lays ++ lay ∷ []) laid.tokens
+lay_keeps : (laid : MapState) (asker : Asker) (lay : Lay) → AreFit laid.lays laid.tokens → first_broken (map_rules laid asker lay) ≡ None → AreFit (laid.lays ++ lay ∷ []) laid.tokens
 lay_keeps laid asker lay fit none =
-    let kept = none_broken (ground_rules laid asker lay) none in
+    let kept = none_broken (map_rules laid asker lay) none in
     let tile = or_parts (is_wrong_colour laid.lays lay) (is_wrong_kind lay) kept.1.1.1.1.0 in
     record {
       kinds = none_push is_wrong_kind laid.lays lay fit.kinds tile.1;
@@ -56,7 +56,7 @@ fits_without_homes laid fit =
     })
 
 -- one more token that names a stop, for which each stop has room beside the slots that are kept then
-one_more : (laid : Ground) (token : Place × Company) → Fits laid → ((stop : Stop) × (stop_of token.0 ≡ Some stop)) → ((stop : Stop) → taken_at (laid.tokens ++ token ∷ []) stop + kept_at (laid.tokens ++ token ∷ []) (joined_stop_of stop) ≤ slots_at laid.lays stop) → Fits (with_token laid token.0 token.1)
+one_more : (laid : MapState) (token : Place × Company) → Fits laid → ((stop : Stop) × (stop_of token.0 ≡ Some stop)) → ((stop : Stop) → taken_at (laid.tokens ++ token ∷ []) stop + kept_at (laid.tokens ++ token ∷ []) (joined_stop_of stop) ≤ slots_at laid.lays stop) → Fits (with_token laid token.0 token.1)
 one_more laid token fit names_one enough =
     let tokens = laid.tokens ++ token ∷ [] in
     record {

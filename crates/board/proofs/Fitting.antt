@@ -5,8 +5,8 @@ use Rattle.std.proofs.lemmas.List.Sums.{sum_by-cons}
 use Rattle.std.specs.List.{count_by, list_any}
 use Rattle.board.specs.Fit.{FaultlessAreFit, board_fault_of, board_rules}
 use Rattle.map_tables.specs.Fit.{AreFit, has_bad_side, has_no_slot, is_over_full}
-use Rattle.board.specs.Ground.{Ground}
-use Rattle.map_tables.specs.Lying.{is_part_of, is_stop, names, slots_at, slots_on, taken_at}
+use Rattle.board.specs.MapState.{MapState}
+use Rattle.map_tables.specs.OnMap.{is_part_of, is_stop, names, slots_at, slots_on, taken_at}
 use Rattle.board.specs.declared.fault.BoardFault.TheVariants as fault
 use Rattle.board.proofs.Same.{stop_is}
 use Rattle.map_tables.specs.Place.{joined_stop_of, stop_of}
@@ -68,22 +68,22 @@ pub faultless_are_fit : FaultlessAreFit
 faultless_are_fit lays tokens = (are_fit lays tokens, no_fault lays tokens)
 
 -- a token that has a slot names a stop
-names_stop : (laid : Ground) (named : Option Stop) → is_over_full laid.lays laid.tokens named ≡ false → (stop : Stop) × (named ≡ Some stop)
+names_stop : (laid : MapState) (named : Option Stop) → is_over_full laid.lays laid.tokens named ≡ false → (stop : Stop) × (named ≡ Some stop)
 names_stop laid None has = cc
 names_stop laid (Some stop) has = (stop, refl)
 
-pub named : (laid : Ground) → AreFit laid.lays laid.tokens → (token : Place × Company) → IsAmong token laid.tokens → (stop : Stop) × (stop_of token.0 ≡ Some stop)
+pub named : (laid : MapState) → AreFit laid.lays laid.tokens → (token : Place × Company) → IsAmong token laid.tokens → (stop : Stop) × (stop_of token.0 ≡ Some stop)
 named laid fit token among = names_stop laid (stop_of token.0) (none_of (has_no_slot laid.lays laid.tokens) laid.tokens fit.slots token among)
 
 -- the stop that a token names has slots for all
-room_where : (laid : Ground) (named : Option Stop) (stop : Stop) → is_part_of (joined_stop_of stop) named ≡ true → is_over_full laid.lays laid.tokens named ≡ false → taken_at laid.tokens stop ≤ slots_at laid.lays stop
+room_where : (laid : MapState) (named : Option Stop) (stop : Stop) → is_part_of (joined_stop_of stop) named ≡ true → is_over_full laid.lays laid.tokens named ≡ false → taken_at laid.tokens stop ≤ slots_at laid.lays stop
 room_where laid None stop part has = cc
 room_where laid (Some other) stop part has =
     let is = stop_is (joined_stop_of other) (joined_stop_of stop) part in
     subst (λ (joined : Stop). count_by (λ (token : Place × Company). names joined token.0) laid.tokens ≤ cond (is_stop joined) (slots_on laid.lays joined.hex) 0) is (ltb-false (slots_at laid.lays other) (taken_at laid.tokens other) has)
 
 -- so each stop has
-pub room : (laid : Ground) → AreFit laid.lays laid.tokens → (stop : Stop) → taken_at laid.tokens stop ≤ slots_at laid.lays stop
+pub room : (laid : MapState) → AreFit laid.lays laid.tokens → (stop : Stop) → taken_at laid.tokens stop ≤ slots_at laid.lays stop
 room laid fit stop =
     let here = λ (token : Place × Company). names (joined_stop_of stop) token.0 in
     (elim (list_any here laid.tokens) as (λ b. list_any here laid.tokens ≡ b → taken_at laid.tokens stop ≤ slots_at laid.lays stop) [
@@ -93,7 +93,7 @@ room laid fit stop =
     ]) refl
 
 -- and where each stop has, each token that names one has a slot
-pub slots_for_all : (laid : Ground) → ((token : Place × Company) → IsAmong token laid.tokens → (stop : Stop) × (stop_of token.0 ≡ Some stop)) → ((stop : Stop) → taken_at laid.tokens stop ≤ slots_at laid.lays stop) → list_any (has_no_slot laid.lays laid.tokens) laid.tokens ≡ false
+pub slots_for_all : (laid : MapState) → ((token : Place × Company) → IsAmong token laid.tokens → (stop : Stop) × (stop_of token.0 ≡ Some stop)) → ((stop : Stop) → taken_at laid.tokens stop ≤ slots_at laid.lays stop) → list_any (has_no_slot laid.lays laid.tokens) laid.tokens ≡ false
 slots_for_all laid each enough =
     none_if (has_no_slot laid.lays laid.tokens) laid.tokens (λ token among. let (stop, is) = each token among in
     ap (is_over_full laid.lays laid.tokens) is ∙ le-ltb (slots_at laid.lays stop) (taken_at laid.tokens stop) (enough stop))

@@ -5,7 +5,7 @@ use Rattle.std.proofs.lemmas.List.Sorted.{IsPermutation-reverse, list_any-IsPerm
 use Rattle.std.specs.List.{find, list_any}
 use Rattle.std.specs.Prelude.{◌==◌}
 use Rattle.map_tables.specs.Fit.{is_wrong_kind, place_of_tile_kind, takes}
-use Rattle.map_tables.specs.Lying.{by_tile, colour_on, is_stop, slots_at, slots_on, tile_on}
+use Rattle.map_tables.specs.OnMap.{by_tile, colour_on, is_stop, slots_at, slots_on, tile_on}
 use Rattle.board.specs.LayRules.{is_wrong_colour, place_of_colour}
 use Rattle.board.proofs.Same.{hex_is}
 use Rattle.board.proofs.Tiles.{last_lies, lies_there}
@@ -108,20 +108,20 @@ find_right p test (x ∷ xs) lay none found =
     ]) found
 
 -- where no tile is of a wrong kind, that which lies on a hex is not
-pub lying_right : (lays : List Lay) (hex : Hex) (lay : Lay) → list_any is_wrong_kind lays ≡ false → tile_on lays hex ≡ Some lay → is_wrong_kind lay ≡ false
+pub on_map_right : (lays : List Lay) (hex : Hex) (lay : Lay) → list_any is_wrong_kind lays ≡ false → tile_on lays hex ≡ Some lay → is_wrong_kind lay ≡ false
 unfolding tile_on
-lying_right lays hex lay right lies =
+on_map_right lays hex lay right lies =
     find_right is_wrong_kind (λ l. same_hex l.hex hex) (reverse lays) lay (sym (list_any-IsPermutation is_wrong_kind lays (reverse lays) (IsPermutation-reverse lays)) ∙ right) lies
 
 -- the slots of a hex of a kind are those of its colour
 slots_are : (lays : List Lay) (hex : Hex) (kind : TileKind) → (print_of hex).kind ≡ Open kind → list_any is_wrong_kind lays ≡ false → slots_on lays hex ≡ slots_by kind (colour_on lays hex)
 unfolding as_printed
 slots_are lays hex kind open_kind right =
-    (elim (tile_on lays hex) as (λ lying. tile_on lays hex ≡ lying → by_tile (print_of hex).slots (λ (lay : Lay). (entry_of lay.tile).slots) lying ≡ slots_by kind (by_tile (print_of hex).colour (λ (lay : Lay). (entry_of lay.tile).colour) lying)) [
+    (elim (tile_on lays hex) as (λ on_map. tile_on lays hex ≡ on_map → by_tile (print_of hex).slots (λ (lay : Lay). (entry_of lay.tile).slots) on_map ≡ slots_by kind (by_tile (print_of hex).colour (λ (lay : Lay). (entry_of lay.tile).colour) on_map)) [
       | None ↦ λ e. eqb-true (print_of hex).slots (slots_by kind (print_of hex).colour) (ap (λ k. as_printed k (print_of hex)) (sym open_kind) ∙ of_print hex)
       | Some lay ↦ λ e.
           let there : lay.hex ≡ hex = hex_is lay.hex hex (lies_there lays hex lay e) in
-          let own = kind_is lay (lying_right lays hex lay right e) in
+          let own = kind_is lay (on_map_right lays hex lay right e) in
           let same : Open (entry_of lay.tile).kind ≡ Open kind = sym own ∙ ap (λ (h : Hex). (print_of h).kind) there ∙ open_kind in
           let is : (entry_of lay.tile).kind ≡ kind = cc in
           of_tile lay.tile ∙ ap (λ k. slots_by k (entry_of lay.tile).colour) is
@@ -182,7 +182,7 @@ grows lays lay right own next =
 hex_grows : (lays : List Lay) (lay : Lay) (hex : Hex) → list_any is_wrong_kind lays ≡ false → is_wrong_kind lay ≡ false → is_wrong_colour lays lay ≡ false → slots_on lays hex ≤ slots_on (lays ++ lay ∷ []) hex
 hex_grows lays lay hex right own next =
     let slots = by_tile (print_of hex).slots (λ (l : Lay). (entry_of l.tile).slots) in
-    subst (λ lying. slots_on lays hex ≤ slots lying) (sym (last_lies lays lay hex)) (
+    subst (λ on_map. slots_on lays hex ≤ slots on_map) (sym (last_lies lays lay hex)) (
     (elim (same_hex lay.hex hex) as (λ b. same_hex lay.hex hex ≡ b → slots_on lays hex ≤ slots (cond b (Some lay) (tile_on lays hex))) [
       | true ↦ λ same. subst (λ (h : Hex). slots_on lays h ≤ (entry_of lay.tile).slots) (hex_is lay.hex hex same) (grows lays lay right own next)
       | false ↦ λ other. omega arith

@@ -9,7 +9,7 @@ use Rattle.board.proofs.Tiles.{last_lies}
 use Rattle.board.specs.Index.{IsIndex, counting, holding, holder_order}
 use Rattle.map_tables.specs.Hex.{index_of, same_hex}
 use Rattle.map_tables.specs.Lay.{laid_links_of}
-use Rattle.map_tables.specs.Lying.{by_tile, names, is_part_of, same_stop, tile_on}
+use Rattle.map_tables.specs.OnMap.{by_tile, names, is_part_of, same_stop, tile_on}
 use Rattle.map_tables.specs.Place.{joined_stop_of, stop_of}
 use Rattle.map_tables.specs.declared.hex.Hex.{Hex}
 use Rattle.map_tables.specs.declared.lay.Lay.{Lay}

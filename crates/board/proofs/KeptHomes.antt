@@ -4,8 +4,8 @@ use Rattle.std.proofs.lemmas.Bool.{and_parts, leb-false}
 use Rattle.std.proofs.lemmas.List.Folds.{list_any-append}
 use Rattle.std.proofs.lemmas.List.Sums.{sum_by-append, sum_by-cons, sum_by-le-sum_by}
 use Rattle.std.specs.List.{count_by, filter, list_any}
-use Rattle.board.specs.Ground.{Ground}
-use Rattle.map_tables.specs.Lying.{has_token, is_part_of, is_stop, names, same_stop, slots_at, slots_on, taken_at}
+use Rattle.board.specs.MapState.{MapState}
+use Rattle.map_tables.specs.OnMap.{has_token, is_part_of, is_stop, names, same_stop, slots_at, slots_on, taken_at}
 use Rattle.map_tables.specs.Fit.{home_token, homes_to_come}
 use Rattle.board.specs.TokenRules.{is_full_at, is_kept_for, kept_at}
 use Rattle.board.proofs.Same.{or_true, stop_is, stop_is_same}
@@ -175,15 +175,15 @@ home_named tokens token among =
     (home_of company, ap (λ (t : Place × Company). stop_of t.0) (sym is))
 
 -- a place with a free slot names a stop
-free_named : (laid : Ground) (named : Option Stop) → is_full_at laid named ≡ false → (stop : Stop) × (named ≡ Some stop)
+free_named : (laid : MapState) (named : Option Stop) → is_full_at laid named ≡ false → (stop : Stop) × (named ≡ Some stop)
 free_named laid None free = cc
 free_named laid (Some stop) free = (stop, refl)
 
-pub place_named : (laid : Ground) (place : Place) → is_full_at laid (stop_of place) ≡ false → (stop : Stop) × (stop_of place ≡ Some stop)
+pub place_named : (laid : MapState) (place : Place) → is_full_at laid (stop_of place) ≡ false → (stop : Stop) × (stop_of place ≡ Some stop)
 place_named laid place free = free_named laid (stop_of place) free
 
 -- and that stop has room for one more beside those that are taken or kept
-pub free_where : (laid : Ground) (named : Option Stop) (stop : Stop) → is_part_of (joined_stop_of stop) named ≡ true → is_full_at laid named ≡ false → taken_at laid.tokens stop + kept_at laid.tokens (joined_stop_of stop) < slots_at laid.lays stop
+pub free_where : (laid : MapState) (named : Option Stop) (stop : Stop) → is_part_of (joined_stop_of stop) named ≡ true → is_full_at laid named ≡ false → taken_at laid.tokens stop + kept_at laid.tokens (joined_stop_of stop) < slots_at laid.lays stop
 free_where laid None stop part free = cc
 free_where laid (Some other) stop part free =
     let is = stop_is (joined_stop_of other) (joined_stop_of stop) part in

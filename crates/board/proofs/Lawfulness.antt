@@ -1,9 +1,9 @@
 -- The position keeps the laws of positions, whatever was laid.
 use Rattle.std.proofs.Common.{◌≡◌, ◌∙◌, ap, sym, subst, refl, ◌≤◌, lit≤, Bool, true, false, cond, if◌then◌else◌, Option, Some, None}
-use Rattle.board.specs.Ground.{Ground, is_red_kind, position_of, value_in}
-use Rattle.map_tables.specs.Lying.{by_tile, is_stop, tile_on}
+use Rattle.board.specs.MapState.{MapState, is_red_kind, position_of, value_in}
+use Rattle.map_tables.specs.OnMap.{by_tile, is_stop, tile_on}
 use Rattle.board.proofs.Parts.{parts_have_one_stop}
-use Rattle.board.proofs.Positions.{in_hex_is, not_shown, shown}
+use Rattle.board.proofs.Positions.{in_hex_is, not_on_map, shown}
 use Rattle.board.proofs.Same.{hex_is}
 use Rattle.board.proofs.Tiles.{lies_there}
 use Rattle.map_tables.specs.Hex.{index_of, same_hex}
@@ -25,7 +25,7 @@ use Rattle.tables.specs.declared.rolling_stock.Kind.{Kind}
 use Rattle.tables.specs.declared.rolling_stock.Kind.TheVariants.{Five}
 
 -- the links of a hex are those of its print, or of the tile that lies on it
-of_tile : PrintedLinksAreInOrder → LaidLinksAreInOrder → (hex : Hex) (lying : Option Lay) → ((lay : Lay) → lying ≡ Some lay → same_hex lay.hex hex ≡ true) → AreLinksOf hex (by_tile (printed_links_of hex) laid_links_of lying)
+of_tile : PrintedLinksAreInOrder → LaidLinksAreInOrder → (hex : Hex) (on_map : Option Lay) → ((lay : Lay) → on_map ≡ Some lay → same_hex lay.hex hex ≡ true) → AreLinksOf hex (by_tile (printed_links_of hex) laid_links_of on_map)
 of_tile printed laid hex None there = printed hex
 of_tile printed laid hex (Some lay) there =
     subst (λ h. AreLinksOf h (laid_links_of lay)) (hex_is lay.hex hex (there lay refl)) (laid lay)
@@ -39,17 +39,17 @@ of_print values phase hex =
     ]
 
 -- what a stop is worth, by its print or the tile
-value_low : ValuesAreAtMost80 → (phase : Kind) (hex : Hex) (lying : Option Lay) → by_tile (value_in phase (print_of hex).value) (λ lay. (entry_of lay.tile).value) lying ≤ 80
+value_low : ValuesAreAtMost80 → (phase : Kind) (hex : Hex) (on_map : Option Lay) → by_tile (value_in phase (print_of hex).value) (λ lay. (entry_of lay.tile).value) on_map ≤ 80
 value_low values phase hex None = of_print values phase hex
 value_low values phase hex (Some lay) = values.1 lay.tile
 
 -- what any stop is worth
-worth : ValuesAreAtMost80 → (laid : Ground) (stop : Stop) → value_of (position_of laid) stop ≤ 80
+worth : ValuesAreAtMost80 → (laid : MapState) (stop : Stop) → value_of (position_of laid) stop ≤ 80
 worth values laid stop =
     let hex = (joined_stop_of stop).hex in
     (elim (is_stop (joined_stop_of stop)) as (λ b. is_stop (joined_stop_of stop) ≡ b → value_of (position_of laid) stop ≤ 80) [
       | true ↦ λ is. subst (λ (s : AtStop). s.value ≤ 80) (sym (shown laid stop is)) (value_low values laid.phase hex (tile_on laid.lays hex))
-      | false ↦ λ is. subst (λ (s : AtStop). s.value ≤ 80) (sym (not_shown laid stop is)) (lit≤ tt)
+      | false ↦ λ is. subst (λ (s : AtStop). s.value ≤ 80) (sym (not_on_map laid stop is)) (lit≤ tt)
     ]) refl
 
 -- the red areas
@@ -70,12 +70,12 @@ unfolding index_of groups plain_hexes print_of
 west_is_red = refl
 
 -- the links of a hex are those of its print, or of what lies there
-of_track : PrintedLinksAreInOrder → LaidLinksAreInOrder → (laid : Ground) (hex : Hex) (whole : Bool) → AreLinksOf hex (if whole then by_tile (printed_links_of hex) laid_links_of (tile_on laid.lays hex) else printed_links_of hex)
+of_track : PrintedLinksAreInOrder → LaidLinksAreInOrder → (laid : MapState) (hex : Hex) (whole : Bool) → AreLinksOf hex (if whole then by_tile (printed_links_of hex) laid_links_of (tile_on laid.lays hex) else printed_links_of hex)
 of_track printed laid_links laid hex true =
     of_tile printed laid_links hex (tile_on laid.lays hex) (λ lay e. lies_there laid.lays hex lay e)
 of_track printed laid_links laid hex false = printed hex
 
-pub lawful : NeighboursPair → PrintedLinksAreInOrder → LaidLinksAreInOrder → ValuesAreAtMost80 → (laid : Ground) → IsLawful (position_of laid)
+pub lawful : NeighboursPair → PrintedLinksAreInOrder → LaidLinksAreInOrder → ValuesAreAtMost80 → (laid : MapState) → IsLawful (position_of laid)
 lawful pair printed laid_links values laid =
     record {
       links = λ hex. subst (λ (h : InHex). AreLinksOf hex h.links) (sym (in_hex_is laid hex)) (of_track printed laid_links laid hex (same_hex (joined_hex hex) hex));

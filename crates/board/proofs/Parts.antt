@@ -1,6 +1,6 @@
 -- A hex that is a part of another's stop keeps its print, and that shows no second stop.
 use Rattle.std.proofs.Common.{◌≡◌, ◌∙◌, ap, subst, refl, inl, inr}
-use Rattle.board.specs.Ground.{Ground, position_of, track_in}
+use Rattle.board.specs.MapState.{MapState, position_of, track_in}
 use Rattle.board.proofs.Positions.{in_hex_is}
 use Rattle.map_tables.specs.Hex.{index_of}
 use Rattle.map_tables.specs.Place.{joined_hex}
@@ -25,12 +25,12 @@ west_has_one link (inl is) second = absurd (let wrong = ap (λ (l : Link). l.b) 
 west_has_one link (inr more) second = absurd more
 
 -- whatever was laid
-one_stop : (laid : Ground) (hex : Hex) (link : Link) → IsAmong link (track_in laid.lays hex) → link.b ≡ AtStop Second → joined_hex hex ≡ hex
+one_stop : (laid : MapState) (hex : Hex) (link : Link) → IsAmong link (track_in laid.lays hex) → link.b ≡ AtStop Second → joined_hex hex ≡ hex
 unfolding index_of
 one_stop laid I1 link track second = gulf_has_one link track second
 one_stop laid A9 link track second = west_has_one link track second
 one_stop laid hex link track second = refl
 
-pub parts_have_one_stop : (laid : Ground) → PartsHaveOneStop (position_of laid)
+pub parts_have_one_stop : (laid : MapState) → PartsHaveOneStop (position_of laid)
 parts_have_one_stop laid hex link among =
     one_stop laid hex link (subst (λ (h : InHex). IsAmong link h.links) (in_hex_is laid hex) among)

@@ -3,8 +3,8 @@ use Rattle.std.proofs.Common.{◌≡◌, ◌∙◌, ap, refl, ℕ, zero, suc, �
 use Rattle.std.proofs.lemmas.Bool.{lt-ltb}
 use Rattle.std.proofs.lemmas.List.{get_or-map}
 use Rattle.std.specs.Prelude.{nat_lt}
-use Rattle.board.specs.Ground.{Ground, lying_at, lying_in, position_of, stop_numbers, stops_in}
-use Rattle.map_tables.specs.Lying.{is_stop, slots_at, slots_on}
+use Rattle.board.specs.MapState.{MapState, on_map_at, on_map_in, position_of, stop_numbers, stops_in}
+use Rattle.map_tables.specs.OnMap.{is_stop, slots_at, slots_on}
 use Rattle.map_tables.specs.Hex.{hexes, index_of, same_hex}
 use Rattle.map_tables.specs.Place.{joined_hex, joined_stop_of, stop_at, stop_index_of}
 use Rattle.map_tables.specs.Print.{print_of}
@@ -28,10 +28,10 @@ index_low A9 = lit< tt
 index_low hex = lit< tt
 
 -- the position has in a hex what lies there
-pub in_hex_is : (laid : Ground) (hex : Hex) → in_hex (position_of laid) hex ≡ lying_in laid hex
+pub in_hex_is : (laid : MapState) (hex : Hex) → in_hex (position_of laid) hex ≡ on_map_in laid hex
 unfolding position_of
 in_hex_is laid hex =
-    get_or-map (lying_in laid) hexes (index_of hex) A9 empty_hex (index_low hex) ∙ ap (lying_in laid) (at_index hex)
+    get_or-map (on_map_in laid) hexes (index_of hex) A9 empty_hex (index_low hex) ∙ ap (on_map_in laid) (at_index hex)
 
 -- what stands at a number among so many stops
 numbered : (f : StopNumber → AtStop) (count : ℕ) (number : StopNumber) (none : AtStop) → get_or (map f (stop_numbers count)) (stop_index_of number) none ≡ cond (nat_lt (stop_index_of number) count) (f number) none
@@ -49,31 +49,31 @@ joined_twice A9 = refl
 joined_twice hex = refl
 
 -- so its stops are kept there
-stops_kept : (laid : Ground) (hex : Hex) → stops_in laid (joined_hex hex) ≡ map (λ number. lying_at laid (stop_at (joined_hex hex) number)) (stop_numbers (print_of (joined_hex hex)).stops)
+stops_kept : (laid : MapState) (hex : Hex) → stops_in laid (joined_hex hex) ≡ map (λ number. on_map_at laid (stop_at (joined_hex hex) number)) (stop_numbers (print_of (joined_hex hex)).stops)
 stops_kept laid hex =
-    let there = map (λ number. lying_at laid (stop_at (joined_hex hex) number)) (stop_numbers (print_of (joined_hex hex)).stops) in
+    let there = map (λ number. on_map_at laid (stop_at (joined_hex hex) number)) (stop_numbers (print_of (joined_hex hex)).stops) in
     ap (λ b. cond b there []) (joined_twice hex)
 
 -- what the position has at a stop
-at_stop_is : (laid : Ground) (stop : Stop) → at_stop (position_of laid) stop ≡ cond (is_stop (joined_stop_of stop)) (lying_at laid (joined_stop_of stop)) no_stop
+at_stop_is : (laid : MapState) (stop : Stop) → at_stop (position_of laid) stop ≡ cond (is_stop (joined_stop_of stop)) (on_map_at laid (joined_stop_of stop)) no_stop
 at_stop_is laid stop =
     let hex = joined_hex stop.hex in
     ap (λ (here : InHex). get_or here.stops (stop_index_of stop.number) no_stop) (in_hex_is laid hex)
     ∙ ap (λ stops. get_or stops (stop_index_of stop.number) no_stop) (stops_kept laid stop.hex)
-    ∙ numbered (λ number. lying_at laid (stop_at hex number)) (print_of hex).stops stop.number no_stop
+    ∙ numbered (λ number. on_map_at laid (stop_at hex number)) (print_of hex).stops stop.number no_stop
 
 -- at a stop of a hex it has what lies there
-pub shown : (laid : Ground) (stop : Stop) → is_stop (joined_stop_of stop) ≡ true → at_stop (position_of laid) stop ≡ lying_at laid (joined_stop_of stop)
-shown laid stop is = at_stop_is laid stop ∙ ap (λ b. cond b (lying_at laid (joined_stop_of stop)) no_stop) is
+pub shown : (laid : MapState) (stop : Stop) → is_stop (joined_stop_of stop) ≡ true → at_stop (position_of laid) stop ≡ on_map_at laid (joined_stop_of stop)
+shown laid stop is = at_stop_is laid stop ∙ ap (λ b. cond b (on_map_at laid (joined_stop_of stop)) no_stop) is
 
 -- and elsewhere nothing
-pub not_shown : (laid : Ground) (stop : Stop) → is_stop (joined_stop_of stop) ≡ false → at_stop (position_of laid) stop ≡ no_stop
-not_shown laid stop is = at_stop_is laid stop ∙ ap (λ b. cond b (lying_at laid (joined_stop_of stop)) no_stop) is
+pub not_on_map : (laid : MapState) (stop : Stop) → is_stop (joined_stop_of stop) ≡ false → at_stop (position_of laid) stop ≡ no_stop
+not_on_map laid stop is = at_stop_is laid stop ∙ ap (λ b. cond b (on_map_at laid (joined_stop_of stop)) no_stop) is
 
 -- the slots of a stop are those that the position has there
-pub slots_shown : (laid : Ground) (stop : Stop) → (at_stop (position_of laid) stop).slots ≡ slots_at laid.lays stop
-slots_shown laid stop =
+pub slots_on_map : (laid : MapState) (stop : Stop) → (at_stop (position_of laid) stop).slots ≡ slots_at laid.lays stop
+slots_on_map laid stop =
     (elim (is_stop (joined_stop_of stop)) as (λ b. is_stop (joined_stop_of stop) ≡ b → (at_stop (position_of laid) stop).slots ≡ cond b (slots_on laid.lays (joined_stop_of stop).hex) 0) [
       | true ↦ λ is. ap (λ (s : AtStop). s.slots) (shown laid stop is)
-      | false ↦ λ is. ap (λ (s : AtStop). s.slots) (not_shown laid stop is)
+      | false ↦ λ is. ap (λ (s : AtStop). s.slots) (not_on_map laid stop is)
     ]) refl

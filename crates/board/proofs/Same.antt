@@ -2,7 +2,7 @@
 use Rattle.std.proofs.Common.{◌≡◌, ◌∙◌, ap, refl, Bool, true, false, ◌&&◌, ◌||◌}
 use Rattle.std.proofs.lemmas.Bool.{and_parts, eq-eqb, eqb-true}
 use Rattle.std.specs.Prelude.{◌==◌}
-use Rattle.map_tables.specs.Lying.{same_stop}
+use Rattle.map_tables.specs.OnMap.{same_stop}
 use Rattle.map_tables.specs.Hex.{index_of, same_hex}
 use Rattle.map_tables.specs.Place.{stop_at, stop_index_of}
 use Rattle.map_tables.specs.declared.hex.Hex.{Hex}

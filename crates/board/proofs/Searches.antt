@@ -1,7 +1,7 @@
 -- Searches through a list, one element after another, for one of which something holds.
 use Rattle.std.proofs.Common.{◌≡◌, sym, subst, ℕ, ◌+◌, ◌<◌, ◌≤◌, inl, inr, true, false, List, length, take, get_or, refl}
 use Rattle.std.proofs.lemmas.List.{take_all}
-use Rattle.map_tables.specs.Lying.{same_stop}
+use Rattle.map_tables.specs.OnMap.{same_stop}
 use Rattle.board.specs.LayRules.{HaveStopIn}
 use Rattle.board.proofs.Same.{hex_is, hex_is_same, stop_is, stop_is_same}
 use Rattle.map_tables.specs.Hex.{same_hex}

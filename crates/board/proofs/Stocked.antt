@@ -4,8 +4,8 @@ use Rattle.std.proofs.lemmas.Bool.{eqb-true, leb-false}
 use Rattle.std.proofs.lemmas.List.Sums.{sum_by-cons}
 use Rattle.std.specs.List.{count_by}
 use Rattle.std.specs.Prelude.{◌==◌}
-use Rattle.map_tables.specs.Lying.{tile_on}
-use Rattle.board.specs.LayRules.{ground_rules, is_none_left, is_tile, lying_of}
+use Rattle.map_tables.specs.OnMap.{tile_on}
+use Rattle.board.specs.LayRules.{map_rules, is_none_left, is_tile, on_map_of}
 use Rattle.board.specs.Stock.{LayKeepsStock}
 use Rattle.board.proofs.KeptHomes.{count_le}
 use Rattle.board.proofs.Tiles.{last_lies}
@@ -72,33 +72,33 @@ before_lay lays lay tile hex other lies =
     ]) (ap (is_tile tile) (sym (last_lies lays lay hex)) ∙ lies)
 
 -- so at most one more of the tile's number lies
-one_more : (lays : List Lay) (lay : Lay) (tile : TileNo) → lying_of (lays ++ lay ∷ []) tile ≤ lying_of lays tile + 1
-unfolding lying_of
+one_more : (lays : List Lay) (lay : Lay) (tile : TileNo) → on_map_of (lays ++ lay ∷ []) tile ≤ on_map_of lays tile + 1
+unfolding on_map_of
 one_more lays lay tile =
     let both = count_either (λ hex. is_tile tile (tile_on (lays ++ lay ∷ []) hex)) (λ hex. is_tile tile (tile_on lays hex)) (same_hex lay.hex) hexes (lay_or_before lays lay tile) in
     let one = once lay.hex in
     omega arith
 
 -- and no more of another
-no_more : (lays : List Lay) (lay : Lay) (tile : TileNo) → (tile_index_of lay.tile == tile_index_of tile) ≡ false → lying_of (lays ++ lay ∷ []) tile ≤ lying_of lays tile
-unfolding lying_of
+no_more : (lays : List Lay) (lay : Lay) (tile : TileNo) → (tile_index_of lay.tile == tile_index_of tile) ≡ false → on_map_of (lays ++ lay ∷ []) tile ≤ on_map_of lays tile
+unfolding on_map_of
 no_more lays lay tile other =
     count_le (λ hex. is_tile tile (tile_on (lays ++ lay ∷ []) hex)) (λ hex. is_tile tile (tile_on lays hex)) hexes (λ hex lies. before_lay lays lay tile hex other lies)
 
 -- a tile that is left
-left : (lays : List Lay) (tile : TileNo) → is_none_left lays tile ≡ false → lying_of lays tile + 1 ≤ (entry_of tile).count
+left : (lays : List Lay) (tile : TileNo) → is_none_left lays tile ≡ false → on_map_of lays tile + 1 ≤ (entry_of tile).count
 unfolding is_none_left
 left lays tile some =
-    let low = leb-false (entry_of tile).count (lying_of lays tile) some in omega arith
+    let low = leb-false (entry_of tile).count (on_map_of lays tile) some in omega arith
 
 pub lay_keeps_stock : LayKeepsStock
 lay_keeps_stock laid asker lay stocked none tile =
-    let kept = none_broken (ground_rules laid asker lay) none in
+    let kept = none_broken (map_rules laid asker lay) none in
     let has = left laid.lays lay.tile kept.1.1.0 in
-    (elim (tile_index_of lay.tile == tile_index_of tile) as (λ b. (tile_index_of lay.tile == tile_index_of tile) ≡ b → lying_of (laid.lays ++ lay ∷ []) tile ≤ (entry_of tile).count) [
+    (elim (tile_index_of lay.tile == tile_index_of tile) as (λ b. (tile_index_of lay.tile == tile_index_of tile) ≡ b → on_map_of (laid.lays ++ lay ∷ []) tile ≤ (entry_of tile).count) [
       | true ↦ λ same.
           let more = one_more laid.lays lay tile in
-          let enough : lying_of laid.lays tile + 1 ≤ (entry_of tile).count = subst (λ (t : TileNo). lying_of laid.lays t + 1 ≤ (entry_of t).count) (tile_is lay.tile tile same) has in
+          let enough : on_map_of laid.lays tile + 1 ≤ (entry_of tile).count = subst (λ (t : TileNo). on_map_of laid.lays t + 1 ≤ (entry_of t).count) (tile_is lay.tile tile same) has in
           omega arith
       | false ↦ λ other.
           let no = no_more laid.lays lay tile other in

@@ -3,7 +3,7 @@
 -- token is reached. The Pennsylvania has its token at home in H12, and a yellow city lies on H10 beside it.
 -- A token there costs 40: with 39 it can't be placed, with 40 it can.
 use Rattle.std.specs.Prelude.{Bool, true, false, [], ◌∷◌, Some, Ok, Err, ℤ, pos, replicate}
-use Rattle.board.specs.Ground.{Ground, ground_of}
+use Rattle.board.specs.MapState.{MapState, map_state_of}
 use Rattle.board.specs.LayRules.{IsLayAnswer}
 use Rattle.board.specs.TokenRules.{IsTokenAnswer}
 use Rattle.board.specs.declared.asker.Asker.{Asker}
@@ -35,17 +35,17 @@ beginner company cash =
     }
 
 -- the Erie's token at home
-abbrev pub erie_at_home : Kind → Ground
-erie_at_home phase = ground_of [] ((record { hex = E11; stop = Some First }, Erie) ∷ []) phase
+abbrev pub erie_at_home : Kind → MapState
+erie_at_home phase = map_state_of [] ((record { hex = E11; stop = Some First }, Erie) ∷ []) phase
 
 -- tile 59 on its home, as printed or with its stops swapped
 abbrev pub tile_59 : Bool → Lay
 tile_59 swap = record { hex = E11; tile = T59; rot = Zero; swap = swap }
 
 -- the Pennsylvania's token at home, and a city beside it
-abbrev pub pennsylvania_at_home : Ground
+abbrev pub pennsylvania_at_home : MapState
 pennsylvania_at_home =
-    ground_of (record { hex = H10; tile = T57; rot = One; swap = false } ∷ []) ((record { hex = H12; stop = Some First }, Pennsylvania) ∷ []) Two
+    map_state_of (record { hex = H10; tile = T57; rot = One; swap = false } ∷ []) ((record { hex = H12; stop = Some First }, Pennsylvania) ∷ []) Two
 
 -- that city
 abbrev pub city_beside : Place

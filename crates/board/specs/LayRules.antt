@@ -8,8 +8,8 @@ use Rattle.std.specs.Prelude.{◌≡◌, ℕ, ◌+◌, ◌==◌, ◌&&◌, ◌||
 use Rattle.std.specs.Int.Signed.{lt_z}
 use Rattle.std.specs.List.{list_any}
 use Rattle.map_tables.specs.Fit.{has_bad_side, is_open, is_wrong_kind}
-use Rattle.board.specs.Ground.{Ground, position_of, with_lay}
-use Rattle.map_tables.specs.Lying.{by_tile, colour_on, links_on, tile_on}
+use Rattle.board.specs.MapState.{MapState, position_of, with_lay}
+use Rattle.map_tables.specs.OnMap.{by_tile, colour_on, links_on, tile_on}
 use Rattle.board.specs.Powers.{is_cs_lay, is_dh_lay}
 use Rattle.board.specs.Turn.{place_of_step}
 use Rattle.board.specs.declared.asker.Asker.{Asker}
@@ -53,15 +53,15 @@ needs_no_track lays asker lay = is_cs_lay lays asker lay.hex || is_dh_lay asker 
 
 -- whether a tile that lies is one of this number
 abbrev pub is_tile : TileNo → Option Lay → Bool
-is_tile tile lying = by_tile false (λ lay. tile_index_of lay.tile == tile_index_of tile) lying
+is_tile tile on_map = by_tile false (λ lay. tile_index_of lay.tile == tile_index_of tile) on_map
 
 -- how many tiles of a number lie on the map; one that was replaced does not
-unfoldable pub lying_of : List Lay → TileNo → ℕ
-lying_of lays tile = count_by (λ hex. is_tile tile (tile_on lays hex)) hexes
+unfoldable pub on_map_of : List Lay → TileNo → ℕ
+on_map_of lays tile = count_by (λ hex. is_tile tile (tile_on lays hex)) hexes
 
 -- whether the stock has none left of a tile
 unfoldable pub is_none_left : List Lay → TileNo → Bool
-is_none_left lays tile = nat_le (entry_of tile).count (lying_of lays tile)
+is_none_left lays tile = nat_le (entry_of tile).count (on_map_of lays tile)
 
 -- whether a colour has not come yet
 unfoldable pub is_colour_closed : Kind → Colour → Bool
@@ -112,8 +112,8 @@ abbrev pub HaveStopIn : Hex → List Stop → Type 0
 HaveStopIn hex stops = (number : StopNumber) × IsAmong (stop_at hex number) stops
 
 -- the rules that ask nothing of what is reached
-abbrev pub ground_rules : Ground → Asker → Lay → List (Rule LayRule)
-ground_rules laid asker lay =
+abbrev pub map_rules : MapState → Asker → Lay → List (Rule LayRule)
+map_rules laid asker lay =
     record { code = rule.StepUsed; broken = is_lay_used laid.lays asker lay.hex }
     ∷ record { code = rule.GreyOrRed; broken = not (is_open (print_of lay.hex).kind) }
     ∷ record { code = rule.NoneLeft; broken = is_none_left laid.lays lay.tile }
@@ -125,15 +125,15 @@ ground_rules laid asker lay =
     ∷ []
 
 -- the rules that are looked at once it is known whether some piece of the tile is reached
-abbrev pub reach_rules : Ground → Asker → Lay → Bool → List (Rule LayRule)
+abbrev pub reach_rules : MapState → Asker → Lay → Bool → List (Rule LayRule)
 reach_rules laid asker lay reached =
     record { code = rule.NotReached; broken = not (needs_no_track laid.lays asker lay || reached) }
     ∷ record { code = rule.CashTooSmall; broken = lt_z asker.cash (pos (lay_cost_of laid.lays lay.hex)) }
     ∷ []
 
 -- all rules of a lay
-abbrev pub lay_rules : Ground → Asker → Lay → Bool → List (Rule LayRule)
-lay_rules laid asker lay reached = ground_rules laid asker lay ++ reach_rules laid asker lay reached
+abbrev pub lay_rules : MapState → Asker → Lay → Bool → List (Rule LayRule)
+lay_rules laid asker lay reached = map_rules laid asker lay ++ reach_rules laid asker lay reached
 
 -- the cost, or the rule that is broken first
 abbrev pub cost_or : {Fault : Type 0} → ℕ → Option Fault → Result ℤ Fault
@@ -141,19 +141,19 @@ cost_or cost None = Ok (pos cost)
 cost_or cost (Some fault) = Err fault
 
 -- the cost of a lay, or the first rule that it breaks, where it is known whether some piece of the tile is reached
-abbrev pub lay_answer_of : Ground → Asker → Lay → Bool → Result ℤ LayRule
+abbrev pub lay_answer_of : MapState → Asker → Lay → Bool → Result ℤ LayRule
 lay_answer_of laid asker lay reached =
     cost_or (lay_cost_of laid.lays lay.hex) (first_broken (lay_rules laid asker lay reached))
 
 -- the answer to a lay: its cost, or the first rule that it breaks. Where the rules before it are kept, what
 -- is reached is looked at, in the position after the lay.
-pub record IsLayAnswer (laid : Ground) (asker : Asker) (lay : Lay) (answer : Result ℤ LayRule) : Type 0 where
+pub record IsLayAnswer (laid : MapState) (asker : Asker) (lay : Lay) (answer : Result ℤ LayRule) : Type 0 where
   pub reached : Bool
-  pub exact : first_broken (ground_rules laid asker lay) ≡ None → IsTrue reached ↔ IsConnected (position_of (with_lay laid lay)) asker.company lay
+  pub exact : first_broken (map_rules laid asker lay) ≡ None → IsTrue reached ↔ IsConnected (position_of (with_lay laid lay)) asker.company lay
   pub given : answer ≡ lay_answer_of laid asker lay reached
 
 -- the outcome of a call for a lay: that answer; or want of memory, where the rules before what is reached are kept
-abbrev pub IsLayOutcome : Ground → Asker → Lay → Result ℤ LayFault → Type 0
+abbrev pub IsLayOutcome : MapState → Asker → Lay → Result ℤ LayFault → Type 0
 IsLayOutcome laid asker lay (Ok cost) = IsLayAnswer laid asker lay (Ok cost)
 IsLayOutcome laid asker lay (Err (fault.Rule rule)) = IsLayAnswer laid asker lay (Err rule)
-IsLayOutcome laid asker lay (Err (fault.Memory error)) = first_broken (ground_rules laid asker lay) ≡ None
+IsLayOutcome laid asker lay (Err (fault.Memory error)) = first_broken (map_rules laid asker lay) ≡ None

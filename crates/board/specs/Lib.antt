@@ -1,4 +1,4 @@
-pub mod Ground
+pub mod MapState
 pub mod Index
 pub mod Kept
 pub mod Fit

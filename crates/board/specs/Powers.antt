@@ -4,7 +4,7 @@
 use Rattle.std.specs.Prelude.{◌==◌, Bool, true, false, ◌&&◌, List, slice_index_or}
 use Rattle.board.specs.declared.asker.Asker.{Asker}
 use Rattle.map_tables.specs.Hex.{same_hex}
-use Rattle.map_tables.specs.Lying.{by_tile, tile_on}
+use Rattle.map_tables.specs.OnMap.{by_tile, tile_on}
 use Rattle.map_tables.specs.Tile.{tile_index_of}
 use Rattle.map_tables.specs.declared.hex.Hex.{Hex}
 use Rattle.map_tables.specs.declared.hex.Hex.TheVariants.{B20, F16}

@@ -1,8 +1,8 @@
 -- The stock: of each tile those of the manifest that do not lie on the map. A lay by the rules takes one
 -- from it and returns the tile that it replaces, so no more tiles of a number ever lie than there are.
 use Rattle.std.specs.Prelude.{◌≡◌, ◌≤◌, List, [], ◌∷◌, ◌++◌, None}
-use Rattle.board.specs.Ground.{Ground}
-use Rattle.board.specs.LayRules.{ground_rules, lying_of}
+use Rattle.board.specs.MapState.{MapState}
+use Rattle.board.specs.LayRules.{map_rules, on_map_of}
 use Rattle.board.specs.declared.asker.Asker.{Asker}
 use Rattle.map_tables.specs.Tile.{entry_of}
 use Rattle.map_tables.specs.declared.lay.Lay.{Lay}
@@ -11,9 +11,9 @@ use Rattle.tables.specs.Rules.{first_broken}
 
 -- no more tiles of a number lie than there are
 abbrev pub IsStocked : List Lay → Type 0
-IsStocked lays = (tile : TileNo) → lying_of lays tile ≤ (entry_of tile).count
+IsStocked lays = (tile : TileNo) → on_map_of lays tile ≤ (entry_of tile).count
 
 -- nor do they after a lay by the rules
 abbrev pub LayKeepsStock : Type 0
 LayKeepsStock =
-    (laid : Ground) (asker : Asker) (lay : Lay) → IsStocked laid.lays → first_broken (ground_rules laid asker lay) ≡ None → IsStocked (laid.lays ++ lay ∷ [])
+    (laid : MapState) (asker : Asker) (lay : Lay) → IsStocked laid.lays → first_broken (map_rules laid asker lay) ≡ None → IsStocked (laid.lays ++ lay ∷ [])

@@ -5,8 +5,8 @@
 use Rattle.std.specs.Prelude.{◌≡◌, ℕ, ◌+◌, ◌&&◌, ◌||◌, if◌then◌else◌, ◌↔◌, Bool, true, not, nat_lt, nat_le, IsTrue, List, [], ◌∷◌, ◌++◌, Option, Some, None, Result, Ok, Err, ℤ, pos, count_by}
 use Rattle.std.specs.Int.Signed.{lt_z}
 use Rattle.std.specs.List.{list_any}
-use Rattle.board.specs.Ground.{Ground, position_of}
-use Rattle.map_tables.specs.Lying.{has_token, same_stop, slots_at, taken_at}
+use Rattle.board.specs.MapState.{MapState, position_of}
+use Rattle.map_tables.specs.OnMap.{has_token, same_stop, slots_at, taken_at}
 use Rattle.board.specs.LayRules.{cost_or}
 use Rattle.board.specs.Powers.{is_dh_token}
 use Rattle.board.specs.Turn.{place_of_step}
@@ -24,7 +24,7 @@ use Rattle.map_tables.specs.declared.rules.TokenRule.{TokenRule}
 use Rattle.map_tables.specs.declared.rules.TokenRule.TheVariants as rule
 use Rattle.reach.specs.Position.{Position}
 use Rattle.reach.specs.Reached.{ReachesStop}
-use Rattle.tables.specs.Roster.{companies, same_company, token_price_of, tokens_of}
+use Rattle.tables.specs.Roster.{companies, same_company, token_price_of, token_supply_of}
 use Rattle.tables.specs.Rules.{Rule, first_broken}
 use Rattle.tables.specs.declared.roster.Company.{Company}
 
@@ -38,7 +38,7 @@ laid_by tokens company = count_by (λ token. same_company token.1 company) token
 
 -- whether a company has no token left
 unfoldable pub has_none_left : List (Place × Company) → Company → Bool
-has_none_left tokens company = nat_le (tokens_of company) (laid_by tokens company)
+has_none_left tokens company = nat_le (token_supply_of company) (laid_by tokens company)
 
 -- whether a slot of a stop is kept for a company
 abbrev pub is_kept_for : List (Place × Company) → Stop → Company → Bool
@@ -49,12 +49,12 @@ unfoldable pub kept_at : List (Place × Company) → Stop → ℕ
 kept_at tokens stop = count_by (is_kept_for tokens stop) companies
 
 -- whether all slots of a stop are taken or kept; a place that is no city has none
-abbrev pub is_full_at : Ground → Option Stop → Bool
+abbrev pub is_full_at : MapState → Option Stop → Bool
 is_full_at laid None = true
 is_full_at laid (Some stop) =
     nat_le (slots_at laid.lays stop) (taken_at laid.tokens stop + kept_at laid.tokens (joined_stop_of stop))
 
-unfoldable pub is_no_free_slot : Ground → Place → Bool
+unfoldable pub is_no_free_slot : MapState → Place → Bool
 is_no_free_slot laid place = is_full_at laid (stop_of place)
 
 -- whether a company has a token in a hex
@@ -72,7 +72,7 @@ pub record IsReachedPlace (position : Position) (company : Company) (place : Pla
   pub reached : ReachesStop position company (joined_stop_of stop)
 
 -- the rules that ask nothing of what is reached
-abbrev pub slot_rules : Ground → Asker → Place → List (Rule TokenRule)
+abbrev pub slot_rules : MapState → Asker → Place → List (Rule TokenRule)
 slot_rules laid asker place =
     record { code = rule.StepUsed; broken = is_token_used asker }
     ∷ record { code = rule.NoTokenLeft; broken = has_none_left laid.tokens asker.company }
@@ -81,30 +81,30 @@ slot_rules laid asker place =
     ∷ []
 
 -- the rules that are looked at once it is known whether the stop is reached
-abbrev pub reach_rules : Ground → Asker → Place → Bool → List (Rule TokenRule)
+abbrev pub reach_rules : MapState → Asker → Place → Bool → List (Rule TokenRule)
 reach_rules laid asker place reached =
     record { code = rule.NotReached; broken = not (is_dh_token asker place.hex || reached) }
     ∷ record { code = rule.CashTooSmall; broken = lt_z asker.cash (pos (token_cost_of laid.tokens asker place.hex)) }
     ∷ []
 
 -- all rules of a token
-abbrev pub token_rules : Ground → Asker → Place → Bool → List (Rule TokenRule)
+abbrev pub token_rules : MapState → Asker → Place → Bool → List (Rule TokenRule)
 token_rules laid asker place reached = slot_rules laid asker place ++ reach_rules laid asker place reached
 
 -- the cost of a token, or the first rule that it breaks, where it is known whether the stop is reached
-abbrev pub token_answer_of : Ground → Asker → Place → Bool → Result ℤ TokenRule
+abbrev pub token_answer_of : MapState → Asker → Place → Bool → Result ℤ TokenRule
 token_answer_of laid asker place reached =
     cost_or (token_cost_of laid.tokens asker place.hex) (first_broken (token_rules laid asker place reached))
 
 -- the answer to a token: its cost, or the first rule that it breaks. Where the rules before it are kept, what
 -- is reached is looked at.
-pub record IsTokenAnswer (laid : Ground) (asker : Asker) (place : Place) (answer : Result ℤ TokenRule) : Type 0 where
+pub record IsTokenAnswer (laid : MapState) (asker : Asker) (place : Place) (answer : Result ℤ TokenRule) : Type 0 where
   pub reached : Bool
   pub exact : first_broken (slot_rules laid asker place) ≡ None → IsTrue reached ↔ IsReachedPlace (position_of laid) asker.company place
   pub given : answer ≡ token_answer_of laid asker place reached
 
 -- the outcome of a call for a token: that answer; or want of memory, where the rules before what is reached are kept
-abbrev pub IsTokenOutcome : Ground → Asker → Place → Result ℤ TokenFault → Type 0
+abbrev pub IsTokenOutcome : MapState → Asker → Place → Result ℤ TokenFault → Type 0
 IsTokenOutcome laid asker place (Ok cost) = IsTokenAnswer laid asker place (Ok cost)
 IsTokenOutcome laid asker place (Err (fault.Rule rule)) = IsTokenAnswer laid asker place (Err rule)
 IsTokenOutcome laid asker place (Err (fault.Memory error)) = first_broken (slot_rules laid asker place) ≡ None

@@ -1,7 +1,7 @@
-ghost use Rattle.board.specs.Ground.{with_lay};
+ghost use Rattle.board.specs.MapState.{with_lay};
 
 use crate::board::Board;
-use crate::lying::Lying;
+use crate::on_map::OnMap;
 use crate::shown::same_hex;
 use map_tables::{Hex, Lay, Links, Stop, laid_links};
 use tables::{Company, Kind};
@@ -13,7 +13,7 @@ pub(crate) struct After<'a> {
     pub(crate) lay: Lay,
 }
 
-impl Lying for After<'_> {
+impl OnMap for After<'_> {
     ghost laid = { λ after. with_lay after.board.now after.lay };
 
     fn tile_on(&self, hex: Hex) -> Option<Lay> {

@@ -1,11 +1,11 @@
 ghost use Rattle.std.specs.Prelude.{◌≡◌, [], None, IfErr, IfOk, IsOk, OnErr, OnOk, length, unwrap_or};
 ghost use Rattle.board.specs.Fit.{board_fault_of};
-ghost use Rattle.board.specs.Ground.{ground_of, with_lay, with_token};
+ghost use Rattle.board.specs.MapState.{map_state_of, with_lay, with_token};
 
 use crate::fault::BoardFault;
 use crate::fit::fault_of;
 use crate::index::Index;
-use crate::lying::Lying;
+use crate::on_map::OnMap;
 use map_tables::{Hex, Lay, Links, Place, Stop, printed_links};
 use smallvec::SmallVec;
 use std::alloc::{AllocError, Global};
@@ -28,12 +28,12 @@ pub struct Board {
 }
 
 impl Model for Board {
-    ghost use Rattle.board.specs.Ground.{Ground};
+    ghost use Rattle.board.specs.MapState.{MapState};
     ghost use Rattle.board.specs.Index.{IsIndex};
     ghost use Rattle.board.specs.Kept.{held};
     ghost use Rattle.std.specs.Prelude.{map};
 
-    ghost Value = { Ground };
+    ghost Value = { MapState };
 
     ghost view = { λ b. record { lays = b.lays.items; tokens = b.tokens.items; phase = b.phase } };
 
@@ -51,7 +51,7 @@ impl Board {
         tokens: &[(Place, Company)],
         phase: Kind,
     ) -> Result<Board, BoardFault>
-        ensures board { IfOk result (λ board. board ≡ ground_of lays.now tokens.now phase) }
+        ensures board { IfOk result (λ board. board ≡ map_state_of lays.now tokens.now phase) }
         ensures fits { IsOk result → board_fault_of lays.now tokens.now ≡ None }
         ensures fault { IfErr result (λ fault.
             fault ≡ unwrap_or (board_fault_of lays.now tokens.now) BoardFault.Memory) }
@@ -70,7 +70,7 @@ impl Board {
         tokens: &[(Place, Company)],
         phase: Kind,
     ) -> Result<Board, AllocError>
-        ensures { IfOk result (λ board. board ≡ ground_of lays.now tokens.now phase) }
+        ensures { IfOk result (λ board. board ≡ map_state_of lays.now tokens.now phase) }
     {
         let mut board = Board::empty(alloc, phase);
         for lay in lays {
@@ -84,7 +84,7 @@ impl Board {
 
     /// A board on which nothing lies.
     pub fn empty(alloc: Global, phase: Kind) -> Board
-        ensures { result ≡ ground_of [] [] phase }
+        ensures { result ≡ map_state_of [] [] phase }
     {
         Board {
             lays: Vec::new(alloc),
@@ -110,7 +110,7 @@ impl Board {
 
     /// A phase begins.
     pub fn put_phase(&mut self, phase: Kind)
-        ensures { self.new ≡ ground_of self.old.lays self.old.tokens phase }
+        ensures { self.new ≡ map_state_of self.old.lays self.old.tokens phase }
     {
         self.phase = phase;
     }
@@ -138,7 +138,7 @@ impl Board {
     }
 }
 
-impl Lying for Board {
+impl OnMap for Board {
     ghost laid = { λ board. board };
 
     fn tile_on(&self, hex: Hex) -> Option<Lay> {

@@ -1,8 +1,8 @@
 ghost use Rattle.std.specs.Prelude.{◌≡◌, ◌⊎◌, ◌↔◌, ◌≤◌, ◌<◌, Err, None, IfOk, IsTrue, count_by};
 ghost use Rattle.std.specs.List.{list_any};
-ghost use Rattle.board.specs.Ground.{position_of, with_lay};
-ghost use Rattle.map_tables.specs.Lying.{colour_on, tile_on};
-ghost use Rattle.board.specs.LayRules.{HaveStopIn, IsConnected, IsLayOutcome, ShareLink, ground_rules, is_blocked, is_colour_closed, is_kept, is_lay_used, is_none_left, is_tile, is_wrong_colour, lay_answer_of, lay_cost_of, loses_track, lying_of, needs_no_track, place_of_colour};
+ghost use Rattle.board.specs.MapState.{position_of, with_lay};
+ghost use Rattle.map_tables.specs.OnMap.{colour_on, tile_on};
+ghost use Rattle.board.specs.LayRules.{HaveStopIn, IsConnected, IsLayOutcome, ShareLink, map_rules, is_blocked, is_colour_closed, is_kept, is_lay_used, is_none_left, is_tile, is_wrong_colour, lay_answer_of, lay_cost_of, loses_track, on_map_of, needs_no_track, place_of_colour};
 ghost use Rattle.map_tables.specs.Hex.{same_hex};
 ghost use Rattle.map_tables.specs.Laws.{link_order};
 ghost use Rattle.map_tables.specs.Track.{end_order};
@@ -15,7 +15,7 @@ use crate::asker::{Asker, TurnStep};
 use crate::board::Board;
 use crate::fault::LayFault;
 use crate::fit::{has_bad_side, is_open, is_wrong_kind};
-use crate::lying::Lying;
+use crate::on_map::OnMap;
 use crate::powers::is_dh_lay;
 use crate::shown::same_hex;
 use map_tables::{
@@ -44,7 +44,7 @@ impl Board {
     /// What a lay costs that keeps the rules before what is reached, or the first rule that it
     /// breaks, where it is known whether some piece of the tile is reached.
     fn lay_answer(&self, asker: &Asker, lay: Lay, reached: bool) -> Result<Money, LayRule>
-        requires { first_broken (ground_rules self.now asker.now lay) ≡ None }
+        requires { first_broken (map_rules self.now asker.now lay) ≡ None }
         ensures { result ≡ lay_answer_of self.now asker.now lay reached }
     {
         if !(self.needs_no_track(asker, lay) || reached) {
@@ -59,7 +59,7 @@ impl Board {
 
     /// The first rule that a lay breaks, of those that ask nothing of what is reached.
     fn ground_rule(&self, asker: &Asker, lay: Lay) -> Option<LayRule>
-        ensures { result ≡ first_broken (ground_rules self.now asker.now lay) }
+        ensures { result ≡ first_broken (map_rules self.now asker.now lay) }
     {
         let entry = tile(lay.tile);
         if self.is_lay_used(asker, lay.hex) {
@@ -147,12 +147,12 @@ impl Board {
     fn is_none_left(&self, number: TileNo) -> bool
         ensures { result ≡ is_none_left self.now.lays number }
     {
-        usize::from(tile(number).count) <= self.lying_of(number)
+        usize::from(tile(number).count) <= self.on_map_of(number)
     }
 
     /// How many tiles of a number lie on the map.
-    fn lying_of(&self, number: TileNo) -> usize
-        ensures { result ≡ lying_of self.now.lays number }
+    fn on_map_of(&self, number: TileNo) -> usize
+        ensures { result ≡ on_map_of self.now.lays number }
     {
         map_tables::laws::hexes_stand_once();
         self.count_of(number, &Hex::ALL)

@@ -8,7 +8,7 @@
 //! and change nothing; `put_lay` and `put_token` lay it. A board that begins with `Board::empty` is
 //! told so what lies, tile by tile, and `put_phase` tells it the phase.
 //!
-//! The definitions, in `specs/`: `Ground` (what lies, and the position), `Fit` (what may lie at
+//! The definitions, in `specs/`: `MapState` (what lies, and the position), `Fit` (what may lie at
 //! all), `LayRules` and `TokenRules` (each rule beside its code, in order), `Powers` (of CS and DH), `Homes` and `Stock`
 //! (what the rules keep: a slot for each home token, and no more tiles than there are), and two
 //! small examples, `Example`.
@@ -18,7 +18,7 @@
 //! contract, and shorter to read.
 //!
 //! Reading order: `fault`, `shown` (what shows at a hex or a stop), `fit` (what may lie at all),
-//! `lying` (what follows from what lies), `plain`, `kept` (the links of a hex as a value), `index`,
+//! `on_map` (what follows from what lies), `plain`, `kept` (the links of a hex as a value), `index`,
 //! `board`, `after` (a board with one tile more), `network` (the position that is kept), `asker`,
 //! `powers` (of CS and DH), `lay`, `token`, `laws`.
 #![tactic(auto)]
@@ -32,8 +32,8 @@ mod index;
 mod kept;
 pub mod laws;
 mod lay;
-mod lying;
 mod network;
+mod on_map;
 mod plain;
 mod powers;
 mod shown;

@@ -1,17 +1,17 @@
 //! The position that a board keeps.
-ghost use Rattle.board.specs.Ground.{GroundsAreLawful, position_of, with_lay};
+ghost use Rattle.board.specs.MapState.{MapStatesAreLawful, position_of, with_lay};
 
 use crate::after::After;
 use crate::board::Board;
-use crate::lying::{full_shown, links_shown, red_shown, token_shown, value_shown};
+use crate::on_map::{full_on_map, links_on_map, red_on_map, token_on_map, value_on_map};
 use crate::plain::PlainBoard;
 use map_tables::{Hex, Links, Stop};
 use reach::Network;
 use tables::{Amount, Company};
 
 /// The position of each ground keeps the laws. It does nothing.
-fn grounds_are_lawful()
-    ensures { GroundsAreLawful }
+fn map_states_are_lawful()
+    ensures { MapStatesAreLawful }
 {
     map_tables::laws::neighbours_pair();
     map_tables::laws::printed_links_are_in_order();
@@ -23,27 +23,27 @@ impl Network for Board {
     ghost position = { position_of };
 
     fn links(&self, hex: Hex) -> Links {
-        links_shown(self, hex)
+        links_on_map(self, hex)
     }
 
     fn value(&self, stop: Stop) -> Amount {
-        value_shown(self, stop)
+        value_on_map(self, stop)
     }
 
     fn red(&self, stop: Stop) -> bool {
-        red_shown(self, stop)
+        red_on_map(self, stop)
     }
 
     fn full(&self, stop: Stop, company: Company) -> bool {
-        full_shown(self, stop, company)
+        full_on_map(self, stop, company)
     }
 
     fn token(&self, stop: Stop, company: Company) -> bool {
-        token_shown(self, stop, company)
+        token_on_map(self, stop, company)
     }
 
     fn keeps_laws(&self) {
-        grounds_are_lawful();
+        map_states_are_lawful();
     }
 }
 
@@ -51,27 +51,27 @@ impl Network for PlainBoard {
     ghost position = { position_of };
 
     fn links(&self, hex: Hex) -> Links {
-        links_shown(self, hex)
+        links_on_map(self, hex)
     }
 
     fn value(&self, stop: Stop) -> Amount {
-        value_shown(self, stop)
+        value_on_map(self, stop)
     }
 
     fn red(&self, stop: Stop) -> bool {
-        red_shown(self, stop)
+        red_on_map(self, stop)
     }
 
     fn full(&self, stop: Stop, company: Company) -> bool {
-        full_shown(self, stop, company)
+        full_on_map(self, stop, company)
     }
 
     fn token(&self, stop: Stop, company: Company) -> bool {
-        token_shown(self, stop, company)
+        token_on_map(self, stop, company)
     }
 
     fn keeps_laws(&self) {
-        grounds_are_lawful();
+        map_states_are_lawful();
     }
 }
 
@@ -79,26 +79,26 @@ impl Network for After<'_> {
     ghost position = { λ after. position_of (with_lay after.board.now after.lay) };
 
     fn links(&self, hex: Hex) -> Links {
-        links_shown(self, hex)
+        links_on_map(self, hex)
     }
 
     fn value(&self, stop: Stop) -> Amount {
-        value_shown(self, stop)
+        value_on_map(self, stop)
     }
 
     fn red(&self, stop: Stop) -> bool {
-        red_shown(self, stop)
+        red_on_map(self, stop)
     }
 
     fn full(&self, stop: Stop, company: Company) -> bool {
-        full_shown(self, stop, company)
+        full_on_map(self, stop, company)
     }
 
     fn token(&self, stop: Stop, company: Company) -> bool {
-        token_shown(self, stop, company)
+        token_on_map(self, stop, company)
     }
 
     fn keeps_laws(&self) {
-        grounds_are_lawful();
+        map_states_are_lawful();
     }
 }

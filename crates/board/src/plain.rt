@@ -1,10 +1,10 @@
 ghost use Rattle.std.specs.Prelude.{◌≡◌, None, IfErr, IfOk, IsOk, unwrap_or};
 ghost use Rattle.board.specs.Fit.{board_fault_of};
-ghost use Rattle.board.specs.Ground.{ground_of};
+ghost use Rattle.board.specs.MapState.{map_state_of};
 
 use crate::fault::BoardFault;
 use crate::fit::fault_of;
-use crate::lying::Lying;
+use crate::on_map::OnMap;
 use crate::shown::{count_naming, has_token, last_on};
 use map_tables::{Hex, Lay, Links, Place, Stop, laid_links, printed_links};
 use std::alloc::Global;
@@ -21,9 +21,9 @@ pub struct PlainBoard {
 }
 
 impl Model for PlainBoard {
-    ghost use Rattle.board.specs.Ground.{Ground};
+    ghost use Rattle.board.specs.MapState.{MapState};
 
-    ghost Value = { Ground };
+    ghost Value = { MapState };
 
     ghost view = { λ b. record { lays = b.lays.items; tokens = b.tokens.items; phase = b.phase } };
 }
@@ -38,7 +38,7 @@ impl PlainBoard {
         tokens: &[(Place, Company)],
         phase: Kind,
     ) -> Result<PlainBoard, BoardFault>
-        ensures board { IfOk result (λ board. board ≡ ground_of lays.now tokens.now phase) }
+        ensures board { IfOk result (λ board. board ≡ map_state_of lays.now tokens.now phase) }
         ensures fits { IsOk result → board_fault_of lays.now tokens.now ≡ None }
         ensures fault { IfErr result (λ fault.
             fault ≡ unwrap_or (board_fault_of lays.now tokens.now) BoardFault.Memory) }
@@ -54,7 +54,7 @@ impl PlainBoard {
     }
 }
 
-impl Lying for PlainBoard {
+impl OnMap for PlainBoard {
     ghost laid = { λ board. board };
 
     fn tile_on(&self, hex: Hex) -> Option<Lay> {

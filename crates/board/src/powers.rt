@@ -4,7 +4,7 @@ ghost use Rattle.board.specs.Powers.{has_no_tile, is_cs_lay, is_dh_lay, is_dh_to
 
 use crate::asker::Asker;
 use crate::board::Board;
-use crate::lying::Lying;
+use crate::on_map::OnMap;
 use crate::shown::same_hex;
 use map_tables::{Hex, Lay, TileNo};
 use tables::Private;

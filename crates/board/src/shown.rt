@@ -2,8 +2,8 @@ ghost use Rattle.std.specs.Prelude.{◌≡◌};
 ghost use Rattle.std.specs.List.{count_by};
 ghost use Rattle.map_tables.specs.declared.place.Place.{Place};
 ghost use Rattle.tables.specs.declared.roster.Company.{Company};
-ghost use Rattle.board.specs.Ground.{is_red_kind, value_in};
-ghost use Rattle.map_tables.specs.Lying.{has_token, is_stop, names, same_stop, slots_at, slots_on, taken_at, tile_on};
+ghost use Rattle.board.specs.MapState.{is_red_kind, value_in};
+ghost use Rattle.map_tables.specs.OnMap.{has_token, is_stop, names, same_stop, slots_at, slots_on, taken_at, tile_on};
 ghost use Rattle.map_tables.specs.Hex.{same_hex};
 ghost use Rattle.tables.specs.Roster.{same_company};
 
@@ -74,7 +74,7 @@ pub(crate) fn is_stop(stop: Stop) -> bool
 }
 
 /// The last of some lays on a hex.
-#[tactic(auto, unfolding(map_tables::specs::Lying::tile_on))]
+#[tactic(auto, unfolding(map_tables::specs::OnMap::tile_on))]
 pub(crate) fn last_on(lays: &[Lay], hex: Hex) -> Option<Lay>
     ensures { result ≡ tile_on lays.now hex }
 {

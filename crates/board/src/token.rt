@@ -1,5 +1,5 @@
 ghost use Rattle.std.specs.Prelude.{◌≡◌, ◌⊎◌, ◌↔◌, Err, None, Some, IfOk, IsTrue};
-ghost use Rattle.board.specs.Ground.{position_of};
+ghost use Rattle.board.specs.MapState.{position_of};
 ghost use Rattle.board.specs.TokenRules.{IsReachedPlace, IsTokenOutcome, has_none_left, has_token_in, is_full_at, is_kept_for, is_no_free_slot, is_token_used, kept_at, laid_by, slot_rules, token_answer_of, token_cost_of};
 ghost use Rattle.reach.specs.Position.{IsAmong};
 ghost use Rattle.tables.specs.Rules.{first_broken};
@@ -7,7 +7,7 @@ ghost use Rattle.tables.specs.Rules.{first_broken};
 use crate::asker::{Asker, TurnStep};
 use crate::board::Board;
 use crate::fault::TokenFault;
-use crate::lying::{Lying, slots};
+use crate::on_map::{OnMap, slots};
 use crate::powers::is_dh_token;
 use crate::shown::{same_company, same_hex, same_stop};
 use map_tables::{Hex, Place, Stop, TokenRule, home, joined_stop};

@@ -2,13 +2,13 @@
 use Rattle.std.proofs.Common.{refl}
 use Rattle.map_tables.specs.Border.{adjacent, neighbour_of}
 use Rattle.map_tables.specs.Hex.{hex_at, hexes, index_of, site_of}
-use Rattle.certificate.specs.Example.{WorkedMarks, WorkedTree, lying, two_cities}
+use Rattle.certificate.specs.Example.{WorkedMarks, WorkedTree, on_map, two_cities}
 use Rattle.certificate.specs.Legal.{border_of}
 
 pub worked_tree : WorkedTree
-unfolding lying two_cities hexes index_of neighbour_of adjacent hex_at site_of border_of
+unfolding on_map two_cities hexes index_of neighbour_of adjacent hex_at site_of border_of
 worked_tree = refl
 
 pub worked_marks : WorkedMarks
-unfolding lying two_cities hexes index_of neighbour_of adjacent hex_at site_of border_of
+unfolding on_map two_cities hexes index_of neighbour_of adjacent hex_at site_of border_of
 worked_marks = (refl, refl)

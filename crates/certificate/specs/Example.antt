@@ -18,22 +18,22 @@ use Rattle.certificate.specs.Holding.{left_over}
 use Rattle.certificate.specs.Tree.{Node, bound, children, for_each, root_of}
 
 -- what lies in a hex
-unfoldable pub lying : Hex → InHex
-lying H10 = record {
+unfoldable pub on_map : Hex → InHex
+on_map H10 = record {
   links = record { hex = H10; a = AtSide West; b = AtStop First } ∷ record { hex = H10; a = AtSide East; b = AtStop First } ∷ [];
   stops = record { value = 20; red = false; slots = 1; tokens = [] } ∷ [];
 }
-lying H12 = record {
+on_map H12 = record {
   links =
       record { hex = H12; a = AtSide West; b = AtSide East } ∷
       record { hex = H12; a = AtSide West; b = AtStop First } ∷
       record { hex = H12; a = AtSide East; b = AtStop First } ∷ [];
   stops = record { value = 10; red = false; slots = 1; tokens = Pennsylvania ∷ [] } ∷ [];
 }
-lying hex = empty_hex
+on_map hex = empty_hex
 
 unfoldable pub two_cities : Position
-two_cities = record { hexes = map lying hexes }
+two_cities = record { hexes = map on_map hexes }
 
 -- the stops that are reached
 abbrev pub both_cities : List Stop

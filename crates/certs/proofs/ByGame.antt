@@ -8,7 +8,7 @@ use Rattle.events.specs.declared.event.Holder.{Holder}
 use Rattle.events.specs.declared.event.Shareholder.TheVariants.{Seat as OfSeat}
 use Rattle.history.specs.LookBack.{owner_of}
 use Rattle.history.specs.Shares.{president_of, shares_of, square_of}
-use Rattle.history.specs.declared.look_back.Past.{Past}
+use Rattle.history.specs.declared.look_back.GameView.{GameView}
 use Rattle.tables.specs.Roster.{companies}
 use Rattle.tables.specs.declared.roster.Company.{Company}
 use Rattle.tables.specs.declared.roster.Private.{Private}
@@ -16,7 +16,7 @@ use Rattle.tables.specs.declared.seat.Seat.{Seat}
 use Rattle.tables.specs.declared.squares.Square.{Square}
 
 -- as many certificates count by the holdings of a game as it stood as by its events
-pub counted_at : (past : Past) (holdings : Holdings) (seat : Seat) → AreHoldingsAt past holdings → seat.0 < 6 → counted_in holdings seat ≡ counted_of past.events.now seat
+pub counted_at : (past : GameView) (holdings : Holdings) (seat : Seat) → AreHoldingsAt past holdings → seat.0 < 6 → counted_in holdings seat ≡ counted_of past.events.now seat
 counted_at past holdings seat are few =
     let events = past.events.now in
     let by_table : Company → ℤ = λ company. certificates_of seat (square_in holdings company) (president_in holdings company) (tenths_in holdings company (OfSeat seat)) in

@@ -5,7 +5,7 @@ pub mod Presidents
 mod Counts
 mod NoteLemmas
 pub mod ByGame
-mod Deals
+mod ShareDeals
 pub mod PresidesByGame
 mod Others
 mod Sales

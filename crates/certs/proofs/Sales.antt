@@ -18,7 +18,7 @@ use Rattle.history.specs.Laws.{block_sold}
 use Rattle.history.specs.LookBack.{Game}
 use Rattle.history.specs.Shares.{is_started, president_of, square_of}
 use Rattle.history.specs.Sound.{IsLed, IsSound}
-use Rattle.history.specs.Tell.{breaks, with_broken}
+use Rattle.history.specs.Record.{breaks, with_broken}
 use Rattle.market.proofs.Tokens.{same_game}
 use Rattle.certs.proofs.Others.{another_leads}
 use Rattle.certs.specs.SaleAct.{MaySell, sold, succeeded, with_president, with_successor}

@@ -7,7 +7,7 @@ use Rattle.events.specs.declared.event.Shareholder.{Shareholder}
 use Rattle.events.specs.declared.event.Transfer.{Transfer}
 use Rattle.history.specs.LookBack.{Game, owner_in, owner_of}
 use Rattle.history.specs.Shares.{brought_to, president_of, shares_of, square_of, taken_from}
-use Rattle.history.specs.declared.look_back.Past.{Past}
+use Rattle.history.specs.declared.look_back.GameView.{GameView}
 use Rattle.tables.specs.Roster.{place_of_company}
 use Rattle.tables.specs.declared.roster.Company.{Company}
 use Rattle.tables.specs.declared.roster.Private.{Private}
@@ -36,7 +36,7 @@ pub record AreHoldingsOf (game : Game) (holdings : Holdings) : Type 0 where
   pub owners : (private : Private) → owner_in holdings.owners private ≡ owner_of game.events private
 
 -- the holdings are those of a game as it stood
-abbrev pub AreHoldingsAt : Past → Holdings → Type 0
+abbrev pub AreHoldingsAt : GameView → Holdings → Type 0
 AreHoldingsAt past holdings = AreHoldingsOf (record { seats = past.seats; events = past.events.now }) holdings
 
 -- a transfer moves its tenths, and nothing else

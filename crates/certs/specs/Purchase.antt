@@ -76,9 +76,9 @@ in_zone holds None = false
 in_zone holds (Some square) = holds (zone_of square)
 
 -- none is where a tenth is to be bought
-unfoldable pub is_none_there : List Event → Purchase → Bool
-is_none_there events (Par company price) = false
-is_none_there events (Share company from) = lt_z (shares_of events company (place_of_source from)) (pos 1)
+unfoldable pub is_sold_out_there : List Event → Purchase → Bool
+is_sold_out_there events (Par company price) = false
+is_sold_out_there events (Share company from) = lt_z (shares_of events company (place_of_source from)) (pos 1)
 
 -- the sum that is to be the par value is none of the six
 abbrev pub is_no_par : Purchase → Bool
@@ -91,8 +91,8 @@ is_wrong_start events (Par company price) = is_started events company
 is_wrong_start events (Share company from) = not (is_started events company)
 
 -- the cost is over the seat's cash that is free of its bids
-unfoldable pub is_short : ℕ → List Event → Seat → ℕ → Bool
-is_short seats events seat cost = lt_z (free_cash_of seats events seat) (pos cost)
+unfoldable pub is_short_of_cash : ℕ → List Event → Seat → ℕ → Bool
+is_short_of_cash seats events seat cost = lt_z (free_cash_of seats events seat) (pos cost)
 
 -- the certificate counts, and the seat has reached the limit
 unfoldable pub is_at_limit : ℕ → List Event → Seat → Company → Bool
@@ -118,13 +118,13 @@ is_second events company (Some bought) = not (is_one_of_several events company b
 -- bought: the seat has sold of the company in this round; none is there; the sum is no par value; the company
 -- is started, or is not; the cost is over the seat's cash; the certificate counts, and the limit is reached;
 -- the seat would have over six tenths; it has bought already
-abbrev pub purchase_rules : ℕ → List Event → Seat → Purchase → Option Company → List (Rule StockRule)
-purchase_rules seats events seat purchase bought =
+abbrev pub share_purchase_rules : ℕ → List Event → Seat → Purchase → Option Company → List (Rule StockRule)
+share_purchase_rules seats events seat purchase bought =
     record { code = SoldInRound; broken = has_sold_in_round events (company_of purchase) seat }
-    ∷ record { code = NoneThere; broken = is_none_there events purchase }
+    ∷ record { code = NoneThere; broken = is_sold_out_there events purchase }
     ∷ record { code = NoParValue; broken = is_no_par purchase }
     ∷ record { code = WrongStart; broken = is_wrong_start events purchase }
-    ∷ record { code = CashTooSmall; broken = is_short seats events seat (cost_of events purchase) }
+    ∷ record { code = CashTooSmall; broken = is_short_of_cash seats events seat (cost_of events purchase) }
     ∷ record { code = CertificateLimit; broken = is_at_limit seats events seat (company_of purchase) }
     ∷ record { code = OverSixTenths; broken = is_over_six events seat (company_of purchase) (tenths_of purchase) }
     ∷ record { code = BoughtBefore; broken = is_second events (company_of purchase) bought }
@@ -132,7 +132,7 @@ purchase_rules seats events seat purchase bought =
 
 -- the first rule that a purchase breaks
 unfoldable pub purchase_judgement : ℕ → List Event → Seat → Purchase → Option Company → Option StockRule
-purchase_judgement seats events seat purchase bought = first_broken (purchase_rules seats events seat purchase bought)
+purchase_judgement seats events seat purchase bought = first_broken (share_purchase_rules seats events seat purchase bought)
 
 -- a deal is allowed that breaks no rule
 abbrev pub allowed : Option StockRule → Result (Unit {0}) StockRule

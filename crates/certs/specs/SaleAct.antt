@@ -10,7 +10,7 @@ use Rattle.certs.specs.declared.deal.Sale.{Sale}
 use Rattle.events.specs.declared.event.Event.{Event}
 use Rattle.events.specs.declared.event.Event.TheVariants as event
 use Rattle.history.specs.Shares.{is_started, president_of}
-use Rattle.history.specs.Tell.{with_broken}
+use Rattle.history.specs.Record.{with_broken}
 use Rattle.market.specs.Moves.{fallen}
 use Rattle.market.specs.Token.{with_move}
 use Rattle.tables.specs.declared.roster.Company.{Company}

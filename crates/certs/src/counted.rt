@@ -7,7 +7,7 @@ ghost use Rattle.tables.specs.Roster.{companies};
 ghost use Rattle.tables.specs.declared.roster.Company.{Company};
 
 use crate::holdings::Holdings;
-use history::{Holder, Owners, Past, Shareholder, Tenths};
+use history::{GameView, Holder, Owners, Shareholder, Tenths};
 use tables::{Company, Private, Seat, Square, Zone, zone};
 
 /// What tells how many certificates of each company a seat has that count.
@@ -44,7 +44,7 @@ impl Certificates for InHoldings<'_> {
 /// The certificates of a seat by the events.
 #[derive(Drop)]
 struct InEvents<'a> {
-    past: &'a Past<'a>,
+    past: &'a GameView<'a>,
     seat: Seat,
 }
 
@@ -74,7 +74,7 @@ impl Holdings {
 }
 
 /// As many by the events of a game, of which the totals are read.
-pub(crate) fn counted_now(past: &Past, seat: Seat) -> Tenths
+pub(crate) fn counted_now(past: &GameView, seat: Seat) -> Tenths
     ensures { result ≡ counted_of past.now.events.now seat }
 {
     counted(&past.owners(), &InEvents { past, seat }, seat)

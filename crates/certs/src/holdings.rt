@@ -5,7 +5,7 @@ ghost use Rattle.tables.specs.declared.roster.Company.{Company};
 
 use crate::notes::{Notes, notes_of};
 use crate::rows::{Row, index_of, moved};
-use history::{History, Owners, Past, Shareholder, Tenths, Transfer};
+use history::{GameView, History, Owners, Shareholder, Tenths, Transfer};
 use tables::{Company, Seat, Square};
 
 /// Who holds what in a game, in tables by the places of the companies in the roster.
@@ -30,7 +30,7 @@ impl Holdings {
     }
 
     /// The holdings of a game as it stood, read from the totals that it kept of its events.
-    pub fn at(past: &Past) -> Holdings
+    pub fn at(past: &GameView) -> Holdings
         ensures { AreHoldingsAt past.now result }
     {
         let Notes {

@@ -28,4 +28,4 @@ pub use holdings::Holdings;
 pub use president::successor;
 pub use purchase::{is_over_six, market_price, may_buy, tenth_price};
 pub use sale::may_sell;
-pub use sell::{sell_block, tell_president};
+pub use sell::{record_president, sell_block};

@@ -3,7 +3,7 @@ ghost use Rattle.certs.specs.Notes.{AreNoted, ArePresidentsOf, AreSquaresOf, Are
 ghost use Rattle.certs.specs.Rows.{AreBounded, IsBounded};
 
 use crate::rows::Row;
-use history::{Past, Shareholder};
+use history::{GameView, Shareholder};
 use tables::{Company, Seat, Square};
 
 /// What is said of each company, by its place in the roster.
@@ -18,7 +18,7 @@ pub(crate) struct Notes {
 }
 
 /// The notes of a game.
-pub(crate) fn notes_of(past: &Past) -> Notes
+pub(crate) fn notes_of(past: &GameView) -> Notes
     ensures { AreNoted past.now.events.now result }
 {
     Notes {
@@ -29,7 +29,7 @@ pub(crate) fn notes_of(past: &Past) -> Notes
 }
 
 /// The tenths of each company.
-fn rows_of(past: &Past) -> [Row; 8]
+fn rows_of(past: &GameView) -> [Row; 8]
     ensures tenths { AreTenthsOf past.now.events.now result }
     ensures bounded { AreBounded result }
 {
@@ -46,7 +46,7 @@ fn rows_of(past: &Past) -> [Row; 8]
 }
 
 /// The tenths of a company.
-fn row_of(past: &Past, company: Company) -> Row
+fn row_of(past: &GameView, company: Company) -> Row
     ensures tenths { IsRowOf past.now.events.now company result }
     ensures bounded { IsBounded result }
 {
@@ -63,7 +63,7 @@ fn row_of(past: &Past, company: Company) -> Row
 }
 
 /// The president of each company.
-fn presidents_of(past: &Past) -> [Option<Seat>; 8]
+fn presidents_of(past: &GameView) -> [Option<Seat>; 8]
     ensures { ArePresidentsOf past.now.events.now result }
 {
     [
@@ -79,7 +79,7 @@ fn presidents_of(past: &Past) -> [Option<Seat>; 8]
 }
 
 /// The square of each company.
-fn squares_of(past: &Past) -> [Option<Square>; 8]
+fn squares_of(past: &GameView) -> [Option<Square>; 8]
     ensures { AreSquaresOf past.now.events.now result }
 {
     [

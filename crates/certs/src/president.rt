@@ -3,7 +3,7 @@ ghost use Rattle.certs.specs.President.{better_of, presiding_in, seat_tenths, se
 ghost use Rattle.tables.specs.declared.seat.Seat.{Seat};
 
 use crate::holdings::Holdings;
-use history::{Past, Shareholder, Tenths};
+use history::{GameView, Shareholder, Tenths};
 use tables::{Company, Seat};
 
 /// What tells how many tenths of a company each seat has.
@@ -33,7 +33,7 @@ impl TenthsOfSeats for InHoldings<'_> {
 /// The tenths of a company by the events.
 #[derive(Drop)]
 struct InEvents<'a> {
-    past: &'a Past<'a>,
+    past: &'a GameView<'a>,
     company: Company,
 }
 
@@ -64,7 +64,7 @@ impl Holdings {
 /// Who presides over a company by the tenths that the game tells, where this seat presided: it stays
 /// unless some seat has strictly more tenths; then it is the seat with most, among equals the first
 /// to its left.
-pub fn successor(past: &Past, company: Company, old: Seat) -> Seat
+pub fn successor(past: &GameView, company: Company, old: Seat) -> Seat
     ensures { result ≡ successor_of past.now.seats past.now.events.now company old }
 {
     with_most(&InEvents { past, company }, past.seats, old)

@@ -1,14 +1,14 @@
 ghost use Rattle.std.specs.Prelude.{◌≡◌, ◌≤◌, ◌<◌, ◌+ℤ◌, pos, unwrap_or};
 ghost use Rattle.std.specs.Int.Signed.{le_z};
 ghost use Rattle.certs.specs.Counted.{counted_of};
-ghost use Rattle.certs.specs.Purchase.{allowed, allows_several, cost_of, in_zone, is_at_limit, is_none_there, is_no_par, is_over_six, is_second, is_short, is_wrong_start, lifts_six, market_price_of, purchase_judgement, tenth_price_of};
+ghost use Rattle.certs.specs.Purchase.{allowed, allows_several, cost_of, in_zone, is_at_limit, is_sold_out_there, is_no_par, is_over_six, is_second, is_short_of_cash, is_wrong_start, lifts_six, market_price_of, purchase_judgement, tenth_price_of};
 ghost use Rattle.events.specs.declared.event.Shareholder.TheVariants.{Seat as OfSeat};
 ghost use Rattle.history.specs.Shares.{par_of, shares_of, square_of};
 ghost use Rattle.tables.specs.Roster.{certificate_limit_of};
 
 use crate::counted::{counted_now, counts_on};
 use crate::deal::Purchase;
-use history::{History, Past, Shareholder, StockRule, Tenths};
+use history::{GameView, History, Shareholder, StockRule, Tenths};
 use order_grammar::ShareSource;
 use tables::{Amount, Company, Money, Seat, Zone, certificate_limit, par_square, price, zone};
 
@@ -37,7 +37,7 @@ pub fn may_buy(
 /// The first rule that a purchase breaks.
 #[tactic(auto, unfolding(crate::specs::Purchase::purchase_judgement))]
 fn broken_by(
-    now: &Past,
+    now: &GameView,
     seat: Seat,
     purchase: Purchase,
     bought: Option<Company>,
@@ -51,7 +51,7 @@ fn broken_by(
     if now.has_sold_in_round(company, seat) {
         return Some(StockRule::SoldInRound);
     }
-    if is_none_there(now, purchase) {
+    if is_sold_out_there(now, purchase) {
         return Some(StockRule::NoneThere);
     }
     if is_no_par(purchase) {
@@ -76,9 +76,9 @@ fn broken_by(
 }
 
 /// Whether none is where a tenth is to be bought.
-#[tactic(auto, unfolding(crate::specs::Purchase::is_none_there))]
-fn is_none_there(now: &Past, purchase: Purchase) -> bool
-    ensures { result ≡ is_none_there now.now.events.now purchase }
+#[tactic(auto, unfolding(crate::specs::Purchase::is_sold_out_there))]
+fn is_sold_out_there(now: &GameView, purchase: Purchase) -> bool
+    ensures { result ≡ is_sold_out_there now.now.events.now purchase }
 {
     match purchase {
         Purchase::Par { .. } => false,
@@ -99,7 +99,7 @@ fn is_no_par(purchase: Purchase) -> bool
 }
 
 /// Whether a par value is set for a company that is started, or a tenth bought of one that is not.
-fn is_wrong_start(now: &Past, purchase: Purchase) -> bool
+fn is_wrong_start(now: &GameView, purchase: Purchase) -> bool
     ensures { result ≡ is_wrong_start now.now.events.now purchase }
 {
     match purchase {
@@ -109,7 +109,7 @@ fn is_wrong_start(now: &Past, purchase: Purchase) -> bool
 }
 
 /// What a purchase costs.
-fn cost(now: &Past, purchase: Purchase) -> Money
+fn cost(now: &GameView, purchase: Purchase) -> Money
     ensures { result ≡ pos (cost_of now.now.events.now purchase) }
 {
     match purchase {
@@ -120,7 +120,7 @@ fn cost(now: &Past, purchase: Purchase) -> Money
 
 /// What a tenth of a company costs: the par value in the initial offering, the market price in the
 /// pool.
-pub fn tenth_price(now: &Past, company: Company, from: ShareSource) -> Money
+pub fn tenth_price(now: &GameView, company: Company, from: ShareSource) -> Money
     ensures price { result ≡ pos (tenth_price_of now.now.events.now company from) }
     ensures small { unwrap_or (par_of now.now.events.now company) 0 ≤ 350 →
         tenth_price_of now.now.events.now company from ≤ 350 }
@@ -132,7 +132,7 @@ pub fn tenth_price(now: &Past, company: Company, from: ShareSource) -> Money
 }
 
 /// The market price of a company, which is that of its square; 0 where it has none.
-pub fn market_price(now: &Past, company: Company) -> Amount
+pub fn market_price(now: &GameView, company: Company) -> Amount
     ensures price { result ≡ market_price_of now.now.events.now company }
     ensures small { result ≤ 350 }
 {
@@ -143,9 +143,9 @@ pub fn market_price(now: &Past, company: Company) -> Amount
 }
 
 /// Whether what a purchase costs is over a seat's cash that is free of its bids.
-#[tactic(auto, unfolding(crate::specs::Purchase::is_short))]
-fn is_short(now: &Past, seat: Seat, purchase: Purchase) -> bool
-    ensures { result ≡ is_short now.now.seats now.now.events.now seat
+#[tactic(auto, unfolding(crate::specs::Purchase::is_short_of_cash))]
+fn is_short(now: &GameView, seat: Seat, purchase: Purchase) -> bool
+    ensures { result ≡ is_short_of_cash now.now.seats now.now.events.now seat
         (cost_of now.now.events.now purchase) }
 {
     now.free_cash(seat) < cost(now, purchase)
@@ -153,14 +153,14 @@ fn is_short(now: &Past, seat: Seat, purchase: Purchase) -> bool
 
 /// Whether a certificate of a company would count, and a seat has reached the limit.
 #[tactic(auto, unfolding(crate::specs::Purchase::is_at_limit))]
-fn is_at_limit(now: &Past, seat: Seat, company: Company) -> bool
+fn is_at_limit(now: &GameView, seat: Seat, company: Company) -> bool
     ensures { result ≡ is_at_limit now.now.seats now.now.events.now seat company }
 {
     counts_on(now.square(company)) && has_full_hand(now, seat)
 }
 
 /// Whether a seat has as many certificates that count as the limit.
-fn has_full_hand(now: &Past, seat: Seat) -> bool
+fn has_full_hand(now: &GameView, seat: Seat) -> bool
     ensures { result ≡ le_z (pos (certificate_limit_of now.now.seats))
         (counted_of now.now.events.now seat) }
 {
@@ -170,14 +170,14 @@ fn has_full_hand(now: &Past, seat: Seat) -> bool
 /// Whether with so many tenths more a seat would have over six of a company, where the zone of the
 /// company's square does not lift that.
 #[tactic(auto, unfolding(crate::specs::Purchase::is_over_six))]
-pub fn is_over_six(now: &Past, seat: Seat, company: Company, tenths: u8) -> bool
+pub fn is_over_six(now: &GameView, seat: Seat, company: Company, tenths: u8) -> bool
     ensures { result ≡ is_over_six now.now.events.now seat company tenths }
 {
     !lifts_six(now, company) && would_have(now, seat, company, tenths) > TENTHS_MOST
 }
 
 /// Whether the zone of a company's square lifts_six the limit of six tenths.
-fn lifts_six(now: &Past, company: Company) -> bool
+fn lifts_six(now: &GameView, company: Company) -> bool
     ensures { result ≡ in_zone lifts_six (square_of now.now.events.now company) }
 {
     match now.square(company) {
@@ -187,7 +187,7 @@ fn lifts_six(now: &Past, company: Company) -> bool
 }
 
 /// What a seat would have of a company with so many tenths more.
-fn would_have(now: &Past, seat: Seat, company: Company, tenths: u8) -> Tenths
+fn would_have(now: &GameView, seat: Seat, company: Company, tenths: u8) -> Tenths
     ensures { result ≡ shares_of now.now.events.now company (OfSeat seat) +ℤ pos tenths }
 {
     now.shares(company, Shareholder::Seat(seat)) + Tenths::from(tenths)
@@ -196,7 +196,7 @@ fn would_have(now: &Past, seat: Seat, company: Company, tenths: u8) -> Tenths
 /// Whether a seat has bought already in its turn, and a purchase of a company is not one of
 /// allows_several.
 #[tactic(auto, unfolding(crate::specs::Purchase::is_second))]
-fn is_second(now: &Past, company: Company, bought: Option<Company>) -> bool
+fn is_second(now: &GameView, company: Company, bought: Option<Company>) -> bool
     ensures { result ≡ is_second now.now.events.now company bought }
 {
     match bought {
@@ -206,7 +206,7 @@ fn is_second(now: &Past, company: Company, bought: Option<Company>) -> bool
 }
 
 /// Whether allows_several certificates of a company may be bought in a turn.
-fn allows_several(now: &Past, company: Company) -> bool
+fn allows_several(now: &GameView, company: Company) -> bool
     ensures { result ≡ in_zone allows_several (square_of now.now.events.now company) }
 {
     match now.square(company) {

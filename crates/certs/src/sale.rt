@@ -7,7 +7,7 @@ ghost use Rattle.history.specs.LookBack.{round_of};
 ghost use Rattle.history.specs.Shares.{shares_of};
 
 use crate::deal::Sale;
-use history::{History, Past, Shareholder, StockRule, Tenths};
+use history::{GameView, History, Shareholder, StockRule, Tenths};
 use tables::{Company, Round, Seat};
 
 /// The most tenths of a company that the bank pool may hold.
@@ -35,7 +35,12 @@ pub fn may_sell(
 
 /// The first rule that a sale breaks.
 #[tactic(auto, unfolding(crate::specs::Sale::sale_judgement))]
-fn broken_by(now: &Past, seat: Seat, sale: Sale, operating: Option<Company>) -> Option<StockRule>
+fn broken_by(
+    now: &GameView,
+    seat: Seat,
+    sale: Sale,
+    operating: Option<Company>,
+) -> Option<StockRule>
     ensures { result ≡ sale_judgement now.now.seats now.now.events.now seat sale operating }
 {
     if is_first_stock(now) {
@@ -57,7 +62,7 @@ fn broken_by(now: &Past, seat: Seat, sale: Sale, operating: Option<Company>) -> 
 }
 
 /// Whether the round is the first stock round.
-fn is_first_stock(now: &Past) -> bool
+fn is_first_stock(now: &GameView) -> bool
     ensures { result ≡ is_first_stock (round_of now.now.events.now) }
 {
     matches!(now.round(), Some(Round::Stock(1)))
@@ -65,7 +70,7 @@ fn is_first_stock(now: &Past) -> bool
 
 /// Whether no tenths are to be sold, or more than the seat has.
 #[tactic(auto, unfolding(crate::specs::Sale::is_not_held))]
-fn is_not_held(now: &Past, seat: Seat, sale: Sale) -> bool
+fn is_not_held(now: &GameView, seat: Seat, sale: Sale) -> bool
     ensures { result ≡ is_not_held now.now.events.now seat sale }
 {
     sale.tenths == 0
@@ -74,14 +79,14 @@ fn is_not_held(now: &Past, seat: Seat, sale: Sale) -> bool
 
 /// Whether the bank pool would hold over five tenths of the company.
 #[tactic(auto, unfolding(crate::specs::Sale::is_over_five))]
-fn is_over_five(now: &Past, sale: Sale) -> bool
+fn is_over_five(now: &GameView, sale: Sale) -> bool
     ensures { result ≡ is_over_five now.now.events.now sale }
 {
     would_be_pooled(now, sale) > POOL_MOST
 }
 
 /// What the bank pool would hold of the company.
-fn would_be_pooled(now: &Past, sale: Sale) -> Tenths
+fn would_be_pooled(now: &GameView, sale: Sale) -> Tenths
     ensures { result ≡ shares_of now.now.events.now sale.company BankPool +ℤ pos sale.tenths }
 {
     now.shares(sale.company, Shareholder::BankPool) + Tenths::from(sale.tenths)
@@ -89,7 +94,7 @@ fn would_be_pooled(now: &Past, sale: Sale) -> Tenths
 
 /// Whether the seat presides over the company, and may not sell so many of its tenths.
 #[tactic(auto, unfolding(crate::specs::Sale::must_stay))]
-fn must_stay(now: &Past, seat: Seat, sale: Sale, operating: Option<Company>) -> bool
+fn must_stay(now: &GameView, seat: Seat, sale: Sale, operating: Option<Company>) -> bool
     ensures { result ≡ must_stay now.now.seats now.now.events.now seat sale operating }
 {
     now.president(sale.company) == Some(seat)
@@ -97,7 +102,7 @@ fn must_stay(now: &Past, seat: Seat, sale: Sale, operating: Option<Company>) -> 
 }
 
 /// Whether the president would keep fewer than two tenths, and no other seat has two.
-fn leaves_none(now: &Past, seat: Seat, sale: Sale) -> bool
+fn leaves_none(now: &GameView, seat: Seat, sale: Sale) -> bool
     ensures { result ≡ leaves_none now.now.seats now.now.events.now seat sale }
 {
     would_keep(now, seat, sale) < PRESIDENT_TENTHS
@@ -105,7 +110,7 @@ fn leaves_none(now: &Past, seat: Seat, sale: Sale) -> bool
 }
 
 /// Whether the sale is of the operating company, and another seat would have strictly more of it.
-fn moves_operating(now: &Past, seat: Seat, sale: Sale, operating: Option<Company>) -> bool
+fn moves_operating(now: &GameView, seat: Seat, sale: Sale, operating: Option<Company>) -> bool
     ensures { result ≡ moves_operating now.now.seats now.now.events.now seat sale operating }
 {
     match operating {
@@ -115,7 +120,7 @@ fn moves_operating(now: &Past, seat: Seat, sale: Sale, operating: Option<Company
 }
 
 /// Whether another seat would have strictly more of the company.
-fn another_has_more(now: &Past, seat: Seat, sale: Sale) -> bool
+fn another_has_more(now: &GameView, seat: Seat, sale: Sale) -> bool
     ensures { result ≡ another_has now.now.seats now.now.events.now sale.company seat
         (kept_after now.now.events.now seat sale +ℤ pos 1) }
 {
@@ -123,7 +128,7 @@ fn another_has_more(now: &Past, seat: Seat, sale: Sale) -> bool
 }
 
 /// What the seat would keep of the company.
-fn would_keep(now: &Past, seat: Seat, sale: Sale) -> Tenths
+fn would_keep(now: &GameView, seat: Seat, sale: Sale) -> Tenths
     ensures kept { result ≡ kept_after now.now.events.now seat sale }
     ensures not_over { result ≤ℤ pos (2 ^ 100) }
 {
@@ -131,7 +136,7 @@ fn would_keep(now: &Past, seat: Seat, sale: Sale) -> Tenths
 }
 
 /// Whether another seat has at least so many tenths of a company.
-fn another_has(now: &Past, company: Company, seat: Seat, least: Tenths) -> bool
+fn another_has(now: &GameView, company: Company, seat: Seat, least: Tenths) -> bool
     ensures { result
         ≡ another_has now.now.seats now.now.events.now company seat least }
 {

@@ -26,7 +26,7 @@ pub fn sell_block(history: &mut History, seat: Seat, sale: Sale) -> Result<(), A
 {
     let tenths = sale.tenths as u8;
     pay_for_block(history, seat, sale.company, tenths)?;
-    tell_president(history, sale.company)?;
+    record_president(history, sale.company)?;
     move_token_down(history, sale.company, tenths)?;
     Ok(())
 }
@@ -50,13 +50,13 @@ fn pay_for_block(
         tenths,
         price,
     })?;
-    history.tell_broken()?;
+    history.record_broken()?;
     Ok(())
 }
 
 /// Tells who presides over a company, where the presidency has moved by a change of its tenths. An
 /// `Err` comes from want of memory alone.
-pub fn tell_president(history: &mut History, company: Company) -> Result<(), AllocError>
+pub fn record_president(history: &mut History, company: Company) -> Result<(), AllocError>
     ensures seats { OnOk result (history.new.seats ≡ history.old.seats) }
     ensures events { OnOk result (history.new.events
         ≡ with_president history.old.seats history.old.events company) }
@@ -65,11 +65,11 @@ pub fn tell_president(history: &mut History, company: Company) -> Result<(), All
         return Ok(());
     };
     let new = successor(&history.now(), company, old);
-    tell_successor(history, company, old, new)
+    record_successor(history, company, old, new)
 }
 
 /// Tells that a seat presides in place of another, where it is another.
-fn tell_successor(
+fn record_successor(
     history: &mut History,
     company: Company,
     old: Seat,

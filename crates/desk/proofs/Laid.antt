@@ -2,7 +2,7 @@
 use Rattle.std.proofs.Common.{◌≡◌, List, [], ◌∷◌, ◌++◌, Option, Some, None, refl, ap, ◌∙◌}
 use Rattle.std.proofs.lemmas.List.{append-nil}
 use Rattle.std.specs.List.{cons_option, fold}
-use Rattle.board.specs.Ground.{Ground, ground_of}
+use Rattle.board.specs.MapState.{MapState, map_state_of}
 use Rattle.desk.specs.Laid.{laid_then}
 use Rattle.events.specs.Event.{tile_laid, token_placed}
 use Rattle.events.specs.declared.event.Event.{Event}
@@ -20,16 +20,16 @@ between (first ∷ before) one after = ap (λ (rest : List _). first ∷ rest) (
 
 -- behind what lay before
 laid_behind :
-    (events : List Event) (ground : Ground) →
-    fold laid_then ground events ≡ ground_of (ground.lays ++ lays_of events) (ground.tokens ++ tokens_of events) ground.phase
-laid_behind [] ground = rw (append-nil ground.lays, append-nil ground.tokens) refl
-laid_behind (event ∷ events) ground =
-    laid_behind events (laid_then ground event)
-    ∙ ap (λ (lays : List Lay). ground_of lays ((ground.tokens ++ cons_option (token_placed event) []) ++ tokens_of events) ground.phase)
-    (between ground.lays (tile_laid event) (lays_of events))
-    ∙ ap (λ (tokens : List (Place × Company)). ground_of (ground.lays ++ lays_of (event ∷ events)) tokens ground.phase)
-    (between ground.tokens (token_placed event) (tokens_of events))
+    (events : List Event) (map_state : MapState) →
+    fold laid_then map_state events ≡ map_state_of (map_state.lays ++ lays_of events) (map_state.tokens ++ tokens_of events) map_state.phase
+laid_behind [] map_state = rw (append-nil map_state.lays, append-nil map_state.tokens) refl
+laid_behind (event ∷ events) map_state =
+    laid_behind events (laid_then map_state event)
+    ∙ ap (λ (lays : List Lay). map_state_of lays ((map_state.tokens ++ cons_option (token_placed event) []) ++ tokens_of events) map_state.phase)
+    (between map_state.lays (tile_laid event) (lays_of events))
+    ∙ ap (λ (tokens : List (Place × Company)). map_state_of (map_state.lays ++ lays_of (event ∷ events)) tokens map_state.phase)
+    (between map_state.tokens (token_placed event) (tokens_of events))
 
 -- from an empty map on
-pub all_laid : (phase : Kind) (events : List Event) → fold laid_then (ground_of [] [] phase) events ≡ ground_of (lays_of events) (tokens_of events) phase
-all_laid phase events = laid_behind events (ground_of [] [] phase)
+pub all_laid : (phase : Kind) (events : List Event) → fold laid_then (map_state_of [] [] phase) events ≡ map_state_of (lays_of events) (tokens_of events) phase
+all_laid phase events = laid_behind events (map_state_of [] [] phase)

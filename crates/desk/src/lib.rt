@@ -8,12 +8,12 @@
 //! `games/desk/`.
 //!
 //! Reading order: `fault`, `asked` (the round that is asked for), `round_part` (`round`), `why` (the rule that a
-//! line broke), `sought` (what was looked for), `ground` (what lay on the map), `ran` (`runs`).
+//! line broke), `sought` (what was looked for), `map_state` (what lay on the map), `ran` (`runs`).
 #![tactic(auto)]
 
 mod asked;
 mod fault;
-mod ground;
+mod map_state;
 mod ran;
 mod round_part;
 mod sought;
@@ -21,6 +21,6 @@ mod why;
 
 pub use asked::read_round;
 pub use fault::DeskFault;
-pub use ground::best_at;
+pub use map_state::best_at;
 pub use ran::runs;
 pub use round_part::{round, round_with_rules};

@@ -1,11 +1,11 @@
 //! What the trains of each company ran in a round, stop by stop.
 
 use crate::fault::DeskFault;
-use crate::ground::{best_at, board_at, go_behind};
+use crate::map_state::{best_at, board_at, go_behind};
 use board::Board;
 use certificate::ClaimedRun;
 use desk_base::{push_company, push_words};
-use history::{Event, KeptRuling, Past, Ruling, Walk};
+use history::{Event, GameView, PackedRuling, Ruling, Walk};
 use map_tables::{Place, Run};
 use order_grammar::{Order, print_number, print_order, print_round};
 use reach::Network;
@@ -102,7 +102,7 @@ fn push_round(
 }
 
 /// The order that a ruling obeys, if it obeys one.
-fn order_obeyed(ruling: &KeptRuling) -> Option<Order> {
+fn order_obeyed(ruling: &PackedRuling) -> Option<Order> {
     match ruling.ruling() {
         Ruling::Obeyed { order, .. } => Some(order),
         _ => None,
@@ -113,7 +113,7 @@ fn order_obeyed(ruling: &KeptRuling) -> Option<Order> {
 fn push_ran(
     alloc: Global,
     out: &mut Vec<u8>,
-    past: &Past,
+    past: &GameView,
     company: Company,
     revenue: Amount,
     order: &Order,

@@ -4,7 +4,7 @@ ghost use Rattle.desk.specs.RoundPart.{HasNoText, IsRoundFault, IsRoundPart, rou
 ghost use Rattle.report.specs.Report.{round_text_of};
 
 use crate::fault::DeskFault;
-use crate::ground::go_behind;
+use crate::map_state::go_behind;
 use crate::why::push_why;
 use history::{Event, Walk};
 use report::round_text;

@@ -4,7 +4,7 @@
 use certs::{Holdings, market_price, tenth_price};
 use desk_base::{push_company, push_words};
 use history::{
-    Holder, LayRule, OpeningRule, Party, Past, PrivateRule, Refusal, RunRule, Shareholder,
+    GameView, Holder, LayRule, OpeningRule, Party, PrivateRule, Refusal, RunRule, Shareholder,
     StockRule, TokenRule, TrainRule,
 };
 use map_tables::{End, Lay, laid_links, neighbour};
@@ -20,7 +20,7 @@ use tables::{
 pub(crate) fn push_sought(
     out: &mut Vec<u8>,
     sheets: &Sheets,
-    past: &Past,
+    past: &GameView,
     seat: Seat,
     rule: Refusal,
     condition: Option<Condition>,
@@ -71,7 +71,7 @@ fn company_of(order: &Order) -> Option<Company> {
 fn push_of_opening(
     out: &mut Vec<u8>,
     sheets: &Sheets,
-    past: &Past,
+    past: &GameView,
     seat: Seat,
     rule: OpeningRule,
     private: Private,
@@ -94,7 +94,7 @@ fn push_of_opening(
 fn push_owner(
     out: &mut Vec<u8>,
     sheets: &Sheets,
-    past: &Past,
+    past: &GameView,
     private: Private,
 ) -> Result<(), AllocError> {
     let Some(holder) = past.owner(private) else {
@@ -109,7 +109,7 @@ fn push_owner(
 }
 
 /// Adds which private is the cheapest unsold.
-fn push_cheapest(out: &mut Vec<u8>, past: &Past) -> Result<(), AllocError> {
+fn push_cheapest(out: &mut Vec<u8>, past: &GameView) -> Result<(), AllocError> {
     let Some(private) = past.cheapest_unsold() else {
         return Ok(());
     };
@@ -119,7 +119,7 @@ fn push_cheapest(out: &mut Vec<u8>, past: &Past) -> Result<(), AllocError> {
 }
 
 /// Adds the face value of a private and the highest bid on it.
-fn push_bids(out: &mut Vec<u8>, past: &Past, private: Private) -> Result<(), AllocError> {
+fn push_bids(out: &mut Vec<u8>, past: &GameView, private: Private) -> Result<(), AllocError> {
     let mut highest = 0;
     for seat in 0..PLAYERS_MOST {
         highest = past
@@ -136,7 +136,7 @@ fn push_bids(out: &mut Vec<u8>, past: &Past, private: Private) -> Result<(), All
 fn push_of_stock(
     out: &mut Vec<u8>,
     sheets: &Sheets,
-    past: &Past,
+    past: &GameView,
     seat: Seat,
     rule: StockRule,
     company: Company,
@@ -182,7 +182,7 @@ fn push_has(
 }
 
 /// Adds how many tenths of a company the bank has.
-fn push_with_bank(out: &mut Vec<u8>, past: &Past, company: Company) -> Result<(), AllocError> {
+fn push_with_bank(out: &mut Vec<u8>, past: &GameView, company: Company) -> Result<(), AllocError> {
     let left = past.shares(company, Shareholder::InitialOffering);
     let pool = past.shares(company, Shareholder::BankPool);
     push_number(out, " (", left)?;
@@ -191,7 +191,7 @@ fn push_with_bank(out: &mut Vec<u8>, past: &Past, company: Company) -> Result<()
 }
 
 /// What an order to start a company, or to buy of one, costs, in dollars; nothing for other orders.
-fn cost_of(past: &Past, order: &Order) -> Money {
+fn cost_of(past: &GameView, order: &Order) -> Money {
     match order {
         Order::Par { price, .. } => 2 * Money::from(*price),
         Order::BuyShare { company, from } => tenth_price(past, *company, *from),
@@ -202,7 +202,7 @@ fn cost_of(past: &Past, order: &Order) -> Money {
 /// Adds what was looked for by a rule of lays.
 fn push_of_lay(
     out: &mut Vec<u8>,
-    past: &Past,
+    past: &GameView,
     seat: Seat,
     rule: LayRule,
     order: &Order,
@@ -246,7 +246,7 @@ fn push_of_run(out: &mut Vec<u8>, rule: RunRule, order: &Order) -> Result<(), Al
 /// Adds what was looked for by a rule of trains.
 fn push_of_train(
     out: &mut Vec<u8>,
-    past: &Past,
+    past: &GameView,
     seat: Seat,
     rule: TrainRule,
 ) -> Result<(), AllocError> {
@@ -262,7 +262,7 @@ fn push_of_train(
 }
 
 /// Adds which train the bank sells: the first kind of which it has not sold all.
-fn push_on_sale(out: &mut Vec<u8>, past: &Past) -> Result<(), AllocError> {
+fn push_on_sale(out: &mut Vec<u8>, past: &GameView) -> Result<(), AllocError> {
     for kind in Kind::ALL {
         if train(kind)
             .number
@@ -279,7 +279,7 @@ fn push_on_sale(out: &mut Vec<u8>, past: &Past) -> Result<(), AllocError> {
 /// Adds what was looked for by a rule of privates that companies buy.
 fn push_of_private(
     out: &mut Vec<u8>,
-    past: &Past,
+    past: &GameView,
     seat: Seat,
     rule: PrivateRule,
     order: &Order,
@@ -298,7 +298,7 @@ fn push_of_private(
 /// Adds what was looked for by a condition.
 fn push_of_condition(
     out: &mut Vec<u8>,
-    past: &Past,
+    past: &GameView,
     condition: Option<Condition>,
 ) -> Result<(), AllocError> {
     match condition {
@@ -314,14 +314,14 @@ fn push_of_condition(
 }
 
 /// Adds the phase.
-fn push_phase(out: &mut Vec<u8>, past: &Past) -> Result<(), AllocError> {
+fn push_phase(out: &mut Vec<u8>, past: &GameView) -> Result<(), AllocError> {
     push_words(out, " (the phase is ")?;
     push_words(out, past.phase().code())?;
     push_words(out, ")")
 }
 
 /// Adds what each floated company has over which a player presides.
-fn push_presided(out: &mut Vec<u8>, past: &Past, seat: Seat) -> Result<(), AllocError> {
+fn push_presided(out: &mut Vec<u8>, past: &GameView, seat: Seat) -> Result<(), AllocError> {
     let mut sign = " (";
     for company in Company::ALL {
         if past.floated(company) && past.president(company) == Some(seat) {

@@ -2,7 +2,7 @@
 
 use crate::sought::push_sought;
 use desk_base::{explain, push_words};
-use history::{KeptRuling, Past, Ruling};
+use history::{GameView, PackedRuling, Ruling};
 use sheets::Sheets;
 use std::alloc::AllocError;
 use tables::Seat;
@@ -12,9 +12,9 @@ use tables::Seat;
 pub(crate) fn push_why(
     out: &mut Vec<u8>,
     sheets: &Sheets,
-    past: &Past,
+    past: &GameView,
     seat: Seat,
-    ruling: &KeptRuling,
+    ruling: &PackedRuling,
 ) -> Result<(), AllocError> {
     match ruling.ruling() {
         Ruling::Obeyed { .. } => Ok(()),

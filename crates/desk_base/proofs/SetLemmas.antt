@@ -7,7 +7,7 @@ use Rattle.std.specs.Prelude.{unwrap_or}
 use Rattle.desk_base.specs.SetNumber.{IsNumberPlayed, at_round, in_phase, number_in_set, set_of, set_then}
 use Rattle.desk_base.specs.Stopped.{StoppedAt}
 use Rattle.desk_base.specs.declared.set_number.SetSoFar.{SetSoFar}
-use Rattle.events.specs.Event.{phase_set, round_of}
+use Rattle.events.specs.Event.{phase_set, round_begun_by}
 use Rattle.events.specs.declared.event.Event.{Event}
 use Rattle.events.specs.declared.event.Event.TheVariants as event
 use Rattle.history.specs.LookBack.{Game, bankrupt_in, last_said}
@@ -53,7 +53,7 @@ phase_after [] set = refl
 phase_after (event ∷ events) set =
     let begun : SetSoFar = in_phase set (phase_set event) in
     phase_after events (set_then set event)
-    ∙ ap (unwrap_or (last_said phase_set events)) (phase_at_round begun (round_of event) ∙ phase_begun set (phase_set event))
+    ∙ ap (unwrap_or (last_said phase_set events)) (phase_at_round begun (round_begun_by event) ∙ phase_begun set (phase_set event))
     ∙ sym (choices (last_said phase_set events) (phase_set event) set.phase)
 
 -- neither of two
@@ -70,9 +70,9 @@ none_there (Some round) none = absurd (cc)
 number_after : (events : List Event) (set : SetSoFar) → BeginsNoRound events → (fold set_then set events).rounds ≡ set.rounds
 number_after [] set none = refl
 number_after (event ∷ events) set none =
-    let parts = neither (is_some (round_of event)) (list_any (λ its. is_some (round_of its)) events) none in
+    let parts = neither (is_some (round_begun_by event)) (list_any (λ its. is_some (round_begun_by its)) events) none in
     number_after events (set_then set event) parts.1
-    ∙ ap (λ begun. (at_round (in_phase set (phase_set event)) begun).rounds) (none_there (round_of event) parts.0)
+    ∙ ap (λ begun. (at_round (in_phase set (phase_set event)) begun).rounds) (none_there (round_begun_by event) parts.0)
     ∙ number_in_phase set (phase_set event)
 
 -- a round that was played leaves the number with which it began

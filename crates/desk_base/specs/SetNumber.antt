@@ -3,7 +3,7 @@
 use Rattle.std.specs.Prelude.{◌≡◌, ℕ, List, Option, Some, None}
 use Rattle.std.specs.List.{fold}
 use Rattle.desk_base.specs.declared.set_number.SetSoFar.{SetSoFar}
-use Rattle.events.specs.Event.{phase_set, round_of}
+use Rattle.events.specs.Event.{phase_set, round_begun_by}
 use Rattle.events.specs.declared.event.Event.{Event}
 use Rattle.desk_base.specs.Stopped.{StoppedAt}
 use Rattle.rounds.specs.Play.{Between, Played, in_set_before}
@@ -30,7 +30,7 @@ at_round set (Some (Operating number its)) = set
 
 -- after one more event
 abbrev pub set_then : SetSoFar → Event → SetSoFar
-set_then set event = at_round (in_phase set (phase_set event)) (round_of event)
+set_then set event = at_round (in_phase set (phase_set event)) (round_begun_by event)
 
 -- after these events
 abbrev pub set_of : List Event → SetSoFar

@@ -4,19 +4,19 @@ use Rattle.std.proofs.lemmas.Bool.{and_parts, eqb-true}
 use Rattle.std.proofs.lemmas.List.{append-nil, map-append}
 use Rattle.std.specs.Map.{lookup}
 use Rattle.std.specs.Option.{option_or}
-use Rattle.desk_check.specs.SheetLines.{HeadAt, ReplaceTheLast, complete_by, first_line, head_at, head_here, heads_in, last_line, later_of, post_of, same_sent}
+use Rattle.desk_check.specs.SheetLines.{HeadAt, ReplaceTheLast, complete_by, first_line, head_at, head_here, heads_in, last_line, later_of, sheet_key_of, same_sent}
 use Rattle.desk_check.specs.declared.check_sheets.Head.{Head}
 use Rattle.desk_check.specs.declared.check_sheets.Sent.{Sent}
-use Rattle.sheets.specs.File.{begins, post_at, same_post}
-use Rattle.sheets.specs.declared.post.Post.{Post}
+use Rattle.sheets.specs.File.{begins, sheet_key_at, same_sheet_key}
+use Rattle.sheets.specs.declared.sheet_key.SheetKey.{SheetKey}
 use Rattle.std.specs.Prelude.{◌==◌, if◌then◌else◌}
 use Rattle.tables.specs.Round.{same_round}
 use Rattle.tables.specs.declared.round.Round.{Round}
 use Rattle.tables.specs.declared.round.Round.TheVariants.{Opening, Stock, Operating}
 
 -- the line of a head, if it begins this sheet
-abbrev pub line_if : Post → HeadAt → Option ℕ
-line_if post head = if same_post head.post post then Some head.line else None
+abbrev pub line_if : SheetKey → HeadAt → Option ℕ
+line_if sheet_key head = if same_sheet_key head.sheet_key sheet_key then Some head.line else None
 
 -- the first of three choices
 or_assoc : (a b c : Option ℕ) → option_or (option_or a b) c ≡ option_or a (option_or b c)
@@ -29,12 +29,12 @@ or_none None = refl
 or_none (Some x) = refl
 
 -- the last of some heads and one more
-pub last_with_one : (post : Post) (heads : List HeadAt) (head : HeadAt) →
-    last_line post (heads ++ head ∷ []) ≡ option_or (line_if post head) (last_line post heads)
-last_with_one post [] head = or_none (line_if post head)
-last_with_one post (first ∷ heads) head =
-    ap (λ o. option_or o (line_if post first)) (last_with_one post heads head)
-    ∙ or_assoc (line_if post head) (last_line post heads) (line_if post first)
+pub last_with_one : (sheet_key : SheetKey) (heads : List HeadAt) (head : HeadAt) →
+    last_line sheet_key (heads ++ head ∷ []) ≡ option_or (line_if sheet_key head) (last_line sheet_key heads)
+last_with_one sheet_key [] head = or_none (line_if sheet_key head)
+last_with_one sheet_key (first ∷ heads) head =
+    ap (λ o. option_or o (line_if sheet_key first)) (last_with_one sheet_key heads head)
+    ∙ or_assoc (line_if sheet_key head) (last_line sheet_key heads) (line_if sheet_key first)
 
 -- a sheet is known by its seat and its round
 same_round_is : (a b : Round) → same_round a b ≡ true → a ≡ b
@@ -52,7 +52,7 @@ same_round_is (Operating m j) (Operating n k) same =
     let number : j ≡ k = eqb-true j k parts.1 in
     ap (λ s. Operating s j) set ∙ ap (λ i. Operating n i) number
 
-same_post_is : (a b : Post) → same_post a b ≡ true → a ≡ b
+same_post_is : (a b : SheetKey) → same_sheet_key a b ≡ true → a ≡ b
 same_post_is a b same =
     let parts = and_parts (a.seat.0 == b.seat.0) (same_round a.round b.round) same in
     let seat : a.seat.0 ≡ b.seat.0 = eqb-true a.seat.0 b.seat.0 parts.0 in
@@ -61,7 +61,7 @@ same_post_is a b same =
 
 -- one more head, which replaces the last before it
 pub replaces_with_one : (before : List HeadAt) (heads : List Head) (head : Head) →
-    ReplaceTheLast before heads → head.replaces ≡ last_line (post_of head.sent) (before ++ map head_at heads)
+    ReplaceTheLast before heads → head.replaces ≡ last_line (sheet_key_of head.sent) (before ++ map head_at heads)
     → ReplaceTheLast before (heads ++ head ∷ [])
 replaces_with_one before [] head h e = (rw append-nil at e, tt)
 replaces_with_one before (first ∷ heads) head h e =
@@ -75,22 +75,22 @@ or_by_test false line other = refl
 -- the line of the last head that begins a sheet, once one more head has come
 pub last_after_insert : (key sent : Sent) (line : ℕ) (old new : List (Sent × ℕ)) (heads : List HeadAt) →
     lookup (same_sent sent) new ≡ cond (same_sent key sent) (Some line) (lookup (same_sent sent) old)
-    → lookup (same_sent sent) old ≡ last_line (post_of sent) heads
-    → lookup (same_sent sent) new ≡ last_line (post_of sent) (heads ++ record { line = line; post = post_of key } ∷ [])
+    → lookup (same_sent sent) old ≡ last_line (sheet_key_of sent) heads
+    → lookup (same_sent sent) new ≡ last_line (sheet_key_of sent) (heads ++ record { line = line; sheet_key = sheet_key_of key } ∷ [])
 last_after_insert key sent line old new heads put kept =
     put ∙ ap (λ o. cond (same_sent key sent) (Some line) o) kept
-    ∙ or_by_test (same_sent key sent) line (last_line (post_of sent) heads)
-    ∙ sym (last_with_one (post_of sent) heads (record { line = line; post = post_of key }))
+    ∙ or_by_test (same_sent key sent) line (last_line (sheet_key_of sent) heads)
+    ∙ sym (last_with_one (sheet_key_of sent) heads (record { line = line; sheet_key = sheet_key_of key }))
 
 -- the first of some heads and one more
-first_with_one : (post : Post) (heads : List HeadAt) (head : HeadAt) →
-    first_line post (heads ++ head ∷ []) ≡ option_or (first_line post heads) (line_if post head)
-first_with_one post [] head = refl
-first_with_one post (first ∷ heads) head =
-    elim (same_post first.post post) as (λ (test : Bool).
-    cond test (Some first.line) (first_line post (heads ++ head ∷ [])) ≡ option_or (cond test (Some first.line) (first_line post heads)) (line_if post head)) [
+first_with_one : (sheet_key : SheetKey) (heads : List HeadAt) (head : HeadAt) →
+    first_line sheet_key (heads ++ head ∷ []) ≡ option_or (first_line sheet_key heads) (line_if sheet_key head)
+first_with_one sheet_key [] head = refl
+first_with_one sheet_key (first ∷ heads) head =
+    elim (same_sheet_key first.sheet_key sheet_key) as (λ (test : Bool).
+    cond test (Some first.line) (first_line sheet_key (heads ++ head ∷ [])) ≡ option_or (cond test (Some first.line) (first_line sheet_key heads)) (line_if sheet_key head)) [
       | true ↦ refl
-      | false ↦ first_with_one post heads head
+      | false ↦ first_with_one sheet_key heads head
     ]
 
 -- a line that is there before another
@@ -109,25 +109,25 @@ none_before (Some first) false line none = refl
 
 module _ (key sent : Sent) (line : ℕ) (heads : List HeadAt) where
   -- where one begins this sheet, the first stays
-  pub first_stays : (entries : List (Sent × ℕ)) → lookup (same_sent sent) entries ≡ first_line (post_of sent) heads →
-      is_some (first_line (post_of key) heads) ≡ true →
-      lookup (same_sent sent) entries ≡ first_line (post_of sent) (heads ++ record { line = line; post = post_of key } ∷ [])
+  pub first_stays : (entries : List (Sent × ℕ)) → lookup (same_sent sent) entries ≡ first_line (sheet_key_of sent) heads →
+      is_some (first_line (sheet_key_of key) heads) ≡ true →
+      lookup (same_sent sent) entries ≡ first_line (sheet_key_of sent) (heads ++ record { line = line; sheet_key = sheet_key_of key } ∷ [])
   first_stays entries kept there =
       kept
-      ∙ there_before (first_line (post_of sent) heads) (same_sent key sent) line
-      (λ same. subst (λ (post : Post). is_some (first_line post heads) ≡ true) (same_post_is (post_of key) (post_of sent) same) there)
-      ∙ sym (first_with_one (post_of sent) heads (record { line = line; post = post_of key }))
+      ∙ there_before (first_line (sheet_key_of sent) heads) (same_sent key sent) line
+      (λ same. subst (λ (sheet_key : SheetKey). is_some (first_line sheet_key heads) ≡ true) (same_post_is (sheet_key_of key) (sheet_key_of sent) same) there)
+      ∙ sym (first_with_one (sheet_key_of sent) heads (record { line = line; sheet_key = sheet_key_of key }))
 
   -- where none does, this is the first
   pub first_comes : (old new : List (Sent × ℕ)) →
       lookup (same_sent sent) new ≡ cond (same_sent key sent) (Some line) (lookup (same_sent sent) old) →
-      lookup (same_sent sent) old ≡ first_line (post_of sent) heads → first_line (post_of key) heads ≡ None →
-      lookup (same_sent sent) new ≡ first_line (post_of sent) (heads ++ record { line = line; post = post_of key } ∷ [])
+      lookup (same_sent sent) old ≡ first_line (sheet_key_of sent) heads → first_line (sheet_key_of key) heads ≡ None →
+      lookup (same_sent sent) new ≡ first_line (sheet_key_of sent) (heads ++ record { line = line; sheet_key = sheet_key_of key } ∷ [])
   first_comes old new put kept none =
       put ∙ ap (λ o. cond (same_sent key sent) (Some line) o) kept
-      ∙ none_before (first_line (post_of sent) heads) (same_sent key sent) line
-      (λ same. subst (λ (post : Post). first_line post heads ≡ None) (same_post_is (post_of key) (post_of sent) same) none)
-      ∙ sym (first_with_one (post_of sent) heads (record { line = line; post = post_of key }))
+      ∙ none_before (first_line (sheet_key_of sent) heads) (same_sent key sent) line
+      (λ same. subst (λ (sheet_key : SheetKey). first_line sheet_key heads ≡ None) (same_post_is (sheet_key_of key) (sheet_key_of sent) same) none)
+      ∙ sym (first_with_one (sheet_key_of sent) heads (record { line = line; sheet_key = sheet_key_of key }))
 
 -- nothing is there
 pub not_there : (found : Option ℕ) → is_some found ≡ false → found ≡ None
@@ -136,7 +136,7 @@ not_there (Some line) none = absurd (true≢false none)
 
 -- the line by which one player more had a sheet
 pub complete_next : (seats : ℕ) (round : Round) (heads : List HeadAt) →
-    later_of (complete_by seats round heads) (first_line (post_at seats round) heads) ≡ complete_by (seats + 1) round heads
+    later_of (complete_by seats round heads) (first_line (sheet_key_at seats round) heads) ≡ complete_by (seats + 1) round heads
 complete_next seats round heads = ap (λ n. complete_by n round heads) (sym (add-one seats))
 
 -- the heads that came, once one more has come

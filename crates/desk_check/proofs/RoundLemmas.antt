@@ -10,7 +10,7 @@ use Rattle.desk_check.specs.RoundsPlayed.{AreRoundsOf, by_then, by_with, is_begu
 use Rattle.desk_check.specs.SheetLines.{HeadAt}
 use Rattle.desk_check.specs.declared.check_late.Rounds.{Rounds}
 use Rattle.desk_check.specs.declared.check_sheets.Heads.{Heads}
-use Rattle.events.specs.Event.{round_of}
+use Rattle.events.specs.Event.{round_begun_by}
 use Rattle.events.specs.declared.event.Event.{Event}
 use Rattle.rounds.specs.Begun.{rounds_begun, with_round}
 use Rattle.tables.specs.Round.{same_round}
@@ -43,14 +43,14 @@ with_round_parts None a b = refl
 with_round_parts (Some round) a b = refl
 
 -- one more event begins a round, or none
-begun_with_one : (events : List Event) (event : Event) → rounds_begun (events ++ event ∷ []) ≡ rounds_begun events ++ with_round (round_of event) []
+begun_with_one : (events : List Event) (event : Event) → rounds_begun (events ++ event ∷ []) ≡ rounds_begun events ++ with_round (round_begun_by event) []
 begun_with_one [] event = refl
 begun_with_one (first ∷ events) event =
-    ap (with_round (round_of first)) (begun_with_one events event)
-    ∙ with_round_parts (round_of first) (rounds_begun events) (with_round (round_of event) [])
+    ap (with_round (round_begun_by first)) (begun_with_one events event)
+    ∙ with_round_parts (round_begun_by first) (rounds_begun events) (with_round (round_begun_by event) [])
 
 -- an event that begins no round
-none_begun : (events : List Event) (event : Event) (round : Round) → round_of event ≡ None → is_begun (events ++ event ∷ []) round ≡ is_begun events round
+none_begun : (events : List Event) (event : Event) (round : Round) → round_begun_by event ≡ None → is_begun (events ++ event ∷ []) round ≡ is_begun events round
 none_begun events event round h =
     ap (list_any (λ begun. same_round begun round)) (begun_with_one events event ∙ ap (λ o. rounds_begun events ++ with_round o []) h ∙ append-nil (rounds_begun events))
 
@@ -63,7 +63,7 @@ some_by_test false line (Some x) = refl
 
 -- an event that begins a round, which is kept with a line
 one_begun : (events : List Event) (event : Event) (key round : Round) (line : ℕ) (old new : List (Round × ℕ)) →
-    round_of event ≡ Some key
+    round_begun_by event ≡ Some key
     → lookup (derived.eq-value.it round) new ≡ cond (derived.eq-value.it key round) (Some line) (lookup (derived.eq-value.it round) old)
     → is_some (lookup (same_round round) old) ≡ is_begun events round
     → is_some (lookup (same_round round) new) ≡ is_begun (events ++ event ∷ []) round
@@ -111,7 +111,7 @@ module _ (seats : ℕ) (heads : List HeadAt) where
       ∙ or_assoc (cond (same_round key round) (Some (by_then seats heads now (rounds ++ key ∷ []))) None) (ready_among seats heads now rounds round) here
 
 -- an event that begins no round is noted
-pub none_noted : (heads : Heads) (rounds : Rounds) (events : List Event) (event : Event) → round_of event ≡ None →
+pub none_noted : (heads : Heads) (rounds : Rounds) (events : List Event) (event : Event) → round_begun_by event ≡ None →
     AreRoundsOf heads rounds events → AreRoundsOf heads rounds (events ++ event ∷ [])
 none_noted heads rounds events event none are =
     let same : rounds_begun (events ++ event ∷ []) ≡ rounds_begun events =
@@ -123,7 +123,7 @@ none_noted heads rounds events event none are =
     }
 
 -- an event that begins a round is noted
-pub one_noted : (heads : Heads) (old new : Rounds) (events : List Event) (event : Event) (key : Round) → round_of event ≡ Some key →
+pub one_noted : (heads : Heads) (old new : Rounds) (events : List Event) (event : Event) (key : Round) → round_begun_by event ≡ Some key →
     ((round : Round) → lookup (derived.eq-value.it round) new.lines.entries
     ≡ cond (derived.eq-value.it key round) (Some new.by) (lookup (derived.eq-value.it round) old.lines.entries)) →
     new.by ≡ by_with heads.seats (came heads) old.by key → AreRoundsOf heads old events → AreRoundsOf heads new (events ++ event ∷ [])

@@ -2,10 +2,10 @@
 ghost use Rattle.std.specs.Prelude.{◌≡◌, ◌≤◌, OnOk, [], false, option_map, slice_get};
 ghost use Rattle.std.specs.Option.{option_map_or};
 ghost use Rattle.desk_check.specs.Heads.{AreKept, NotesFirst, came, with_head};
-ghost use Rattle.desk_check.specs.SheetLines.{Begins, complete_by, first_line, is_at, last_line, later_of, post_of};
+ghost use Rattle.desk_check.specs.SheetLines.{Begins, complete_by, first_line, is_at, last_line, later_of, sheet_key_of};
 ghost use Rattle.order_grammar.specs.Line.{reading_of};
 ghost use Rattle.order_grammar.specs.Words.{same_word};
-ghost use Rattle.sheets.specs.File.{players_of, post_begun, seat_from};
+ghost use Rattle.sheets.specs.File.{players_of, sheet_key_begun, seat_from};
 
 use crate::check_lines::FileLine;
 use order_grammar::{Name, Order, begins_with_word, read_line};
@@ -115,7 +115,7 @@ impl<'a> Heads<'a> {
     /// Whether the sheet that a line begins counts: no later one replaces it.
     pub(crate) fn counts(&self, head: &Head) -> bool
         requires { AreKept self.now }
-        ensures { result ≡ is_at (last_line (post_of head.now.sent) (came self.now))
+        ensures { result ≡ is_at (last_line (sheet_key_of head.now.sent) (came self.now))
             head.now.line.number }
     {
         match self.last.get(&head.sent) {
@@ -164,8 +164,8 @@ pub(crate) fn begun_by(sheets: &Sheets, line: &[u8]) -> Beginning
 /// would else clear the room for a line that is read with each line that is not.)
 #[inline(never)]
 fn sheet_named(sheets: &Sheets, line: &[u8]) -> Option<Sent>
-    ensures { option_map post_of result
-        ≡ post_begun (players_of sheets.now) (reading_of line.now) }
+    ensures { option_map sheet_key_of result
+        ≡ sheet_key_begun (players_of sheets.now) (reading_of line.now) }
 {
     let Ok(read) = read_line(line) else {
         return None;

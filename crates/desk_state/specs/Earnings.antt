@@ -3,7 +3,7 @@
 use Rattle.std.specs.Prelude.{ℕ, ◌+◌, if◌then◌else◌, true, false, List, Option, Some, None}
 use Rattle.std.specs.List.{fold}
 use Rattle.desk_state.specs.declared.earnings.Earnings.{Earnings}
-use Rattle.events.specs.Event.{round_of}
+use Rattle.events.specs.Event.{round_begun_by}
 use Rattle.events.specs.declared.event.Event.{Event}
 use Rattle.events.specs.declared.event.Event.TheVariants.{Runs, Withheld}
 use Rattle.tables.specs.Roster.{same_company}
@@ -33,7 +33,7 @@ with_sum earnings (Some sum) =
 
 -- after one more event
 abbrev pub earnings_then : Company → Earnings → Event → Earnings
-earnings_then company earnings event = with_sum (with_round earnings (round_of event)) (earned_by company event)
+earnings_then company earnings event = with_sum (with_round earnings (round_begun_by event)) (earned_by company event)
 
 -- after these events
 abbrev pub earnings_of : Company → List Event → Earnings

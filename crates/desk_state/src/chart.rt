@@ -3,7 +3,7 @@ ghost use Rattle.std.specs.Prelude.{◌<◌};
 
 use crate::page::Page;
 use crate::stack::company_at;
-use history::{History, Past};
+use history::{GameView, History};
 use report::push_right;
 use std::alloc::AllocError;
 use tables::{Company, Zone, price, square, zone};
@@ -97,7 +97,7 @@ fn mark(zone: Zone) -> &'static str {
 
 /// Adds the tokens on the squares of a row that lie below so many others, as many as a line shows; no
 /// line where there are none.
-fn push_tokens(page: &mut Page, past: &Past, row: u8, above: usize) -> Result<(), AllocError>
+fn push_tokens(page: &mut Page, past: &GameView, row: u8, above: usize) -> Result<(), AllocError>
     requires { above < 9 }
 {
     for column in 1..COLUMNS_END {

@@ -5,7 +5,7 @@ ghost use Rattle.privates.specs.Judgement.{price_of};
 use crate::page::Page;
 use crate::purse::purse_of;
 use crate::text::push_holder;
-use history::{History, Holder, Past};
+use history::{GameView, History, Holder};
 use order_grammar::print_number;
 use report::{push_name, push_right};
 use rounds::Game;
@@ -95,7 +95,7 @@ fn push_owner(page: &mut Page, game: &Game, private: Private) -> Result<(), Allo
 }
 
 /// The price of an unsold private: its face, but for SV, whose price falls.
-fn price_of(past: &Past, private: Private) -> Amount
+fn price_of(past: &GameView, private: Private) -> Amount
     ensures { result ≡ price_of past.now.events.now private }
 {
     match private {

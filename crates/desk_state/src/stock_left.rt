@@ -1,25 +1,25 @@
 //! What is left: tokens of a company, trains of the bank, tiles; and what lies on the map.
 ghost use Rattle.std.specs.Prelude.{◌≡◌};
-ghost use Rattle.board.specs.LayRules.{is_tile, lying_of};
+ghost use Rattle.board.specs.LayRules.{is_tile, on_map_of};
 ghost use Rattle.desk_state.specs.StockLeft.{tiles_left, tokens_left, trains_left};
 ghost use Rattle.history.specs.Operating.{tokens_of};
 ghost use Rattle.map_tables.specs.Hex.{same_hex};
-ghost use Rattle.map_tables.specs.Lying.{has_token, names, same_stop, tile_on};
+ghost use Rattle.map_tables.specs.OnMap.{has_token, names, same_stop, tile_on};
 ghost use Rattle.std.specs.List.{count_by};
 
-use history::{History, Past};
+use history::{GameView, History};
 use map_tables::{Hex, Lay, Place, Stop, TileNo, joined_stop, tile};
 use tables::{Company, Kind, tokens, train};
 
 /// How many tokens a company has not placed.
-pub(crate) fn tokens_left(past: &Past, company: Company) -> usize
+pub(crate) fn tokens_left(past: &GameView, company: Company) -> usize
     ensures { result ≡ tokens_left past.now.events.now company }
 {
     tokens(company).saturating_sub(past.tokens_placed(company))
 }
 
 /// How many trains of a kind the bank has not sold; `None` where their number has no limit.
-pub(crate) fn trains_left(past: &Past, kind: Kind) -> Option<usize>
+pub(crate) fn trains_left(past: &GameView, kind: Kind) -> Option<usize>
     ensures { result ≡ trains_left past.now.events.now kind }
 {
     let number = train(kind).number?;
@@ -30,13 +30,13 @@ pub(crate) fn trains_left(past: &Past, kind: Kind) -> Option<usize>
 pub(crate) fn tiles_left(lays: &[Lay], number: TileNo) -> usize
     ensures { result ≡ tiles_left lays.now number }
 {
-    usize::from(tile(number).count).saturating_sub(lying_of(lays, number))
+    usize::from(tile(number).count).saturating_sub(on_map_of(lays, number))
 }
 
 /// How many tiles of a number lie on the map.
-#[tactic(auto, unfolding(board::specs::LayRules::lying_of))]
-fn lying_of(lays: &[Lay], number: TileNo) -> usize
-    ensures { result ≡ lying_of lays.now number }
+#[tactic(auto, unfolding(board::specs::LayRules::on_map_of))]
+fn on_map_of(lays: &[Lay], number: TileNo) -> usize
+    ensures { result ≡ on_map_of lays.now number }
 {
     // A law, which does nothing when it runs: these are all hexes.
     map_tables::laws::hexes_stand_once();
@@ -64,7 +64,7 @@ fn has_tile(lays: &[Lay], hex: Hex, number: TileNo) -> bool
 }
 
 /// The tile that lies on a hex: the last that was laid there.
-#[tactic(auto, unfolding(map_tables::specs::Lying::tile_on))]
+#[tactic(auto, unfolding(map_tables::specs::OnMap::tile_on))]
 pub(crate) fn tile_on(lays: &[Lay], hex: Hex) -> Option<Lay>
     ensures { result ≡ tile_on lays.now hex }
 {

@@ -81,9 +81,9 @@ party_of_seller seller.BankPool = party.Bank
 party_of_seller (seller.Company company) = party_of_company company
 
 -- where the trains of a company lie, or those of the bank pool where there is none
-abbrev pub stable_of : Option Company → TrainPlace
-stable_of None = train_place.BankPool
-stable_of (Some company) = train_place.Company company
+abbrev pub train_owner_place : Option Company → TrainPlace
+train_owner_place None = train_place.BankPool
+train_owner_place (Some company) = train_place.Company company
 
 -- the money that an event moves: a seat pays the bank for a private or for tenths, and a company for a lay or
 -- a token; a company pays whoever sells it a train, and a seat for its private; a seat pays a company what that
@@ -213,7 +213,7 @@ abbrev pub train_moved : Event → Option TrainMove
 train_moved (Train company kind from price) =
     Some (record { kind = kind; from = place_of_seller from; to = train_place.Company company })
 train_moved (Traded company kind) = Some (record { kind = kind; from = train_place.Company company; to = train_place.BankPool })
-train_moved (Rusted owner kind) = Some (record { kind = kind; from = stable_of owner; to = train_place.OutOfPlay })
+train_moved (Rusted owner kind) = Some (record { kind = kind; from = train_owner_place owner; to = train_place.OutOfPlay })
 train_moved (Discarded company kind) = Some (record { kind = kind; from = train_place.Company company; to = train_place.BankPool })
 train_moved other = None
 
@@ -223,9 +223,9 @@ phase_set (Phase kind) = Some kind
 phase_set other = None
 
 -- the round that an event begins
-abbrev pub round_of : Event → Option TheRound
-round_of (Round round) = Some round
-round_of other = None
+abbrev pub round_begun_by : Event → Option TheRound
+round_begun_by (Round round) = Some round
+round_begun_by other = None
 
 -- the seat of whose sheet an event rules a line
 abbrev pub ruled_by : Event → Option Seat

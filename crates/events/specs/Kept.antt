@@ -1,14 +1,14 @@
 -- Orders and rulings as events keep them, in few bytes; an order under a condition stands behind a box.
 use Rattle.std.specs.Prelude.{◌≡◌, ◌<◌, false, length, Option, Some, None, ⊤}
-use Rattle.events.specs.KeptRun.{places_in}
-use Rattle.events.specs.declared.kept.OrderKept.{OrderKept}
-use Rattle.events.specs.declared.kept.OrderKept.TheVariants as kept
+use Rattle.events.specs.PackedRun.{places_in}
+use Rattle.events.specs.declared.kept.PackedOrder.{PackedOrder}
+use Rattle.events.specs.declared.kept.PackedOrder.TheVariants as kept
 use Rattle.events.specs.declared.kept.OrderVerdict.{OrderVerdict}
 use Rattle.events.specs.declared.kept.OrderVerdict.TheVariants as by
-use Rattle.events.specs.declared.kept.OrderedKept.{OrderedKept}
-use Rattle.events.specs.declared.kept.OrderedKept.TheVariants as ordered_kept
-use Rattle.events.specs.declared.kept.RulingKept.{RulingKept}
-use Rattle.events.specs.declared.kept.RulingKept.TheVariants as ruled
+use Rattle.events.specs.declared.kept.PackedForm.{PackedForm}
+use Rattle.events.specs.declared.kept.PackedForm.TheVariants as ordered_kept
+use Rattle.events.specs.declared.kept.PackedRulingForm.{PackedRulingForm}
+use Rattle.events.specs.declared.kept.PackedRulingForm.TheVariants as ruled
 use Rattle.events.specs.declared.ruling.Ruling.{Ruling}
 use Rattle.events.specs.declared.ruling.Ruling.TheVariants.{Obeyed, Refused, Faulty}
 use Rattle.events.specs.declared.ruling.Verdict.{Verdict}
@@ -27,14 +27,14 @@ TakesBox None other = has_short_form other ≡ false
 TakesBox (Some condition) order = Unit {0}
 
 -- the order that is kept
-abbrev pub order_in : OrderKept → Order
+abbrev pub order_in : PackedOrder → Order
 order_in (kept.Short order) = order_in_short order
 order_in (kept.ShortRun kind run) = order.Run kind (places_in run)
 order_in (kept.LongRun kind run) = order.Run kind run.value
 order_in (kept.Boxed order) = order.value
 
 -- the order that is kept with its condition, if it has one
-abbrev pub ordered_in : OrderedKept → Ordered
+abbrev pub ordered_in : PackedForm → Ordered
 ordered_in (ordered_kept.Plain order) = ordered None (order_in order)
 ordered_in (ordered_kept.Conditional order) = ordered (Some order.value.condition) (order_in order.value.order)
 
@@ -44,7 +44,7 @@ ruling_by by.Obeyed condition order = Obeyed condition order
 ruling_by (by.Refused rule) condition order = Refused rule condition order
 
 -- the ruling that is kept
-abbrev pub ruling_in : RulingKept → Ruling
+abbrev pub ruling_in : PackedRulingForm → Ruling
 ruling_in (ruled.Short verdict order) = ruling_by verdict None (order_in_short order)
 ruling_in (ruled.ShortRun verdict kind run) = ruling_by verdict None (order.Run kind (places_in run))
 ruling_in (ruled.LongRun verdict kind run) = ruling_by verdict None (order.Run kind run.value)

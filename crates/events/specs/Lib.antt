@@ -1,6 +1,6 @@
 -- What happens in a game: each event with its aspects, rulings, and how an event keeps one.
-pub mod KeptPlace
-pub mod KeptRun
+pub mod PackedPlace
+pub mod PackedRun
 pub mod Kept
 pub mod Told
 pub mod Event

@@ -1,9 +1,9 @@
 ghost use Rattle.std.specs.Prelude.{◌≡◌};
-ghost use Rattle.events.specs.Event.{actor_of, bidding_of, floated_by, office_of, operated_by, ownership_of, par_set, party_at, party_of_company, party_of_seller, payment_of, phase_set, place_of_seller, place_of_source, round_of, ruled_by, square_set, stable_of, sum_of, sv_price_set, tile_laid, token_placed, train_moved, transfer_of};
+ghost use Rattle.events.specs.Event.{actor_of, bidding_of, floated_by, office_of, operated_by, ownership_of, par_set, party_at, party_of_company, party_of_seller, payment_of, phase_set, place_of_seller, place_of_source, round_begun_by, ruled_by, square_set, train_owner_place, sum_of, sv_price_set, tile_laid, token_placed, train_moved, transfer_of};
 ghost use Rattle.events.specs.declared.event.Party.TheVariants.{Bank};
 ghost use Rattle.tables.specs.Seat.{seat_at};
 
-use crate::kept::KeptRuling;
+use crate::kept::PackedRuling;
 use map_tables::{Lay, Place};
 use order_grammar::ShareSource;
 use tables::{Amount, Company, Kind, Private, Round, Seat, Square, par_square};
@@ -64,7 +64,7 @@ pub enum Event {
     Ruled {
         seat: Seat,
         line: u32,
-        ruling: KeptRuling,
+        ruling: PackedRuling,
     },
     /// A seat's turn ends without a purchase.
     Passes(Seat),
@@ -403,7 +403,7 @@ impl TrainPlace {
 
     /// Where the trains of a company lie, or those of the bank pool where there is none.
     pub fn of_owner(owner: Option<Company>) -> TrainPlace
-        ensures { result ≡ stable_of owner }
+        ensures { result ≡ train_owner_place owner }
     {
         match owner {
             Some(company) => TrainPlace::Company(company),
@@ -756,7 +756,7 @@ impl Event {
 
     /// The round that it begins.
     pub fn round(&self) -> Option<Round>
-        ensures { result ≡ round_of self.now }
+        ensures { result ≡ round_begun_by self.now }
     {
         match self {
             Event::Round(round) => Some(*round),

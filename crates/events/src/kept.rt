@@ -12,8 +12,8 @@ ghost use Rattle.order_grammar.specs.Condition.{ordered};
 ghost use Rattle.order_grammar.specs.Print.{spelling_of};
 ghost use Rattle.order_grammar.specs.declared.order.Order.TheVariants as order;
 
-use crate::kept_place::KeptPlace;
-use crate::kept_run::{LongRun, ShortRun, print_places};
+use crate::packed_place::PackedPlace;
+use crate::packed_run::{LongRun, ShortRun, print_places};
 use crate::ruling::{Refusal, Ruling, Verdict};
 use map_tables::Run;
 use order_grammar::{
@@ -27,35 +27,35 @@ use tables::{Amount, Company, Kind, Private, par_square};
 /// An order that is to be ruled, with its condition if it has one, in few bytes; contracts see the
 /// two.
 #[derive(Debug, Drop)]
-pub struct KeptOrder {
-    kept: OrderedKept,
+pub struct PackedLine {
+    kept: PackedForm,
 }
 
 /// An order without a condition, or one under a condition behind a box.
 #[derive(Debug, Drop)]
-enum OrderedKept {
-    Plain(OrderKept),
-    Conditional(Box<ConditionalKept>),
+enum PackedForm {
+    Plain(PackedOrder),
+    Conditional(Box<PackedConditional>),
 }
 
 /// An order under its condition.
 #[derive(Debug, Drop)]
-struct ConditionalKept {
+struct PackedConditional {
     condition: Condition,
-    order: OrderKept,
+    order: PackedOrder,
 }
 
 /// An order of few bytes, a run of few places, any other run behind a box, or any other order
 /// behind one.
 #[derive(Debug, Drop)]
-enum OrderKept {
+enum PackedOrder {
     Short(ShortOrder),
     ShortRun { kind: Kind, run: ShortRun },
     LongRun { kind: Kind, run: Box<LongRun> },
     Boxed(Box<Order>),
 }
 
-impl Model for KeptOrder {
+impl Model for PackedLine {
     ghost use Rattle.events.specs.Kept.{ordered_in};
     ghost use Rattle.order_grammar.specs.Condition.{Ordered};
 
@@ -64,7 +64,7 @@ impl Model for KeptOrder {
     ghost view = { λ a. ordered_in a.kept };
 }
 
-impl KeptOrder {
+impl PackedLine {
     /// Keeps a copy of an order with its condition, if it has one. An `Err` comes only where a box
     /// gets no memory; of the orders that are ruled, only one under a condition and a run of more
     /// than five places need one.
@@ -72,40 +72,40 @@ impl KeptOrder {
         alloc: Global,
         condition: Option<&Condition>,
         order: &Order,
-    ) -> Result<KeptOrder, AllocError>
+    ) -> Result<PackedLine, AllocError>
         ensures { MatchResult result
             (λ kept. kept ≡ ordered (option_copied condition.entry) order.now)
             (λ _. TakesBox (option_copied condition.entry) order.now) }
     {
-        let order = OrderKept::keep(alloc, order)?;
+        let order = PackedOrder::keep(alloc, order)?;
         let kept = match condition {
-            None => OrderedKept::Plain(order),
+            None => PackedForm::Plain(order),
             Some(condition) => {
                 let condition = *condition;
-                OrderedKept::Conditional(Box::new(alloc, ConditionalKept { condition, order })?)
+                PackedForm::Conditional(Box::new(alloc, PackedConditional { condition, order })?)
             }
         };
-        Ok(KeptOrder { kept })
+        Ok(PackedLine { kept })
     }
 }
 
-impl OrderKept {
+impl PackedOrder {
     /// Keeps a copy of an order.
-    fn keep(alloc: Global, order: &Order) -> Result<OrderKept, AllocError>
+    fn keep(alloc: Global, order: &Order) -> Result<PackedOrder, AllocError>
         ensures { MatchResult result (λ kept. order_in kept ≡ order.now)
             (λ _. TakesBox None order.now) }
     {
         let kept = match order {
             Order::Run { kind, run } => match ShortRun::keep(run) {
-                Some(run) => OrderKept::ShortRun { kind: *kind, run },
-                None => OrderKept::LongRun {
+                Some(run) => PackedOrder::ShortRun { kind: *kind, run },
+                None => PackedOrder::LongRun {
                     kind: *kind,
                     run: Box::new(alloc, LongRun::keep(alloc, run)?)?,
                 },
             },
             other => match ShortOrder::of(other) {
-                Some(short) => OrderKept::Short(short),
-                None => OrderKept::Boxed(Box::new(alloc, other.duplicate())?),
+                Some(short) => PackedOrder::Short(short),
+                None => PackedOrder::Boxed(Box::new(alloc, other.duplicate())?),
             },
         };
         Ok(kept)
@@ -116,10 +116,10 @@ impl OrderKept {
         ensures { result ≡ order_in self.now }
     {
         match self {
-            OrderKept::Short(order) => order.order(),
-            OrderKept::ShortRun { kind, run } => run_order(*kind, run.run()),
-            OrderKept::LongRun { kind, run } => run_order(*kind, run.run()),
-            OrderKept::Boxed(order) => order.duplicate(),
+            PackedOrder::Short(order) => order.order(),
+            PackedOrder::ShortRun { kind, run } => run_order(*kind, run.run()),
+            PackedOrder::LongRun { kind, run } => run_order(*kind, run.run()),
+            PackedOrder::Boxed(order) => order.duplicate(),
         }
     }
 
@@ -128,8 +128,8 @@ impl OrderKept {
         ensures { IsShortOf (Some (order_in self.now)) result }
     {
         match self {
-            OrderKept::Short(order) => Some(*order),
-            OrderKept::Boxed(order) => ShortOrder::of(order),
+            PackedOrder::Short(order) => Some(*order),
+            PackedOrder::Boxed(order) => ShortOrder::of(order),
             _ => None,
         }
     }
@@ -140,18 +140,18 @@ impl OrderKept {
             ≡ text.old.items ++ spelling_of (order_in self.now)) }
     {
         match self {
-            OrderKept::Short(order) => print_short_order(text, *order),
-            OrderKept::ShortRun { kind, run } => print_run(text, *kind, run.places()),
-            OrderKept::LongRun { kind, run } => print_run(text, *kind, run.places()),
-            OrderKept::Boxed(order) => print_order(text, order),
+            PackedOrder::Short(order) => print_short_order(text, *order),
+            PackedOrder::ShortRun { kind, run } => print_run(text, *kind, run.places()),
+            PackedOrder::LongRun { kind, run } => print_run(text, *kind, run.places()),
+            PackedOrder::Boxed(order) => print_order(text, order),
         }
     }
 }
 
 /// A ruling as an event keeps it, in few bytes; contracts see the ruling.
 #[derive(Debug, Drop)]
-pub struct KeptRuling {
-    kept: RulingKept,
+pub struct PackedRuling {
+    kept: PackedRulingForm,
 }
 
 /// What became of an order.
@@ -174,7 +174,7 @@ impl OrderVerdict {
 
 /// A kept order with its verdict, or what is wrong with the line.
 #[derive(Debug, Drop)]
-enum RulingKept {
+enum PackedRulingForm {
     Short {
         verdict: OrderVerdict,
         order: ShortOrder,
@@ -195,15 +195,15 @@ enum RulingKept {
     },
     Conditional {
         verdict: OrderVerdict,
-        order: Box<ConditionalKept>,
+        order: Box<PackedConditional>,
     },
     Faulty(Fault),
 }
 
 // The verdict stands beside the order's form, so that a ruling takes no more than an order.
-const _: () = prove!(size_of::<KeptRuling>() <= 16);
+const _: () = prove!(size_of::<PackedRuling>() <= 16);
 
-impl Model for KeptRuling {
+impl Model for PackedRuling {
     ghost use Rattle.events.specs.Kept.{ruling_in};
     ghost use Rattle.events.specs.declared.ruling.Ruling.{Ruling};
 
@@ -212,46 +212,52 @@ impl Model for KeptRuling {
     ghost view = { λ a. ruling_in a.kept };
 }
 
-impl KeptRuling {
+impl PackedRuling {
     /// The order was carried out; its condition held, if it has one.
-    pub fn obeyed(order: KeptOrder) -> KeptRuling
+    pub fn obeyed(order: PackedLine) -> PackedRuling
         ensures { result ≡ Obeyed order.condition order.order }
     {
-        KeptRuling::of(OrderVerdict::Obeyed, order)
+        PackedRuling::of(OrderVerdict::Obeyed, order)
     }
 
     /// The order breaks a rule of play, of which this is the first.
-    pub fn refused(rule: Refusal, order: KeptOrder) -> KeptRuling
+    pub fn refused(rule: Refusal, order: PackedLine) -> PackedRuling
         ensures { result ≡ Refused rule order.condition order.order }
     {
-        KeptRuling::of(OrderVerdict::Refused(rule), order)
+        PackedRuling::of(OrderVerdict::Refused(rule), order)
     }
 
     /// The line has a fault by itself or has no place where it stands.
-    pub fn faulty(fault: Fault) -> KeptRuling
+    pub fn faulty(fault: Fault) -> PackedRuling
         ensures { result ≡ Faulty fault }
     {
-        KeptRuling {
-            kept: RulingKept::Faulty(fault),
+        PackedRuling {
+            kept: PackedRulingForm::Faulty(fault),
         }
     }
 
     /// An order with its verdict.
-    fn of(verdict: OrderVerdict, order: KeptOrder) -> KeptRuling
+    fn of(verdict: OrderVerdict, order: PackedLine) -> PackedRuling
         ensures { result ≡ ruling_by verdict order.condition order.order }
     {
         let kept = match order.kept {
-            OrderedKept::Plain(OrderKept::Short(order)) => RulingKept::Short { verdict, order },
-            OrderedKept::Plain(OrderKept::ShortRun { kind, run }) => {
-                RulingKept::ShortRun { verdict, kind, run }
+            PackedForm::Plain(PackedOrder::Short(order)) => PackedRulingForm::Short {
+                verdict,
+                order,
+            },
+            PackedForm::Plain(PackedOrder::ShortRun { kind, run }) => {
+                PackedRulingForm::ShortRun { verdict, kind, run }
             }
-            OrderedKept::Plain(OrderKept::LongRun { kind, run }) => {
-                RulingKept::LongRun { verdict, kind, run }
+            PackedForm::Plain(PackedOrder::LongRun { kind, run }) => {
+                PackedRulingForm::LongRun { verdict, kind, run }
             }
-            OrderedKept::Plain(OrderKept::Boxed(order)) => RulingKept::Boxed { verdict, order },
-            OrderedKept::Conditional(order) => RulingKept::Conditional { verdict, order },
+            PackedForm::Plain(PackedOrder::Boxed(order)) => PackedRulingForm::Boxed {
+                verdict,
+                order,
+            },
+            PackedForm::Conditional(order) => PackedRulingForm::Conditional { verdict, order },
         };
-        KeptRuling { kept }
+        PackedRuling { kept }
     }
 
     /// The ruling that is kept.
@@ -259,18 +265,22 @@ impl KeptRuling {
         ensures { result ≡ self.now }
     {
         match &self.kept {
-            RulingKept::Short { verdict, order } => ruling_of(*verdict, None, order.order()),
-            RulingKept::ShortRun { verdict, kind, run } => {
+            PackedRulingForm::Short { verdict, order } => ruling_of(*verdict, None, order.order()),
+            PackedRulingForm::ShortRun { verdict, kind, run } => {
                 ruling_of(*verdict, None, run_order(*kind, run.run()))
             }
-            RulingKept::LongRun { verdict, kind, run } => {
+            PackedRulingForm::LongRun { verdict, kind, run } => {
                 ruling_of(*verdict, None, run_order(*kind, run.run()))
             }
-            RulingKept::Boxed { verdict, order } => ruling_of(*verdict, None, order.duplicate()),
-            RulingKept::Conditional { verdict, order } => {
+            PackedRulingForm::Boxed { verdict, order } => ruling_of(
+                *verdict,
+                None,
+                order.duplicate(),
+            ),
+            PackedRulingForm::Conditional { verdict, order } => {
                 ruling_of(*verdict, Some(order.condition), order.order.order())
             }
-            RulingKept::Faulty(fault) => Ruling::Faulty(*fault),
+            PackedRulingForm::Faulty(fault) => Ruling::Faulty(*fault),
         }
     }
 
@@ -279,12 +289,12 @@ impl KeptRuling {
         ensures { result ≡ verdict_of self.now }
     {
         match &self.kept {
-            RulingKept::Short { verdict, .. } => verdict.verdict(),
-            RulingKept::ShortRun { verdict, .. } => verdict.verdict(),
-            RulingKept::LongRun { verdict, .. } => verdict.verdict(),
-            RulingKept::Boxed { verdict, .. } => verdict.verdict(),
-            RulingKept::Conditional { verdict, .. } => verdict.verdict(),
-            RulingKept::Faulty(fault) => Verdict::Faulty(*fault),
+            PackedRulingForm::Short { verdict, .. } => verdict.verdict(),
+            PackedRulingForm::ShortRun { verdict, .. } => verdict.verdict(),
+            PackedRulingForm::LongRun { verdict, .. } => verdict.verdict(),
+            PackedRulingForm::Boxed { verdict, .. } => verdict.verdict(),
+            PackedRulingForm::Conditional { verdict, .. } => verdict.verdict(),
+            PackedRulingForm::Faulty(fault) => Verdict::Faulty(*fault),
         }
     }
 
@@ -294,15 +304,15 @@ impl KeptRuling {
         ensures { OnOk result (text.new.items ≡ text.old.items ++ order_text self.now) }
     {
         match &self.kept {
-            RulingKept::Short { order, .. } => print_short_order(text, *order),
-            RulingKept::ShortRun { kind, run, .. } => print_run(text, *kind, run.places()),
-            RulingKept::LongRun { kind, run, .. } => print_run(text, *kind, run.places()),
-            RulingKept::Boxed { order, .. } => print_order(text, order),
-            RulingKept::Conditional { order, .. } => {
+            PackedRulingForm::Short { order, .. } => print_short_order(text, *order),
+            PackedRulingForm::ShortRun { kind, run, .. } => print_run(text, *kind, run.places()),
+            PackedRulingForm::LongRun { kind, run, .. } => print_run(text, *kind, run.places()),
+            PackedRulingForm::Boxed { order, .. } => print_order(text, order),
+            PackedRulingForm::Conditional { order, .. } => {
                 print_condition(text, Some(&order.condition))?;
                 order.order.print(text)
             }
-            RulingKept::Faulty(_) => Ok(()),
+            PackedRulingForm::Faulty(_) => Ok(()),
         }
     }
 
@@ -312,15 +322,15 @@ impl KeptRuling {
         ensures { IsShortOf (order_obeyed self.now) result }
     {
         match &self.kept {
-            RulingKept::Short {
+            PackedRulingForm::Short {
                 verdict: OrderVerdict::Obeyed,
                 order,
             } => Some(*order),
-            RulingKept::Boxed {
+            PackedRulingForm::Boxed {
                 verdict: OrderVerdict::Obeyed,
                 order,
             } => ShortOrder::of(order),
-            RulingKept::Conditional {
+            PackedRulingForm::Conditional {
                 verdict: OrderVerdict::Obeyed,
                 order,
             } => order.order.short(),
@@ -455,7 +465,7 @@ fn ruling_of(verdict: OrderVerdict, condition: Option<Condition>, order: Order) 
 }
 
 /// Adds the spelling of the order to run a train.
-fn print_run(text: &mut Vec<u8>, kind: Kind, places: &[KeptPlace]) -> Result<(), AllocError>
+fn print_run(text: &mut Vec<u8>, kind: Kind, places: &[PackedPlace]) -> Result<(), AllocError>
     ensures { OnOk result (text.new.items
         ≡ text.old.items ++ spelling_of (order.Run kind places.now)) }
 {

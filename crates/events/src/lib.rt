@@ -9,20 +9,20 @@
 //! of this crate: `history` looks back over lists, by these aspects alone.
 //!
 //! Reading order: `event` (events and their aspects), `ruling` (what became of a line),
-//! `kept_place`, `kept_run` and `kept` (how an event keeps that).
+//! `packed_place`, `packed_run` and `kept` (how an event keeps that).
 #![tactic(auto)]
 
 mod event;
 mod kept;
-mod kept_place;
-mod kept_run;
+mod packed_place;
+mod packed_run;
 mod ruling;
 
 pub use event::{
     Bid, Bidding, Event, Holder, Office, Ownership, ParValue, Party, Payment, Placement, SUM_MOST,
     Shareholder, TrainMove, TrainPlace, TrainSeller, Transfer,
 };
-pub use kept::{KeptOrder, KeptRuling, is_offer};
+pub use kept::{PackedLine, PackedRuling, is_offer};
 pub use ruling::{
     OpeningRule, PayRule, PrivateRule, Refusal, Ruling, StockRule, TrainRule, Verdict,
 };

@@ -9,7 +9,7 @@ use Rattle.events.specs.declared.event.TrainMove.{TrainMove}
 use Rattle.events.specs.declared.event.TrainPlace.{TrainPlace}
 use Rattle.events.specs.declared.event.TrainPlace.TheVariants as place
 use Rattle.history.proofs.Choices.{truth}
-use Rattle.history.specs.Trains.{AllTrainsStay, one_if, same_train_place, stables, train_comes, train_goes, trains_at, trains_sold, trains_together}
+use Rattle.history.specs.Trains.{AllTrainsStay, one_if, same_train_place, train_owners, train_comes, train_goes, trains_at, trains_sold, trains_together}
 use Rattle.tables.specs.Train.{same_kind}
 use Rattle.tables.specs.declared.rolling_stock.Kind.{Kind}
 use Rattle.tables.specs.declared.roster.Company.TheVariants.{Pennsylvania, NewYorkCentral, CanadianPacific, BaltimoreOhio, ChesapeakeOhio, Erie, NewHaven, BostonMaine}
@@ -20,7 +20,7 @@ times_among at [] = 0
 times_among at (one ∷ others) = one_if (same_train_place at one) + times_among at others
 
 -- a place is once among the bank, the stables, and the place of those out of play
-once_among : (at : TrainPlace) → one_if (same_train_place at place.Bank) + (times_among at stables + one_if (same_train_place at place.OutOfPlay)) ≡ 1
+once_among : (at : TrainPlace) → one_if (same_train_place at place.Bank) + (times_among at train_owners + one_if (same_train_place at place.OutOfPlay)) ≡ 1
 once_among place.Bank = refl
 once_among place.BankPool = refl
 once_among (place.Company Pennsylvania) = refl
@@ -129,15 +129,15 @@ none_to_bank (event.Bankrupt seat) = tt
 none_to_bank event.Broken = tt
 
 -- what comes to the stables and to the place of those out of play went from there, or from the bank
-balanced : (kind : Kind) (move : Option TrainMove) → ComesFromBankAlone move → come_to kind move stables + one_if (train_comes place.OutOfPlay kind move) ≡ (go_from kind move stables + one_if (train_goes place.OutOfPlay kind move)) + one_if (train_goes place.Bank kind move)
+balanced : (kind : Kind) (move : Option TrainMove) → ComesFromBankAlone move → come_to kind move train_owners + one_if (train_comes place.OutOfPlay kind move) ≡ (go_from kind move train_owners + one_if (train_goes place.OutOfPlay kind move)) + one_if (train_goes place.Bank kind move)
 balanced kind None apart = refl
 balanced kind (Some move) apart =
     elim (truth (same_kind move.kind kind)) [
       | inl same ↦
           omega (
             arith,
-            come_of kind move stables same,
-            go_of kind move stables same,
+            come_of kind move train_owners same,
+            go_of kind move train_owners same,
             ap (λ (is : Bool). one_if (is && same_train_place move.to place.OutOfPlay)) same,
             ap (λ (is : Bool). one_if (is && same_train_place move.from place.OutOfPlay)) same,
             ap (λ (is : Bool). one_if (is && same_train_place move.from place.Bank)) same,
@@ -148,8 +148,8 @@ balanced kind (Some move) apart =
       | inr other ↦
           omega (
             arith,
-            come_of_other kind move stables other,
-            go_of_other kind move stables other,
+            come_of_other kind move train_owners other,
+            go_of_other kind move train_owners other,
             ap (λ (is : Bool). one_if (is && same_train_place move.to place.OutOfPlay)) other,
             ap (λ (is : Bool). one_if (is && same_train_place move.from place.OutOfPlay)) other,
             ap (λ (is : Bool). one_if (is && same_train_place move.from place.Bank)) other,
@@ -164,7 +164,7 @@ sold_in_front event events kind = sum_by-cons (λ e. one_if (train_goes place.Ba
 pub trains_stay : AllTrainsStay
 trains_stay [] kind = refl
 trains_stay (event ∷ events) kind =
-    omega (arith, ints, together_in_front event events stables kind, trains_in_front event events place.OutOfPlay kind, sold_in_front event events kind, balanced kind (train_moved event) (none_to_bank event), trains_stay events kind)
+    omega (arith, ints, together_in_front event events train_owners kind, trains_in_front event events place.OutOfPlay kind, sold_in_front event events kind, balanced kind (train_moved event) (none_to_bank event), trains_stay events kind)
 
 -- two tests of which one fails
 not_both : (test : Bool) → one_if (test && false) ≡ 0

@@ -4,7 +4,7 @@ use Rattle.std.specs.Prelude.{replicate}
 use Rattle.std.proofs.lemmas.Int.{ints}
 use Rattle.events.specs.declared.event.Event.{Event}
 use Rattle.history.proofs.Tied.{none_standing}
-use Rattle.history.specs.Books.{IsCounted, IsNet, at_company, bid_in, count_at, net_at, sale_in}
+use Rattle.history.specs.Totals.{IsCounted, IsNet, at_company, bid_in, count_at, net_at, sale_in}
 use Rattle.tables.specs.Roster.{place_of_company}
 use Rattle.tables.specs.declared.roster.Company.{Company}
 use Rattle.tables.specs.declared.roster.Company.TheVariants as company

@@ -30,4 +30,4 @@ pub mod ForcedActs
 pub mod InOrder
 pub mod Revenues
 pub mod Cheapest
-pub mod Telling
+pub mod Recording

@@ -4,7 +4,7 @@ use Rattle.std.proofs.lemmas.Bool.{cases_eq}
 use Rattle.std.proofs.lemmas.Int.{ints}
 use mir.Syntax.{w128}
 use mir.Val.{to_z, of_z}
-use Rattle.events.specs.Event.{stable_of}
+use Rattle.events.specs.Event.{train_owner_place}
 use Rattle.events.specs.declared.event.Event.{Event}
 use Rattle.events.specs.declared.event.Holder.TheVariants as holder
 use Rattle.events.specs.declared.event.Party.{Party}
@@ -16,7 +16,7 @@ use Rattle.events.specs.declared.event.TrainMove.{TrainMove}
 use Rattle.events.specs.declared.event.TrainPlace.{TrainPlace}
 use Rattle.events.specs.declared.event.TrainPlace.TheVariants as train_place
 use Rattle.events.specs.declared.event.Transfer.{Transfer}
-use Rattle.history.specs.Books.{IsNet, IsSafe, net_at, party_entry, row_of, tenths_entry, train_entry, train_row}
+use Rattle.history.specs.Totals.{IsNet, IsSafe, net_at, party_entry, row_of, tenths_entry, train_entry, train_row}
 use Rattle.history.specs.LookBack.{IsModerate, balance, paid_by, paid_to, same_party}
 use Rattle.history.specs.Shares.{brought_to, same_shareholder, taken_from}
 use Rattle.history.specs.Trains.{any_comes, any_goes, one_if, same_train_place, train_comes, train_goes}
@@ -171,13 +171,13 @@ train_moved_on train made place kind from to old new is from_is to_is moved =
     rw (sym is, train_by_entry train.kind kind train.to place, train_by_entry train.kind kind train.from place, sym from_is, sym to_is) moved
 
 -- a train moves from its place to its other
-pub stable_moved :
+pub train_count_moved :
     (train : TrainMove) (made : Option TrainMove) (owner : Option Company) (from to : ℕ) (old new : ℤ) → Some train ≡ made → from ≡ train_row train.from →
     to ≡ train_row train.to →
-    new ≡ (old +ℤ pos (if to == train_row (stable_of owner) then 1 else 0)) -ℤ pos (if from == train_row (stable_of owner) then 1 else 0) →
+    new ≡ (old +ℤ pos (if to == train_row (train_owner_place owner) then 1 else 0)) -ℤ pos (if from == train_row (train_owner_place owner) then 1 else 0) →
     new ≡ (old +ℤ pos (one_if (any_comes owner made))) -ℤ pos (one_if (any_goes owner made))
-stable_moved train made owner from to old new is from_is to_is moved =
-    rw (sym is, same_train_row train.to (stable_of owner), same_train_row train.from (stable_of owner), sym from_is, sym to_is) moved
+train_count_moved train made owner from to old new is from_is to_is moved =
+    rw (sym is, same_train_row train.to (train_owner_place owner), same_train_row train.from (train_owner_place owner), sym from_is, sym to_is) moved
 
 -- a start with a net is an account
 pub account_kept :

@@ -5,7 +5,7 @@ use Rattle.std.proofs.lemmas.List.Folds.{list_any-append}
 use Rattle.std.proofs.lemmas.Int.{ints}
 use Rattle.std.specs.List.{cons_option, list_any}
 use Rattle.std.specs.Option.{option_flatten, option_map, option_or}
-use Rattle.events.specs.Event.{bidding_of, obeyed_of, round_of}
+use Rattle.events.specs.Event.{bidding_of, obeyed_of, round_begun_by}
 use Rattle.events.specs.Offers.{offered_in}
 use Rattle.events.specs.Orders.{said_by}
 use Rattle.events.specs.declared.event.Bidding.{Bidding}
@@ -15,29 +15,29 @@ use Rattle.history.proofs.EventAtEnd.{balance_at_end, last_said_at_end}
 use Rattle.history.proofs.InOrder.{rulings_at_end, tokens_at_end}
 use Rattle.history.proofs.Places.{last_place_at_end}
 use Rattle.history.specs.Bids.{bid_of, bid_said}
-use Rattle.history.specs.Books.{AreBooksOf, IsCounted, IsNet, flag_then, here_if}
+use Rattle.history.specs.Totals.{AreTotalsOf, IsCounted, IsNet, flag_then, here_if}
 use Rattle.history.specs.LookBack.{IsModerate, in_round, last_place_from, last_said, now_said}
 use Rattle.history.specs.Offers.{AreOffersOf, is_among, is_that_offer, tells_offer}
 use Rattle.history.specs.Operating.{rulings_in_round, rulings_then, tokens_placed}
 use Rattle.history.specs.Trains.{one_if}
-use Rattle.history.specs.declared.books.Books.{Books}
+use Rattle.history.specs.declared.totals.Totals.{Totals}
 use Rattle.order_grammar.specs.declared.order.Offer.{Offer}
 use Rattle.tables.specs.declared.roster.Company.{Company}
 use Rattle.tables.specs.declared.roster.Private.{Private}
 use Rattle.tables.specs.declared.seat.Seat.{Seat}
 
 -- the last word is that of the event, or else the one before
-pub word_noted :
+pub word_applied :
     {A : Type 0} (says : Event → Option A) (events : List Event) (event : Event) (old new : Option A) → new ≡ option_or (says event) old →
     old ≡ last_said says events → new ≡ last_said says (events ++ event ∷ [])
-word_noted says events event old new noted before =
+word_applied says events event old new noted before =
     noted ∙ ap (option_or (says event)) before ∙ sym (last_said_at_end says events event)
 
 -- the place of the event that speaks last
-pub place_noted :
+pub place_applied :
     {A : Type 0} (says : Event → Option A) (events : List Event) (event : Event) (place : ℕ) (old new : Option ℕ) → place ≡ length events →
     new ≡ option_or (here_if (says event) place) old → old ≡ last_place_from says 0 events → new ≡ last_place_from says 0 (events ++ event ∷ [])
-place_noted says events event place old new at noted before =
+place_applied says events event place old new at noted before =
     let from_start : length events ≡ 0 + length events = omega arith in
     noted
     ∙ ap (λ n. option_or (here_if (says event) n) old) (at ∙ from_start)
@@ -55,27 +55,27 @@ or_true true = refl
 or_true false = refl
 
 -- a bid on a private is what the event says, or else the one before
-pub bid_noted :
+pub bid_applied :
     (events : List Event) (event : Event) (private : Private) (seat : Seat) (bidding : Option Bidding) (old new : Option ℕ) → bidding ≡ bidding_of event →
     new ≡ unwrap_or (bid_said private seat bidding) old → old ≡ bid_of events private seat → new ≡ bid_of (events ++ event ∷ []) private seat
-bid_noted events event private seat bidding old new is noted before =
+bid_applied events event private seat bidding old new is noted before =
     noted
     ∙ ap (λ told. unwrap_or (bid_said private seat told) old) is
     ∙ ap (unwrap_or (bid_said private seat (bidding_of event))) before
     ∙ sym (bid_of_at_end events event private seat)
 
 -- a word of the round that began last
-pub round_word_noted :
+pub round_word_applied :
     {A : Type 0} (says : Event → Option A) (events : List Event) (event : Event) (old new : Option A) →
     new ≡ unwrap_or (in_round says event) old → old ≡ now_said (in_round says) events → new ≡ now_said (in_round says) (events ++ event ∷ [])
-round_word_noted says events event old new noted before =
+round_word_applied says events event old new noted before =
     noted ∙ ap (unwrap_or (in_round says event)) before ∙ sym (now_said_at_end (in_round says) events event)
 
 -- a test that some event has met
-pub flag_noted :
+pub flag_applied :
     (says : Event → Bool) (events : List Event) (event : Event) (old new : Bool) → new ≡ (old || says event) → old ≡ list_any says events →
     new ≡ list_any says (events ++ event ∷ [])
-flag_noted says events event old new noted before =
+flag_applied says events event old new noted before =
     noted
     ∙ ap (λ flag. flag || says event) before
     ∙ sym (list_any-append says events (event ∷ []) ∙ ap (λ flag. list_any says events || flag) (or_false (says event)))
@@ -102,10 +102,10 @@ pub one_low : (test : Bool) → one_if test < 2 ^ 32
 one_low test = grind arith
 
 -- the entry of an account
-pub net_noted :
+pub net_applied :
     (brings takes : Event → ℕ) (events : List Event) (event : Event) (old new : ℤ) → length events < 2 ^ 63 → brings event < 2 ^ 32 → takes event < 2 ^ 32 →
     (IsModerate old → new ≡ (old +ℤ pos (brings event)) -ℤ pos (takes event)) → IsNet brings takes events old → IsNet brings takes (events ++ event ∷ []) new
-net_noted brings takes events event old new short few_in few_out moves before =
+net_applied brings takes events event old new short few_in few_out moves before =
     let moderate : IsModerate old = record {
       not_under = omega (arith, ints, short, before.not_under);
       not_over = omega (arith, ints, short, before.not_over);
@@ -119,20 +119,20 @@ net_noted brings takes events event old new short few_in few_out moves before =
     }
 
 -- a flag of a round that some event of it has put up
-pub round_flag_noted :
+pub round_flag_applied :
     {A : Type 0} (says : Event → Option A) (events : List Event) (event : Event) (old new : Bool) → new ≡ flag_then event (is_some (says event)) old →
     old ≡ is_some (now_said (in_round says) events) → new ≡ is_some (now_said (in_round says) (events ++ event ∷ []))
-round_flag_noted says events event old new noted before =
+round_flag_applied says events event old new noted before =
     noted
     ∙ ap (flag_then event (is_some (says event))) before
-    ∙ flag_or (is_some (round_of event)) (says event) (last_said (in_round says) events)
+    ∙ flag_or (is_some (round_begun_by event)) (says event) (last_said (in_round says) events)
     ∙ sym (ap (λ said. is_some (option_flatten said)) (last_said_at_end (in_round says) events event))
 
 -- a count of a seat's rulings
-pub rulings_noted :
+pub rulings_applied :
     (events : List Event) (event : Event) (seat : Seat) (old new : ℕ) → length events < 2 ^ 63 → (old < 2 ^ 63 → new ≡ rulings_then seat old event) →
     IsCounted (rulings_in_round events seat) events old → IsCounted (rulings_in_round (events ++ event ∷ []) seat) (events ++ event ∷ []) new
-rulings_noted events event seat old new short counts before =
+rulings_applied events event seat old new short counts before =
     let counted = counts (omega (arith, short, before.few)) in
     record {
       is = counted ∙ ap (λ (n : ℕ). rulings_then seat n event) before.is ∙ sym (rulings_at_end events event seat);
@@ -140,11 +140,11 @@ rulings_noted events event seat old new short counts before =
     }
 
 -- a count of a company's tokens
-pub tokens_noted :
+pub tokens_applied :
     (events : List Event) (event : Event) (company : Company) (old new : ℕ) → length events < 2 ^ 63 →
     (old < 2 ^ 63 → new ≡ old + tokens_placed (event ∷ []) company) → IsCounted (tokens_placed events company) events old →
     IsCounted (tokens_placed (events ++ event ∷ []) company) (events ++ event ∷ []) new
-tokens_noted events event company old new short counts before =
+tokens_applied events event company old new short counts before =
     let counted = counts (omega (arith, short, before.few)) in
     record {
       is = omega (arith, counted, before.is, tokens_at_end events event company);
@@ -153,12 +153,12 @@ tokens_noted events event company old new short counts before =
 
 -- the books of a list up to a place, and those with the event there
 pub one_more :
-    (events : List Event) (i : ℕ) (event d : Event) (old new : Books) → i < length events → event ≡ get_or events i d → AreBooksOf old (take i events) →
-    length events < 2 ^ 63 → ((before : List Event) → length before < 2 ^ 63 → AreBooksOf old before → AreBooksOf new (before ++ event ∷ [])) →
-    AreBooksOf new (take (i + 1) events)
+    (events : List Event) (i : ℕ) (event d : Event) (old new : Totals) → i < length events → event ≡ get_or events i d → AreTotalsOf old (take i events) →
+    length events < 2 ^ 63 → ((before : List Event) → length before < 2 ^ 63 → AreTotalsOf old before → AreTotalsOf new (before ++ event ∷ [])) →
+    AreTotalsOf new (take (i + 1) events)
 one_more events i event d old new below is before short notes =
     let longer = ap (λ e. take i events ++ e ∷ []) is ∙ sym (take_more events i d below) in
-    subst (AreBooksOf new) longer (notes (take i events) (omega (arith, length-take-le i events)) before)
+    subst (AreTotalsOf new) longer (notes (take i events) (omega (arith, length-take-le i events)) before)
 
 -- an offer that is told is the one among those that it adds
 one_told : (seat : Seat) (sale : Offer) (told : Option (Seat × Offer)) → is_among seat sale (cons_option told []) ≡ tells_offer seat sale told
@@ -167,7 +167,7 @@ one_told seat sale (Some offer) = or_false (is_that_offer seat sale offer)
 
 -- the offers of a round, with that of an event
 pub offer_added :
-    (event : Event) (offers longer : List (Seat × Offer)) (told : Option (Seat × Offer)) (seat : Seat) (sale : Offer) → is_some (round_of event) ≡ false →
+    (event : Event) (offers longer : List (Seat × Offer)) (told : Option (Seat × Offer)) (seat : Seat) (sale : Offer) → is_some (round_begun_by event) ≡ false →
     longer ≡ offers ++ cons_option told [] → tells_offer seat sale told ≡ is_some (said_by seat (offered_in sale) (obeyed_of event)) →
     is_among seat sale longer ≡ flag_then event (is_some (said_by seat (offered_in sale) (obeyed_of event))) (is_among seat sale offers)
 offer_added event offers longer told seat sale quiet grows says =
@@ -178,9 +178,9 @@ offer_added event offers longer told seat sale quiet grows says =
     (ap (λ begins. if begins then false else (is_among seat sale offers || is_some (said_by seat (offered_in sale) (obeyed_of event)))) quiet)
 
 -- and the offers that the round has had once it is told of
-pub offers_noted :
+pub offers_applied :
     (events : List Event) (event : Event) (offers longer : List (Seat × Offer)) →
     ((seat : Seat) (sale : Offer) → is_among seat sale longer ≡ flag_then event (is_some (said_by seat (offered_in sale) (obeyed_of event))) (is_among seat sale offers)) →
     AreOffersOf offers events → AreOffersOf longer (events ++ event ∷ [])
-offers_noted events event offers longer noted before = λ seat sale.
-    round_flag_noted (λ e. said_by seat (offered_in sale) (obeyed_of e)) events event _ _ (noted seat sale) (before seat sale)
+offers_applied events event offers longer noted before = λ seat sale.
+    round_flag_applied (λ e. said_by seat (offered_in sale) (obeyed_of e)) events event _ _ (noted seat sale) (before seat sale)

@@ -3,7 +3,7 @@ use Rattle.std.proofs.Common.{◌≡◌, ℕ, ◌+◌, List, [], ◌∷◌, ◌+
 use Rattle.std.specs.Option.{option_or}
 use Rattle.events.specs.declared.event.Event.{Event}
 use Rattle.history.proofs.EventAtEnd.{option_or_assoc, option_or_none}
-use Rattle.history.specs.Books.{here_if}
+use Rattle.history.specs.Totals.{here_if}
 use Rattle.history.specs.LookBack.{last_place_from}
 
 -- the place of the event at the end, if it speaks, or else what it was before

@@ -3,7 +3,7 @@ use Rattle.std.proofs.Common.{◌≡◌, ℕ, ◌+◌, ◌<◌, List, ◌∷◌,
 use Rattle.std.proofs.Math.Seq.{drop-cons}
 use Rattle.events.specs.declared.event.Event.{Event}
 use Rattle.history.specs.LookBack.{owner_of}
-use Rattle.history.specs.Tell.{after_revenues, paid_to_owner}
+use Rattle.history.specs.Record.{after_revenues, paid_to_owner}
 use Rattle.tables.specs.declared.roster.Private.{Private}
 
 -- where the revenues of those that are left lead after the next, they lead before it

@@ -4,7 +4,7 @@ use Rattle.std.proofs.Common.{◌≡◌, ℕ, ◌+◌, ◌<◌, inl, inr, Bool, 
 use Rattle.std.proofs.lemmas.Bool.Decides.{Decides-eqb}
 use Rattle.std.proofs.lemmas.Int.{ints}
 use Rattle.std.proofs.lemmas.List.Sums.{sum_by_push}
-use Rattle.events.specs.Event.{stable_of, train_moved}
+use Rattle.events.specs.Event.{train_owner_place, train_moved}
 use Rattle.events.specs.declared.event.Event.{Event}
 use Rattle.events.specs.declared.event.TrainMove.{TrainMove}
 use Rattle.events.specs.declared.event.TrainPlace.{TrainPlace}
@@ -69,7 +69,7 @@ sold_at_end events event kind = sum_by_push (λ e. one_if (train_goes place.Bank
 pub trains_kept : (events : List Event) (event : Event) → train_moved event ≡ None → TrainsAreHeld events → TrainsAreHeld (events ++ event ∷ [])
 trains_kept events event none before =
     record {
-      held = λ owner kind. subst (λ (trains : ℤ). pos 0 ≤ℤ trains) (sym (trains_at_before events event (stable_of owner) kind none)) (before.held owner kind);
+      held = λ owner kind. subst (λ (trains : ℤ). pos 0 ≤ℤ trains) (sym (trains_at_before events event (train_owner_place owner) kind none)) (before.held owner kind);
       sold = λ kind number there. let few = before.sold kind number there in omega (arith, sold_at_end events event kind, ap (λ move. one_if (train_goes place.Bank kind move)) none);
     }
 
@@ -86,30 +86,30 @@ still_held events event move place kind is there before =
     ]
 
 -- a train that leaves a stable is none that the bank sells
-never_of_bank : (owner : Option Company) (kind of : Kind) (to : TrainPlace) → train_goes place.Bank kind (Some (record { kind = of; from = stable_of owner; to = to })) ≡ false
+never_of_bank : (owner : Option Company) (kind of : Kind) (to : TrainPlace) → train_goes place.Bank kind (Some (record { kind = of; from = train_owner_place owner; to = to })) ≡ false
 never_of_bank None kind of to = grind arith
 never_of_bank (Some company) kind of to = grind arith
 
 -- a train that is there goes from a company or from the pool
-pub trains_after_move : (events : List Event) (event : Event) (owner : Option Company) (kind : Kind) (to : TrainPlace) → train_moved event ≡ Some (record { kind = kind; from = stable_of owner; to = to }) → pos 1 ≤ℤ trains_held events owner kind → TrainsAreHeld events → TrainsAreHeld (events ++ event ∷ [])
+pub trains_after_move : (events : List Event) (event : Event) (owner : Option Company) (kind : Kind) (to : TrainPlace) → train_moved event ≡ Some (record { kind = kind; from = train_owner_place owner; to = to }) → pos 1 ≤ℤ trains_held events owner kind → TrainsAreHeld events → TrainsAreHeld (events ++ event ∷ [])
 trains_after_move events event owner kind to is there before =
-    let move : TrainMove = record { kind = kind; from = stable_of owner; to = to } in
+    let move : TrainMove = record { kind = kind; from = train_owner_place owner; to = to } in
     record {
-      held = λ other of. still_held events event move (stable_of other) of is there (before.held other of);
+      held = λ other of. still_held events event move (train_owner_place other) of is there (before.held other of);
       sold = λ of number has. let few = before.sold of number has in omega (arith, sold_at_end events event of, ap (λ m. one_if (train_goes place.Bank of m)) is, ap one_if (never_of_bank owner of kind to));
     }
 
 -- the bank is no stable
-none_from_stable : (owner : Option Company) (kind of : Kind) (to : TrainPlace) → train_goes (stable_of owner) kind (Some (record { kind = of; from = place.Bank; to = to })) ≡ false
-none_from_stable None kind of to = grind arith
-none_from_stable (Some company) kind of to = grind arith
+none_from_train_owner : (owner : Option Company) (kind of : Kind) (to : TrainPlace) → train_goes (train_owner_place owner) kind (Some (record { kind = of; from = place.Bank; to = to })) ≡ false
+none_from_train_owner None kind of to = grind arith
+none_from_train_owner (Some company) kind of to = grind arith
 
 -- a train is sold that the bank still has
 pub trains_after_sale : (events : List Event) (event : Event) (kind : Kind) (to : TrainPlace) → train_moved event ≡ Some (record { kind = kind; from = place.Bank; to = to }) → ((number : ℕ) → (trains_of kind).number ≡ Some number → trains_sold events kind < number) → TrainsAreHeld events → TrainsAreHeld (events ++ event ∷ [])
 trains_after_sale events event kind to is left before =
     let move : TrainMove = record { kind = kind; from = place.Bank; to = to } in
     record {
-      held = λ other of. let had = before.held other of in omega (arith, ints, trains_at_end events event (stable_of other) of, ap (λ m. one_if (train_goes (stable_of other) of m)) is, ap one_if (none_from_stable other of kind to));
+      held = λ other of. let had = before.held other of in omega (arith, ints, trains_at_end events event (train_owner_place other) of, ap (λ m. one_if (train_goes (train_owner_place other) of m)) is, ap one_if (none_from_train_owner other of kind to));
       sold = λ of number has. elim (truth (same_kind kind of)) [
         | inl same ↦
             let fewer = left number (ap (λ k. (trains_of k).number) (same_kind_is kind of same) ∙ has) in

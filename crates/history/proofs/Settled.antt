@@ -11,7 +11,7 @@ use Rattle.history.specs.Laws.{SaysTheSame}
 use Rattle.history.specs.LookBack.{Game, sv_price_of, with_event}
 use Rattle.history.specs.Money.{AreWithin}
 use Rattle.history.specs.Sound.{AreLed, AreOffered, AreTenInAll, BiddersAreSeated, BidsAreSmall, BidsDiffer, CompaniesAreSolvent, FloatedAreLed, IsGivenAway, IsSound, IsSvPrice, LiesFit, SeatsAreSolvent, TenthsAreHeld}
-use Rattle.history.specs.Tell.{breaks, broken_told}
+use Rattle.history.specs.Record.{breaks, broken_recorded}
 use Rattle.history.specs.Trains.{TrainsAreHeld}
 
 -- sound but perhaps for who leads the companies
@@ -109,7 +109,7 @@ same_itself events =
     }
 
 -- the word that the bank is broken changes nothing of what parties have and own
-pub told_same : (game : Game) → SaysTheSame game.events (broken_told game).events
+pub told_same : (game : Game) → SaysTheSame game.events (broken_recorded game).events
 told_same game =
     elim (breaks game.seats game.events) as (λ b. SaysTheSame game.events (if b then game.events ++ Broken ∷ [] else game.events)) [
       | true ↦ quiet_same game.events Broken broken_quiet
@@ -117,7 +117,7 @@ told_same game =
     ]
 
 -- and keeps the list settled
-pub told_settled : (game : Game) → IsSettled game → IsSettled (broken_told game)
+pub told_settled : (game : Game) → IsSettled game → IsSettled (broken_recorded game)
 told_settled game settled =
     elim (breaks game.seats game.events) as (λ b. IsSettled (record { seats = game.seats; events = if b then game.events ++ Broken ∷ [] else game.events })) [
       | true ↦ settled_quiet game Broken broken_quiet settled

@@ -4,14 +4,14 @@ use Rattle.std.proofs.lemmas.Int.{fits_signed_from_abs, ints, to_z-of_z}
 use Rattle.std.proofs.lemmas.List.Sums.{count_by-le-length, sum_by-cons}
 use mir.Syntax.{w64, w128}
 use mir.Val.{of_z, to_z}
-use Rattle.events.specs.Event.{stable_of, train_moved}
+use Rattle.events.specs.Event.{train_owner_place, train_moved}
 use Rattle.events.specs.declared.event.Event.{Event}
 use Rattle.events.specs.declared.event.TrainMove.{TrainMove}
 use Rattle.history.proofs.AllTrains.{trains_in_front}
 use Rattle.history.proofs.NetTables.{net_kept}
-use Rattle.history.specs.Books.{IsNet}
+use Rattle.history.specs.Totals.{IsNet}
 use Rattle.history.specs.LookBack.{balance}
-use Rattle.history.specs.Trains.{any_comes, any_goes, count_of, one_if, stable_size, train_comes, train_goes}
+use Rattle.history.specs.Trains.{any_comes, any_goes, count_of, one_if, train_count, train_comes, train_goes}
 use Rattle.tables.specs.Train.{kinds, same_kind}
 use Rattle.tables.specs.declared.rolling_stock.Kind.{Kind}
 use Rattle.tables.specs.declared.rolling_stock.Kind.TheVariants.{Two, Three, Four, Five, Six, Diesel}
@@ -33,7 +33,7 @@ of_one Diesel here = omega arith
 -- so a train that comes is one of one kind
 abbrev come_by_kind : Option Company → Option TrainMove → List Kind → ℕ
 come_by_kind owner move [] = 0
-come_by_kind owner move (kind ∷ others) = one_if (train_comes (stable_of owner) kind move) + come_by_kind owner move others
+come_by_kind owner move (kind ∷ others) = one_if (train_comes (train_owner_place owner) kind move) + come_by_kind owner move others
 
 come_once : (owner : Option Company) (move : Option TrainMove) → come_by_kind owner move kinds ≡ one_if (any_comes owner move)
 come_once owner None = refl
@@ -42,24 +42,24 @@ come_once owner (Some move) = of_one move.kind (any_comes owner (Some move))
 -- and so is one that goes
 abbrev go_by_kind : Option Company → Option TrainMove → List Kind → ℕ
 go_by_kind owner move [] = 0
-go_by_kind owner move (kind ∷ others) = one_if (train_goes (stable_of owner) kind move) + go_by_kind owner move others
+go_by_kind owner move (kind ∷ others) = one_if (train_goes (train_owner_place owner) kind move) + go_by_kind owner move others
 
 go_once : (owner : Option Company) (move : Option TrainMove) → go_by_kind owner move kinds ≡ one_if (any_goes owner move)
 go_once owner None = refl
 go_once owner (Some move) = of_one move.kind (any_goes owner (Some move))
 
 -- how many there are with an event in front
-size_in_front : (event : Event) (events : List Event) (owner : Option Company) → stable_size (event ∷ events) owner ≡ (stable_size events owner +ℤ pos (one_if (any_comes owner (train_moved event)))) -ℤ pos (one_if (any_goes owner (train_moved event)))
+size_in_front : (event : Event) (events : List Event) (owner : Option Company) → train_count (event ∷ events) owner ≡ (train_count events owner +ℤ pos (one_if (any_comes owner (train_moved event)))) -ℤ pos (one_if (any_goes owner (train_moved event)))
 size_in_front event events owner =
     omega (
       arith,
       ints,
-      trains_in_front event events (stable_of owner) Two,
-      trains_in_front event events (stable_of owner) Three,
-      trains_in_front event events (stable_of owner) Four,
-      trains_in_front event events (stable_of owner) Five,
-      trains_in_front event events (stable_of owner) Six,
-      trains_in_front event events (stable_of owner) Diesel,
+      trains_in_front event events (train_owner_place owner) Two,
+      trains_in_front event events (train_owner_place owner) Three,
+      trains_in_front event events (train_owner_place owner) Four,
+      trains_in_front event events (train_owner_place owner) Five,
+      trains_in_front event events (train_owner_place owner) Six,
+      trains_in_front event events (train_owner_place owner) Diesel,
       come_once owner (train_moved event),
       go_once owner (train_moved event),
     )
@@ -70,7 +70,7 @@ balance_in_front event events owner =
     omega (arith, ints, sum_by-cons (λ e. one_if (any_comes owner (train_moved e))) event events, sum_by-cons (λ e. one_if (any_goes owner (train_moved e))) event events)
 
 -- both are the same
-pub size_is : (events : List Event) (owner : Option Company) → balance 0 (λ e. one_if (any_comes owner (train_moved e))) (λ e. one_if (any_goes owner (train_moved e))) events ≡ stable_size events owner
+pub size_is : (events : List Event) (owner : Option Company) → balance 0 (λ e. one_if (any_comes owner (train_moved e))) (λ e. one_if (any_goes owner (train_moved e))) events ≡ train_count events owner
 size_is [] owner = refl
 size_is (event ∷ events) owner =
     omega (arith, ints, balance_in_front event events owner, size_in_front event events owner, size_is events owner)

@@ -18,7 +18,7 @@ use Rattle.history.specs.Money.{IsParty, cash_together, parties}
 use Rattle.history.specs.Operating.{lays_of, rulings_in_round, rulings_then, tokens_of}
 use Rattle.history.specs.Shares.{arrival_of, is_floated, par_of, president_of, shares_of, square_of, square_said}
 use Rattle.history.specs.Sound.{IsSound, IsSvPrice, LiesFit, least_offered}
-use Rattle.history.specs.Tell.{broken_told}
+use Rattle.history.specs.Record.{broken_recorded}
 use Rattle.history.specs.Trains.{IsThere, trains_at, trains_held}
 use Rattle.map_tables.specs.declared.lay.Lay.{Lay}
 use Rattle.map_tables.specs.declared.place.Place.{Place}
@@ -64,7 +64,7 @@ pub record SaysTheSame (before after : List Event) : Type 0 where
 
 -- a game after the bank has paid a seat for tenths of a company; perhaps that breaks the bank
 abbrev pub block_sold : Game → Company → Seat → ℕ → ℕ → Game
-block_sold game company seat tenths price = broken_told (with_event game (Sells company seat tenths price))
+block_sold game company seat tenths price = broken_recorded (with_event game (Sells company seat tenths price))
 
 -- the bank, the seats at the table and the companies have 12,000 together in a sound list
 abbrev pub SoundMoneyStays : Type 0

@@ -4,7 +4,7 @@
 use Rattle.std.specs.Prelude.{ℕ, ◌<◌, ◌+◌, ◌==◌, Bool, true, false, if◌then◌else◌, List, [], ◌∷◌, ◌++◌, Option, Some, None, sum_by, pos, neg_ℤ, ◌-ℤ◌, ◌≤ℤ◌, ℤ, ◌^◌, is_none, length, is_some, ◌&&◌, unwrap_or, slice_index_or}
 use Rattle.std.specs.List.{list_any}
 use Rattle.std.specs.Option.{option_or, option_flatten, option_map}
-use Rattle.events.specs.Event.{actor_of, ownership_of, payment_of, round_of as round_begun, sv_price_set, tells_bankrupt, tells_broken}
+use Rattle.events.specs.Event.{actor_of, ownership_of, payment_of, round_begun_by, sv_price_set, tells_bankrupt, tells_broken}
 use Rattle.events.specs.declared.event.Event.{Event}
 use Rattle.events.specs.declared.event.Holder.{Holder}
 use Rattle.events.specs.declared.event.Holder.TheVariants as holder
@@ -40,7 +40,7 @@ now_said says events = option_flatten (last_said says events)
 
 -- what is said holds within a round: the event that begins a round says that nothing does
 abbrev pub in_round : {A : Type 0} → (Event → Option A) → Event → Option (Option A)
-in_round says event = if is_some (round_begun event) then Some None else option_map Some (says event)
+in_round says event = if is_some (round_begun_by event) then Some None else option_map Some (says event)
 
 -- the place in a list of the last event that says something of this kind, where the first has this place
 abbrev pub last_place_from : {A : Type 0} → (Event → Option A) → ℕ → List Event → Option ℕ
@@ -136,7 +136,7 @@ priority_of seats events = left_of_actor seats (last_said actor_of events)
 
 -- the round that began last
 abbrev pub round_of : List Event → Option Round
-round_of events = last_said round_begun events
+round_of events = last_said round_begun_by events
 
 -- the first of these privates that is unsold
 abbrev pub first_unsold : (Private → Bool) → List Private → Option Private

@@ -2,7 +2,7 @@
 -- have operated since the last round began, and how many lines of a seat's sheet were ruled since then.
 use Rattle.std.specs.Prelude.{ℕ, ◌+◌, ◌==◌, Bool, if◌then◌else◌, List, Option, Some, None, is_some}
 use Rattle.std.specs.List.{count_by, filter_map, fold}
-use Rattle.events.specs.Event.{operated_by, round_of, ruled_by, tile_laid, token_placed}
+use Rattle.events.specs.Event.{operated_by, round_begun_by, ruled_by, tile_laid, token_placed}
 use Rattle.events.specs.declared.event.Event.{Event}
 use Rattle.history.specs.LookBack.{in_round, now_said}
 use Rattle.map_tables.specs.declared.lay.Lay.{Lay}
@@ -39,7 +39,7 @@ ruling_added seat count (Some by) = if by.0 == seat.0 then count + 1 else count
 
 -- the count of a seat's rulings after one more event: a round begins it anew
 abbrev pub rulings_then : Seat → ℕ → Event → ℕ
-rulings_then seat count event = if is_some (round_of event) then 0 else ruling_added seat count (ruled_by event)
+rulings_then seat count event = if is_some (round_begun_by event) then 0 else ruling_added seat count (ruled_by event)
 
 -- how many lines of a seat's sheet were ruled since the last round began
 abbrev pub rulings_in_round : List Event → Seat → ℕ

@@ -3,7 +3,7 @@
 -- begins in phase 2, and the first train of a later kind from the bank begins the next phase.
 use Rattle.std.specs.Prelude.{◌≡◌, ℕ, Bool, true, false, ◌&&◌, if◌then◌else◌, List, [], ◌∷◌, map, Option, Some, None, ℤ, pos, negsuc, ◌+ℤ◌, ◌≤ℤ◌, ◌≤◌, ◌<◌, unwrap_or}
 use Rattle.std.specs.List.{count_by}
-use Rattle.events.specs.Event.{phase_set, stable_of, train_moved}
+use Rattle.events.specs.Event.{phase_set, train_owner_place, train_moved}
 use Rattle.events.specs.declared.event.Event.{Event}
 use Rattle.events.specs.declared.event.TrainMove.{TrainMove}
 use Rattle.events.specs.declared.event.TrainPlace.{TrainPlace}
@@ -38,12 +38,12 @@ train_goes place kind (Some move) = same_kind move.kind kind && same_train_place
 -- a train of any kind comes to a company, or to the bank pool where there is none
 abbrev pub any_comes : Option Company → Option TrainMove → Bool
 any_comes owner None = false
-any_comes owner (Some move) = same_train_place move.to (stable_of owner)
+any_comes owner (Some move) = same_train_place move.to (train_owner_place owner)
 
 -- or goes from it
 abbrev pub any_goes : Option Company → Option TrainMove → Bool
 any_goes owner None = false
-any_goes owner (Some move) = same_train_place move.from (stable_of owner)
+any_goes owner (Some move) = same_train_place move.from (train_owner_place owner)
 
 -- 1 where a test holds, and 0 where not
 abbrev pub one_if : Bool → ℕ
@@ -61,7 +61,7 @@ trains_at events place kind =
 
 -- the trains of a kind that a company has, or the bank pool where there is none
 abbrev pub trains_held : List Event → Option Company → Kind → ℤ
-trains_held events owner kind = trains_at events (stable_of owner) kind
+trains_held events owner kind = trains_at events (train_owner_place owner) kind
 
 -- the trains of some kinds that a company has, or the bank pool where there is none
 abbrev pub trains_of_kinds : List Event → Option Company → List Kind → ℤ
@@ -69,8 +69,8 @@ trains_of_kinds events owner [] = pos 0
 trains_of_kinds events owner (kind ∷ others) = trains_held events owner kind +ℤ trains_of_kinds events owner others
 
 -- how many trains it has
-abbrev pub stable_size : List Event → Option Company → ℤ
-stable_size events owner = trains_of_kinds events owner kinds
+abbrev pub train_count : List Event → Option Company → ℤ
+train_count events owner = trains_of_kinds events owner kinds
 
 -- as many as a number says, and none where it is under 0
 abbrev pub so_many : ℤ → ℕ
@@ -86,8 +86,8 @@ abbrev pub phase_of : List Event → Kind
 phase_of events = unwrap_or (last_said phase_set events) Two
 
 -- where the trains in play lie that the bank has sold: with the bank pool and the companies
-abbrev pub stables : List TrainPlace
-stables = place.BankPool ∷ map place.Company companies
+abbrev pub train_owners : List TrainPlace
+train_owners = place.BankPool ∷ map place.Company companies
 
 -- the trains of a kind at some places
 abbrev pub trains_together : List Event → List TrainPlace → Kind → ℤ
@@ -96,7 +96,7 @@ trains_together events (place ∷ others) kind = trains_at events place kind +�
 
 -- the trains of a kind in play that the bank has sold
 abbrev pub trains_in_play : List Event → Kind → ℤ
-trains_in_play events kind = trains_together events stables kind
+trains_in_play events kind = trains_together events train_owners kind
 
 -- the trains of a kind that the bank has sold are those in play and those that have left it
 abbrev pub AllTrainsStay : Type 0

@@ -1,16 +1,16 @@
 //! Standing bids, and what the standing orders of a seat say.
 ghost use Rattle.std.specs.Prelude.{◌≡◌, ◌^◌, ◌<◌, ◌≤◌, option_map, pos};
-ghost use Rattle.history.specs.Orders.{limit_of, par_ordered_of};
+ghost use Rattle.history.specs.Orders.{bid_limit_of, par_ordered_of};
 ghost use Rattle.history.specs.Bids.{AreStanding, NotesBidOn, bid_of, bids_elsewhere_of, bids_of, bids_on, free_cash_of, free_for, tied_on};
 
 use crate::aspect::{InRound, last_said};
-use crate::look_back::Past;
+use crate::look_back::GameView;
 use crate::topics::{BidOn, LimitOn, ParOrdered};
 use arrayvec::ArrayVec;
 use events::{Bid, Bidding, Holder, Party};
 use tables::{Amount, Money, PLAYERS_MOST, Private, Seat};
 
-impl Past<'_> {
+impl GameView<'_> {
     /// A seat's standing bid on a private, in dollars.
     pub fn bid(&self, private: Private, seat: Seat) -> Option<Money>
         ensures { result ≡ option_map pos (bid_of self.now.events.now private seat) }
@@ -23,8 +23,8 @@ impl Past<'_> {
         ensures { result ≡ bid_of self.now.events.now private seat }
     {
         let number = seat.number();
-        match self.books() {
-            Some(books) if number < PLAYERS_MOST => books.bids[private.place()][number],
+        match self.totals() {
+            Some(totals) if number < PLAYERS_MOST => totals.bids[private.place()][number],
             _ => last_said(&BidOn(private, seat), self.events).flatten(),
         }
     }
@@ -49,19 +49,19 @@ impl Past<'_> {
     fn standing_by_seat(&self, private: Private) -> [Option<Amount>; PLAYERS_MOST]
         ensures { AreStanding self.now.events.now private result }
     {
-        match self.books() {
-            Some(books) => books.bids[private.place()],
+        match self.totals() {
+            Some(totals) => totals.bids[private.place()],
             None => [None; PLAYERS_MOST],
         }
     }
 
     /// How far a seat goes in an auction of a private, by its last obeyed LIMIT line of this round.
     pub fn limit(&self, private: Private, seat: Seat) -> Option<Amount>
-        ensures { result ≡ limit_of self.now.events.now private seat }
+        ensures { result ≡ bid_limit_of self.now.events.now private seat }
     {
         let number = seat.number();
-        match self.books() {
-            Some(books) if number < PLAYERS_MOST => books.limits[private.place()][number],
+        match self.totals() {
+            Some(totals) if number < PLAYERS_MOST => totals.limits[private.place()][number],
             _ => last_said(&InRound(LimitOn(private, seat)), self.events).flatten(),
         }
     }
@@ -71,8 +71,8 @@ impl Past<'_> {
         ensures { result ≡ par_ordered_of self.now.events.now seat }
     {
         let number = seat.number();
-        match self.books() {
-            Some(books) if number < PLAYERS_MOST => books.par_orders[number],
+        match self.totals() {
+            Some(totals) if number < PLAYERS_MOST => totals.par_orders[number],
             _ => last_said(&ParOrdered(seat), self.events),
         }
     }
@@ -121,7 +121,7 @@ impl Past<'_> {
 }
 
 /// Notes what is said of the bids on a private in a table of the seats' standing bids.
-pub(crate) fn note_bid_on(
+pub(crate) fn apply_bid_on(
     standing: &mut [Option<Amount>; PLAYERS_MOST],
     private: Private,
     bidding: Option<Bidding>,

@@ -3,11 +3,11 @@ ghost use Rattle.std.specs.Prelude.{◌≡◌};
 ghost use Rattle.std.specs.Option.{option_copied};
 ghost use Rattle.history.specs.Conditions.{has_begun, holds, is_met, is_priced_at_least};
 
-use crate::look_back::Past;
+use crate::look_back::GameView;
 use order_grammar::Condition;
 use tables::{Amount, Kind, Square, price};
 
-impl Past<'_> {
+impl GameView<'_> {
     /// Whether the condition of an order holds, if it has one.
     pub fn is_met(&self, condition: Option<&Condition>) -> bool
         ensures { result ≡ is_met self.now.events.now (option_copied condition.entry) }

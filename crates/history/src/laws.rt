@@ -170,7 +170,7 @@ pub fn forcing_keeps_sound()
 {}
 
 /// A tile that is laid is the last of those that were, and a token that is placed is the last.
-pub fn ground_grows()
+pub fn map_state_grows()
     ensures lays { LaysGrow }
     ensures tokens { TokensGrow }
 {}
@@ -188,7 +188,7 @@ pub fn arrivals_differ()
     ensures last { ArrivalIsLast }
 {}
 
-/// In a sound game the private that `Past::cheapest_unsold` gives is a cheapest of those that are
+/// In a sound game the private that `GameView::cheapest_unsold` gives is a cheapest of those that are
 /// unsold, at the prices that the bank asks.
 pub fn first_is_cheapest()
     ensures { FirstIsCheapest }

@@ -11,42 +11,42 @@
 //! laws say which event keeps a list sound.
 //!
 //! What happens, an event at a time, is the crate `events`; its names are named again here. Reading
-//! order: `aspect` (the ways of looking back), `topics` (what is looked for), `nets` and `noting`
-//! (how an event changes what is kept), `books` (what a list says, kept event by event),
-//! `kept_books` (how a game keeps that), `look_back`, `owners`, `bids`, `offers`, `shares`,
-//! `operating`, `trains` and `conditions` (the readers of `Past`), `walk` (along a list, with its
-//! books), `list` (`History`), `tell` (events that follow from the list alone), `laws`.
+//! order: `aspect` (the ways of looking back), `topics` (what is looked for), `nets` and `applying`
+//! (how an event changes what is kept), `totals` (what a list says, kept event by event),
+//! `boxed_totals` (how a game keeps that), `look_back`, `owners`, `bids`, `offers`, `shares`,
+//! `operating`, `trains` and `conditions` (the readers of `GameView`), `walk` (along a list, with its
+//! books), `list` (`History`), `record_event` (events that follow from the list alone), `laws`.
 #![tactic(auto)]
 
+mod applying;
 mod aspect;
 mod bids;
-mod books;
+mod boxed_totals;
 mod conditions;
-mod kept_books;
 pub mod laws;
 mod list;
 mod look_back;
 mod nets;
-mod noting;
 mod offers;
 mod operating;
 mod owners;
+mod record_event;
 mod shares;
-mod tell;
 mod topics;
+mod totals;
 mod trains;
 mod walk;
 
-pub use books::Books;
 pub use events::{
-    Bid, Bidding, Event, Holder, KeptOrder, KeptRuling, Office, OpeningRule, Ownership, ParValue,
-    Party, PayRule, Payment, Placement, PrivateRule, Refusal, Ruling, SUM_MOST, Shareholder,
-    StockRule, TrainMove, TrainPlace, TrainRule, TrainSeller, Transfer, Verdict,
+    Bid, Bidding, Event, Holder, Office, OpeningRule, Ownership, PackedLine, PackedRuling,
+    ParValue, Party, PayRule, Payment, Placement, PrivateRule, Refusal, Ruling, SUM_MOST,
+    Shareholder, StockRule, TrainMove, TrainPlace, TrainRule, TrainSeller, Transfer, Verdict,
 };
 pub use list::History;
-pub use look_back::Past;
+pub use look_back::GameView;
 pub use map_tables::{LayRule, RunRule, TokenRule};
 pub use owners::Owners;
 pub use shares::Tenths;
+pub use totals::Totals;
 pub use trains::{TrainCount, so_many};
 pub use walk::Walk;

@@ -12,13 +12,13 @@ ghost use Rattle.history.specs.Sound.{IsSound};
 ghost use Rattle.history.specs.Trains.{phase_of, trains_held, trains_sold};
 ghost use Rattle.order_grammar.specs.Condition.{ordered};
 
-use crate::kept_books::KeptBooks;
-use crate::look_back::Past;
-use crate::noting::note_offer;
+use crate::applying::apply_offer;
+use crate::boxed_totals::BoxedTotals;
+use crate::look_back::GameView;
 use crate::owners::Owners;
 use crate::shares::Tenths;
 use crate::trains::TrainCount;
-use events::{Event, Holder, KeptOrder, Party, SUM_MOST, Shareholder};
+use events::{Event, Holder, PackedLine, Party, SUM_MOST, Shareholder};
 use map_tables::{Lay, Place};
 use order_grammar::{Condition, Offer, Order};
 use std::alloc::{AllocError, Global};
@@ -36,7 +36,7 @@ pub struct History {
     lays: Vec<Lay>,
     tokens: Vec<(Place, Company)>,
     offers: Vec<(Seat, Offer)>,
-    books: KeptBooks,
+    totals: BoxedTotals,
 }
 
 // The books, by far the most of a game, stand behind a box.
@@ -45,7 +45,7 @@ const _: () = prove!(size_of::<History>() <= 120);
 impl Model for History {
     ghost use Rattle.std.specs.Prelude.{All, ◌≡◌, ◌≤◌};
     ghost use Rattle.events.specs.Event.{sum_of};
-    ghost use Rattle.history.specs.KeptBooks.{KeepsBooksOf};
+    ghost use Rattle.history.specs.BoxedTotals.{KeepsTotalsOf};
     ghost use Rattle.history.specs.LookBack.{Game};
     ghost use Rattle.history.specs.Offers.{AreOffersOf};
     ghost use Rattle.history.specs.Operating.{lays_of, tokens_of};
@@ -55,7 +55,7 @@ impl Model for History {
     ghost view = { λ a. record { seats = a.seats; events = a.events.items } };
 
     ghost invariant = { λ a.
-        All (λ event. sum_of event ≤ 1000000) a.events.items × KeepsBooksOf a.books a.events.items
+        All (λ event. sum_of event ≤ 1000000) a.events.items × KeepsTotalsOf a.totals a.events.items
         × (a.lays.items ≡ lays_of a.events.items) × (a.tokens.items ≡ tokens_of a.events.items)
         × AreOffersOf a.offers.items a.events.items };
 }
@@ -72,7 +72,7 @@ impl History {
             lays: Vec::new(alloc),
             tokens: Vec::new(alloc),
             offers: Vec::new(alloc),
-            books: KeptBooks::start(),
+            totals: BoxedTotals::start(),
         }
     }
 
@@ -92,12 +92,12 @@ impl History {
         self.events.reserve(1)?;
         self.lays.reserve(1)?;
         self.offers.reserve(1)?;
-        self.books.reserve(*self.events.allocator())?;
+        self.totals.reserve(*self.events.allocator())?;
         self.tokens.reserve(1)?;
-        self.books.note(&event);
+        self.totals.apply(&event);
         push_any(&mut self.lays, event.lay())?;
         push_any(&mut self.tokens, event.token())?;
-        note_offer(&mut self.offers, &event)?;
+        apply_offer(&mut self.offers, &event)?;
         self.events.push(event)?;
         Ok(())
     }
@@ -118,14 +118,14 @@ impl History {
     }
 
     /// The game as it stands.
-    pub fn now(&self) -> Past<'_>
+    pub fn now(&self) -> GameView<'_>
         ensures seats { result.seats ≡ self.now.seats }
         ensures events { result.events.now ≡ self.now.events }
     {
-        Past::with_books(
+        GameView::with_totals(
             self.seats,
             self.events.as_slice(),
-            self.books.books(),
+            self.totals.totals(),
             self.offers.as_slice(),
         )
     }
@@ -146,7 +146,7 @@ impl History {
     }
 
     /// The price of SV, at first its face. It comes as `Money`, like a cash that it is compared
-    /// with; `Past::sv_price` gives the same price as the `Amount` that a payment names.
+    /// with; `GameView::sv_price` gives the same price as the `Amount` that a payment names.
     pub fn sv_price(&self) -> Money
         ensures { result ≡ pos (sv_price_of self.now.events) }
     {
@@ -202,12 +202,12 @@ impl History {
         &self,
         condition: Option<&Condition>,
         order: &Order,
-    ) -> Result<KeptOrder, AllocError>
+    ) -> Result<PackedLine, AllocError>
         ensures { MatchResult result
             (λ kept. kept ≡ ordered (option_copied condition.entry) order.now)
             (λ _. TakesBox (option_copied condition.entry) order.now) }
     {
-        KeptOrder::keep(*self.events.allocator(), condition, order)
+        PackedLine::keep(*self.events.allocator(), condition, order)
     }
 
     /// Whether the condition of an order holds, if it has one.

@@ -2,81 +2,81 @@ ghost use Rattle.std.specs.Prelude.{◌≡◌, MatchOption, None, Some, [], leng
 ghost use Rattle.std.specs.Borrow.{Bor};
 ghost use Rattle.std.specs.Option.{ForSome};
 ghost use Rattle.events.specs.Event.{actor_of};
-ghost use Rattle.history.specs.Books.{AreBooksOf};
+ghost use Rattle.history.specs.Totals.{AreTotalsOf};
 ghost use Rattle.history.specs.Offers.{AreOffersOf};
-ghost use Rattle.history.specs.declared.books.Books.{Books as TheBooks};
+ghost use Rattle.history.specs.declared.totals.Totals.{Totals as TheTotals};
 ghost use Rattle.history.specs.LookBack.{FitsMemory, IsModerate, bankrupt_in, broken_in, cash_of, cheapest_in, cheapest_of, is_sold, is_sold_in, last_said, owner_in, owner_of, priority_of, round_of, start_of, sv_price_of};
 
 use crate::aspect::balance;
-use crate::books::Books;
 use crate::nets::entry_of_party;
 use crate::owners::Owners;
 use crate::topics::Cash;
+use crate::totals::Totals;
 use events::{Event, Holder, Party};
 use order_grammar::Offer;
 use tables::{Amount, Money, Private, Round, Seat, bank_start, face, start_money};
 
 /// A list of events with the number of seats: a game as it stood after them.
 #[derive(Clone, Copy, Debug)]
-pub struct Past<'a> {
+pub struct GameView<'a> {
     /// How many seats there are.
     pub seats: usize,
     /// What had happened, oldest first.
     pub events: &'a [Event],
     /// What they say; `None` only where nothing has happened.
-    books: Option<&'a Books>,
+    totals: Option<&'a Totals>,
     /// The sales that were offered in the round that began last; `None` where they are not kept.
     offers: Option<&'a [(Seat, Offer)]>,
     ghost short: { FitsMemory events.now },
-    ghost empty: { books ≡ None → length events.now ≡ 0 },
-    ghost kept: { (all : Bor TheBooks) → books ≡ Some all → AreBooksOf all.now events.now },
+    ghost empty: { totals ≡ None → length events.now ≡ 0 },
+    ghost kept: { (all : Bor TheTotals) → totals ≡ Some all → AreTotalsOf all.now events.now },
     ghost offered: { ForSome offers (λ all. AreOffersOf all.now events.now) },
 }
 
-impl<'a> Past<'a> {
+impl<'a> GameView<'a> {
     /// A game as it stood after these events, of which these are the books.
-    pub fn of(seats: usize, events: &'a [Event], books: &'a Books) -> Past<'a>
+    pub fn of(seats: usize, events: &'a [Event], totals: &'a Totals) -> GameView<'a>
         requires short { FitsMemory events.now }
-        requires kept { AreBooksOf books.now events.now }
+        requires kept { AreTotalsOf totals.now events.now }
         ensures seats { result.seats ≡ seats }
         ensures events { result.events.now ≡ events.now }
     {
-        Past {
+        GameView {
             seats,
             events,
-            books: Some(books),
+            totals: Some(totals),
             offers: None,
         }
     }
 
     /// A game as it stood after these events, of which these are the books, if there are any:
     /// where nothing has happened there may be none; and these are the sales offered in the round.
-    pub(crate) fn with_books(
+    pub(crate) fn with_totals(
         seats: usize,
         events: &'a [Event],
-        books: Option<&'a Books>,
+        totals: Option<&'a Totals>,
         offers: &'a [(Seat, Offer)],
-    ) -> Past<'a>
+    ) -> GameView<'a>
         requires short { FitsMemory events.now }
-        requires kept { MatchOption books (events.now ≡ []) (λ all. AreBooksOf all.now events.now) }
+        requires kept { MatchOption totals (events.now ≡ []) (λ all. AreTotalsOf all.now events.now) }
         requires offered { AreOffersOf offers.now events.now }
         ensures seats { result.seats ≡ seats }
         ensures events { result.events.now ≡ events.now }
     {
-        Past {
+        GameView {
             seats,
             events,
-            books,
+            totals,
             offers: Some(offers),
         }
     }
 
     /// The books; there may be none where nothing has happened.
-    pub(crate) fn books(&self) -> Option<&'a Books>
+    pub(crate) fn totals(&self) -> Option<&'a Totals>
         ensures { MatchOption result (self.now.events.now ≡ [])
-            (λ books. AreBooksOf books.now self.now.events.now) }
+            (λ totals. AreTotalsOf totals.now self.now.events.now) }
     {
-        self.books
+        self.totals
     }
 
     /// The sales that were offered in the round that began last, where they are kept.
@@ -87,7 +87,7 @@ impl<'a> Past<'a> {
     }
 }
 
-impl Past<'_> {
+impl GameView<'_> {
     /// What a party has, in dollars: its start money, plus all that came in, less all that went
     /// out.
     pub fn cash(&self, party: Party) -> Money
@@ -96,8 +96,8 @@ impl Past<'_> {
     {
         let start = start_of(self.seats, party);
         let entry = entry_of_party(party);
-        match self.books() {
-            Some(books) if entry < books.cash.len() => Money::from(start) + books.cash[entry],
+        match self.totals() {
+            Some(totals) if entry < totals.cash.len() => Money::from(start) + totals.cash[entry],
             _ => balance(&Cash(party), start, self.events),
         }
     }
@@ -124,8 +124,8 @@ impl Past<'_> {
             is_sold_in result private ≡ is_sold self.now.events.now private }
         ensures cheapest { cheapest_in result ≡ cheapest_of self.now.events.now }
     {
-        match self.books() {
-            Some(books) => books.owners,
+        match self.totals() {
+            Some(totals) => totals.owners,
             None => Owners::unsold(),
         }
     }
@@ -141,8 +141,8 @@ impl Past<'_> {
     pub fn sv_price(&self) -> Amount
         ensures { result ≡ sv_price_of self.now.events.now }
     {
-        match self.books() {
-            Some(books) => books.sv_price.unwrap_or(face(Private::SchuylkillValley)),
+        match self.totals() {
+            Some(totals) => totals.sv_price.unwrap_or(face(Private::SchuylkillValley)),
             None => face(Private::SchuylkillValley),
         }
     }
@@ -151,8 +151,8 @@ impl Past<'_> {
     pub fn broken(&self) -> bool
         ensures { result ≡ broken_in self.now.events.now }
     {
-        match self.books() {
-            Some(books) => books.broken,
+        match self.totals() {
+            Some(totals) => totals.broken,
             None => false,
         }
     }
@@ -161,8 +161,8 @@ impl Past<'_> {
     pub fn bankrupt(&self) -> bool
         ensures { result ≡ bankrupt_in self.now.events.now }
     {
-        match self.books() {
-            Some(books) => books.bankrupt,
+        match self.totals() {
+            Some(totals) => totals.bankrupt,
             None => false,
         }
     }
@@ -171,8 +171,8 @@ impl Past<'_> {
     pub fn round(&self) -> Option<Round>
         ensures { result ≡ round_of self.now.events.now }
     {
-        match self.books() {
-            Some(books) => books.round,
+        match self.totals() {
+            Some(totals) => totals.round,
             None => None,
         }
     }
@@ -192,8 +192,8 @@ impl Past<'_> {
     fn actor(&self) -> Option<Seat>
         ensures { result ≡ last_said actor_of self.now.events.now }
     {
-        match self.books() {
-            Some(books) => books.actor,
+        match self.totals() {
+            Some(totals) => totals.actor,
             None => None,
         }
     }

@@ -2,7 +2,7 @@
 //! bank, the companies and six seats; a further seat has an entry behind the table's end.
 ghost use Rattle.std.specs.Prelude.{◌≡◌, ◌==◌, ◌<◌, ◌≤◌, ◌+ℤ◌, ◌-ℤ◌, ◌≤ℤ◌, ◌^◌, ℕ, if◌then◌else◌, length, neg_ℤ, pos, Option};
 ghost use Rattle.events.specs.Event.{payment_of, train_moved, transfer_of};
-ghost use Rattle.history.specs.Books.{HasEntry, HasTenths, IsSafe, cash_net, net_at, party_entry, stable_net, tenths_entry, tenths_net, train_entry, train_net, train_row};
+ghost use Rattle.history.specs.Totals.{HasEntry, HasTenths, IsSafe, cash_net, net_at, party_entry, train_count_net, tenths_entry, tenths_net, train_entry, train_net, train_row};
 ghost use Rattle.history.specs.LookBack.{IsModerate, paid_by, paid_to};
 ghost use Rattle.history.specs.Shares.{brought_to, taken_from};
 ghost use Rattle.history.specs.Trains.{any_comes, any_goes, one_if, train_comes, train_goes};
@@ -55,7 +55,7 @@ pub(crate) fn entry_of_party(party: Party) -> usize
 }
 
 /// Notes the payment that an event makes.
-pub(crate) fn note_payment(nets: &mut [Money; 15], event: &Event)
+pub(crate) fn apply_payment(nets: &mut [Money; 15], event: &Event)
     ensures moved { (party : Party) → HasEntry party → IsModerate (cash_net nets.old party) →
         cash_net nets.new party
         ≡ (cash_net nets.old party +ℤ pos (paid_to party (payment_of event.now)))
@@ -83,7 +83,7 @@ pub(crate) fn entry_of_tenths(company: Company, place: Shareholder) -> usize
 }
 
 /// Notes the tenths that an event moves.
-pub(crate) fn note_transfer(nets: &mut [Money; 64], event: &Event)
+pub(crate) fn apply_transfer(nets: &mut [Money; 64], event: &Event)
     ensures moved { (company : Company) (place : Shareholder) → HasTenths place →
         IsModerate (tenths_net nets.old company place) → tenths_net nets.new company place
         ≡ (tenths_net nets.old company place
@@ -123,7 +123,7 @@ pub(crate) fn entry_of_train(place: TrainPlace, kind: Kind) -> usize
 }
 
 /// Notes the train that an event moves.
-pub(crate) fn note_train(nets: &mut [Money; 88], event: &Event)
+pub(crate) fn apply_train(nets: &mut [Money; 88], event: &Event)
     ensures { (place : TrainPlace) (kind : Kind) → IsModerate (train_net nets.old place kind) →
         train_net nets.new place kind
         ≡ (train_net nets.old place kind
@@ -138,10 +138,10 @@ pub(crate) fn note_train(nets: &mut [Money; 88], event: &Event)
 }
 
 /// Notes the train that an event moves, in a table of how many trains a place has.
-pub(crate) fn note_stable(nets: &mut [Money; 11], event: &Event)
-    ensures { (owner : Option Company) → IsModerate (stable_net nets.old owner) →
-        stable_net nets.new owner
-        ≡ (stable_net nets.old owner
+pub(crate) fn apply_train_owner(nets: &mut [Money; 11], event: &Event)
+    ensures { (owner : Option Company) → IsModerate (train_count_net nets.old owner) →
+        train_count_net nets.new owner
+        ≡ (train_count_net nets.old owner
         +ℤ pos (one_if (any_comes owner (train_moved event.now))))
         -ℤ pos (one_if (any_goes owner (train_moved event.now))) }
 {

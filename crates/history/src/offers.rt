@@ -3,13 +3,13 @@ ghost use Rattle.std.specs.Prelude.{◌≡◌};
 ghost use Rattle.history.specs.Offers.{has_consent, has_offered, is_among};
 
 use crate::aspect::{InRound, last_said};
-use crate::look_back::Past;
+use crate::look_back::GameView;
 use crate::topics::OfferBy;
 use events::is_offer;
 use order_grammar::Offer;
 use tables::Seat;
 
-impl Past<'_> {
+impl GameView<'_> {
     /// Whether a seat has offered exactly this sale, by an OFFER line that was obeyed in this
     /// round.
     pub fn has_offered(&self, seat: Seat, sale: Offer) -> bool

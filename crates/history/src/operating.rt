@@ -2,17 +2,17 @@
 ghost use Rattle.std.specs.Prelude.{◌≡◌};
 ghost use Rattle.history.specs.Operating.{has_operated, rulings_in_round, tokens_placed};
 
-use crate::look_back::Past;
+use crate::look_back::GameView;
 use events::Event;
 use tables::{Company, PLAYERS_MOST, Seat};
 
-impl Past<'_> {
+impl GameView<'_> {
     /// How many tokens a company has placed, that of its home among them.
     pub fn tokens_placed(&self, company: Company) -> usize
         ensures { result ≡ tokens_placed self.now.events.now company }
     {
-        match self.books() {
-            Some(books) => books.tokens[company.place()],
+        match self.totals() {
+            Some(totals) => totals.tokens[company.place()],
             None => 0,
         }
     }
@@ -21,8 +21,8 @@ impl Past<'_> {
     pub fn has_operated(&self, company: Company) -> bool
         ensures { result ≡ has_operated self.now.events.now company }
     {
-        match self.books() {
-            Some(books) => books.operated[company.place()],
+        match self.totals() {
+            Some(totals) => totals.operated[company.place()],
             None => false,
         }
     }
@@ -32,8 +32,8 @@ impl Past<'_> {
         ensures { result ≡ rulings_in_round self.now.events.now seat }
     {
         let number = seat.number();
-        match self.books() {
-            Some(books) if number < PLAYERS_MOST => books.rulings[number],
+        match self.totals() {
+            Some(totals) if number < PLAYERS_MOST => totals.rulings[number],
             _ => count_rulings(self.events, seat),
         }
     }

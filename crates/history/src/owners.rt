@@ -1,7 +1,7 @@
 ghost use Rattle.std.specs.Prelude.{◌≡◌};
 ghost use Rattle.std.specs.Option.{option_or};
 ghost use Rattle.events.specs.Event.{ownership_of};
-ghost use Rattle.history.specs.Books.{word_in};
+ghost use Rattle.history.specs.Totals.{word_in};
 ghost use Rattle.tables.specs.declared.roster.Private.TheVariants.{SchuylkillValley};
 ghost use Rattle.history.specs.LookBack.{cheapest_in, is_sold_in, owner_in, owner_said};
 
@@ -25,7 +25,7 @@ impl Owners {
     }
 
     /// Notes what an event says of the owner of a private, if it speaks of one.
-    pub(crate) fn note(&mut self, event: &Event)
+    pub(crate) fn apply(&mut self, event: &Event)
         ensures { (private : Private) → word_in self.new private
             ≡ option_or (owner_said private (ownership_of event.now)) (word_in self.old private) }
     {

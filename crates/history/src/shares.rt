@@ -4,7 +4,7 @@ ghost use Rattle.history.specs.LookBack.{IsModerate};
 ghost use Rattle.history.specs.Shares.{arrival_of, has_sold_in_round, is_floated, is_started, par_of, president_of, shares_of, square_of, start_tenths};
 
 use crate::aspect::{InRound, balance, last_said};
-use crate::look_back::Past;
+use crate::look_back::GameView;
 use crate::nets::entry_of_tenths;
 use crate::topics::{SaleBy, Shares};
 use events::Shareholder;
@@ -13,7 +13,7 @@ use tables::{Amount, Company, Money, PLAYERS_MOST, Seat, Square};
 /// A number of tenths of a company: what came in less what went out, from 0 to 10 in a sound game.
 pub type Tenths = i128;
 
-impl Past<'_> {
+impl GameView<'_> {
     /// The tenths of a company at a place.
     pub fn shares(&self, company: Company, place: Shareholder) -> Tenths
         ensures sum { result ≡ shares_of self.now.events.now company place }
@@ -21,8 +21,9 @@ impl Past<'_> {
     {
         let start = start_tenths(place);
         let entry = entry_of_tenths(company, place);
-        match self.books() {
-            Some(books) if entry < books.tenths.len() => Tenths::from(start) + books.tenths[entry],
+        match self.totals() {
+            Some(totals) if entry < totals.tenths.len() => Tenths::from(start)
+                + totals.tenths[entry],
             _ => balance(&Shares(company, place), start, self.events),
         }
     }
@@ -38,8 +39,8 @@ impl Past<'_> {
     fn par_set(&self, company: Company) -> Option<Amount>
         ensures { result ≡ par_of self.now.events.now company }
     {
-        match self.books() {
-            Some(books) => books.pars[company.place()],
+        match self.totals() {
+            Some(totals) => totals.pars[company.place()],
             None => None,
         }
     }
@@ -55,8 +56,8 @@ impl Past<'_> {
     pub fn floated(&self, company: Company) -> bool
         ensures { result ≡ is_floated self.now.events.now company }
     {
-        match self.books() {
-            Some(books) => books.floats[company.place()].is_some(),
+        match self.totals() {
+            Some(totals) => totals.floats[company.place()].is_some(),
             None => false,
         }
     }
@@ -66,8 +67,8 @@ impl Past<'_> {
         ensures { result ≡ has_sold_in_round self.now.events.now company seat }
     {
         let number = seat.number();
-        match self.books() {
-            Some(books) if number < PLAYERS_MOST => books.sales[company.place()][number],
+        match self.totals() {
+            Some(totals) if number < PLAYERS_MOST => totals.sales[company.place()][number],
             _ => last_said(&InRound(SaleBy(company, seat)), self.events)
                 .flatten()
                 .is_some(),
@@ -78,8 +79,8 @@ impl Past<'_> {
     pub fn square(&self, company: Company) -> Option<Square>
         ensures { result ≡ square_of self.now.events.now company }
     {
-        match self.books() {
-            Some(books) => books.squares[company.place()],
+        match self.totals() {
+            Some(totals) => totals.squares[company.place()],
             None => None,
         }
     }
@@ -89,8 +90,8 @@ impl Past<'_> {
     pub fn arrival(&self, company: Company) -> usize
         ensures { result ≡ arrival_of self.now.events.now company }
     {
-        match self.books() {
-            Some(books) => books.arrivals[company.place()].unwrap_or(0),
+        match self.totals() {
+            Some(totals) => totals.arrivals[company.place()].unwrap_or(0),
             None => 0,
         }
     }
@@ -99,8 +100,8 @@ impl Past<'_> {
     pub fn president(&self, company: Company) -> Option<Seat>
         ensures { result ≡ president_of self.now.events.now company }
     {
-        match self.books() {
-            Some(books) => books.presidents[company.place()],
+        match self.totals() {
+            Some(totals) => totals.presidents[company.place()],
             None => None,
         }
     }

@@ -1,5 +1,5 @@
 //! The things of which events speak, and the accounts that they change.
-ghost use Rattle.events.specs.Event.{actor_of, bidding_of, obeyed_of, payment_of, phase_set, round_of, sv_price_set, transfer_of};
+ghost use Rattle.events.specs.Event.{actor_of, bidding_of, obeyed_of, payment_of, phase_set, round_begun_by, sv_price_set, transfer_of};
 ghost use Rattle.events.specs.Offers.{offered_in};
 ghost use Rattle.events.specs.Orders.{limit_in, par_of_baltimore_in, said_by};
 ghost use Rattle.history.specs.Bids.{bid_said};
@@ -189,7 +189,7 @@ pub(crate) struct RoundPlayed;
 impl Topic for RoundPlayed {
     type Word = Round;
 
-    ghost word = { λ a event. round_of event };
+    ghost word = { λ a event. round_begun_by event };
 
     fn word(&self, event: &Event) -> Option<Round> {
         event.round()

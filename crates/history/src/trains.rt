@@ -1,9 +1,9 @@
 //! Trains: who has which, how many the bank has sold, and the phase.
 ghost use Rattle.std.specs.Prelude.{◌≡◌};
 ghost use Rattle.history.specs.LookBack.{IsModerate};
-ghost use Rattle.history.specs.Trains.{phase_of, so_many, stable_size, trains_at, trains_held, trains_sold};
+ghost use Rattle.history.specs.Trains.{phase_of, so_many, train_count, trains_at, trains_held, trains_sold};
 
-use crate::look_back::Past;
+use crate::look_back::GameView;
 use crate::nets::{entry_of_train, row_of_trains};
 use events::TrainPlace;
 use tables::{Company, Kind, Money};
@@ -11,7 +11,7 @@ use tables::{Company, Kind, Money};
 /// A number of trains: those that came in less those that went out, at least 0 in a sound game.
 pub type TrainCount = i64;
 
-impl Past<'_> {
+impl GameView<'_> {
     /// The trains of a kind that a company has, or the bank pool where there is none.
     pub fn trains(&self, owner: Option<Company>, kind: Kind) -> TrainCount
         ensures sum { result ≡ trains_held self.now.events.now owner kind }
@@ -25,19 +25,21 @@ impl Past<'_> {
         ensures sum { result ≡ trains_at self.now.events.now place kind }
         ensures within { IsModerate result }
     {
-        match self.books() {
-            Some(books) => books.trains[entry_of_train(place, kind)] as TrainCount,
+        match self.totals() {
+            Some(totals) => totals.trains[entry_of_train(place, kind)] as TrainCount,
             None => 0,
         }
     }
 
     /// How many trains a company has, or the bank pool where there is none.
-    pub fn stable_size(&self, owner: Option<Company>) -> TrainCount
-        ensures sum { result ≡ stable_size self.now.events.now owner }
+    pub fn train_count(&self, owner: Option<Company>) -> TrainCount
+        ensures sum { result ≡ train_count self.now.events.now owner }
         ensures within { IsModerate result }
     {
-        match self.books() {
-            Some(books) => books.stables[row_of_trains(TrainPlace::of_owner(owner))] as TrainCount,
+        match self.totals() {
+            Some(totals) => totals.train_owners[row_of_trains(TrainPlace::of_owner(
+                owner,
+            ))] as TrainCount,
             None => 0,
         }
     }
@@ -53,8 +55,8 @@ impl Past<'_> {
     pub fn phase(&self) -> Kind
         ensures { result ≡ phase_of self.now.events.now }
     {
-        match self.books() {
-            Some(books) => books.phase.unwrap_or(Kind::Two),
+        match self.totals() {
+            Some(totals) => totals.phase.unwrap_or(Kind::Two),
             None => Kind::Two,
         }
     }

@@ -1,10 +1,10 @@
 //! A way along a list of events, with the books of those that were passed.
 ghost use Rattle.std.specs.Prelude.{◌≡◌, ◌+◌, ◌<◌, ◌≤◌, length, take};
-ghost use Rattle.history.specs.Books.{AreBooksOf};
+ghost use Rattle.history.specs.Totals.{AreTotalsOf};
 ghost use Rattle.history.specs.LookBack.{FitsMemory};
 
-use crate::books::Books;
-use crate::look_back::Past;
+use crate::look_back::GameView;
+use crate::totals::Totals;
 use events::Event;
 
 /// A list of events, of which the first so many were passed, and the books of those. One who asks
@@ -15,10 +15,10 @@ pub struct Walk<'a> {
     pub events: &'a [Event],
     /// How many of them were passed.
     pub passed: usize,
-    books: Books,
+    totals: Totals,
     ghost short: { FitsMemory events.now },
     ghost within: { passed ≤ length events.now },
-    ghost kept: { AreBooksOf books (take passed events.now) },
+    ghost kept: { AreTotalsOf totals (take passed events.now) },
 }
 
 impl<'a> Walk<'a> {
@@ -31,7 +31,7 @@ impl<'a> Walk<'a> {
         Walk {
             events,
             passed: 0,
-            books: Books::start(),
+            totals: Totals::start(),
         }
     }
 
@@ -65,15 +65,15 @@ impl<'a> Walk<'a> {
         ensures passed { self.new.passed ≡ self.old.passed + 1 }
     {
         let events = self.events;
-        self.books.note(&events[self.passed]);
+        self.totals.apply(&events[self.passed]);
         self.passed += 1;
     }
 
     /// The game as it stood after the events that were passed.
-    pub fn past(&self, seats: usize) -> Past<'_>
+    pub fn past(&self, seats: usize) -> GameView<'_>
         ensures seats { result.seats ≡ seats }
         ensures events { result.events.now ≡ take self.now.passed self.now.events.now }
     {
-        Past::of(seats, &self.events[..self.passed], &self.books)
+        GameView::of(seats, &self.events[..self.passed], &self.totals)
     }
 }

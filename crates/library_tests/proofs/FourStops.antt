@@ -1,7 +1,7 @@
 -- The network of four stops has what its definition says, and keeps the laws of networks.
 use Rattle.std.proofs.Common.{◌≡◌, ◌∙◌, ap, sym, subst, refl, ◌<◌, ◌≤◌, lit<, lit≤, length, get_or}
 use Rattle.std.proofs.lemmas.List.{get_or-map}
-use Rattle.library_tests.specs.FourStops.{four_stops, lying_in, standing_in}
+use Rattle.library_tests.specs.FourStops.{four_stops, on_map_in, standing_in}
 use Rattle.map_tables.specs.Hex.{hexes, index_of}
 use Rattle.map_tables.specs.Laws.{AreLinksOf, NeighboursPair}
 use Rattle.map_tables.specs.Place.{joined_hex, stop_at, stop_index_of}
@@ -28,10 +28,10 @@ index_low A9 = lit< tt
 index_low hex = lit< tt
 
 -- the position has in a hex what lies there
-pub in_hex_is : (hex : Hex) → in_hex four_stops hex ≡ lying_in hex
+pub in_hex_is : (hex : Hex) → in_hex four_stops hex ≡ on_map_in hex
 unfolding four_stops
 in_hex_is hex =
-    get_or-map lying_in hexes (index_of hex) A9 empty_hex (index_low hex) ∙ ap lying_in (at_index hex)
+    get_or-map on_map_in hexes (index_of hex) A9 empty_hex (index_low hex) ∙ ap on_map_in (at_index hex)
 
 -- and at a stop what stands there
 pub at_stop_is : (stop : Stop) → at_stop four_stops stop ≡ standing_in (joined_hex stop.hex) stop.number
@@ -43,7 +43,7 @@ no_second G11 = refl
 no_second hex = refl
 
 -- the links of each hex stand in order
-in_order : (hex : Hex) → AreLinksOf hex (lying_in hex).links
+in_order : (hex : Hex) → AreLinksOf hex (on_map_in hex).links
 in_order G11 = record { in_order = refl; here = (refl, (refl, (refl, tt))); few = lit≤ tt }
 in_order G13 = record { in_order = refl; here = (refl, (refl, tt)); few = lit≤ tt }
 in_order H10 = record { in_order = refl; here = (refl, (refl, tt)); few = lit≤ tt }
@@ -58,7 +58,7 @@ worth hex First = lit≤ tt
 worth hex Second = lit≤ tt
 
 -- no track leads to a second stop
-none_second : (hex : Hex) (link : Link) → IsAmong link (lying_in hex).links → link.b ≡ AtStop Second → joined_hex hex ≡ hex
+none_second : (hex : Hex) (link : Link) → IsAmong link (on_map_in hex).links → link.b ≡ AtStop Second → joined_hex hex ≡ hex
 none_second A9 link among second = absurd among
 none_second I1 link among second = absurd among
 none_second hex link among second = refl

@@ -36,27 +36,27 @@ abbrev pub red_area : ℕ → there.AtStop
 red_area value = record { value = value; red = true; slots = 0; tokens = [] }
 
 -- what lies in a hex
-abbrev pub lying_in : Hex → InHex
-lying_in G11 =
+abbrev pub on_map_in : Hex → InHex
+on_map_in G11 =
     record {
       links = spoke G11 SouthWest ∷ spoke G11 East ∷ spoke G11 SouthEast ∷ [];
       stops = city 40 1 NewYorkCentral ∷ [];
     }
-lying_in G13 = record { links = spoke G13 SouthWest ∷ spoke G13 West ∷ []; stops = red_area 50 ∷ [] }
-lying_in H10 =
+on_map_in G13 = record { links = spoke G13 SouthWest ∷ spoke G13 West ∷ []; stops = red_area 50 ∷ [] }
+on_map_in H10 =
     record { links = spoke H10 NorthEast ∷ spoke H10 East ∷ []; stops = city 20 1 Pennsylvania ∷ [] }
-lying_in H12 =
+on_map_in H12 =
     record {
       links = through H12 West NorthWest ∷ spoke H12 West ∷ spoke H12 NorthWest ∷ spoke H12 NorthEast ∷ [];
       stops = city 30 2 Pennsylvania ∷ [];
     }
-lying_in J2 = record { links = []; stops = red_area 0 ∷ [] }
-lying_in A11 = record { links = []; stops = red_area 0 ∷ [] }
-lying_in hex = empty_hex
+on_map_in J2 = record { links = []; stops = red_area 0 ∷ [] }
+on_map_in A11 = record { links = []; stops = red_area 0 ∷ [] }
+on_map_in hex = empty_hex
 
 -- the position
 unfoldable pub four_stops : Position
-four_stops = record { hexes = map lying_in hexes }
+four_stops = record { hexes = map on_map_in hexes }
 
 -- a token, if there is one
 abbrev pub listed : Option Company → List Company
@@ -70,4 +70,4 @@ told standing =
 
 -- what stands at a stop, in the hex that names it
 abbrev pub standing_in : Hex → StopNumber → there.AtStop
-standing_in hex number = get_or (lying_in hex).stops (stop_index_of number) no_stop
+standing_in hex number = get_or (on_map_in hex).stops (stop_index_of number) no_stop

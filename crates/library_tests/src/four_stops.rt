@@ -1,6 +1,6 @@
 //! A network of four stops, which no board is.
 ghost use Rattle.std.specs.Prelude.{◌≡◌, false, true};
-ghost use Rattle.library_tests.specs.FourStops.{four_stops, lying_in, spoke, standing_in, told};
+ghost use Rattle.library_tests.specs.FourStops.{four_stops, on_map_in, spoke, standing_in, told};
 ghost use Rattle.map_tables.specs.declared.place.StopNumber.TheVariants.{First};
 ghost use Rattle.reach.specs.Position.{at_stop};
 
@@ -93,7 +93,7 @@ fn spoke(hex: Hex, side: Side) -> Link
 
 /// The links of a hex.
 fn links_in(hex: Hex) -> Links
-    ensures { result.items ≡ (lying_in hex).links }
+    ensures { result.items ≡ (on_map_in hex).links }
 {
     let mut links = ArrayVec::new();
     match hex {

@@ -6,7 +6,7 @@
 //! revenue), `best_agrees` (the same beside a slow search, on small boards and on four stops),
 //! `four_stops` (a network that is no board), `slow_search` (that search), `claims` (the runs of a
 //! claim, checked one after the other), `marks` (bits kept, read and printed), `marks_agree` (those that are
-//! written, beside those of `choice_tree`, the same tree made once more from its definition), `books` (money,
+//! written, beside those of `choice_tree`, the same tree made once more from its definition), `totals` (money,
 //! tenths, events).
 #![tactic(auto)]
 
@@ -16,8 +16,6 @@ mod best;
 mod best_agrees;
 #[cfg(test)]
 mod boards;
-#[cfg(test)]
-mod books;
 #[cfg(test)]
 mod choice_tree;
 #[cfg(test)]
@@ -31,3 +29,5 @@ mod marks;
 mod marks_agree;
 #[cfg(test)]
 mod slow_search;
+#[cfg(test)]
+mod totals;

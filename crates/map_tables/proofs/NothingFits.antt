@@ -2,7 +2,7 @@
 use Rattle.std.proofs.Common.{refl}
 use Rattle.map_tables.specs.Fit.{NothingFits}
 use Rattle.map_tables.specs.Hex.{index_of}
-use Rattle.map_tables.specs.Lying.{tile_on}
+use Rattle.map_tables.specs.OnMap.{tile_on}
 use Rattle.map_tables.specs.Print.{groups, plain_hexes, print_of}
 
 pub nothing_fits : NothingFits

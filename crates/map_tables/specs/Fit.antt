@@ -8,7 +8,7 @@ use Rattle.std.specs.List.{filter, list_any}
 use Rattle.map_tables.specs.Border.{neighbour_of}
 use Rattle.map_tables.specs.Home.{home_of}
 use Rattle.map_tables.specs.Lay.{laid_links_of}
-use Rattle.map_tables.specs.Lying.{has_token, slots_at, taken_at}
+use Rattle.map_tables.specs.OnMap.{has_token, slots_at, taken_at}
 use Rattle.map_tables.specs.Place.{place_of, stop_of}
 use Rattle.map_tables.specs.Print.{print_of, printed_links_of}
 use Rattle.map_tables.specs.Side.{facing_of, number_of}

@@ -10,7 +10,7 @@ pub mod PrintedHex
 pub mod Lay
 pub mod Text
 pub mod Home
-pub mod Lying
+pub mod OnMap
 pub mod Fit
 pub mod RuleCodes
 pub mod Laws

@@ -1,6 +1,6 @@
 -- Each move leads from the chart to the chart.
 use Rattle.std.proofs.Common.{◌≡◌, ℕ, zero, suc, ◌+◌, Bool, true, false, if◌then◌else◌, Some, None, is_some, unwrap_or, refl}
-use Rattle.market.specs.Moves.{StaysOnChart, above, at_left, down_of, fallen, left_of, right_of, up_of}
+use Rattle.market.specs.Moves.{StaysOnChart, above, at_left, down_of, fallen, square_left_of, right_of, up_of}
 use Rattle.tables.specs.Chart.{entry_at, is_on_chart, square_at}
 use Rattle.tables.specs.declared.squares.Square.{Square}
 
@@ -36,7 +36,7 @@ pub right_stays : StaysOnChart right_of
 right_stays square on = on_chart_or square.row (square.column + 1) (up_of square) (up_stays square on)
 
 -- a move left
-pub left_stays : StaysOnChart left_of
+pub left_stays : StaysOnChart square_left_of
 left_stays square on = at_left_or square.row square.column (down_of square) (down_stays square on)
 
 -- moves down

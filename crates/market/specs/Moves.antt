@@ -45,8 +45,8 @@ abbrev pub right_of : Square → Square
 right_of square = unwrap_or (at_right square) (up_of square)
 
 -- where a move left leads
-abbrev pub left_of : Square → Square
-left_of square = unwrap_or (at_left square) (down_of square)
+abbrev pub square_left_of : Square → Square
+square_left_of square = unwrap_or (at_left square) (down_of square)
 
 -- where so many moves down lead
 abbrev pub fallen : ℕ → Square → Square

@@ -1,14 +1,14 @@
 //! Laws of the definitions, each the contract of a function that does nothing.
 ghost use Rattle.std.specs.Prelude.{◌≡◌, ◌∷◌, [], List, ℕ};
 ghost use Rattle.events.specs.declared.event.Event.{Event};
-ghost use Rattle.market.specs.Moves.{StaysOnChart, down_of, fallen, left_of, right_of, up_of};
+ghost use Rattle.market.specs.Moves.{StaysOnChart, down_of, fallen, square_left_of, right_of, up_of};
 ghost use Rattle.market.specs.OperatingOrder.{IsOperatingOrder, both_at_67, operating_order_of};
 ghost use Rattle.tables.specs.declared.roster.Company.TheVariants.{BaltimoreOhio, Pennsylvania};
 
 /// A token on the chart stays on the chart, however it moves.
 pub fn moves_stay_on_chart()
     ensures right { StaysOnChart right_of }
-    ensures left { StaysOnChart left_of }
+    ensures left { StaysOnChart square_left_of }
     ensures up { StaysOnChart up_of }
     ensures down { StaysOnChart down_of }
     ensures fall { (squares : ℕ) → StaysOnChart (fallen squares) }

@@ -1,5 +1,5 @@
 ghost use Rattle.std.specs.Prelude.{◌≡◌};
-ghost use Rattle.market.specs.Moves.{above, at_left, at_right, below, down_of, fallen, left_of, right_of, up_of};
+ghost use Rattle.market.specs.Moves.{above, at_left, at_right, below, down_of, fallen, square_left_of, right_of, up_of};
 
 use tables::{Square, square};
 
@@ -14,7 +14,7 @@ pub fn right(from: Square) -> Square
 /// Where a token comes that moves left: to the square before it in its row, and from the left end
 /// of the row down.
 pub fn left(from: Square) -> Square
-    ensures { result ≡ left_of from }
+    ensures { result ≡ square_left_of from }
 {
     square_at_left(from).unwrap_or(down(from))
 }

@@ -1,5 +1,5 @@
 ghost use Rattle.std.specs.Prelude.{◌≡◌, OnOk};
-ghost use Rattle.market.specs.Moves.{fallen, left_of, right_of, up_of};
+ghost use Rattle.market.specs.Moves.{fallen, square_left_of, right_of, up_of};
 ghost use Rattle.market.specs.Token.{moved_to, with_move};
 
 use crate::moves::{fall, left, right, up};
@@ -23,7 +23,7 @@ pub fn move_token_right(history: &mut History, company: Company) -> Result<(), A
 pub fn move_token_left(history: &mut History, company: Company) -> Result<(), AllocError>
     ensures seats { OnOk result (history.new.seats ≡ history.old.seats) }
     ensures events { OnOk result (history.new.events
-        ≡ with_move left_of history.old.events company) }
+        ≡ with_move square_left_of history.old.events company) }
 {
     match history.square(company) {
         Some(square) => move_token(history, company, square, left(square)),

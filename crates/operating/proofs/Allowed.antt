@@ -8,9 +8,9 @@ use Rattle.std.specs.Int.Signed.{lt_z}
 use mir.Syntax.{w128}
 use mir.Val.{of_z, to_z}
 use Rattle.board.proofs.RuleTables.{earlier, kept}
-use Rattle.board.specs.Ground.{Ground}
-use Rattle.map_tables.specs.Lying.{by_tile, tile_on}
-use Rattle.board.specs.LayRules.{IsLayAnswer, cost_or, ground_rules, lay_cost_of, reach_rules as lay_reach_rules}
+use Rattle.board.specs.MapState.{MapState}
+use Rattle.map_tables.specs.OnMap.{by_tile, tile_on}
+use Rattle.board.specs.LayRules.{IsLayAnswer, cost_or, map_rules, lay_cost_of, reach_rules as lay_reach_rules}
 use Rattle.board.specs.Powers.{is_dh_token}
 use Rattle.board.specs.TokenRules.{IsTokenAnswer, laid_by, reach_rules as token_reach_rules, slot_rules, token_cost_of}
 use Rattle.board.specs.declared.asker.Asker.{Asker}
@@ -98,10 +98,10 @@ token_price_test false false true = omega arith
 token_price_test false false false = omega arith
 
 -- a lay that is allowed
-pub lay_allowed : (laid : Ground) (asker : Asker) (lay : Lay) (cost : ℤ) → IsLayAnswer laid asker lay (Ok cost) → IsAllowed (first_broken (ground_rules laid asker lay) ≡ None) cost asker.cash (lay_cost_of laid.lays lay.hex)
+pub lay_allowed : (laid : MapState) (asker : Asker) (lay : Lay) (cost : ℤ) → IsLayAnswer laid asker lay (Ok cost) → IsAllowed (first_broken (map_rules laid asker lay) ≡ None) cost asker.cash (lay_cost_of laid.lays lay.hex)
 lay_allowed laid asker lay cost answer =
     let priced = lay_cost_of laid.lays lay.hex in
-    let rules = ground_rules laid asker lay in
+    let rules = map_rules laid asker lay in
     let later = lay_reach_rules laid asker lay answer.reached in
     let is = none_where_ok cost priced (first_broken (rules ++ later)) answer.given in
     let first : first_broken rules ≡ None = none_of_first rules later is.0 in
@@ -109,7 +109,7 @@ lay_allowed laid asker lay cost answer =
     priced_well cost asker.cash priced first is.1 both.1.0 (lay_small laid.lays lay.hex)
 
 -- a token that is allowed
-pub token_allowed : (laid : Ground) (asker : Asker) (place : Place) (cost : ℤ) → IsTokenAnswer laid asker place (Ok cost) → IsAllowed (first_broken (slot_rules laid asker place) ≡ None) cost asker.cash (token_cost_of laid.tokens asker place.hex)
+pub token_allowed : (laid : MapState) (asker : Asker) (place : Place) (cost : ℤ) → IsTokenAnswer laid asker place (Ok cost) → IsAllowed (first_broken (slot_rules laid asker place) ≡ None) cost asker.cash (token_cost_of laid.tokens asker place.hex)
 unfolding token_cost_of
 token_allowed laid asker place cost answer =
     let priced = token_cost_of laid.tokens asker place.hex in

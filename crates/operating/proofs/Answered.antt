@@ -1,8 +1,8 @@
 -- From the answer of the rules of the board to where a line leads.
 use Rattle.std.proofs.Common.{◌≡◌, ℕ, None, Result, Ok, Err, ℤ, pos, ◌≤ℤ◌, refl, sym, ap, subst, ◌∙◌}
 use Rattle.std.specs.Int.RustNames.{unsigned_abs}
-use Rattle.board.specs.Ground.{Ground}
-use Rattle.board.specs.LayRules.{IsLayAnswer, ground_rules}
+use Rattle.board.specs.MapState.{MapState}
+use Rattle.board.specs.LayRules.{IsLayAnswer, map_rules}
 use Rattle.board.specs.TokenRules.{IsTokenAnswer, slot_rules}
 use Rattle.board.specs.declared.asker.Asker.{Asker}
 use Rattle.events.specs.Event.{party_of_company}
@@ -20,8 +20,8 @@ use Rattle.map_tables.specs.declared.rules.TokenRule.{TokenRule}
 use Rattle.map_tables.specs.declared.lay.Lay.{Lay}
 use Rattle.map_tables.specs.declared.place.Place.{Place}
 use Rattle.operating.proofs.Allowed.{lay_allowed, token_allowed}
-use Rattle.operating.proofs.Fitting.{lay_fits, same_ground, token_fits}
-use Rattle.operating.specs.Ground.{ground_now}
+use Rattle.operating.proofs.Fitting.{lay_fits, same_map_state, token_fits}
+use Rattle.operating.specs.MapState.{map_state_now}
 use Rattle.operating.specs.Judgement.{asker_of}
 use Rattle.operating.specs.InTurn.{InTurn, in_turn, lay_done, token_done}
 use Rattle.operating.specs.Turn.{lay_answered, token_answered}
@@ -36,23 +36,23 @@ use Rattle.tables.specs.declared.seat.Seat.{Seat}
 
 -- the answer to a lay, by what lies and by who asks
 pub lay_by :
-    (board laid : Ground) (asker its : Asker) (lay : Lay) (answer : Result ℤ LayRule) → board ≡ laid → asker ≡ its →
+    (board laid : MapState) (asker its : Asker) (lay : Lay) (answer : Result ℤ LayRule) → board ≡ laid → asker ≡ its →
     IsLayAnswer board asker lay answer → IsLayAnswer laid its lay answer
 lay_by board laid asker its lay answer is_board is_asker answered =
-    subst (λ (g : Ground). IsLayAnswer g its lay answer) is_board (subst (λ (a : Asker). IsLayAnswer board a lay answer) is_asker answered)
+    subst (λ (g : MapState). IsLayAnswer g its lay answer) is_board (subst (λ (a : Asker). IsLayAnswer board a lay answer) is_asker answered)
 
 -- and to a token
 pub token_by :
-    (board laid : Ground) (asker its : Asker) (place : Place) (answer : Result ℤ TokenRule) → board ≡ laid → asker ≡ its →
+    (board laid : MapState) (asker its : Asker) (place : Place) (answer : Result ℤ TokenRule) → board ≡ laid → asker ≡ its →
     IsTokenAnswer board asker place answer → IsTokenAnswer laid its place answer
 token_by board laid asker its place answer is_board is_asker answered =
-    subst (λ (g : Ground). IsTokenAnswer g its place answer) is_board (subst (λ (a : Asker). IsTokenAnswer board a place answer) is_asker answered)
+    subst (λ (g : MapState). IsTokenAnswer g its place answer) is_board (subst (λ (a : Asker). IsTokenAnswer board a place answer) is_asker answered)
 
 -- how far a turn has come once a tile is laid, by what lies and by who asks
-pub lay_done_by : (board laid : Ground) (asker its : Asker) (lay : Lay) (before after : Progress) → board ≡ laid → asker ≡ its →
+pub lay_done_by : (board laid : MapState) (asker its : Asker) (lay : Lay) (before after : Progress) → board ≡ laid → asker ≡ its →
     after ≡ lay_done board.lays asker lay before → after ≡ lay_done laid.lays its lay before
 lay_done_by board laid asker its lay before after is_board is_asker is =
-    is ∙ ap (λ (g : Ground). lay_done g.lays asker lay before) is_board ∙ ap (λ (a : Asker). lay_done laid.lays a lay before) is_asker
+    is ∙ ap (λ (g : MapState). lay_done g.lays asker lay before) is_board ∙ ap (λ (a : Asker). lay_done laid.lays a lay before) is_asker
 
 -- a lay that was obeyed, step by step
 pub laid_steps : (by : Operator) (turn : InTurn) (line : Numbered) (lay : Lay) (cost : ℤ) (ruled paid : Game) (kept : Order) (amount : ℕ) (progress : Progress) → ruled ≡ with_event turn.game (event.Ruled by.president line.number (Obeyed line.condition kept)) → kept ≡ order.Lay lay → paid ≡ with_event ruled (event.Laid by.company lay amount) → amount ≡ unsigned_abs cost → progress ≡ lay_done (lays_of turn.game.events) (asker_of turn.game by.company turn.progress) lay turn.progress → in_turn paid progress ≡ lay_answered by turn line lay (Ok cost)
@@ -89,30 +89,30 @@ token_refused_steps by turn line place rule ruled kept is_ruled is_kept =
     (is_ruled ∙ ap (λ (o : Order). with_event turn.game (event.Ruled by.president line.number (Refused (refusal.Token rule) line.condition o))) is_kept)
 
 -- the same lies after a ruling, and the company has as much
-pub same_after_ruling : (game ruled : Game) (seat : Seat) (line : Numbered) (ruling : Ruling) → ruled ≡ with_event game (event.Ruled seat line.number ruling) → ground_now ruled.events ≡ ground_now game.events
+pub same_after_ruling : (game ruled : Game) (seat : Seat) (line : Numbered) (ruling : Ruling) → ruled ≡ with_event game (event.Ruled seat line.number ruling) → map_state_now ruled.events ≡ map_state_now game.events
 same_after_ruling game ruled seat line ruling is =
-    ap (λ (g : Game). ground_now g.events) is ∙ same_ground game.events (event.Ruled seat line.number ruling) refl refl refl
+    ap (λ (g : Game). map_state_now g.events) is ∙ same_map_state game.events (event.Ruled seat line.number ruling) refl refl refl
 
 same_cash : (game ruled : Game) (seat : Seat) (line : Numbered) (ruling : Ruling) (company : Company) → ruled ≡ with_event game (event.Ruled seat line.number ruling) → cash_of ruled.seats ruled.events (party_of_company company) ≡ cash_of game.seats game.events (party_of_company company)
 same_cash game ruled seat line ruling company is =
     ap (λ (g : Game). cash_of g.seats g.events (party_of_company company)) is ∙ cash_of_before game.seats game.events (event.Ruled seat line.number ruling) (party_of_company company) refl
 
 -- a game goes on after a lay that is allowed
-pub laid_sound : (game ruled new : Game) (company : Company) (progress : Progress) (seat : Seat) (line : Numbered) (ruling : Ruling) (lay : Lay) (cost : ℤ) (amount : ℕ) → IsLayAnswer (ground_now game.events) (asker_of game company progress) lay (Ok cost) → ruled ≡ with_event game (event.Ruled seat line.number ruling) → new ≡ with_event ruled (event.Laid company lay amount) → amount ≡ unsigned_abs cost → IsSound ruled → IsSound new
+pub laid_sound : (game ruled new : Game) (company : Company) (progress : Progress) (seat : Seat) (line : Numbered) (ruling : Ruling) (lay : Lay) (cost : ℤ) (amount : ℕ) → IsLayAnswer (map_state_now game.events) (asker_of game company progress) lay (Ok cost) → ruled ≡ with_event game (event.Ruled seat line.number ruling) → new ≡ with_event ruled (event.Laid company lay amount) → amount ≡ unsigned_abs cost → IsSound ruled → IsSound new
 laid_sound game ruled new company progress seat line ruling lay cost amount answered is_ruled is_new is_amount sound =
     let asker : Asker = asker_of game company progress in
-    let may = lay_allowed (ground_now game.events) asker lay cost answered in
-    let rules : first_broken (ground_rules (ground_now ruled.events) asker lay) ≡ None = subst (λ (g : Ground). first_broken (ground_rules g asker lay) ≡ None) (sym (same_after_ruling game ruled seat line ruling is_ruled)) may.allowed in
+    let may = lay_allowed (map_state_now game.events) asker lay cost answered in
+    let rules : first_broken (map_rules (map_state_now ruled.events) asker lay) ≡ None = subst (λ (g : MapState). first_broken (map_rules g asker lay) ≡ None) (sym (same_after_ruling game ruled seat line ruling is_ruled)) may.allowed in
     let pays : pos amount ≤ℤ cash_of ruled.seats ruled.events (party_of_company company) = subst (λ (n : ℕ). pos n ≤ℤ cash_of ruled.seats ruled.events (party_of_company company)) (sym is_amount) (subst (λ (z : ℤ). pos (unsigned_abs cost) ≤ℤ z) (sym (same_cash game ruled seat line ruling company is_ruled)) may.pays) in
     subst IsSound (sym is_new)
     (lay_sound ruled company lay amount pays (lay_fits ruled.events asker lay amount rules sound.fit) sound)
 
 -- and after a token
-pub placed_sound : (game ruled new : Game) (company : Company) (progress : Progress) (seat : Seat) (line : Numbered) (ruling : Ruling) (place : Place) (cost : ℤ) (amount : ℕ) → IsTokenAnswer (ground_now game.events) (asker_of game company progress) place (Ok cost) → ruled ≡ with_event game (event.Ruled seat line.number ruling) → new ≡ with_event ruled (event.Token company place amount) → amount ≡ unsigned_abs cost → IsSound ruled → IsSound new
+pub placed_sound : (game ruled new : Game) (company : Company) (progress : Progress) (seat : Seat) (line : Numbered) (ruling : Ruling) (place : Place) (cost : ℤ) (amount : ℕ) → IsTokenAnswer (map_state_now game.events) (asker_of game company progress) place (Ok cost) → ruled ≡ with_event game (event.Ruled seat line.number ruling) → new ≡ with_event ruled (event.Token company place amount) → amount ≡ unsigned_abs cost → IsSound ruled → IsSound new
 placed_sound game ruled new company progress seat line ruling place cost amount answered is_ruled is_new is_amount sound =
     let asker : Asker = asker_of game company progress in
-    let may = token_allowed (ground_now game.events) asker place cost answered in
-    let rules : first_broken (slot_rules (ground_now ruled.events) asker place) ≡ None = subst (λ (g : Ground). first_broken (slot_rules g asker place) ≡ None) (sym (same_after_ruling game ruled seat line ruling is_ruled)) may.allowed in
+    let may = token_allowed (map_state_now game.events) asker place cost answered in
+    let rules : first_broken (slot_rules (map_state_now ruled.events) asker place) ≡ None = subst (λ (g : MapState). first_broken (slot_rules g asker place) ≡ None) (sym (same_after_ruling game ruled seat line ruling is_ruled)) may.allowed in
     let pays : pos amount ≤ℤ cash_of ruled.seats ruled.events (party_of_company company) = subst (λ (n : ℕ). pos n ≤ℤ cash_of ruled.seats ruled.events (party_of_company company)) (sym is_amount) (subst (λ (z : ℤ). pos (unsigned_abs cost) ≤ℤ z) (sym (same_cash game ruled seat line ruling company is_ruled)) may.pays) in
     subst IsSound (sym is_new)
     (token_sound ruled company place amount pays (token_fits ruled.events asker place amount rules sound.fit) sound)

@@ -6,7 +6,7 @@ use Rattle.std.proofs.lemmas.Grind.{get_or-set_at}
 use Rattle.std.proofs.lemmas.Int.{ints}
 use Rattle.std.specs.Int.Signed.{le_z}
 use Rattle.std.specs.List.{AllByRecursion, fold}
-use Rattle.board.specs.Ground.{position_of}
+use Rattle.board.specs.MapState.{position_of}
 use Rattle.certificate.proofs.Kept.{crossed_used}
 use Rattle.certificate.proofs.Marks.{among_both, eqb_not}
 use Rattle.certificate.proofs.Relabelled.{kind_is}
@@ -14,7 +14,7 @@ use Rattle.certificate.proofs.Sharing.{legal_by_marks, legal_over}
 use Rattle.certificate.specs.Legal.{IsLegalRun, all_crossed, crossed, earned}
 use Rattle.certificate.specs.Marks.{MarksAre}
 use Rattle.certificate.specs.Set.{IsGreatest, IsLegalSet, ShareNoBorder, TrainRun, in_number, revenue_of, trains_that_run}
-use Rattle.events.specs.Event.{stable_of}
+use Rattle.events.specs.Event.{train_owner_place}
 use Rattle.events.specs.declared.event.Event.{Event}
 use Rattle.events.specs.declared.event.Event.TheVariants as event
 use Rattle.events.specs.declared.ruling.Refusal.TheVariants as refusal
@@ -24,7 +24,7 @@ use Rattle.history.proofs.EventAtEnd.{trains_at_before}
 use Rattle.history.specs.Trains.{so_many, trains_held}
 use Rattle.map_tables.specs.declared.rules.RunRule.{RunRule}
 use Rattle.map_tables.specs.declared.place.Place.{Place}
-use Rattle.operating.proofs.Fitting.{same_ground}
+use Rattle.operating.proofs.Fitting.{same_map_state}
 use Rattle.operating.proofs.Judged.{judged_legal, judged_ran, judged_room}
 use Rattle.operating.proofs.LegalRuns.{at_first}
 use Rattle.operating.proofs.NoRuns.{kind_low, none_counted, nothing_ran}
@@ -34,7 +34,7 @@ use Rattle.operating.specs.InTurn.{InTurn, no_runs, told}
 use Rattle.operating.specs.Runs.{has_run, judged_run, position_now, run_ruled, steps_now}
 use Rattle.operating.specs.Turn.{AskedLeads, LineLeads, LinesLead, ReadingLeads, is_held}
 use Rattle.operating.specs.declared.operator.Operator.{Operator}
-use Rattle.operating.specs.declared.runs.Ran.{Ran}
+use Rattle.operating.specs.declared.runs.CompletedRun.{CompletedRun}
 use Rattle.operating.specs.declared.runs.Runs.{Runs}
 use Rattle.order_grammar.specs.declared.fault.Fault.{Fault}
 use Rattle.order_grammar.specs.declared.order.Order.{Order}
@@ -160,7 +160,7 @@ module _ (by : Operator) (first : InTurn) where
 
   -- some lines that order runs have led to this turn, and these are the runs that were obeyed
   record HaveRun (runs : List TrainRun) (now : InTurn) : Type 0 where
-    pub ground : position_now now.game.events ≡ there
+    pub map_state : position_now now.game.events ≡ there
     pub held : (kind : Kind) → trains_held now.game.events (Some by.company) kind ≡ held_first kind
     pub set : IsLegalSet there by.company trains runs
     pub marks : MarksAre (all_crossed (walks_of runs)) now.progress.runs.borders
@@ -173,7 +173,7 @@ module _ (by : Operator) (first : InTurn) where
   none_yet none =
       let same : no_runs ≡ first.progress.runs = sym none in
       record {
-        ground = refl;
+        map_state = refl;
         held = λ kind. refl;
         set = record { legal = tt; each_once = λ kind. omega arith; apart = tt };
         marks = subst (λ (runs : Runs). MarksAre [] runs.borders) same at_first;
@@ -187,8 +187,8 @@ module _ (by : Operator) (first : InTurn) where
   after_ruling runs now line ruling have =
       let its = event.Ruled by.president line.number ruling in
       record {
-        ground = ap position_of (same_ground now.game.events its refl refl refl) ∙ have.ground;
-        held = λ kind. trains_at_before now.game.events its (stable_of (Some by.company)) kind refl ∙ have.held kind;
+        map_state = ap position_of (same_map_state now.game.events its refl refl refl) ∙ have.map_state;
+        held = λ kind. trains_at_before now.game.events its (train_owner_place (Some by.company)) kind refl ∙ have.held kind;
         set = have.set;
         marks = have.marks;
         for_each = have.for_each;
@@ -222,18 +222,18 @@ module _ (by : Operator) (first : InTurn) where
 
   -- it is legal where their borders are used
   run_legal :
-      (runs : List TrainRun) (now : InTurn) (kind : Kind) (run : List Place) (ran : Ran) → judged_run now by.company kind run ≡ Ok ran →
+      (runs : List TrainRun) (now : InTurn) (kind : Kind) (run : List Place) (ran : CompletedRun) → judged_run now by.company kind run ≡ Ok ran →
       HaveRun runs now → IsLegalRun there by.company kind (all_crossed (walks_of runs)) (steps_now now.game.events run)
   run_legal runs now kind run ran judged have =
       let steps : List Step = steps_now now.game.events run in
       let used : List ℕ = all_crossed (walks_of runs) in
       let position : Position = position_now now.game.events in
-      subst (λ (its : Position). IsLegalRun its by.company kind used steps) have.ground
+      subst (λ (its : Position). IsLegalRun its by.company kind used steps) have.map_state
       ((legal_by_marks position by.company kind used now.progress.runs.borders steps have.marks).0 (judged_legal now by.company kind run ran judged))
 
   -- and a train is left for it
   run_room :
-      (runs : List TrainRun) (now : InTurn) (kind : Kind) (run : List Place) (ran : Ran) → judged_run now by.company kind run ≡ Ok ran →
+      (runs : List TrainRun) (now : InTurn) (kind : Kind) (run : List Place) (ran : CompletedRun) → judged_run now by.company kind run ≡ Ok ran →
       HaveRun runs now → in_number kind (trains_that_run runs) < so_many (held_first kind)
   run_room runs now kind run ran judged have =
       let count : ℕ = in_number kind (trains_that_run runs) in
@@ -244,7 +244,7 @@ module _ (by : Operator) (first : InTurn) where
 
   -- after it
   after_obeyed :
-      (runs : List TrainRun) (now : InTurn) (line : Numbered) (its : Order) (kind : Kind) (run : List Place) (ran : Ran) →
+      (runs : List TrainRun) (now : InTurn) (line : Numbered) (its : Order) (kind : Kind) (run : List Place) (ran : CompletedRun) →
       judged_run now by.company kind run ≡ Ok ran → HaveRun runs now → HaveRun (with_run now kind run runs) (run_ruled by now line its (Ok ran))
   after_obeyed runs now line its kind run ran judged have =
       let steps : List Step = steps_now now.game.events run in
@@ -252,23 +252,23 @@ module _ (by : Operator) (first : InTurn) where
       let ruled : InTurn = told by now line (Obeyed line.condition its) in
       let after : HaveRun runs ruled = after_ruling runs now line (Obeyed line.condition its) have in
       let earns : Event = event.Runs by.company (earned (position_now now.game.events) steps) in
-      subst (λ (what : Ran). HaveRun (with_run now kind run runs) (run_ruled by now line its (Ok what)))
+      subst (λ (what : CompletedRun). HaveRun (with_run now kind run runs) (run_ruled by now line its (Ok what)))
       (sym (judged_ran now by.company kind run ran judged))
       (record {
-        ground = ap position_of (same_ground ruled.game.events earns refl refl refl) ∙ after.ground;
-        held = λ other. trains_at_before ruled.game.events earns (stable_of (Some by.company)) other refl ∙ after.held other;
+        map_state = ap position_of (same_map_state ruled.game.events earns refl refl refl) ∙ after.map_state;
+        held = λ other. trains_at_before ruled.game.events earns (train_owner_place (Some by.company)) other refl ∙ after.held other;
         set = set_more runs kind steps have.set (run_legal runs now kind run ran judged have) (run_room runs now kind run ran judged have);
         marks = crossed_used (all_crossed (walks_of runs)) done.borders steps have.marks;
         for_each = length-set done.trains (place_of_kind kind) (has_run done kind +ℤ pos 1) ∙ have.for_each;
         counted = λ other.
             counted_more done.trains (place_of_kind kind) (place_of_kind other) (in_number other (trains_that_run runs)) (in_number kind (trains_that_run runs))
             (omega (arith, kind_low kind, have.for_each)) (have.counted kind) (have.counted other);
-        sum = omega (arith, have.sum, ap (λ (position : Position). earned position steps) have.ground);
+        sum = omega (arith, have.sum, ap (λ (position : Position). earned position steps) have.map_state);
       })
 
   -- after a RUN, obeyed or refused
   after_judged :
-      (runs : List TrainRun) (now : InTurn) (line : Numbered) (its : Order) (kind : Kind) (run : List Place) (judged : Result Ran RunRule) →
+      (runs : List TrainRun) (now : InTurn) (line : Numbered) (its : Order) (kind : Kind) (run : List Place) (judged : Result CompletedRun RunRule) →
       judged_run now by.company kind run ≡ judged → HaveRun runs now → (more : List TrainRun) × HaveRun more (run_ruled by now line its judged)
   after_judged runs now line its kind run (Err rule) is have = (runs, after_ruling runs now line (Refused (refusal.Run rule) line.condition its) have)
   after_judged runs now line its kind run (Ok ran) is have =

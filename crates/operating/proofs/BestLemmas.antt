@@ -4,7 +4,7 @@ use Rattle.std.proofs.lemmas.Int.{ints}
 use Rattle.std.specs.Int.RustNames.{unsigned_abs}
 use mir.Syntax.{w128}
 use mir.Val.{of_z, to_z}
-use Rattle.board.specs.Ground.{Ground, position_of}
+use Rattle.board.specs.MapState.{MapState, position_of}
 use Rattle.certificate.specs.Greatest.{AGreatestExists, OneGreatest}
 use Rattle.certificate.specs.Law.{unused}
 use Rattle.certificate.specs.Set.{IsGreatest, IsGreatestMoney}
@@ -96,12 +96,12 @@ module _ (exists : AGreatestExists) (one : OneGreatest) where
 
   -- so it is by the board and the trains that it was asked of
   pub told_greatest :
-      (laid ground : Ground) (company : Company) (trains held : List Kind) (money : ℤ) (amount : ℕ) → laid ≡ ground → trains ≡ held →
+      (laid map_state : MapState) (company : Company) (trains held : List Kind) (money : ℤ) (amount : ℕ) → laid ≡ map_state → trains ≡ held →
       IsLawful (position_of laid) → pos amount ≡ to_z w128 (of_z w128 money) → IsGreatestMoney (position_of laid) company trains money →
-      IsGreatest (position_of ground) company held amount × (amount ≤ 50000)
-  told_greatest laid ground company trains held money amount is_laid are_held lawful kept greatest =
+      IsGreatest (position_of map_state) company held amount × (amount ≤ 50000)
+  told_greatest laid map_state company trains held money amount is_laid are_held lawful kept greatest =
       let told = as_amount (position_of laid) company trains money amount lawful kept greatest in (
-        subst (λ (g : Ground). IsGreatest (position_of g) company held amount) is_laid
+        subst (λ (g : MapState). IsGreatest (position_of g) company held amount) is_laid
             (subst (λ (all : List Kind). IsGreatest (position_of laid) company all amount) are_held told.0),
         told.1,
       )

@@ -19,7 +19,7 @@ use Rattle.history.specs.Sound.{IsSound}
 use Rattle.history.specs.Trains.{IsThere, one_if, train_goes, trains_held, trains_sold}
 use Rattle.operating.specs.Discards.{has_train}
 use Rattle.operating.specs.Phases.{with_trade}
-use Rattle.operating.specs.Trains.{are_left, first_left_of, is_kind, is_left, is_not_sellers, is_on_sale, is_no_trade_in, may_be_traded, may_trade, numbered_kinds, cost_of, purchase_rules, train_judgement}
+use Rattle.operating.specs.Trains.{are_left, first_left_of, is_kind, is_left, is_not_sellers, is_on_sale, is_no_trade_in, may_be_traded, may_trade, numbered_kinds, cost_of, train_purchase_rules, train_judgement}
 use Rattle.operating.specs.declared.purchase.Purchase.{Purchase}
 use Rattle.tables.proofs.Rules.{none_broken}
 use Rattle.tables.specs.Roster.{same_company}
@@ -120,7 +120,7 @@ pub record MayBuy (game : Game) (company : Company) (purchase : Purchase) : Type
 
 pub may_buy : (game : Game) (company : Company) (purchase : Purchase) → train_judgement game company purchase ≡ None → MayBuy game company purchase
 may_buy game company purchase none =
-    let kept = none_broken (purchase_rules game company purchase) none in
+    let kept = none_broken (train_purchase_rules game company purchase) none in
     let cheap = kept.1.1.0 in
     record {
       there = on_sale_there game.events company purchase.from purchase.kind (so (is_on_sale game.events purchase.from purchase.kind) kept.0) kept.1.1.1.1.0;

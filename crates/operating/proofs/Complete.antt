@@ -2,7 +2,7 @@
 -- they rust, and none after.
 use Rattle.std.proofs.Common.{◌≡◌, ℕ, ◌<◌, Bool, true, false, ◌&&◌, List, [], ◌∷◌, ◌++◌, Option, None, unwrap_or, pos, ◌-ℤ◌, refl, sym, ap, subst, ◌∙◌, arith}
 use Rattle.std.proofs.lemmas.Int.{ints}
-use Rattle.events.specs.Event.{phase_set, stable_of, train_moved}
+use Rattle.events.specs.Event.{phase_set, train_owner_place, train_moved}
 use Rattle.events.specs.declared.event.Event.{Event}
 use Rattle.events.specs.declared.event.Event.TheVariants as event
 use Rattle.events.specs.declared.event.TrainPlace.TheVariants as place
@@ -64,7 +64,7 @@ alike_phase kind game phase = alike_by kind game (event.Phase phase) refl refl r
 -- trains of another kind rust
 pub alike_rusted : (kind other : Kind) → same_kind other kind ≡ false → OfRustings (Alike kind) other
 alike_rusted kind other apart game owner =
-    alike_by kind game (event.Rusted owner other) (ap (λ (b : Bool). b && same_train_place (stable_of owner) place.Bank) apart) (ap (λ (b : Bool). b && true) apart) (ap (λ (b : Bool). b && same_train_place (stable_of owner) place.OutOfPlay) apart)
+    alike_by kind game (event.Rusted owner other) (ap (λ (b : Bool). b && same_train_place (train_owner_place owner) place.Bank) apart) (ap (λ (b : Bool). b && true) apart) (ap (λ (b : Bool). b && same_train_place (train_owner_place owner) place.OutOfPlay) apart)
 
 -- no kind has rusted in the phase of the 2
 none_gone : (kind : Kind) → has_come Two (rusting_of kind) ≡ true → ⊥

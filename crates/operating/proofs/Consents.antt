@@ -9,7 +9,7 @@ use Rattle.operating.proofs.Buying.{neither, so}
 use Rattle.operating.specs.ConsentLaws.{CompaniesAgree, CompanyAgrees, OwnerAgrees, OwnersAgree}
 use Rattle.operating.specs.Discards.{has_train}
 use Rattle.operating.specs.Privates.{is_given, is_given_by, private_rules}
-use Rattle.operating.specs.Trains.{presidents_agree, purchase_rules}
+use Rattle.operating.specs.Trains.{presidents_agree, train_purchase_rules}
 use Rattle.operating.specs.Turn.{purchase_of}
 use Rattle.order_grammar.specs.declared.order.Offer.{Offer}
 use Rattle.order_grammar.specs.declared.order.Offer.TheVariants as offer
@@ -37,7 +37,7 @@ agree_by game seller buyer kind price None taker presides leads agrees some has 
 
 pub companies_agree : CompaniesAgree
 companies_agree game buyer seller kind price none =
-    let kept = none_broken (purchase_rules game buyer (purchase_of kind (OfCompany seller price))) none in
+    let kept = none_broken (train_purchase_rules game buyer (purchase_of kind (OfCompany seller price))) none in
     let sale : Offer = offer.Train kind seller buyer price in
     let agree : Bool = presidents_agree game.events (president_of game.events seller) (president_of game.events buyer) sale in
     let given = neither (price == 0) (not agree) kept.1.1.1.0 in

@@ -15,7 +15,7 @@ use Rattle.history.specs.LookBack.{Game, with_event}
 use Rattle.history.specs.Money.{IsParty}
 use Rattle.history.specs.Shares.{held_by, shares_of}
 use Rattle.history.specs.Sound.{IsSound, TenthsAreHeld}
-use Rattle.history.specs.Tell.{broken_told}
+use Rattle.history.specs.Record.{broken_recorded}
 use Rattle.market.specs.Moves.{right_of}
 use Rattle.market.specs.Token.{with_move}
 use Rattle.operating.proofs.Fitting.{broken_sound}
@@ -60,15 +60,15 @@ pool_most game company sound =
     omega (arith, ints, held_not_under game.events company (all_seats game.seats) sound.held)
 
 -- a dividend keeps a list sound, with the word that the bank is broken
-pub dividend_told_sound : (game paid new : Game) (company : Company) (to : Holder) (amount : ℕ) → IsParty game.seats (party.Holder to) → paid ≡ with_event game (event.Dividend company to amount) → new ≡ broken_told paid → IsSound game → IsSound new
-dividend_told_sound game paid new company to amount of_game is_paid is_new sound =
-    subst IsSound (sym (is_new ∙ ap broken_told is_paid))
+pub dividend_recorded_sound : (game paid new : Game) (company : Company) (to : Holder) (amount : ℕ) → IsParty game.seats (party.Holder to) → paid ≡ with_event game (event.Dividend company to amount) → new ≡ broken_recorded paid → IsSound game → IsSound new
+dividend_recorded_sound game paid new company to amount of_game is_paid is_new sound =
+    subst IsSound (sym (is_new ∙ ap broken_recorded is_paid))
     (broken_sound (with_event game (event.Dividend company to amount)) (dividend_sound game company to amount of_game sound))
 
 -- a table keeps its seats
 pub paid_seats : (game : Game) (company : Company) (to : Holder) (amount : ℕ) → (paid_to company to amount game).seats ≡ game.seats
 paid_seats game company to amount =
-    elim (amount == 0) as (λ (none : Bool). (if none then game else broken_told (with_event game (event.Dividend company to amount))).seats ≡ game.seats) [ true ↦ refl | false ↦ refl ]
+    elim (amount == 0) as (λ (none : Bool). (if none then game else broken_recorded (with_event game (event.Dividend company to amount))).seats ≡ game.seats) [ true ↦ refl | false ↦ refl ]
 
 -- where the dividends of the seats that are left lead after the next, they lead before it
 pub seats_go_on : (company : Company) (revenue : ℕ) (old new : Game) (seat : Seat) (i seats : ℕ) → i < seats → seat ≡ seat_at i → new ≡ paid_for company (holder.Seat seat) (OfSeat seat) revenue old → paid_to_seats company revenue new (map seat_at (range_with_len (i + 1) (seats - (i + 1)))) ≡ paid_to_seats company revenue old (map seat_at (range_with_len i (seats - i)))

@@ -3,9 +3,9 @@
 use Rattle.std.proofs.Common.{◌≡◌, ℕ, ◌+◌, ◌<◌, Bool, true, false, if◌then◌else◌, List, [], ◌∷◌, ◌++◌, length, take, get_or, Option, None, unwrap_or, refl, sym, subst, ap, ◌∙◌}
 use Rattle.std.proofs.lemmas.List.{append-nil, take_more}
 use Rattle.board.proofs.FitLaws.{home_keeps_fit, lay_keeps_fit, token_keeps_fit}
-use Rattle.board.specs.Ground.{ground_of}
+use Rattle.board.specs.MapState.{map_state_of}
 use Rattle.board.specs.Homes.{Fits}
-use Rattle.board.specs.LayRules.{ground_rules}
+use Rattle.board.specs.LayRules.{map_rules}
 use Rattle.board.specs.TokenRules.{slot_rules}
 use Rattle.board.specs.declared.asker.Asker.{Asker}
 use Rattle.events.specs.Event.{phase_set, tile_laid, token_placed}
@@ -19,7 +19,7 @@ use Rattle.history.proofs.Soundness.{quiet_sound}
 use Rattle.history.specs.LookBack.{Game, with_event}
 use Rattle.history.specs.Operating.{lays_of, tokens_of}
 use Rattle.history.specs.Sound.{IsSound, LiesFit}
-use Rattle.history.specs.Tell.{breaks, broken_told}
+use Rattle.history.specs.Record.{breaks, broken_recorded}
 use Rattle.history.specs.Trains.{phase_of}
 use Rattle.map_tables.specs.Fit.{AreFitWithHomes}
 use Rattle.map_tables.specs.Home.{home_of}
@@ -28,10 +28,10 @@ use Rattle.map_tables.specs.declared.lay.Lay.{Lay}
 use Rattle.map_tables.specs.declared.place.Place.{Place}
 use Rattle.map_tables.specs.declared.place.Stop.{Stop}
 use Rattle.market.proofs.Tokens.{move_sound}
-use Rattle.market.specs.Moves.{left_of}
+use Rattle.market.specs.Moves.{square_left_of}
 use Rattle.market.specs.Token.{with_move}
 use Rattle.operating.specs.Act.{has_home_token, moved_left, withheld}
-use Rattle.operating.specs.Ground.{ground_now}
+use Rattle.operating.specs.MapState.{map_state_now}
 use Rattle.tables.specs.Rules.{first_broken}
 use Rattle.tables.specs.declared.roster.Company.{Company}
 use Rattle.tables.specs.declared.rolling_stock.Kind.{Kind}
@@ -51,14 +51,14 @@ same_phase events event none =
     ap (λ (said : Option Kind). unwrap_or said Two) (last_said_before phase_set (events ++ event ∷ []) events event refl none)
 
 -- the same lies after an event that lays no tile, places no token and begins no phase
-pub same_ground : (events : List Event) (event : Event) → tile_laid event ≡ None → token_placed event ≡ None → phase_set event ≡ None → ground_now (events ++ event ∷ []) ≡ ground_now events
-same_ground events event no_tile no_token no_phase =
-    ap (λ (lays : List Lay). ground_of lays (tokens_of (events ++ event ∷ [])) (phase_of (events ++ event ∷ []))) (lays_before events event no_tile)
-    ∙ ap (λ (tokens : List (Place × Company)). ground_of (lays_of events) tokens (phase_of (events ++ event ∷ []))) (tokens_before events event no_token)
-    ∙ ap (ground_of (lays_of events) (tokens_of events)) (same_phase events event no_phase)
+pub same_map_state : (events : List Event) (event : Event) → tile_laid event ≡ None → token_placed event ≡ None → phase_set event ≡ None → map_state_now (events ++ event ∷ []) ≡ map_state_now events
+same_map_state events event no_tile no_token no_phase =
+    ap (λ (lays : List Lay). map_state_of lays (tokens_of (events ++ event ∷ [])) (phase_of (events ++ event ∷ []))) (lays_before events event no_tile)
+    ∙ ap (λ (tokens : List (Place × Company)). map_state_of (lays_of events) tokens (phase_of (events ++ event ∷ []))) (tokens_before events event no_token)
+    ∙ ap (map_state_of (lays_of events) (tokens_of events)) (same_phase events event no_phase)
 
 -- what lies by a list fits, as it lies now
-fits_now : (events : List Event) → LiesFit events → Fits (ground_now events)
+fits_now : (events : List Event) → LiesFit events → Fits (map_state_now events)
 unfolding LiesFit
 fits_now events fit = fit
 
@@ -70,22 +70,22 @@ fit_then events event fit =
     (subst (AreFitWithHomes (lays_of events ++ lays_of (event ∷ []))) (sym (tokens_grow events event)) fit)
 
 -- a lay by the rules
-pub lay_fits : (events : List Event) (asker : Asker) (lay : Lay) (cost : ℕ) → first_broken (ground_rules (ground_now events) asker lay) ≡ None → LiesFit events → LiesFit (events ++ event.Laid asker.company lay cost ∷ [])
+pub lay_fits : (events : List Event) (asker : Asker) (lay : Lay) (cost : ℕ) → first_broken (map_rules (map_state_now events) asker lay) ≡ None → LiesFit events → LiesFit (events ++ event.Laid asker.company lay cost ∷ [])
 lay_fits events asker lay cost allowed fit =
     fit_then events (event.Laid asker.company lay cost)
-    (subst (AreFitWithHomes (lays_of events ++ lay ∷ [])) (sym (append-nil (tokens_of events))) (lay_keeps_fit (ground_now events) asker lay (fits_now events fit) allowed))
+    (subst (AreFitWithHomes (lays_of events ++ lay ∷ [])) (sym (append-nil (tokens_of events))) (lay_keeps_fit (map_state_now events) asker lay (fits_now events fit) allowed))
 
 -- a token by the rules
-pub token_fits : (events : List Event) (asker : Asker) (place : Place) (cost : ℕ) → first_broken (slot_rules (ground_now events) asker place) ≡ None → LiesFit events → LiesFit (events ++ event.Token asker.company place cost ∷ [])
+pub token_fits : (events : List Event) (asker : Asker) (place : Place) (cost : ℕ) → first_broken (slot_rules (map_state_now events) asker place) ≡ None → LiesFit events → LiesFit (events ++ event.Token asker.company place cost ∷ [])
 token_fits events asker place cost allowed fit =
     fit_then events (event.Token asker.company place cost)
-    (subst (λ (lays : List Lay). AreFitWithHomes lays (tokens_of events ++ (place, asker.company) ∷ [])) (sym (append-nil (lays_of events))) (token_keeps_fit (ground_now events) asker place (fits_now events fit) allowed))
+    (subst (λ (lays : List Lay). AreFitWithHomes lays (tokens_of events ++ (place, asker.company) ∷ [])) (sym (append-nil (lays_of events))) (token_keeps_fit (map_state_now events) asker place (fits_now events fit) allowed))
 
 -- the home token of a company that has none at its home
 home_fits : (events : List Event) (company : Company) → has_home_token events company ≡ false → LiesFit events → LiesFit (events ++ event.Home company (place_of (home_of company)) ∷ [])
 home_fits events company none fit =
     fit_then events (event.Home company (place_of (home_of company)))
-    (subst (λ (lays : List Lay). AreFitWithHomes lays (tokens_of events ++ (place_of (home_of company), company) ∷ [])) (sym (append-nil (lays_of events))) (home_keeps_fit (ground_now events) company (fits_now events fit) none))
+    (subst (λ (lays : List Lay). AreFitWithHomes lays (tokens_of events ++ (place_of (home_of company), company) ∷ [])) (sym (append-nil (lays_of events))) (home_keeps_fit (map_state_now events) company (fits_now events fit) none))
 
 -- it keeps a list sound
 pub home_sound_after : (game new : Game) (company : Company) (stop : Stop) (place : Place) → stop ≡ home_of company → place ≡ place_of stop → new ≡ with_event game (event.Home company place) → has_home_token game.events company ≡ false → IsSound game → IsSound new
@@ -94,7 +94,7 @@ home_sound_after game new company stop place is_home is_place told none sound =
     (home_sound game company (place_of (home_of company)) (home_fits game.events company none sound.fit) sound)
 
 -- the word that the bank is broken keeps a list sound
-pub broken_sound : (game : Game) → IsSound game → IsSound (broken_told game)
+pub broken_sound : (game : Game) → IsSound game → IsSound (broken_recorded game)
 broken_sound game sound =
     elim (breaks game.seats game.events) as (λ (b : Bool). IsSound (record { seats = game.seats; events = if b then game.events ++ event.Broken ∷ [] else game.events })) [
       | true ↦ quiet_sound game event.Broken broken_quiet sound
@@ -104,14 +104,14 @@ broken_sound game sound =
 -- what a company withholds keeps a list sound
 pub withheld_sound : (game new : Game) (company : Company) (amount : ℕ) → new ≡ withheld game company amount → IsSound game → IsSound new
 withheld_sound game new company amount is sound =
-    let told = broken_told (with_event game (event.Withheld company amount)) in
+    let told = broken_recorded (with_event game (event.Withheld company amount)) in
     subst IsSound (sym is)
-    (move_sound left_of told (withheld game company amount) company refl refl (broken_sound (with_event game (event.Withheld company amount)) (withholding_sound game company amount sound)))
+    (move_sound square_left_of told (withheld game company amount) company refl refl (broken_sound (with_event game (event.Withheld company amount)) (withholding_sound game company amount sound)))
 
 -- what a withholding brings, step by step
-pub withheld_steps : (game paid told new : Game) (company : Company) (amount : ℕ) → paid ≡ with_event game (event.Withheld company amount) → told ≡ broken_told paid → new.seats ≡ told.seats → new.events ≡ with_move left_of told.events company → new ≡ withheld game company amount
+pub withheld_steps : (game paid told new : Game) (company : Company) (amount : ℕ) → paid ≡ with_event game (event.Withheld company amount) → told ≡ broken_recorded paid → new.seats ≡ told.seats → new.events ≡ with_move square_left_of told.events company → new ≡ withheld game company amount
 withheld_steps game paid told new company amount is_paid is_told seats events =
     let made : ℕ → List Event → Game = λ seats events. record { seats = seats; events = events } in
     ap (λ (n : ℕ). made n new.events) seats
     ∙ ap (made told.seats) events
-    ∙ ap (λ (game : Game). moved_left game company) (is_told ∙ ap broken_told is_paid)
+    ∙ ap (λ (game : Game). moved_left game company) (is_told ∙ ap broken_recorded is_paid)

@@ -18,10 +18,10 @@ use Rattle.operating.proofs.Complete.{Alike, alike_closed, alike_discarded, alik
 use Rattle.operating.proofs.Held.{bought_held, purchase_held}
 use Rattle.operating.proofs.Rust.{none_in_play}
 use Rattle.operating.proofs.Sales.{between_sold, earlier_sold, is_bought, one_sold, sold_or_not}
-use Rattle.operating.proofs.TrainSteps.{IsPassedOn, later_begins, of_choice, of_fold, of_kind, of_limits, of_next, of_phase, of_privates, of_stable, phase_bought, phase_then}
+use Rattle.operating.proofs.TrainSteps.{IsPassedOn, later_begins, of_choice, of_fold, of_kind, of_limits, of_next, of_phase, of_privates, of_train_owner, phase_bought, phase_then}
 use Rattle.operating.specs.Phases.{begins_phase, bought, rusts_at, with_kind_rusted, with_kind_rusted_at, with_limits_kept, with_phase, with_privates_closed, with_rusted}
 use Rattle.operating.specs.TrainLaws.{PurchasesKeepAll, TrainsAreAll, has_come}
-use Rattle.operating.specs.Trains.{is_on_sale, purchase_rules, train_judgement}
+use Rattle.operating.specs.Trains.{is_on_sale, train_purchase_rules, train_judgement}
 use Rattle.operating.specs.declared.purchase.Purchase.{Purchase}
 use Rattle.tables.proofs.Rules.{none_broken}
 use Rattle.tables.specs.Train.{kinds, place_of_kind, rusting_of, same_kind, trains_of}
@@ -35,7 +35,7 @@ one_alike new kind other stays game =
       | inl same ↦
           let none : rusts_at (rusting_of other) new ≡ false = ap (λ (k : Kind). rusts_at (rusting_of k) new) (same_kind_is other kind same) ∙ stays in
           subst (λ (b : Bool). Alike kind game (if b then with_kind_rusted game other else game)) (sym none) ((alike_on kind).same game)
-      | inr apart ↦ of_choice (Alike kind) (rusts_at (rusting_of other) new) game (with_kind_rusted game other) game (of_kind (Alike kind) (alike_on kind) other (of_stable (Alike kind) (alike_on kind) other (alike_rusted kind other apart)) game) ((alike_on kind).same game)
+      | inr apart ↦ of_choice (Alike kind) (rusts_at (rusting_of other) new) game (with_kind_rusted game other) game (of_kind (Alike kind) (alike_on kind) other (of_train_owner (Alike kind) (alike_on kind) other (alike_rusted kind other apart)) game) ((alike_on kind).same game)
     ]
 
 -- of trains of a kind that do not rust at this one none leaves play
@@ -85,7 +85,7 @@ sold_rusted kind other game owner =
 phase_sold : (game : Game) (phase kind : Kind) → SameSold kind game (with_phase game phase)
 phase_sold game phase kind =
     (sold_on kind).both game (with_event game (event.Phase phase)) (with_phase game phase) (alike_phase kind game phase).sold
-    (of_phase (SameSold kind) (sold_on kind) (λ now private. (alike_closed kind now private).sold) (λ other. of_stable (SameSold kind) (sold_on kind) other (λ now owner. sold_rusted kind other now owner)) (of_next (SameSold kind) (sold_on kind) (λ now company old. (alike_discarded kind now company old).sold)) game phase)
+    (of_phase (SameSold kind) (sold_on kind) (λ now private. (alike_closed kind now private).sold) (λ other. of_train_owner (SameSold kind) (sold_on kind) other (λ now owner. sold_rusted kind other now owner)) (of_next (SameSold kind) (sold_on kind) (λ now company old. (alike_discarded kind now company old).sold)) game phase)
 
 -- those of a kind that rusts at the phase have all left play then
 phase_gone : (game : Game) (phase kind : Kind) → rusts_at (rusting_of kind) phase ≡ true → TrainsAreHeld game.events → trains_at (with_phase game phase).events place.OutOfPlay kind ≡ pos (trains_sold game.events kind)
@@ -105,7 +105,7 @@ record IsFair (game : Game) (buyer : Company) (purchase : Purchase) : Type 0 whe
 
 -- it is on sale
 on_sale : (game : Game) (buyer : Company) (purchase : Purchase) → IsFair game buyer purchase → is_on_sale game.events purchase.from purchase.kind ≡ true
-on_sale game buyer purchase fair = so (is_on_sale game.events purchase.from purchase.kind) (none_broken (purchase_rules game buyer purchase) fair.none).0
+on_sale game buyer purchase fair = so (is_on_sale game.events purchase.from purchase.kind) (none_broken (train_purchase_rules game buyer purchase) fair.none).0
 
 -- at the bank, where the bank sells it
 at_bank : (game : Game) (buyer : Company) (purchase : Purchase) (kind : Kind) → IsFair game buyer purchase → purchase.from ≡ seller.Bank → purchase.kind ≡ kind → is_on_sale game.events seller.Bank kind ≡ true

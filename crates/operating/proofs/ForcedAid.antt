@@ -52,9 +52,9 @@ no_aid by game none =
     ap (λ (b : Bool). if b then with_event game (event.Aid by.president by.company (so_many (lack_of game by.company))) else game)
     (sym (over_none (lack_of game by.company) none))
 
-pub aid_told : (by : Operator) (game new : Game) (amount : ℕ) → amount ≡ so_many (lack_of game by.company) → (amount ≡ 0 → ⊥) → new ≡ with_event game (event.Aid by.president by.company amount) → new ≡ with_aid by game
+pub aid_recorded : (by : Operator) (game new : Game) (amount : ℕ) → amount ≡ so_many (lack_of game by.company) → (amount ≡ 0 → ⊥) → new ≡ with_event game (event.Aid by.president by.company amount) → new ≡ with_aid by game
 unfolding with_aid
-aid_told by game new amount is some told =
+aid_recorded by game new amount is some told =
     told
     ∙ ap (λ (n : ℕ). with_event game (event.Aid by.president by.company n)) is
     ∙ ap (λ (b : Bool). if b then with_event game (event.Aid by.president by.company (so_many (lack_of game by.company))) else game)

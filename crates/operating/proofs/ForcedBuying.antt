@@ -6,7 +6,7 @@ use Rattle.std.proofs.lemmas.Bool.Decides.{nat_tests}
 use Rattle.std.proofs.lemmas.Int.{ints}
 use Rattle.std.specs.Int.Signed.{lt_z}
 use Rattle.std.specs.List.{AllByRecursion}
-use Rattle.events.specs.Event.{party_of_company, stable_of, train_moved}
+use Rattle.events.specs.Event.{party_of_company, train_owner_place, train_moved}
 use Rattle.events.specs.declared.event.Event.{Event}
 use Rattle.events.specs.declared.event.Event.TheVariants as event
 use Rattle.events.specs.declared.event.TrainPlace.TheVariants as place
@@ -17,9 +17,9 @@ use Rattle.events.specs.declared.ruling.TrainRule.TheVariants.{NotOnSale, TrainL
 use Rattle.history.proofs.EventAtEnd.{cash_of_at_end, trains_at_before}
 use Rattle.history.proofs.Rolling.{sold_at_end}
 use Rattle.history.specs.LookBack.{Game, cash_of, with_event}
-use Rattle.history.specs.Trains.{one_if, phase_of, so_many, stable_size, train_goes, trains_held, trains_sold}
+use Rattle.history.specs.Trains.{one_if, phase_of, so_many, train_count, train_goes, trains_held, trains_sold}
 use Rattle.operating.specs.Forced.{cheapest, first_on_sale, has_trains, lack_of, plain, with_aid}
-use Rattle.operating.specs.Trains.{are_left, cost_of, first_left, first_left_of, is_full, is_kind, is_left, is_on_sale, is_too_dear, numbered_kinds, sells, sells_diesels, train_judgement}
+use Rattle.operating.specs.Trains.{are_left, cost_of, first_left, first_left_of, is_at_train_limit, is_kind, is_left, is_on_sale, is_too_dear, numbered_kinds, sells, sells_diesels, train_judgement}
 use Rattle.operating.specs.declared.operator.Operator.{Operator}
 use Rattle.operating.specs.declared.purchase.Purchase.{Purchase}
 use Rattle.operating.proofs.ForcedLemmas.{size_before}
@@ -170,7 +170,7 @@ module _ (events : List Event) (its : Event) (none : train_moved its ≡ None) w
   same_sale seller.Bank kind =
       ap (λ (found : Option Kind). is_kind found kind || (same_kind kind Diesel && sells_diesels after)) (same_first numbered_kinds)
       ∙ ap (λ (sold : ℕ). is_kind (first_left events) kind || (same_kind kind Diesel && nat_lt 0 sold)) (same_sold Six)
-  same_sale seller.BankPool kind = ap (lt_z (pos 0)) (trains_at_before events its (stable_of None) kind none)
+  same_sale seller.BankPool kind = ap (lt_z (pos 0)) (trains_at_before events its (train_owner_place None) kind none)
   same_sale (seller.Company company) kind = refl
 
 -- a phase allows a train
@@ -216,9 +216,9 @@ none_of false false false first second third = refl
 
 module _ (game : Game) (company : Company) (none : has_trains game.events company ≡ false) where
   -- a purchase of the bank or of the pool
-  from_there : (from : TrainSeller) (kind : Kind) (a : Bool) → a ≡ false → is_too_dear game company (plain kind from) ≡ false → first_broken {Code = TrainRule} (record { code = NotOnSale; broken = a } ∷ record { code = TrainLimit; broken = is_full game.events company None } ∷ record { code = CashTooSmall; broken = is_too_dear game company (plain kind from) } ∷ record { code = NoConsent; broken = false } ∷ record { code = NotSellers; broken = false } ∷ record { code = NoTradeIn; broken = false } ∷ []) ≡ None
+  from_there : (from : TrainSeller) (kind : Kind) (a : Bool) → a ≡ false → is_too_dear game company (plain kind from) ≡ false → first_broken {Code = TrainRule} (record { code = NotOnSale; broken = a } ∷ record { code = TrainLimit; broken = is_at_train_limit game.events company None } ∷ record { code = CashTooSmall; broken = is_too_dear game company (plain kind from) } ∷ record { code = NoConsent; broken = false } ∷ record { code = NotSellers; broken = false } ∷ record { code = NoTradeIn; broken = false } ∷ []) ≡ None
   from_there from kind a sale enough =
-      none_of a (is_full game.events company None) (is_too_dear game company (plain kind from)) sale (room (stable_size game.events (Some company)) (limit_of (phase_of game.events)) none (limit_low (phase_of game.events))) enough
+      none_of a (is_at_train_limit game.events company None) (is_too_dear game company (plain kind from)) sale (room (train_count game.events (Some company)) (limit_of (phase_of game.events)) none (limit_low (phase_of game.events))) enough
 
   abbrev Allows : Purchase → Type 0
   Allows purchase = is_on_sale game.events purchase.from purchase.kind ≡ true → is_too_dear game company purchase ≡ false → train_judgement game company purchase ≡ None

@@ -7,7 +7,7 @@ use Rattle.certs.specs.President.{successor_of}
 use Rattle.certs.specs.Purchase.{market_price_of}
 use Rattle.certs.specs.SaleAct.{sold, with_president, with_successor}
 use Rattle.certs.specs.declared.deal.Sale.{Sale}
-use Rattle.events.specs.Event.{bidding_of, operated_by, ownership_of, phase_set, round_of, tile_laid, train_moved}
+use Rattle.events.specs.Event.{bidding_of, operated_by, ownership_of, phase_set, round_begun_by, tile_laid, train_moved}
 use Rattle.events.specs.declared.event.Event.{Event}
 use Rattle.events.specs.declared.event.Event.TheVariants as event
 use Rattle.events.specs.declared.ruling.Refusal.{Refusal}
@@ -15,7 +15,7 @@ use Rattle.events.specs.declared.ruling.Ruling.{Ruling}
 use Rattle.events.specs.declared.ruling.Ruling.TheVariants.{Obeyed, Refused}
 use Rattle.history.specs.LookBack.{Game, with_event}
 use Rattle.history.specs.Shares.{president_of, square_of}
-use Rattle.history.specs.Tell.{breaks}
+use Rattle.history.specs.Record.{breaks}
 use Rattle.history.specs.Trains.{so_many}
 use Rattle.market.specs.Moves.{fallen}
 use Rattle.market.specs.Token.{moved_from, same_square}
@@ -55,7 +55,7 @@ IsOfForced (event.Bankrupt seat) = Unit
 IsOfForced other = ⊥
 
 -- none of them begins a round, says who operates, sells to a company, bids, or gives a private an owner
-pub forced_begins_none : (its : Event) → IsOfForced its → is_some (round_of its) ≡ false
+pub forced_begins_none : (its : Event) → IsOfForced its → is_some (round_begun_by its) ≡ false
 forced_begins_none (event.President company seat) is = refl
 forced_begins_none (event.Bankrupt seat) is = refl
 forced_begins_none other is = absurd is

@@ -5,7 +5,7 @@ use Rattle.certs.specs.SaleAct.{after_sale, sold, with_president, with_successor
 use Rattle.certs.specs.President.{successor_of}
 use Rattle.certs.specs.Purchase.{market_price_of}
 use Rattle.certs.specs.declared.deal.Sale.{Sale}
-use Rattle.events.specs.Event.{stable_of, train_moved}
+use Rattle.events.specs.Event.{train_owner_place, train_moved}
 use Rattle.events.specs.declared.event.Event.{Event}
 use Rattle.events.specs.declared.event.Event.TheVariants as event
 use Rattle.events.specs.declared.ruling.Refusal.{Refusal}
@@ -13,8 +13,8 @@ use Rattle.events.specs.declared.ruling.Ruling.TheVariants.{Obeyed, Refused}
 use Rattle.history.proofs.EventAtEnd.{trains_at_before}
 use Rattle.history.specs.LookBack.{Game, with_event}
 use Rattle.history.specs.Shares.{president_of, square_of}
-use Rattle.history.specs.Tell.{breaks, with_broken}
-use Rattle.history.specs.Trains.{stable_size, trains_held, trains_of_kinds}
+use Rattle.history.specs.Record.{breaks, with_broken}
+use Rattle.history.specs.Trains.{train_count, trains_held, trains_of_kinds}
 use Rattle.market.specs.Moves.{fallen}
 use Rattle.market.specs.Token.{moved_from, same_square}
 use Rattle.operating.specs.Forced.{after_raise_line, after_raises, has_trains, next_to_sell, raise_rule, raise_ruled, sold_further, sold_singly, with_one_sold, falls_short}
@@ -34,15 +34,15 @@ use Rattle.tables.specs.declared.squares.Square.{Square}
 kinds_before : (events : List Event) (event : Event) (owner : Option Company) (some : List Kind) → train_moved event ≡ None → trains_of_kinds (events ++ event ∷ []) owner some ≡ trains_of_kinds events owner some
 kinds_before events event owner [] none = refl
 kinds_before events event owner (kind ∷ others) none =
-    ap (λ (n : ℤ). n +ℤ trains_of_kinds (events ++ event ∷ []) owner others) (trains_at_before events event (stable_of owner) kind none)
+    ap (λ (n : ℤ). n +ℤ trains_of_kinds (events ++ event ∷ []) owner others) (trains_at_before events event (train_owner_place owner) kind none)
     ∙ ap (λ (n : ℤ). trains_held events owner kind +ℤ n) (kinds_before events event owner others none)
 
-pub size_before : (events : List Event) (event : Event) (owner : Option Company) → train_moved event ≡ None → stable_size (events ++ event ∷ []) owner ≡ stable_size events owner
+pub size_before : (events : List Event) (event : Event) (owner : Option Company) → train_moved event ≡ None → train_count (events ++ event ∷ []) owner ≡ train_count events owner
 size_before events event owner none = kinds_before events event owner kinds none
 
 module _ (owner : Option Company) where
   abbrev size : List Event → ℤ
-  size events = stable_size events owner
+  size events = train_count events owner
 
   -- of two lists either has as many
   size_if : (b : Bool) (some others old : List Event) → size some ≡ size old → size others ≡ size old → size (if b then some else others) ≡ size old
@@ -119,10 +119,10 @@ pub still_none : (by : Operator) (lines : List Numbered) (old told raised sold :
 still_none by lines old told raised sold is_told is_raised is_sold none =
     let owner : Option Company = Some by.company in
     ap (lt_z (pos 0))
-    (ap (λ (game : Game). stable_size game.events owner) is_sold
+    (ap (λ (game : Game). train_count game.events owner) is_sold
     ∙ size_singly owner by raised
-    ∙ ap (λ (game : Game). stable_size game.events owner) is_raised
+    ∙ ap (λ (game : Game). train_count game.events owner) is_raised
     ∙ size_raises owner true by lines told
-    ∙ ap (λ (game : Game). stable_size game.events owner) is_told
+    ∙ ap (λ (game : Game). train_count game.events owner) is_told
     ∙ size_before old.events (event.Forced by.company) owner refl)
     ∙ none

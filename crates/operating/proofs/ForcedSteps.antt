@@ -5,7 +5,7 @@ use Rattle.certs.proofs.SaleAllowed.{sale_allowed, same_judgement}
 use Rattle.certs.specs.Sale.{sale_judgement}
 use Rattle.certs.specs.SaleAct.{MaySell, after_sale}
 use Rattle.certs.specs.declared.deal.Sale.{Sale}
-use Rattle.events.specs.Event.{IsQuiet, round_of}
+use Rattle.events.specs.Event.{IsQuiet, round_begun_by}
 use Rattle.events.specs.declared.event.Event.{Event}
 use Rattle.events.specs.declared.event.Event.TheVariants as event
 use Rattle.events.specs.declared.ruling.Refusal.TheVariants as refusal
@@ -85,7 +85,7 @@ still_allowed by game line ruling sale none =
     let its : Event = event.Ruled by.president line.number ruling in
     let quiet : IsQuiet its = record { payment = refl; ownership = refl; bidding = refl; transfer = refl; par = refl; square = refl; office = refl; float = refl; sv_price = refl; train = refl; tile = refl; token = refl } in
     same_judgement game.seats game.events (game.events ++ its ∷ []) by.president sale (Some by.company) (quiet_same game.events its quiet)
-    (last_said_before round_of (game.events ++ its ∷ []) game.events its refl refl)
+    (last_said_before round_begun_by (game.events ++ its ∷ []) game.events its refl refl)
     ∙ none
 
 -- nor does that of the tenth which is sold next

@@ -4,9 +4,9 @@ use Rattle.std.proofs.Common.{◌≡◌, inl, inr, ◌⊎◌, ℕ, zero, suc, �
 use Rattle.std.proofs.lemmas.Bool.Decides.{nat_tests}
 use Rattle.std.proofs.lemmas.Int.{ints}
 use Rattle.std.specs.Int.Signed.{lt_z}
-use Rattle.board.specs.Ground.{position_of}
+use Rattle.board.specs.MapState.{position_of}
 use Rattle.certificate.specs.TwoTrain.{CanRun}
-use Rattle.events.specs.Event.{place_of_seller, stable_of, train_moved}
+use Rattle.events.specs.Event.{place_of_seller, train_owner_place, train_moved}
 use Rattle.events.specs.declared.event.Event.{Event}
 use Rattle.events.specs.declared.event.Event.TheVariants as event
 use Rattle.events.specs.declared.event.TrainSeller.{TrainSeller}
@@ -17,21 +17,21 @@ use Rattle.history.proofs.EventAtEnd.{trains_at_before, trains_at_end}
 use Rattle.history.proofs.Rolling.{same_kind_is, same_train_place_is}
 use Rattle.history.specs.LookBack.{Game, bankrupt_in, with_event}
 use Rattle.history.specs.Shares.{president_of}
-use Rattle.history.specs.Trains.{TrainsAreHeld, one_if, phase_of, same_train_place, so_many, stable_size, trains_at, trains_held}
+use Rattle.history.specs.Trains.{TrainsAreHeld, one_if, phase_of, same_train_place, so_many, train_count, trains_at, trains_held}
 use Rattle.operating.proofs.Bankruptcies.{now_bankrupt}
-use Rattle.operating.proofs.Fitting.{same_ground}
+use Rattle.operating.proofs.Fitting.{same_map_state}
 use Rattle.operating.proofs.ForcedBuying.{cheapest_plain, company_itself, limit_low}
 use Rattle.operating.proofs.ForcedGames.{gained_none, gained_of, of_gained, of_sale, operator}
 use Rattle.operating.proofs.ForcedLemmas.{size_before}
-use Rattle.operating.proofs.Rust.{all_go, by_stable, has}
+use Rattle.operating.proofs.Rust.{all_go, by_train_owner, has}
 use Rattle.operating.proofs.TrainSteps.{IsPassedOn, of_bop, of_fold, of_iterate, of_kind, of_privates}
 use Rattle.operating.proofs.TurnGames.{of_paid_turn}
 use Rattle.operating.proofs.TurnLaws.{StillStand, more_stand, stands_by}
 use Rattle.operating.specs.Discards.{next_discard}
 use Rattle.operating.specs.Forced.{EndLeads, IsDue, after_forced, after_raise_line, after_raises, cheapest, concluded, falls_short, has_trains, lack_of, plain, raise_rule, with_aid, with_ruling}
 use Rattle.operating.specs.ForcedLaws.{TurnsEndWithTrains}
-use Rattle.operating.specs.Ground.{ground_now}
-use Rattle.operating.specs.Phases.{after_train, begins_phase, bought, excess_of, rusts_at, with_discarded, with_kind_rusted, with_kind_rusted_at, with_limit_kept, with_limits_kept, with_next_discarded, with_one_rusted, with_phase, with_privates_closed, with_rusted, with_stable_rusted}
+use Rattle.operating.specs.MapState.{map_state_now}
+use Rattle.operating.specs.Phases.{after_train, begins_phase, bought, excess_of, rusts_at, with_discarded, with_kind_rusted, with_kind_rusted_at, with_limit_kept, with_limits_kept, with_next_discarded, with_one_rusted, with_phase, with_privates_closed, with_rusted, with_trains_rusted}
 use Rattle.operating.specs.TrainLaws.{TrainsStand}
 use Rattle.operating.specs.Trains.{cost_of}
 use Rattle.operating.specs.Turn.{BlockEnds, settled}
@@ -88,15 +88,15 @@ module _ (company : Company) (own : Kind) where
 
   -- after an event that moves no train
   by_other : (game : Game) (its : Event) → train_moved its ≡ None → Stays game (with_event game its)
-  by_other game its none one kind = trains_at_before game.events its (stable_of (Some company)) kind none ∙ one kind
+  by_other game its none one kind = trains_at_before game.events its (train_owner_place (Some company)) kind none ∙ one kind
 
   -- what it has of a kind of which it has none stays none as trains of the kind rust
   none_still : (rusting : Kind) (owner : Option Company) (game : Game) → has rusting (Some company) game ≡ pos 0 →
-      has rusting (Some company) (with_stable_rusted owner rusting game) ≡ pos 0
+      has rusting (Some company) (with_trains_rusted owner rusting game) ≡ pos 0
   none_still rusting owner game none =
-      by_stable (λ count. count ≡ pos 0) rusting owner (Some company) game
+      by_train_owner (λ count. count ≡ pos 0) rusting owner (Some company) game
       (λ same.
-      let here : has rusting owner game ≡ pos 0 = ap (λ place. trains_at game.events place rusting) (same_train_place_is (stable_of owner) (stable_of (Some company)) same) ∙ none in
+      let here : has rusting owner game ≡ pos 0 = ap (λ place. trains_at game.events place rusting) (same_train_place_is (train_owner_place owner) (train_owner_place (Some company)) same) ∙ none in
       all_go rusting owner game (subst (λ (count : ℤ). pos 0 ≤ℤ count) (sym here) (omega (arith, ints))))
       none
 
@@ -107,19 +107,19 @@ module _ (company : Company) (own : Kind) where
   other_kind rusting kind owner (suc n) game apart =
       let now : Game = iterate (with_one_rusted owner rusting) n game in
       let its : Event = event.Rusted owner rusting in
-      let place = stable_of (Some company) in
+      let place = train_owner_place (Some company) in
       let none : (place_test : Bool) → one_if (same_kind rusting kind && place_test) ≡ 0 = λ place_test. ap (λ (b : Bool). one_if (b && place_test)) apart in
-      omega (arith, ints, trains_at_end now.events its place kind, none (same_train_place (stable_of owner) place), none false)
+      omega (arith, ints, trains_at_end now.events its place kind, none (same_train_place (train_owner_place owner) place), none false)
       ∙ other_kind rusting kind owner n game apart
 
   -- so it is as trains of another kind rust
-  by_rust : (rusting : Kind) → same_kind own rusting ≡ false → (owner : Option Company) (game : Game) → Stays game (with_stable_rusted owner rusting game)
+  by_rust : (rusting : Kind) → same_kind own rusting ≡ false → (owner : Option Company) (game : Game) → Stays game (with_trains_rusted owner rusting game)
   by_rust rusting another owner game one kind =
       elim (truth (same_kind rusting kind)) [
         | inl same ↦
             let is : rusting ≡ kind = same_kind_is rusting kind same in
             let zero_of : (its : Kind) → same_kind own its ≡ false → has its (Some company) game ≡ pos 0 = λ its apart. one its ∙ ap (λ (b : Bool). pos (one_if b)) apart in
-            subst (λ (its : Kind). has its (Some company) (with_stable_rusted owner rusting game) ≡ pos (one_if (same_kind own its))) is
+            subst (λ (its : Kind). has its (Some company) (with_trains_rusted owner rusting game) ≡ pos (one_if (same_kind own its))) is
             (none_still rusting owner game (zero_of rusting another) ∙ ap (λ (b : Bool). pos (one_if b)) (sym another))
         | inr apart ↦ other_kind rusting kind owner (so_many (has rusting owner game)) game apart ∙ one kind
       ]
@@ -136,9 +136,9 @@ module _ (company : Company) (own : Kind) where
       game kinds
 
   -- it has one train in all
-  one_in_all : (game : Game) → HasOne game → stable_size game.events (Some company) ≡ pos 1
+  one_in_all : (game : Game) → HasOne game → train_count game.events (Some company) ≡ pos 1
   one_in_all game one =
-      elim own as (λ (its : Kind). ((kind : Kind) → trains_held game.events (Some company) kind ≡ pos (one_if (same_kind its kind))) → stable_size game.events (Some company) ≡ pos 1) [
+      elim own as (λ (its : Kind). ((kind : Kind) → trains_held game.events (Some company) kind ≡ pos (one_if (same_kind its kind))) → train_count game.events (Some company) ≡ pos 1) [
         | Two ↦ λ all. omega (arith, ints, all Two, all Three, all Four, all Five, all Six, all Diesel)
         | Three ↦ λ all. omega (arith, ints, all Two, all Three, all Four, all Five, all Six, all Diesel)
         | Four ↦ λ all. omega (arith, ints, all Two, all Three, all Four, all Five, all Six, all Diesel)
@@ -155,7 +155,7 @@ module _ (company : Company) (own : Kind) where
   -- a discard of another company
   by_discard : (game : Game) (other : Company) (kind : Kind) → same_company other company ≡ false → Stays game (with_event game (event.Discarded other kind))
   by_discard game other discarded apart one kind =
-      let place = stable_of (Some company) in
+      let place = train_owner_place (Some company) in
       let none : one_if (same_kind discarded kind && same_company other company) ≡ 0 = ap (λ (b : Bool). one_if (same_kind discarded kind && b)) apart ∙ ap one_if (and_false (same_kind discarded kind)) in
       let comes : one_if (same_kind discarded kind && false) ≡ 0 = ap one_if (and_false (same_kind discarded kind)) in
       omega (arith, ints, trains_at_end game.events (event.Discarded other discarded) place kind, none, comes) ∙ one kind
@@ -165,8 +165,8 @@ module _ (company : Company) (own : Kind) where
       elim (truth (same_company other company)) [
         | inl same ↦
             let is : other ≡ company = same_company_is other company same in
-            let none : excess_of game other ≡ 0 = none_over (stable_size game.events (Some other)) (limit_of (phase_of game.events))
-            (ap (λ (its : Company). stable_size game.events (Some its)) is ∙ one_in_all game one) (limit_low (phase_of game.events)) in
+            let none : excess_of game other ≡ 0 = none_over (train_count game.events (Some other)) (limit_of (phase_of game.events))
+            (ap (λ (its : Company). train_count game.events (Some its)) is ∙ one_in_all game one) (limit_low (phase_of game.events)) in
             subst (λ (n : ℕ). HasOne (iterate (with_next_discarded other) n game)) (sym none) one
         | inr apart ↦
             of_iterate Stays (with_next_discarded other) on
@@ -191,16 +191,16 @@ module _ (company : Company) (own : Kind) where
 
   -- the train comes to a company that has none
   by_train : (game : Game) (from : TrainSeller) (price : ℕ) → ((kind : Kind) → trains_held game.events (Some company) kind ≡ pos 0) →
-      same_train_place (place_of_seller from) (stable_of (Some company)) ≡ false → HasOne (with_event game (event.Train company own from price))
+      same_train_place (place_of_seller from) (train_owner_place (Some company)) ≡ false → HasOne (with_event game (event.Train company own from price))
   by_train game from price none apart kind =
-      let place = stable_of (Some company) in
+      let place = train_owner_place (Some company) in
       let comes : one_if (same_kind own kind && same_company company company) ≡ one_if (same_kind own kind) = ap (λ (b : Bool). one_if (same_kind own kind && b)) (company_itself company) ∙ ap one_if (and_true (same_kind own kind)) in
       let goes : one_if (same_kind own kind && same_train_place (place_of_seller from) place) ≡ 0 = ap (λ (b : Bool). one_if (same_kind own kind && b)) apart ∙ ap one_if (and_false (same_kind own kind)) in
       omega (arith, ints, trains_at_end game.events (event.Train company own from price) place kind, comes, goes, none kind)
 
   -- so it is after the whole purchase
   by_purchase : (game : Game) (from : TrainSeller) → ((kind : Kind) → trains_held game.events (Some company) kind ≡ pos 0) →
-      same_train_place (place_of_seller from) (stable_of (Some company)) ≡ false → HasOne (after_train game company (plain own from))
+      same_train_place (place_of_seller from) (train_owner_place (Some company)) ≡ false → HasOne (after_train game company (plain own from))
   by_purchase game from none apart =
       let came : Game = with_event game (event.Train company own from (cost_of (plain own from))) in
       let all : Game = bought game company (plain own from) in
@@ -218,7 +218,7 @@ not_over size none = grind (arith, ints, none)
 none_of_any : (game : Game) (company : Company) → TrainsAreHeld game.events → has_trains game.events company ≡ false → (kind : Kind) → trains_held game.events (Some company) kind ≡ pos 0
 none_of_any game company held none kind =
     let owner : Option Company = Some company in
-    let few : stable_size game.events owner ≤ℤ pos 0 = not_over (stable_size game.events owner) none in
+    let few : train_count game.events owner ≤ℤ pos 0 = not_over (train_count game.events owner) none in
     let two = held.held owner Two in
     let three = held.held owner Three in
     let four = held.held owner Four in
@@ -240,7 +240,7 @@ unfolding with_aid
 none_with_aid by game kind none =
     let its : Event = event.Aid by.president by.company (so_many (lack_of game by.company)) in
     elim (lt_z (pos 0) (lack_of game by.company)) as (λ (b : Bool). trains_held (if b then with_event game its else game).events (Some by.company) kind ≡ pos 0) [
-      | true ↦ trains_at_before game.events its (stable_of (Some by.company)) kind refl ∙ none
+      | true ↦ trains_at_before game.events its (train_owner_place (Some by.company)) kind refl ∙ none
       | false ↦ none
     ]
 
@@ -252,7 +252,7 @@ has_bought by game held none =
     let aided : Game = with_aid by game in
     let nothing : (kind : Kind) → trains_held aided.events (Some company) kind ≡ pos 0 = λ kind. none_with_aid by game kind (none_of_any game company held none kind) in
     let Has : Purchase → Type 0 = λ purchase. has_trains (after_train aided company purchase).events company ≡ true in
-    let from_there : (kind : Kind) (from : TrainSeller) → same_train_place (place_of_seller from) (stable_of (Some company)) ≡ false → Has (plain kind from) =
+    let from_there : (kind : Kind) (from : TrainSeller) → same_train_place (place_of_seller from) (train_owner_place (Some company)) ≡ false → Has (plain kind from) =
     λ kind from apart.
     ap (lt_z (pos 0)) (one_in_all company kind (after_train aided company (plain kind from)) (by_purchase company kind aided from nothing apart))
     in
@@ -264,19 +264,19 @@ has_bought by game held none =
 
 -- a RAISE that is not needed moves no train and lays nothing
 record Alike (before after : Game) : Type 0 where
-  ground : ground_now after.events ≡ ground_now before.events
-  size : (company : Company) → stable_size after.events (Some company) ≡ stable_size before.events (Some company)
+  map_state : map_state_now after.events ≡ map_state_now before.events
+  size : (company : Company) → train_count after.events (Some company) ≡ train_count before.events (Some company)
 
 alike_same : (game : Game) → Alike game game
-alike_same game = record { ground = refl; size = λ company. refl }
+alike_same game = record { map_state = refl; size = λ company. refl }
 
 alike_both : (a b c : Game) → Alike a b → Alike b c → Alike a c
-alike_both a b c one two = record { ground = two.ground ∙ one.ground; size = λ company. two.size company ∙ one.size company }
+alike_both a b c one two = record { map_state = two.map_state ∙ one.map_state; size = λ company. two.size company ∙ one.size company }
 
 alike_ruled : (by : Operator) (game : Game) (line : Numbered) (ruling : Ruling) → Alike game (with_ruling by game line ruling)
 alike_ruled by game line ruling =
     let its : Event = event.Ruled by.president line.number ruling in
-    record { ground = same_ground game.events its refl refl refl; size = λ company. size_before game.events its (Some company) refl }
+    record { map_state = same_map_state game.events its refl refl refl; size = λ company. size_before game.events its (Some company) refl }
 
 alike_line : (by : Operator) (game : Game) (line : Numbered) (reading : Result Order Fault) → Alike game (after_raise_line false by game line reading)
 unfolding raise_rule
@@ -291,7 +291,7 @@ alike_raises by (line ∷ lines) game =
 
 -- the company owns a train, or its president is bankrupt, or it could run none
 abbrev Served : Company → Game → Type 0
-Served company game = (has_trains game.events company ≡ true) ⊎ ((bankrupt_in game.events ≡ true) ⊎ (¬ CanRun (position_of (ground_now game.events)) company))
+Served company game = (has_trains game.events company ≡ true) ⊎ ((bankrupt_in game.events ≡ true) ⊎ (¬ CanRun (position_of (map_state_now game.events)) company))
 
 -- so it is once it has bought, or its president is bankrupt
 served_bought : (by : Operator) (gained new : Game) → new ≡ concluded by gained → TrainsAreHeld gained.events → has_trains gained.events by.company ≡ false → Served by.company new
@@ -310,7 +310,7 @@ served_free by lines game new is free =
     let size : has_trains new.events by.company ≡ has_trains game.events by.company = ap (lt_z (pos 0)) (alike.size by.company) in
     elim (truth (has_trains game.events by.company)) [
       | inl owns ↦ inl (size ∙ owns)
-      | inr none ↦ inr (inr (λ can. free (none, subst (λ ground. CanRun (position_of ground) by.company) alike.ground can)))
+      | inr none ↦ inr (inr (λ can. free (none, subst (λ map_state. CanRun (position_of map_state) by.company) alike.map_state can)))
     ]
 
 served : (by : Operator) (lines : List Numbered) (game new : Game) → EndLeads by lines game new → TrainsStand game.events → Served by.company new

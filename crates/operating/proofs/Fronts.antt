@@ -2,7 +2,7 @@
 use Rattle.std.proofs.Common.{◌≡◌, ◌-◌, ◌<◌, List, [], ◌∷◌, ◌++◌, length, Some, None, refl, ap, sym, subst, ◌∙◌, arith, length-append}
 use Rattle.std.proofs.lemmas.List.{append_assoc, append-nil}
 use Rattle.std.proofs.lemmas.List.Elements.{filter_map-append}
-use Rattle.board.specs.Ground.{Ground, ground_of}
+use Rattle.board.specs.MapState.{MapState, map_state_of}
 use Rattle.events.specs.Event.{tile_laid, token_placed}
 use Rattle.events.specs.declared.event.Event.{Event}
 use Rattle.history.specs.LookBack.{Game}
@@ -10,7 +10,7 @@ use Rattle.history.specs.Operating.{lays_of, tokens_of}
 use Rattle.operating.proofs.TurnGames.{of_steps}
 use Rattle.operating.proofs.TurnLaws.{adds_by}
 use Rattle.operating.proofs.TurnSteps.{of_line, of_settled}
-use Rattle.operating.specs.Ground.{BeginsWith, IsFront, ground_now}
+use Rattle.operating.specs.MapState.{BeginsWith, IsFront, map_state_now}
 use Rattle.operating.specs.InTurn.{InTurn, in_turn}
 use Rattle.operating.specs.Laws.{OnlyAdds}
 use Rattle.operating.specs.Turn.{ReadingLeads, settled}
@@ -60,17 +60,17 @@ pub whole_front : {A : Type 0} (front all : List A) → front ≡ all → Begins
 whole_front front all is = record { rest = []; is = sym is ∙ sym (append-nil front) }
 
 -- what lies now is a front
-pub now_front : (laid : Ground) (events : List Event) → laid ≡ ground_now events → IsFront laid events
+pub now_front : (laid : MapState) (events : List Event) → laid ≡ map_state_now events → IsFront laid events
 now_front laid events is =
     record {
-      lays = whole_front laid.lays (lays_of events) (ap (λ (g : Ground). g.lays) is);
-      tokens = whole_front laid.tokens (tokens_of events) (ap (λ (g : Ground). g.tokens) is);
+      lays = whole_front laid.lays (lays_of events) (ap (λ (g : MapState). g.lays) is);
+      tokens = whole_front laid.tokens (tokens_of events) (ap (λ (g : MapState). g.tokens) is);
     }
 
 -- before anything is told there is a front
-pub no_front : (laid : Ground) (phase : Kind) (events : List Event) → laid ≡ ground_of [] [] phase → IsFront laid events
+pub no_front : (laid : MapState) (phase : Kind) (events : List Event) → laid ≡ map_state_of [] [] phase → IsFront laid events
 no_front laid phase events is =
-    subst (λ (g : Ground). IsFront g events) (sym is)
+    subst (λ (g : MapState). IsFront g events) (sym is)
     (record { lays = record { rest = lays_of events; is = refl }; tokens = record { rest = tokens_of events; is = refl } })
 
 longer : {A : Type 0} (front all more : List A) → BeginsWith front all → BeginsWith front (all ++ more)
@@ -78,7 +78,7 @@ longer front all more begins =
     record { rest = begins.rest ++ more; is = ap (λ xs. xs ++ more) begins.is ∙ append_assoc front begins.rest more }
 
 -- a front stays one when events are added
-pub front_on : (laid : Ground) (old new : Game) → OnlyAdds old new → IsFront laid old.events → IsFront laid new.events
+pub front_on : (laid : MapState) (old new : Game) → OnlyAdds old new → IsFront laid old.events → IsFront laid new.events
 front_on laid old new adds front =
     subst (λ (game : Game). IsFront laid game.events) (sym adds.added)
     (record {

@@ -42,8 +42,8 @@ some_rusted_held owner kind (suc n) game few held =
     trains_after_move before.events (event.Rusted owner kind) owner kind place.OutOfPlay refl here (some_rusted_held owner kind n game (omega arith) held)
 
 -- after all of a stable have
-stable_held : (kind : Kind) → OfStables StillHeld kind
-stable_held kind owner game held =
+train_count_held : (kind : Kind) → OfStables StillHeld kind
+train_count_held kind owner game held =
     some_rusted_held owner kind (so_many (trains_held game.events owner kind)) game (omega arith) held
 
 -- after a company has discarded the next
@@ -59,7 +59,7 @@ next_held company game held = discarded_held game company (next_discard game.eve
 -- after a phase has begun
 phase_held : (game : Game) (phase : Kind) → StillHeld game (with_phase game phase)
 phase_held game phase held =
-    of_phase StillHeld held_on closing_held stable_held next_held game phase (trains_kept game.events (event.Phase phase) refl held)
+    of_phase StillHeld held_on closing_held train_count_held next_held game phase (trains_kept game.events (event.Phase phase) refl held)
 
 -- after a train that the company has is traded in
 traded_held : (game : Game) (company : Company) (trade_in : Option Kind) → ((old : Kind) → trade_in ≡ Some old → pos 1 ≤ℤ trains_held game.events (Some company) old) → StillHeld game (with_trade game company trade_in)

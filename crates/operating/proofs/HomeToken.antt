@@ -12,7 +12,7 @@ use Rattle.history.specs.Operating.{tokens_of}
 use Rattle.history.specs.Shares.{president_of}
 use Rattle.map_tables.specs.Hex.{index_of}
 use Rattle.map_tables.specs.Home.{home_of}
-use Rattle.map_tables.specs.Lying.{has_token, names}
+use Rattle.map_tables.specs.OnMap.{has_token, names}
 use Rattle.map_tables.specs.Place.{place_of}
 use Rattle.map_tables.specs.declared.place.Place.{Place}
 use Rattle.map_tables.specs.declared.place.Stop.{Stop}

@@ -19,7 +19,7 @@ use Rattle.map_tables.specs.declared.place.Place.{Place}
 use Rattle.operating.specs.Done.{Done, IsBounded}
 use Rattle.operating.specs.InTurn.{InTurn}
 use Rattle.operating.specs.Runs.{IsCounted, broken_by, has_run, is_past_runs, judged_run, position_now, ran_by, ran_unless, rule, rules_of_turn, run_judgement, runs_most, steps_now}
-use Rattle.operating.specs.declared.runs.Ran.{Ran}
+use Rattle.operating.specs.declared.runs.CompletedRun.{CompletedRun}
 use Rattle.reach.specs.Lawful.{IsLawful}
 use Rattle.reach.specs.Position.{Position}
 use Rattle.reach.specs.declared.walk.Step.{Step}
@@ -28,7 +28,7 @@ use Rattle.tables.specs.declared.rolling_stock.Kind.{Kind}
 use Rattle.tables.specs.declared.roster.Company.{Company}
 
 -- a run that is done breaks no rule
-none_broken : (ran done : Ran) (found : Option RunRule) → ran_unless ran found ≡ Ok done → found ≡ None
+none_broken : (ran done : CompletedRun) (found : Option RunRule) → ran_unless ran found ≡ Ok done → found ≡ None
 none_broken ran done None is = refl
 none_broken ran done (Some rule) is = absurd (cc)
 
@@ -38,7 +38,7 @@ second_none None second none = none
 second_none (Some thing) second none = absurd (cc)
 
 -- a run that is done is legal by the marks of the used borders
-pub judged_legal : (turn : InTurn) (company : Company) (kind : Kind) (run : List Place) (ran : Ran) → judged_run turn company kind run ≡ Ok ran → IsLegalRun (position_now turn.game.events) company kind (borders_used turn.progress.runs.borders) (steps_now turn.game.events run)
+pub judged_legal : (turn : InTurn) (company : Company) (kind : Kind) (run : List Place) (ran : CompletedRun) → judged_run turn company kind run ≡ Ok ran → IsLegalRun (position_now turn.game.events) company kind (borders_used turn.progress.runs.borders) (steps_now turn.game.events run)
 judged_legal turn company kind run ran is =
     let position = position_now turn.game.events in
     let used = borders_used turn.progress.runs.borders in
@@ -49,22 +49,22 @@ judged_legal turn company kind run ran is =
     subst (λ (steps : List Step). IsLegalRun position company kind used steps) (sym (ap steps_of legal.1)) legal.2
 
 -- what is done is what the run does
-done_is : (ran done : Ran) (found : Option RunRule) → ran_unless ran found ≡ Ok done → done ≡ ran
+done_is : (ran done : CompletedRun) (found : Option RunRule) → ran_unless ran found ≡ Ok done → done ≡ ran
 done_is ran done None is = cc
 done_is ran done (Some rule) is = absurd (cc)
 
 -- what the run does that is done
 pub judged_ran :
-    (turn : InTurn) (company : Company) (kind : Kind) (run : List Place) (ran : Ran) → judged_run turn company kind run ≡ Ok ran →
+    (turn : InTurn) (company : Company) (kind : Kind) (run : List Place) (ran : CompletedRun) → judged_run turn company kind run ≡ Ok ran →
     ran ≡ ran_by (position_now turn.game.events) kind turn.progress.runs.borders run
 judged_ran turn company kind run ran is =
     done_is (ran_by (position_now turn.game.events) kind turn.progress.runs.borders run) ran (run_judgement turn company kind run) is
 
 -- the borders that are marked then
 pub judged_borders :
-    (turn : InTurn) (company : Company) (kind : Kind) (run : List Place) (ran : Ran) → judged_run turn company kind run ≡ Ok ran →
+    (turn : InTurn) (company : Company) (kind : Kind) (run : List Place) (ran : CompletedRun) → judged_run turn company kind run ≡ Ok ran →
     ran.borders ≡ marked turn.progress.runs.borders (crossed (steps_now turn.game.events run))
-judged_borders turn company kind run ran is = ap (λ (r : Ran). r.borders) (judged_ran turn company kind run ran is)
+judged_borders turn company kind run ran is = ap (λ (r : CompletedRun). r.borders) (judged_ran turn company kind run ran is)
 
 -- where neither rule of the turn is broken, not all trains of the kind have run
 neither_broken :
@@ -81,7 +81,7 @@ first_none (Some thing) second none = absurd (cc)
 
 -- a run is done only where some train of its kind has not run
 pub judged_room :
-    (turn : InTurn) (company : Company) (kind : Kind) (run : List Place) (ran : Ran) → judged_run turn company kind run ≡ Ok ran →
+    (turn : InTurn) (company : Company) (kind : Kind) (run : List Place) (ran : CompletedRun) → judged_run turn company kind run ≡ Ok ran →
     le_z (trains_held turn.game.events (Some company) kind) (has_run turn.progress.runs kind) ≡ false
 judged_room turn company kind run ran is =
     let position = position_now turn.game.events in
@@ -104,7 +104,7 @@ run_counted position company kind done seen run borders money view within lawful
     let after : List Bool = marked done.borders (crossed (named_steps position run)) in
     let bounded : sum + 160 * unused after ≤ 160 * unused done.borders = law position company kind done.borders run within.marks lawful unbroken in
     let small : sum ≤ 94640 = omega (arith, bounded, within.bounded) in
-    let made : ℕ → List Bool → Ran = λ sum marks. record { kind = kind; earned = sum; borders = marks } in
+    let made : ℕ → List Bool → CompletedRun = λ sum marks. record { kind = kind; earned = sum; borders = marks } in
     let is : made sum after ≡ made (unsigned_abs (to_z w128 (of_z w128 money))) borders =
     ap (λ (n : ℕ). made n after) (sym (sum_kept money sum earns small))
     ∙ ap (made (unsigned_abs (to_z w128 (of_z w128 money)))) (sym crosses)

@@ -15,7 +15,7 @@ use Rattle.operating.specs.LegalRuns.{LinesRun, ObeyedRunsAreLegal, walk_asked, 
 use Rattle.operating.specs.Runs.{judged_run, run_ruled, steps_now}
 use Rattle.operating.specs.Turn.{AskedLeads, OrderLeads, ReadingLeads, begun, is_held}
 use Rattle.operating.specs.declared.operator.Operator.{Operator}
-use Rattle.operating.specs.declared.runs.Ran.{Ran}
+use Rattle.operating.specs.declared.runs.CompletedRun.{CompletedRun}
 use Rattle.operating.specs.declared.runs.Runs.{Runs}
 use Rattle.order_grammar.specs.declared.fault.Fault.{Fault}
 use Rattle.order_grammar.specs.declared.order.Order.{Order}
@@ -41,7 +41,7 @@ AreWalks walks turn = MarksAre (all_crossed walks) (marks_in turn)
 
 -- a run that is obeyed marks its own
 after_run :
-    (by : Operator) (turn : InTurn) (line : Numbered) (its : Order) (kind : Kind) (run : List Place) (before : List (List Step)) (judged : Result Ran RunRule) →
+    (by : Operator) (turn : InTurn) (line : Numbered) (its : Order) (kind : Kind) (run : List Place) (before : List (List Step)) (judged : Result CompletedRun RunRule) →
     judged_run turn by.company kind run ≡ judged → AreWalks before turn →
     AreWalks (walk_if_ran (steps_now turn.game.events run) judged ++ before) (run_ruled by turn line its judged)
 after_run by turn line its kind run before (Err rule) is are = are

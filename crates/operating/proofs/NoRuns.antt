@@ -16,7 +16,7 @@ use Rattle.operating.specs.InTurn.{InTurn, no_runs}
 use Rattle.operating.specs.Runs.{has_any_run, has_run, is_past_runs, judged_run, rule, run_ruled, with_ran}
 use Rattle.operating.specs.Turn.{AskedLeads, LinesLead, OrderLeads, ReadingLeads, begun, is_held}
 use Rattle.operating.specs.declared.operator.Operator.{Operator}
-use Rattle.operating.specs.declared.runs.Ran.{Ran}
+use Rattle.operating.specs.declared.runs.CompletedRun.{CompletedRun}
 use Rattle.operating.specs.declared.runs.Runs.{Runs}
 use Rattle.order_grammar.specs.declared.fault.Fault.{Fault}
 use Rattle.order_grammar.specs.declared.order.Order.{Order}
@@ -76,7 +76,7 @@ or_holds true b is none = cc
 or_holds false b is none = cc
 
 -- once a train has run
-with_run : (best : Bool) (runs : Runs) (ran : Ran) → AreKept best runs → AreKept best (with_ran runs ran)
+with_run : (best : Bool) (runs : Runs) (ran : CompletedRun) → AreKept best runs → AreKept best (with_ran runs ran)
 with_run best runs ran are =
     let at : ℕ = place_of_kind ran.kind in
     let count : ℤ = has_run runs ran.kind +ℤ pos 1 in
@@ -95,7 +95,7 @@ with_best best runs revenue are = record { for_each = are.for_each; least = are.
 
 -- after a RUN
 after_run :
-    (by : Operator) (turn : InTurn) (line : Numbered) (its : Order) (judged : Result Ran RunRule) → IsKeptIn turn → IsKeptIn (run_ruled by turn line its judged)
+    (by : Operator) (turn : InTurn) (line : Numbered) (its : Order) (judged : Result CompletedRun RunRule) → IsKeptIn turn → IsKeptIn (run_ruled by turn line its judged)
 after_run by turn line its (Err rule) are = are
 after_run by turn line its (Ok ran) are = with_run turn.progress.best_run turn.progress.runs ran are
 

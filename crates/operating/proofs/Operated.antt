@@ -2,7 +2,7 @@
 use Rattle.std.proofs.Common.{◌≡◌, ℕ, ◌==◌, Bool, true, false, not, ◌||◌, if◌then◌else◌, List, [], ◌∷◌, ◌++◌, Option, Some, None, is_some, refl, sym}
 use Rattle.std.proofs.Common.{ap, subst, ◌∙◌}
 use Rattle.std.specs.Option.{option_flatten, option_map, option_or}
-use Rattle.events.specs.Event.{operated_by, round_of}
+use Rattle.events.specs.Event.{operated_by, round_begun_by}
 use Rattle.events.specs.declared.event.Event.{Event}
 use Rattle.events.specs.declared.event.Event.TheVariants as event
 use Rattle.events.specs.declared.ruling.PayRule.{PayRule}
@@ -45,12 +45,12 @@ word_more false None before none = sym (or_false (is_some (option_flatten before
 word_more false (Some company) before none = sym (or_true (is_some (option_flatten before)))
 
 -- a company has operated once one more event stands at the end
-one_more : (company : Company) (events : List Event) (its : Event) → is_some (round_of its) ≡ false →
+one_more : (company : Company) (events : List Event) (its : Event) → is_some (round_begun_by its) ≡ false →
     has_operated (events ++ its ∷ []) company ≡ (has_operated events company || is_some (turn_said company (operated_by its)))
 one_more company events its none =
     let says : Event → Option (Option Company) = in_round (λ its. turn_said company (operated_by its)) in
     ap (λ (said : Option (Option Company)). is_some (option_flatten said)) (last_said_at_end says events its)
-    ∙ word_more (is_some (round_of its)) (turn_said company (operated_by its)) (last_said says events) none
+    ∙ word_more (is_some (round_begun_by its)) (turn_said company (operated_by its)) (last_said says events) none
 
 -- between a game and a later one none but the company has operated, and each that had has
 record Operates (company : Company) (before after : Game) : Type 0 where
@@ -88,7 +88,7 @@ more_events company game its is no_tile no_train no_phase =
     }
 
 -- a company has operated by an event that says so
-now_has : (company : Company) (game : Game) (its : Event) → is_some (round_of its) ≡ false → operated_by its ≡ Some company →
+now_has : (company : Company) (game : Game) (its : Event) → is_some (round_begun_by its) ≡ false → operated_by its ≡ Some company →
     has_operated (with_event game its).events company ≡ true
 now_has company game its none says =
     one_more company game.events its none

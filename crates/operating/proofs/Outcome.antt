@@ -2,8 +2,8 @@
 -- follows.
 use Rattle.std.proofs.Common.{◌≡◌, ℕ, Bool, true, false, ◌↔◌, IsTrue, List, [], ◌∷◌, ◌++◌, Option, Some, None, Result, Ok, Err, inl, inr, refl, sym, ap, subst, ◌∙◌}
 use Rattle.board.proofs.RuleTables.{earlier}
-use Rattle.board.specs.Ground.{Ground, position_of, with_lay}
-use Rattle.board.specs.LayRules.{IsConnected, IsLayAnswer, cost_or, ground_rules, lay_cost_of, lay_rules, reach_rules as lay_reach_rules}
+use Rattle.board.specs.MapState.{MapState, position_of, with_lay}
+use Rattle.board.specs.LayRules.{IsConnected, IsLayAnswer, cost_or, map_rules, lay_cost_of, lay_rules, reach_rules as lay_reach_rules}
 use Rattle.board.specs.TokenRules.{IsReachedPlace, IsTokenAnswer, reach_rules as token_reach_rules, slot_rules, token_cost_of, token_rules}
 use Rattle.board.specs.declared.asker.Asker.{Asker}
 use Rattle.certificate.proofs.Finite.{Decided}
@@ -16,7 +16,7 @@ use Rattle.map_tables.specs.declared.lay.Lay.{Lay}
 use Rattle.map_tables.specs.declared.place.Place.{Place}
 use Rattle.operating.proofs.Decided.{IsTested, piece_tested, place_tested}
 use Rattle.operating.specs.Best.{BestRuled, best_earned, best_judgement, trains_now}
-use Rattle.operating.specs.Ground.{ground_now}
+use Rattle.operating.specs.MapState.{map_state_now}
 use Rattle.operating.specs.InTurn.{InTurn}
 use Rattle.operating.specs.Judgement.{asker_of}
 use Rattle.operating.specs.Runs.{position_now}
@@ -63,11 +63,11 @@ same_break {Code} first later a b same =
 
 -- the position of each ground is lawful
 abbrev pub AllLawful : Type 0
-AllLawful = (laid : Ground) → IsLawful (position_of laid)
+AllLawful = (laid : MapState) → IsLawful (position_of laid)
 
 module _ (all : AllLawful) where
   -- a lay has one answer
-  one_lay_answer : (laid : Ground) (asker : Asker) (lay : Lay) → IsOne (IsLayAnswer laid asker lay)
+  one_lay_answer : (laid : MapState) (asker : Asker) (lay : Lay) → IsOne (IsLayAnswer laid asker lay)
   one_lay_answer laid asker lay =
       let tested : IsTested (IsConnected (position_of (with_lay laid lay)) asker.company lay) = piece_tested
       (position_of (with_lay laid lay)) asker.company (all (with_lay laid lay)) lay in
@@ -75,12 +75,12 @@ module _ (all : AllLawful) where
         it = cost_or (lay_cost_of laid.lays lay.hex) (first_broken (lay_rules laid asker lay tested.test));
         so = record { reached = tested.test; exact = λ none. tested.exact; given = refl };
         only = λ other its. its.given
-            ∙ ap (cost_or (lay_cost_of laid.lays lay.hex)) (same_break (ground_rules laid asker lay) (lay_reach_rules laid asker lay) its.reached tested.test
+            ∙ ap (cost_or (lay_cost_of laid.lays lay.hex)) (same_break (map_rules laid asker lay) (lay_reach_rules laid asker lay) its.reached tested.test
             (λ none. same_tests {P = IsConnected (position_of (with_lay laid lay)) asker.company lay} its.reached tested.test (its.exact none) tested.exact));
       }
 
   -- so has a token
-  one_token_answer : (laid : Ground) (asker : Asker) (place : Place) → IsOne (IsTokenAnswer laid asker place)
+  one_token_answer : (laid : MapState) (asker : Asker) (place : Place) → IsOne (IsTokenAnswer laid asker place)
   one_token_answer laid asker place =
       let tested : IsTested (IsReachedPlace (position_of laid) asker.company place) = place_tested (position_of laid) asker.company (all laid) place in
       record {
@@ -98,7 +98,7 @@ module _ (all : AllLawful) where
   one_best by turn line None =
       let position : Position = position_now turn.game.events in
       let trains : List Kind = trains_now turn.game.events by.company in
-      let greatest = a_greatest_exists position by.company trains (all (ground_now turn.game.events)) in
+      let greatest = a_greatest_exists position by.company trains (all (map_state_now turn.game.events)) in
       record {
         it = best_earned by turn line greatest.0;
         so = (greatest.0, greatest.1, refl);
@@ -109,14 +109,14 @@ module _ (all : AllLawful) where
   -- an order leads to one turn
   one_order : (by : Operator) (turn : InTurn) (line : Numbered) (its : Order) → IsOne (OrderLeads by turn line its)
   one_order by turn line (order.Lay lay) =
-      let answer = one_lay_answer (ground_now turn.game.events) (asker_of turn.game by.company turn.progress) lay in
+      let answer = one_lay_answer (map_state_now turn.game.events) (asker_of turn.game by.company turn.progress) lay in
       record {
         it = lay_answered by turn line lay answer.it;
         so = record { answer = answer.it; answered = answer.so; after = refl };
         only = λ new leads. leads.after ∙ ap (lay_answered by turn line lay) (answer.only leads.answer leads.answered);
       }
   one_order by turn line (order.Token place) =
-      let answer = one_token_answer (ground_now turn.game.events) (asker_of turn.game by.company turn.progress) place in
+      let answer = one_token_answer (map_state_now turn.game.events) (asker_of turn.game by.company turn.progress) place in
       record {
         it = token_answered by turn line place answer.it;
         so = record { answer = answer.it; answered = answer.so; after = refl };
@@ -161,7 +161,7 @@ module _ (all : AllLawful) where
   -- it is known whether a company must buy a train
   due_decided : (game : Game) (company : Company) → Decided (IsDue game company)
   due_decided game company =
-      elim (can_run_decided (position_of (ground_now game.events)) (all (ground_now game.events)) company) [
+      elim (can_run_decided (position_of (map_state_now game.events)) (all (map_state_now game.events)) company) [
         | inr none ↦ inr (λ due. none due.1)
         | inl can ↦
             elim (has_trains game.events company) as (λ (b : Bool). has_trains game.events company ≡ b → Decided (IsDue game company)) [

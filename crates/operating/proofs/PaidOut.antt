@@ -15,7 +15,7 @@ use Rattle.history.proofs.Settled.{told_same}
 use Rattle.history.specs.LookBack.{Game, cash_of, with_event}
 use Rattle.history.specs.Shares.{held_by, shares_of}
 use Rattle.history.specs.Sound.{TenthsAreHeld}
-use Rattle.history.specs.Tell.{broken_told}
+use Rattle.history.specs.Record.{broken_recorded}
 use Rattle.history.specs.Trains.{so_many}
 use Rattle.operating.specs.Dividend.{NoMoreIsPaid, all_paid, dividend_of, paid_for, paid_to, paid_to_seats, per_tenth}
 use Rattle.tables.specs.Seat.{all_seats}
@@ -32,7 +32,7 @@ module _ (company : Company) where
   paid_cash : (table : ℕ) (game : Game) (to : Holder) (amount : ℕ) → cash_of table (paid_to company to amount game).events party.Bank ≡ cash_of table game.events party.Bank -ℤ pos amount
   paid_cash table game to amount =
       let paid = with_event game (event.Dividend company to amount) in
-      elim (amount == 0) as (λ (none : Bool). (amount == 0) ≡ none → cash_of table (if none then game else broken_told paid).events party.Bank ≡ cash_of table game.events party.Bank -ℤ pos amount) [
+      elim (amount == 0) as (λ (none : Bool). (amount == 0) ≡ none → cash_of table (if none then game else broken_recorded paid).events party.Bank ≡ cash_of table game.events party.Bank -ℤ pos amount) [
         | true ↦ λ none. let zero : amount ≡ 0 = eqb-true amount 0 none in omega (arith, ints)
         | false ↦ λ some. omega (arith, ints, (told_same paid).cash table party.Bank, cash_of_at_end table game.events (event.Dividend company to amount) party.Bank)
       ]
@@ -42,7 +42,7 @@ module _ (company : Company) where
   paid_shares : (game : Game) (to : Holder) (amount : ℕ) (place : Shareholder) → shares_of (paid_to company to amount game).events company place ≡ shares_of game.events company place
   paid_shares game to amount place =
       let paid = with_event game (event.Dividend company to amount) in
-      elim (amount == 0) as (λ (none : Bool). shares_of (if none then game else broken_told paid).events company place ≡ shares_of game.events company place) [
+      elim (amount == 0) as (λ (none : Bool). shares_of (if none then game else broken_recorded paid).events company place ≡ shares_of game.events company place) [
         | true ↦ refl
         | false ↦ (told_same paid).shares company place ∙ shares_of_before game.events (event.Dividend company to amount) company place refl
       ]

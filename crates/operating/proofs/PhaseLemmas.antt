@@ -5,13 +5,13 @@ use mir.Syntax.{w64, w128}
 use mir.Val.{of_z, to_z}
 use Rattle.std.specs.Int.Signed.{le_z, lt_z}
 use Rattle.std.specs.Option.{option_or}
-use Rattle.events.specs.Event.{stable_of, train_moved}
+use Rattle.events.specs.Event.{train_owner_place, train_moved}
 use Rattle.events.specs.declared.event.Event.{Event}
 use Rattle.events.specs.declared.event.Event.TheVariants as event
 use Rattle.history.proofs.EventAtEnd.{trains_at_end}
 use Rattle.history.proofs.TrainActs.{discard_sound, rusting_sound}
 use Rattle.history.specs.LookBack.{Game, IsModerate, with_event}
-use Rattle.history.specs.Trains.{one_if, phase_of, so_many, stable_size, train_comes, train_goes, trains_held}
+use Rattle.history.specs.Trains.{one_if, phase_of, so_many, train_count, train_comes, train_goes, trains_held}
 use Rattle.operating.specs.Discards.{first_held, has_train, next_discard}
 use Rattle.history.specs.Sound.{IsSound}
 use Rattle.operating.specs.Phases.{after_train, begins_phase, bought, excess_of, with_limits_kept, with_one_rusted, with_phase, with_privates_closed, with_rusted}
@@ -38,10 +38,10 @@ train_begins game has new company purchase begins is_bought is_new =
     ∙ sym (ap (λ (b : Bool). if b then with_phase after purchase.kind else after) begins)
 
 -- a train that rusts leaves its place
-leaves_company : (company : Company) (kind : Kind) → train_goes (stable_of (Some company)) kind (train_moved (event.Rusted (Some company) kind)) ≡ true
+leaves_company : (company : Company) (kind : Kind) → train_goes (train_owner_place (Some company)) kind (train_moved (event.Rusted (Some company) kind)) ≡ true
 leaves_company company kind = grind arith
 
-leaves : (owner : Option Company) (kind : Kind) → train_goes (stable_of owner) kind (train_moved (event.Rusted owner kind)) ≡ true
+leaves : (owner : Option Company) (kind : Kind) → train_goes (train_owner_place owner) kind (train_moved (event.Rusted owner kind)) ≡ true
 leaves None Two = refl
 leaves None Three = refl
 leaves None Four = refl
@@ -51,14 +51,14 @@ leaves None Diesel = refl
 leaves (Some company) kind = leaves_company company kind
 
 -- and comes to no other that is in play
-comes_nowhere : (owner : Option Company) (kind : Kind) → train_comes (stable_of owner) kind (train_moved (event.Rusted owner kind)) ≡ false
+comes_nowhere : (owner : Option Company) (kind : Kind) → train_comes (train_owner_place owner) kind (train_moved (event.Rusted owner kind)) ≡ false
 comes_nowhere None kind = grind arith
 comes_nowhere (Some company) kind = grind arith
 
 -- so there is one less
 pub one_less : (events : List Event) (owner : Option Company) (kind : Kind) → trains_held (events ++ event.Rusted owner kind ∷ []) owner kind ≡ trains_held events owner kind -ℤ pos 1
 one_less events owner kind =
-    omega (arith, ints, trains_at_end events (event.Rusted owner kind) (stable_of owner) kind, ap one_if (leaves owner kind), ap one_if (comes_nowhere owner kind))
+    omega (arith, ints, trains_at_end events (event.Rusted owner kind) (train_owner_place owner) kind, ap one_if (leaves owner kind), ap one_if (comes_nowhere owner kind))
 
 -- no limit is over 4
 limit_small : (phase : Kind) → limit_of phase ≤ 4
@@ -96,7 +96,7 @@ pub counted_whole : (count sum : ℤ) → SFits w64 count → SFits w128 sum →
 counted_whole count sum few fits is = to_z-of_z w128 sum fits ∙ (is ∙ to_z-of_z w64 count few)
 
 -- the trains over the limit of the phase, counted so
-pub excess_is : (game : Game) (company : Company) (size : ℤ) (phase : Kind) (limit : ℕ) → size ≡ stable_size game.events (Some company) → IsModerate size → phase ≡ phase_of game.events → limit ≡ limit_of phase → excess_of game company ≡ so_many (to_z w128 (of_z w128 (to_z w128 (of_z w128 size) -ℤ to_z w128 limit)))
+pub excess_is : (game : Game) (company : Company) (size : ℤ) (phase : Kind) (limit : ℕ) → size ≡ train_count game.events (Some company) → IsModerate size → phase ≡ phase_of game.events → limit ≡ limit_of phase → excess_of game company ≡ so_many (to_z w128 (of_z w128 (to_z w128 (of_z w128 size) -ℤ to_z w128 limit)))
 excess_is game company size phase limit is_size within is_phase is_limit =
     sym (ap so_many
     (over_kept size limit within (subst (λ n. n ≤ 4) (sym is_limit) (limit_small phase))

@@ -17,7 +17,7 @@ use Rattle.history.proofs.Choices.{same_company_is}
 use Rattle.history.proofs.EventAtEnd.{last_said_before, president_of_before, shares_of_at_end, shares_of_before}
 use Rattle.history.specs.LookBack.{Game}
 use Rattle.history.specs.Shares.{president_of, president_said, shares_of, square_of}
-use Rattle.history.specs.Tell.{breaks}
+use Rattle.history.specs.Record.{breaks}
 use Rattle.market.specs.Moves.{fallen}
 use Rattle.market.specs.Token.{moved_from, same_square}
 use Rattle.operating.proofs.ForcedBuying.{company_itself, not_less_is}

@@ -4,7 +4,7 @@ use Rattle.std.proofs.Common.{◌≡◌, ℕ, ◌+◌, Bool, true, false, not, n
 use Rattle.std.proofs.lemmas.List.Sums.{sum_by-append}
 use Rattle.std.specs.Int.Signed.{lt_z}
 use Rattle.std.specs.Option.{option_flatten, option_map}
-use Rattle.events.specs.Event.{obeyed_of, party_of_company, phase_set, stable_of, train_moved}
+use Rattle.events.specs.Event.{obeyed_of, party_of_company, phase_set, train_owner_place, train_moved}
 use Rattle.events.specs.Offers.{offered_in}
 use Rattle.events.specs.Orders.{said_by}
 use Rattle.events.specs.declared.event.Event.{Event}
@@ -20,8 +20,8 @@ use Rattle.history.proofs.EventAtEnd.{balance_before, cash_of_before, last_said_
 use Rattle.history.specs.LookBack.{Game, in_round, with_event}
 use Rattle.history.specs.Offers.{has_consent}
 use Rattle.history.specs.Shares.{president_of}
-use Rattle.history.specs.Trains.{one_if, phase_of, stable_size, train_comes, train_goes, trains_held, trains_of_kinds, trains_sold}
-use Rattle.operating.specs.Trains.{are_left, cost_of, first_left, first_left_of, is_full, is_kind, is_left, is_no_trade_in, is_not_given, is_not_sellers, is_on_sale, is_too_dear, lacks_consent, may_be_traded, numbered_kinds, presidents_agree, sells_diesels, traded_count, train_judgement}
+use Rattle.history.specs.Trains.{one_if, phase_of, train_count, train_comes, train_goes, trains_held, trains_of_kinds, trains_sold}
+use Rattle.operating.specs.Trains.{are_left, cost_of, first_left, first_left_of, is_at_train_limit, is_kind, is_left, is_no_trade_in, is_not_given, is_not_sellers, is_on_sale, is_too_dear, lacks_consent, may_be_traded, numbered_kinds, presidents_agree, sells_diesels, traded_count, train_judgement}
 use Rattle.operating.specs.InTurn.{InTurn, in_turn, told}
 use Rattle.operating.specs.Phases.{after_train}
 use Rattle.operating.specs.Turn.{after_buying, purchase_of, train_ruled}
@@ -56,7 +56,7 @@ module _ (events : List Event) (seat : Seat) (line : Numbered) (ruling : Ruling)
   -- as many lie with a company, or the pool
   same_held : (owner : Option Company) (kind : Kind) → trains_held after owner kind ≡ trains_held events owner kind
   same_held owner kind =
-      balance_before 0 (λ event. one_if (train_comes (stable_of owner) kind (train_moved event))) (λ event. one_if (train_goes (stable_of owner) kind (train_moved event))) events (Ruled seat line.number ruling) refl refl
+      balance_before 0 (λ event. one_if (train_comes (train_owner_place owner) kind (train_moved event))) (λ event. one_if (train_goes (train_owner_place owner) kind (train_moved event))) events (Ruled seat line.number ruling) refl refl
 
   -- of all kinds together
   same_kinds : (owner : Option Company) (some : List Kind) → trains_of_kinds after owner some ≡ trains_of_kinds events owner some
@@ -89,10 +89,10 @@ module _ (events : List Event) (seat : Seat) (line : Numbered) (ruling : Ruling)
   same_sale (seller.Company company) kind = refl
 
   -- the same is full
-  same_full : (company : Company) (trade_in : Option Kind) → is_full after company trade_in ≡ is_full events company trade_in
+  same_full : (company : Company) (trade_in : Option Kind) → is_at_train_limit after company trade_in ≡ is_at_train_limit events company trade_in
   same_full company trade_in =
       ap (λ (size : ℤ). not (lt_z (size -ℤ pos (traded_count trade_in)) (pos (limit_of (phase_of after))))) (same_kinds (Some company) kinds)
-      ∙ ap (λ (phase : Kind). not (lt_z (stable_size events (Some company) -ℤ pos (traded_count trade_in)) (pos (limit_of phase)))) phase_stays
+      ∙ ap (λ (phase : Kind). not (lt_z (train_count events (Some company) -ℤ pos (traded_count trade_in)) (pos (limit_of phase)))) phase_stays
 
   -- the same is the seller's
   same_seller : (buyer : Company) (kind : Kind) (from : TrainSeller) → is_not_sellers after buyer kind from ≡ is_not_sellers events buyer kind from
@@ -168,10 +168,10 @@ same_judgement game ruled seat line kind from company purchase is =
     let other = λ (now : List Event). is_not_sellers now company purchase.kind purchase.from in
     let trade = λ (now : List Event). is_no_trade_in now company purchase.kind purchase.trade_in in
     let sale = is_on_sale events purchase.from purchase.kind in
-    let full = is_full events company purchase.trade_in in
+    let full = is_at_train_limit events company purchase.trade_in in
     let dear = is_too_dear game company purchase in
     ap (λ (g : Game). train_judgement g company purchase) is
-    ∙ ap (λ (b : Bool). table_of b (is_full after.events company purchase.trade_in) (is_too_dear after company purchase) (lacks after.events) (other after.events) (trade after.events)) (same_sale events seat line ruling purchase.from purchase.kind)
+    ∙ ap (λ (b : Bool). table_of b (is_at_train_limit after.events company purchase.trade_in) (is_too_dear after company purchase) (lacks after.events) (other after.events) (trade after.events)) (same_sale events seat line ruling purchase.from purchase.kind)
     ∙ ap (λ (b : Bool). table_of sale b (is_too_dear after company purchase) (lacks after.events) (other after.events) (trade after.events)) (same_full events seat line ruling company purchase.trade_in)
     ∙ ap (λ (cash : ℤ). table_of sale full (lt_z cash (pos (cost_of purchase))) (lacks after.events) (other after.events) (trade after.events)) (cash_of_before game.seats events (Ruled seat line.number ruling) (party_of_company company) refl)
     ∙ ap (λ (b : Bool). table_of sale full dear b (other after.events) (trade after.events)) (same_lack events seat line kind from company purchase purchase.from)

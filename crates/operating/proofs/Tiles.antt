@@ -8,8 +8,8 @@ use Rattle.std.proofs.lemmas.List.Sums.{sum_by-cons, sum_by_push}
 use Rattle.std.specs.List.{cons_option, count_by}
 use Rattle.board.proofs.Stocked.{lay_keeps_stock}
 use Rattle.board.proofs.Tiles.{last_lies}
-use Rattle.map_tables.specs.Lying.{tile_on}
-use Rattle.board.specs.LayRules.{is_tile, lying_of}
+use Rattle.map_tables.specs.OnMap.{tile_on}
+use Rattle.board.specs.LayRules.{is_tile, on_map_of}
 use Rattle.events.specs.declared.event.Event.{Event}
 use Rattle.events.specs.declared.event.Event.TheVariants as event
 use Rattle.history.proofs.InOrder.{lays_grow}
@@ -25,7 +25,7 @@ use Rattle.operating.proofs.AgreedSales.{train_agreed}
 use Rattle.operating.proofs.TrainSteps.{IsPassedOn}
 use Rattle.operating.proofs.ForcedGames.{of_game_turn}
 use Rattle.operating.proofs.TurnGames.{of_purchase}
-use Rattle.operating.specs.Ground.{ground_now}
+use Rattle.operating.specs.MapState.{map_state_now}
 use Rattle.operating.specs.Turn.{purchase_of}
 use Rattle.operating.specs.TileLaws.{LaysKeepTiles, OthersKeepTiles, TilesAreAll, TilesAreAllAtFirst, TurnsKeepTiles, returned_by, returned_of}
 use Rattle.operating.specs.TileLaws.{stock_of, taken_of}
@@ -92,15 +92,15 @@ module _ (lays : List Lay) (lay : Lay) (tile : TileNo) where
   at_hex hex false apart = none_for_none laid replaced (is_tile tile (tile_on lays hex))
 
   -- as many of the number lie after a lay as before, with the tile that is laid, without that which it replaces
-  lie_then : lying_of (lays ++ lay ∷ []) tile + cond replaced 1 0 ≡ lying_of lays tile + cond laid 1 0
-  unfolding lying_of
+  lie_then : on_map_of (lays ++ lay ∷ []) tile + cond replaced 1 0 ≡ on_map_of lays tile + cond laid 1 0
+  unfolding on_map_of
   lie_then =
       let all = counts_agree (λ hex. is_tile tile (tile_on (lays ++ lay ∷ []) hex)) (λ hex. replaced && same_hex lay.hex hex)
       (λ hex. is_tile tile (tile_on lays hex)) (λ hex. laid && same_hex lay.hex hex) hexes
       (λ hex. ap (λ (found : Option Lay). cond (is_tile tile found) 1 0 + cond (replaced && same_hex lay.hex hex) 1 0) (last_lies lays lay hex)
       ∙ at_hex hex (same_hex lay.hex hex) refl) in
-      ap (λ (n : ℕ). lying_of (lays ++ lay ∷ []) tile + n) (sym (counts_where replaced lay.hex))
-      ∙ all ∙ ap (λ (n : ℕ). lying_of lays tile + n) (counts_where laid lay.hex)
+      ap (λ (n : ℕ). on_map_of (lays ++ lay ∷ []) tile + n) (sym (counts_where replaced lay.hex))
+      ∙ all ∙ ap (λ (n : ℕ). on_map_of lays tile + n) (counts_where laid lay.hex)
 
   -- the stock has one less of the tile that is laid, and one more of that which it replaces
   taken_then : taken_of (lays ++ lay ∷ []) tile ≡ taken_of lays tile + cond laid 1 0
@@ -113,7 +113,7 @@ module _ (lays : List Lay) (lay : Lay) (tile : TileNo) where
 
 -- of each number those on the map and those in the stock are as many as the manifest has
 record AreAll (lays : List Lay) : Type 0 where
-  all : (tile : TileNo) → pos (lying_of lays tile) +ℤ stock_of lays tile ≡ pos (entry_of tile).count
+  all : (tile : TileNo) → pos (on_map_of lays tile) +ℤ stock_of lays tile ≡ pos (entry_of tile).count
   owes_none : (tile : TileNo) → pos 0 ≤ℤ stock_of lays tile
 
 -- so it is by any list with the same lays
@@ -122,8 +122,8 @@ same_tiles events lays same tiles =
     let here = subst AreAll (sym same) tiles in record { all = here.all; owes_none = here.owes_none }
 
 -- no tile lies at first
-none_lie : (tile : TileNo) → lying_of [] tile ≡ 0
-unfolding lying_of tile_on
+none_lie : (tile : TileNo) → on_map_of [] tile ≡ 0
+unfolding on_map_of tile_on
 none_lie tile = counts_none hexes
 
 pub tiles_at_first : TilesAreAllAtFirst
@@ -138,33 +138,33 @@ others_keep_tiles events event none tiles =
     (record { all = tiles.all; owes_none = tiles.owes_none })
 
 -- the sums of a stock and of what lies
-module _ (count lying taken returned new old lying_then taken_then returned_then : ℕ) where
-  sums_stay : lying_then + old ≡ lying + new → taken_then ≡ taken + new → returned_then ≡ returned + old →
-      pos lying +ℤ ((pos count -ℤ pos taken) +ℤ pos returned) ≡ pos count →
-      pos lying_then +ℤ ((pos count -ℤ pos taken_then) +ℤ pos returned_then) ≡ pos count
+module _ (count on_map taken returned new old on_map_then taken_then returned_then : ℕ) where
+  sums_stay : on_map_then + old ≡ on_map + new → taken_then ≡ taken + new → returned_then ≡ returned + old →
+      pos on_map +ℤ ((pos count -ℤ pos taken) +ℤ pos returned) ≡ pos count →
+      pos on_map_then +ℤ ((pos count -ℤ pos taken_then) +ℤ pos returned_then) ≡ pos count
   sums_stay lie took back all = omega (arith, ints, lie, took, back, all)
 
 -- a stock owes none where no more lie than there are
-stocked : (count lying : ℕ) (stock : ℤ) → pos lying +ℤ stock ≡ pos count → pos 0 ≤ℤ stock → lying ≤ count
-stocked count lying stock all owes = omega (arith, ints, all, owes)
+stocked : (count on_map : ℕ) (stock : ℤ) → pos on_map +ℤ stock ≡ pos count → pos 0 ≤ℤ stock → on_map ≤ count
+stocked count on_map stock all owes = omega (arith, ints, all, owes)
 
-owes : (count lying : ℕ) (stock : ℤ) → pos lying +ℤ stock ≡ pos count → lying ≤ count → pos 0 ≤ℤ stock
-owes count lying stock all few = omega (arith, ints, all, few)
+owes : (count on_map : ℕ) (stock : ℤ) → pos on_map +ℤ stock ≡ pos count → on_map ≤ count → pos 0 ≤ℤ stock
+owes count on_map stock all few = omega (arith, ints, all, few)
 
 -- a lay by the rules takes a tile that is there
 pub lays_keep_tiles : LaysKeepTiles
 lays_keep_tiles game company asker lay cost rules tiles =
     let lays = lays_of game.events in
-    let few = lay_keeps_stock (ground_now game.events) asker lay
-    (λ tile. stocked (entry_of tile).count (lying_of lays tile) (stock_of lays tile) (tiles.all tile) (tiles.owes_none tile)) rules in
-    let all = λ (tile : TileNo). sums_stay (entry_of tile).count (lying_of lays tile) (taken_of lays tile) (returned_of lays tile)
+    let few = lay_keeps_stock (map_state_now game.events) asker lay
+    (λ tile. stocked (entry_of tile).count (on_map_of lays tile) (stock_of lays tile) (tiles.all tile) (tiles.owes_none tile)) rules in
+    let all = λ (tile : TileNo). sums_stay (entry_of tile).count (on_map_of lays tile) (taken_of lays tile) (returned_of lays tile)
     (cond (laid lays lay tile) 1 0) (cond (replaced lays lay tile) 1 0)
-    (lying_of (lays ++ lay ∷ []) tile) (taken_of (lays ++ lay ∷ []) tile) (returned_of (lays ++ lay ∷ []) tile)
+    (on_map_of (lays ++ lay ∷ []) tile) (taken_of (lays ++ lay ∷ []) tile) (returned_of (lays ++ lay ∷ []) tile)
     (lie_then lays lay tile) (taken_then lays lay tile) (returned_then lays lay tile) (tiles.all tile) in
     same_tiles (with_event game (event.Laid company lay cost)).events (lays ++ lay ∷ []) (lays_grow game.events (event.Laid company lay cost))
     (record {
       all = all;
-      owes_none = λ tile. owes (entry_of tile).count (lying_of (lays ++ lay ∷ []) tile) (stock_of (lays ++ lay ∷ []) tile) (all tile) (few tile);
+      owes_none = λ tile. owes (entry_of tile).count (on_map_of (lays ++ lay ∷ []) tile) (stock_of (lays ++ lay ∷ []) tile) (all tile) (few tile);
     })
 
 -- the tiles are all there in a later game if they were before

@@ -11,7 +11,7 @@ use Rattle.history.proofs.EventAtEnd.{last_said_at_end, last_said_before}
 use Rattle.history.specs.LookBack.{Game, owner_of, with_event}
 use Rattle.history.specs.Trains.{phase_of, so_many, trains_held, trains_sold}
 use Rattle.operating.specs.Discards.{next_discard}
-use Rattle.operating.specs.Phases.{begins_phase, bought, excess_of, rusts_at, with_all_closed, with_bop_closed, with_closed, with_company_rusted, with_discarded, with_kind_rusted, with_kind_rusted_at, with_limit_kept, with_limits_kept, with_next_discarded, with_one_rusted, with_phase, with_privates_closed, with_rusted, with_stable_rusted, with_trade}
+use Rattle.operating.specs.Phases.{begins_phase, bought, excess_of, rusts_at, with_all_closed, with_bop_closed, with_closed, with_company_rusted, with_discarded, with_kind_rusted, with_kind_rusted_at, with_limit_kept, with_limits_kept, with_next_discarded, with_one_rusted, with_phase, with_privates_closed, with_rusted, with_trains_rusted, with_trade}
 use Rattle.operating.specs.TrainLaws.{PhasesGoOn}
 use Rattle.operating.specs.Trains.{cost_of}
 use Rattle.operating.specs.declared.purchase.Purchase.{Purchase}
@@ -45,7 +45,7 @@ OfDiscards R = (game : Game) (company : Company) (kind : Kind) → R game (with_
 
 -- of all trains of a kind in a stable that rust, and of the train that a company discards next
 abbrev pub OfStables : (Game → Game → Type 0) → Kind → Type 0
-OfStables R kind = (owner : Option Company) (game : Game) → R game (with_stable_rusted owner kind game)
+OfStables R kind = (owner : Option Company) (game : Game) → R game (with_trains_rusted owner kind game)
 
 abbrev pub OfNextDiscards : (Game → Game → Type 0) → Type 0
 OfNextDiscards R = (company : Company) (game : Game) → R game (with_next_discarded company game)
@@ -78,15 +78,15 @@ of_privates R on closes phase game =
     of_choice R (same_kind phase Five) game (with_all_closed game) game (of_fold R with_closed on (of_closed R on closes) game privates) (on.same game)
 
 -- of the trains of a stable that rust
-pub of_stable : (R : Game → Game → Type 0) → IsPassedOn R → (kind : Kind) → OfRustings R kind → OfStables R kind
-of_stable R on kind rusts owner game =
+pub of_train_owner : (R : Game → Game → Type 0) → IsPassedOn R → (kind : Kind) → OfRustings R kind → OfStables R kind
+of_train_owner R on kind rusts owner game =
     of_iterate R (with_one_rusted owner kind) on (λ now. rusts now owner) (so_many (trains_held game.events owner kind)) game
 
 -- of those of a kind
 pub of_kind : (R : Game → Game → Type 0) → IsPassedOn R → (kind : Kind) → OfStables R kind → (game : Game) → R game (with_kind_rusted game kind)
 of_kind R on kind rusts game =
     let there = fold (with_company_rusted kind) game companies in
-    on.both game there (with_stable_rusted None kind there) (of_fold R (with_company_rusted kind) on (λ now company. rusts (Some company) now) game companies) (rusts None there)
+    on.both game there (with_trains_rusted None kind there) (of_fold R (with_company_rusted kind) on (λ now company. rusts (Some company) now) game companies) (rusts None there)
 
 -- of all that rust
 of_rusted : (R : Game → Game → Type 0) → IsPassedOn R → ((kind : Kind) → OfStables R kind) → (new : Kind) (game : Game) → R game (with_rusted new game)
@@ -156,7 +156,7 @@ phase_begun game kind =
 -- and it is the phase after all that follows
 pub phase_then : (game : Game) (phase : Kind) → phase_of (with_phase game phase).events ≡ phase
 phase_then game phase =
-    of_phase SamePhase same_phase_on (λ now private. phase_before now (event.Closed private) refl) (λ kind. of_stable SamePhase same_phase_on kind (λ now owner. phase_before now (event.Rusted owner kind) refl)) (of_next SamePhase same_phase_on (λ now company kind. phase_before now (event.Discarded company kind) refl)) game phase
+    of_phase SamePhase same_phase_on (λ now private. phase_before now (event.Closed private) refl) (λ kind. of_train_owner SamePhase same_phase_on kind (λ now owner. phase_before now (event.Rusted owner kind) refl)) (of_next SamePhase same_phase_on (λ now company kind. phase_before now (event.Discarded company kind) refl)) game phase
     ∙ phase_begun game phase
 
 -- both of two tests

@@ -1,6 +1,6 @@
 -- The events that a company's turn can add, one by one, and what holds of them all.
 use Rattle.std.proofs.Common.{◌≡◌, Bool, false, if◌then◌else◌, Some, None, is_some, refl, sym, ap, subst}
-use Rattle.events.specs.Event.{operated_by, round_of}
+use Rattle.events.specs.Event.{operated_by, round_begun_by}
 use Rattle.events.specs.declared.event.Event.{Event}
 use Rattle.events.specs.declared.event.Event.TheVariants as event
 use Rattle.history.specs.LookBack.{Game}
@@ -42,7 +42,7 @@ is_agreed company game other is = tt
 
 -- none begins a round
 pub begins_none : (company : Company) (game : Game) (its : Event) → IsOfTurn company game its →
-    is_some (round_of its) ≡ false
+    is_some (round_begun_by its) ≡ false
 begins_none company game (event.Round round) is = absurd is
 begins_none company game other is = refl
 

@@ -1,6 +1,6 @@
 -- What holds of each event of a company's turn and of each purchase by the rules, and of one after the other, holds of
 -- what the steps of the turn do, and so of the whole.
-use Rattle.board.specs.LayRules.{ground_rules}
+use Rattle.board.specs.LayRules.{map_rules}
 use Rattle.board.specs.declared.asker.Asker.{Asker}
 use Rattle.events.specs.Event.{phase_set, tile_laid, train_moved}
 use Rattle.events.specs.declared.event.Event.{Event}
@@ -10,19 +10,19 @@ use Rattle.events.specs.declared.event.Holder.TheVariants as holder
 use Rattle.events.specs.declared.event.Shareholder.TheVariants as place
 use Rattle.history.specs.LookBack.{Game, with_event}
 use Rattle.history.specs.Shares.{square_of}
-use Rattle.history.specs.Tell.{breaks, broken_told}
+use Rattle.history.specs.Record.{breaks, broken_recorded}
 use Rattle.map_tables.specs.Home.{home_of}
 use Rattle.map_tables.specs.Place.{place_of}
 use Rattle.map_tables.specs.declared.lay.Lay.{Lay}
-use Rattle.market.specs.Moves.{left_of, right_of}
+use Rattle.market.specs.Moves.{square_left_of, right_of}
 use Rattle.market.specs.Token.{moved_from, same_square, with_move}
 use Rattle.operating.proofs.AgreedSales.{train_agreed}
-use Rattle.operating.proofs.TrainSteps.{IsPassedOn, OfClosings, of_bop, of_choice, of_next, of_phase, of_stable, of_trade}
+use Rattle.operating.proofs.TrainSteps.{IsPassedOn, OfClosings, of_bop, of_choice, of_next, of_phase, of_train_owner, of_trade}
 use Rattle.operating.proofs.TurnEvents.{IsOfTurn}
 use Rattle.operating.proofs.TurnSteps.{OfSteps, of_turn}
 use Rattle.operating.specs.Act.{has_home_token, with_home, withheld}
 use Rattle.operating.specs.Dividend.{all_paid, paid_for, paid_out, paid_to, paid_to_seats}
-use Rattle.operating.specs.Ground.{ground_now}
+use Rattle.operating.specs.MapState.{map_state_now}
 use Rattle.operating.specs.InTurn.{InTurn}
 use Rattle.operating.specs.Phases.{after_train, begins_phase, bought, with_phase, with_trade}
 use Rattle.operating.specs.SaleLaws.{IsAgreed}
@@ -45,7 +45,7 @@ pub record OfEvents (company : Company) (R : Game → Game → Type 0) : Type 0 
   pub on : IsPassedOn R
   pub others : (game : Game) (its : Event) → IsOfTurn company game its → tile_laid its ≡ None → train_moved its ≡ None → phase_set its ≡ None →
       R game (with_event game its)
-  pub lays : (game : Game) (asker : Asker) (lay : Lay) (cost : ℕ) → first_broken (ground_rules (ground_now game.events) asker lay) ≡ None →
+  pub lays : (game : Game) (asker : Asker) (lay : Lay) (cost : ℕ) → first_broken (map_rules (map_state_now game.events) asker lay) ≡ None →
       R game (with_event game (event.Laid company lay cost))
   pub purchases : (game : Game) (kind : Kind) (from : TrainSource) → train_judgement game company (purchase_of kind from) ≡ None →
       R game (after_train game company (purchase_of kind from))
@@ -67,7 +67,7 @@ of_purchase company R on each game purchase agreed =
     let trade : R game traded = of_trade R on (λ now its kind. each now (event.Traded its kind) tt refl) game company purchase.trade_in in
     let first : R game all = on.both game came all (on.both game traded came trade (each traded train agreed refl)) (of_bop R on closes came company) in
     let later : R (with_event all phase) followed = of_phase R on closes
-    (λ kind. of_stable R on kind (λ now owner. each now (event.Rusted owner kind) tt refl))
+    (λ kind. of_train_owner R on kind (λ now owner. each now (event.Rusted owner kind) tt refl))
     (of_next R on (λ now its kind. each now (event.Discarded its kind) tt refl)) all purchase.kind in
     of_choice R (begins_phase game.events purchase.from purchase.kind) game followed all
     (on.both game all followed first (on.both all (with_event all phase) followed (each all phase tt refl) later)) first
@@ -86,7 +86,7 @@ by_each company R on each =
 
 module _ (company : Company) (R : Game → Game → Type 0) (of : OfEvents company R) where
   -- of BROKEN, where the bank breaks
-  of_broken : (game : Game) → R game (broken_told game)
+  of_broken : (game : Game) → R game (broken_recorded game)
   of_broken game =
       elim (breaks game.seats game.events) as (λ (b : Bool). R game
       (record { seats = game.seats; events = if b then game.events ++ event.Broken ∷ [] else game.events })) [
@@ -112,7 +112,7 @@ module _ (company : Company) (R : Game → Game → Type 0) (of : OfEvents compa
   pub after_withheld : (game : Game) (amount : ℕ) → R (with_event game (event.Withheld company amount)) (withheld game company amount)
   after_withheld game amount =
       let paid = with_event game (event.Withheld company amount) in
-      of.on.both paid (broken_told paid) (withheld game company amount) (of_broken paid) (of_move left_of (broken_told paid))
+      of.on.both paid (broken_recorded paid) (withheld game company amount) (of_broken paid) (of_move square_left_of (broken_recorded paid))
 
   pub of_withheld : (game : Game) (amount : ℕ) → R game (withheld game company amount)
   of_withheld game amount =
@@ -124,8 +124,8 @@ module _ (company : Company) (R : Game → Game → Type 0) (of : OfEvents compa
   of_dividend to amount game =
       let its = event.Dividend company to amount in
       let paid = with_event game its in
-      of_choice R (amount == 0) game game (broken_told paid) (of.on.same game)
-      (of.on.both game paid (broken_told paid) (of.others game its tt refl refl refl) (of_broken paid))
+      of_choice R (amount == 0) game game (broken_recorded paid) (of.on.same game)
+      (of.on.both game paid (broken_recorded paid) (of.others game its tt refl refl refl) (of_broken paid))
 
   -- of those of some seats
   of_seats_paid : (revenue : ℕ) (game : Game) (seats : List Seat) → R game (paid_to_seats company revenue game seats)

@@ -3,7 +3,7 @@
 use Rattle.std.proofs.Common.{◌≡◌, ◌≤◌, ◌||◌, Bool, false, List, [], ◌∷◌, ◌++◌, Result, is_some, refl, sym, ap, ◌∙◌, arith}
 use Rattle.std.proofs.lemmas.List.{append_assoc, append-nil}
 use Rattle.std.proofs.lemmas.List.Folds.{list_any-append}
-use Rattle.events.specs.Event.{round_of}
+use Rattle.events.specs.Event.{round_begun_by}
 use Rattle.events.specs.declared.event.Event.{Event}
 use Rattle.events.specs.declared.event.Event.TheVariants as event
 use Rattle.history.specs.LookBack.{Game}
@@ -44,7 +44,7 @@ adds_on =
         more = one.more ++ two.more;
         added = two.added ∙ ap (λ (game : Game). record { seats = game.seats; events = game.events ++ two.more }) one.added
             ∙ ap (λ (events : List Event). record { seats = a.seats; events = events }) (append_assoc a.events one.more two.more);
-        no_round = list_any-append (λ its. is_some (round_of its)) one.more two.more ∙ neither _ _ one.no_round two.no_round;
+        no_round = list_any-append (λ its. is_some (round_begun_by its)) one.more two.more ∙ neither _ _ one.no_round two.no_round;
       };
     }
 

@@ -2,8 +2,8 @@
 -- steps, and of one after the other, holds of all of them.
 use Rattle.std.proofs.Common.{◌≡◌, ℕ, Bool, true, false, if◌then◌else◌, List, [], ◌∷◌, Option, Some, None, Result, Ok, Err, ℤ, refl, sym, subst, ◌∙◌}
 use Rattle.std.specs.Int.RustNames.{unsigned_abs}
-use Rattle.board.specs.Ground.{Ground}
-use Rattle.board.specs.LayRules.{IsLayAnswer, ground_rules}
+use Rattle.board.specs.MapState.{MapState}
+use Rattle.board.specs.LayRules.{IsLayAnswer, map_rules}
 use Rattle.board.specs.TokenRules.{IsTokenAnswer, slot_rules}
 use Rattle.board.specs.declared.asker.Asker.{Asker}
 use Rattle.events.specs.Event.{phase_set, tile_laid, train_moved}
@@ -33,7 +33,7 @@ use Rattle.operating.proofs.TurnEvents.{IsOfTurn}
 use Rattle.operating.specs.Act.{after_lay, after_token, withheld}
 use Rattle.operating.specs.Best.{BestRuled, best_done, best_earned, best_judgement}
 use Rattle.operating.specs.Dividend.{paid_out, pay_judgement, pay_ruled, withhold_judgement}
-use Rattle.operating.specs.Ground.{ground_now}
+use Rattle.operating.specs.MapState.{map_state_now}
 use Rattle.operating.specs.InTurn.{InTurn, in_turn, is_unpaid, lay_done, pay_done, token_done, told}
 use Rattle.operating.specs.Judgement.{asker_of}
 use Rattle.operating.specs.Phases.{after_train}
@@ -44,7 +44,7 @@ use Rattle.operating.specs.Turn.{AskedLeads, BlockLeads, IsCompanyTurn, LinesLea
 use Rattle.operating.specs.Turn.{settled, token_answered, train_ruled}
 use Rattle.operating.specs.declared.operator.Operator.{Operator}
 use Rattle.operating.specs.declared.progress.Progress.{Progress}
-use Rattle.operating.specs.declared.runs.Ran.{Ran}
+use Rattle.operating.specs.declared.runs.CompletedRun.{CompletedRun}
 use Rattle.order_grammar.specs.declared.fault.Fault.{Fault}
 use Rattle.order_grammar.specs.declared.order.Order.{Order}
 use Rattle.order_grammar.specs.declared.order.Order.TheVariants as order
@@ -67,10 +67,10 @@ pub record OfSteps (company : Company) (R : InTurn → InTurn → Type 0) : Type
   pub more : (turn : InTurn) (its : Event) → IsOfTurn company turn.game its → tile_laid its ≡ None → train_moved its ≡ None → phase_set its ≡ None →
       R turn (in_turn (with_event turn.game its) turn.progress)
   pub laid : (turn : InTurn) (lays : List Lay) (asker : Asker) (lay : Lay) (cost : ℕ) →
-      first_broken (ground_rules (ground_now turn.game.events) asker lay) ≡ None →
+      first_broken (map_rules (map_state_now turn.game.events) asker lay) ≡ None →
       R turn (in_turn (after_lay turn.game company lay cost) (lay_done lays asker lay turn.progress))
   pub placed : (turn : InTurn) (asker : Asker) (at : Place) (cost : ℕ) → asker.pointer ≡ turn.progress.pointer →
-      first_broken (slot_rules (ground_now turn.game.events) asker at) ≡ None →
+      first_broken (slot_rules (map_state_now turn.game.events) asker at) ≡ None →
       R turn (in_turn (after_token turn.game company at cost) (token_done turn.progress))
   pub ran : (turn : InTurn) (progress : Progress) (revenue : ℕ) → R turn (in_turn (with_event turn.game (event.Runs company revenue)) progress)
   pub paid : (turn : InTurn) → pay_judgement turn.progress ≡ None →
@@ -101,7 +101,7 @@ module _ (by : Operator) (R : InTurn → InTurn → Type 0) (steps : OfSteps by.
 
   -- of LAY
   of_lay : (turn : InTurn) (line : Numbered) (lay : Lay) (answer : Result ℤ LayRule) →
-      IsLayAnswer (ground_now turn.game.events) (asker_of turn.game by.company turn.progress) lay answer → R turn (lay_answered by turn line lay answer)
+      IsLayAnswer (map_state_now turn.game.events) (asker_of turn.game by.company turn.progress) lay answer → R turn (lay_answered by turn line lay answer)
   of_lay turn line lay (Err rule) answered = of_ruling turn line _
   of_lay turn line lay (Ok cost) answered =
       let asker : Asker = asker_of turn.game by.company turn.progress in
@@ -109,12 +109,12 @@ module _ (by : Operator) (R : InTurn → InTurn → Type 0) (steps : OfSteps by.
       let same = same_after_ruling turn.game ruled.game by.president line (Obeyed line.condition (order.Lay lay)) refl in
       after_ruling turn line (order.Lay lay) (lay_answered by turn line lay (Ok cost))
       (steps.laid ruled (lays_of turn.game.events) asker lay (unsigned_abs cost)
-      (subst (λ (g : Ground). first_broken (ground_rules g asker lay) ≡ None) (sym same)
-      (lay_allowed (ground_now turn.game.events) asker lay cost answered).allowed))
+      (subst (λ (g : MapState). first_broken (map_rules g asker lay) ≡ None) (sym same)
+      (lay_allowed (map_state_now turn.game.events) asker lay cost answered).allowed))
 
   -- of TOKEN
   of_token : (turn : InTurn) (line : Numbered) (at : Place) (answer : Result ℤ TokenRule) →
-      IsTokenAnswer (ground_now turn.game.events) (asker_of turn.game by.company turn.progress) at answer → R turn (token_answered by turn line at answer)
+      IsTokenAnswer (map_state_now turn.game.events) (asker_of turn.game by.company turn.progress) at answer → R turn (token_answered by turn line at answer)
   of_token turn line at (Err rule) answered = of_ruling turn line _
   of_token turn line at (Ok cost) answered =
       let asker : Asker = asker_of turn.game by.company turn.progress in
@@ -122,11 +122,11 @@ module _ (by : Operator) (R : InTurn → InTurn → Type 0) (steps : OfSteps by.
       let same = same_after_ruling turn.game ruled.game by.president line (Obeyed line.condition (order.Token at)) refl in
       after_ruling turn line (order.Token at) (token_answered by turn line at (Ok cost))
       (steps.placed ruled asker at (unsigned_abs cost) refl
-      (subst (λ (g : Ground). first_broken (slot_rules g asker at) ≡ None) (sym same)
-      (token_allowed (ground_now turn.game.events) asker at cost answered).allowed))
+      (subst (λ (g : MapState). first_broken (slot_rules g asker at) ≡ None) (sym same)
+      (token_allowed (map_state_now turn.game.events) asker at cost answered).allowed))
 
   -- of RUN
-  of_run : (turn : InTurn) (line : Numbered) (its : Order) (judged : Result Ran RunRule) → R turn (run_ruled by turn line its judged)
+  of_run : (turn : InTurn) (line : Numbered) (its : Order) (judged : Result CompletedRun RunRule) → R turn (run_ruled by turn line its judged)
   of_run turn line its (Err rule) = of_ruling turn line _
   of_run turn line its (Ok ran) =
       after_ruling turn line its (run_ruled by turn line its (Ok ran)) (steps.ran (told by turn line (Obeyed line.condition its)) (run_done turn.progress ran) ran.earned)

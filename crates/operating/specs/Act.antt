@@ -7,13 +7,13 @@ use Rattle.events.specs.declared.event.Event.{Event}
 use Rattle.events.specs.declared.event.Event.TheVariants as event
 use Rattle.history.specs.LookBack.{Game, with_event}
 use Rattle.history.specs.Operating.{tokens_of}
-use Rattle.history.specs.Tell.{broken_told}
+use Rattle.history.specs.Record.{broken_recorded}
 use Rattle.map_tables.specs.Home.{home_of}
-use Rattle.map_tables.specs.Lying.{has_token}
+use Rattle.map_tables.specs.OnMap.{has_token}
 use Rattle.map_tables.specs.Place.{place_of}
 use Rattle.map_tables.specs.declared.lay.Lay.{Lay}
 use Rattle.map_tables.specs.declared.place.Place.{Place}
-use Rattle.market.specs.Moves.{left_of}
+use Rattle.market.specs.Moves.{square_left_of}
 use Rattle.market.specs.Token.{with_move}
 use Rattle.tables.specs.declared.roster.Company.{Company}
 
@@ -36,8 +36,8 @@ after_token game company place cost = with_event game (event.Token company place
 
 -- with the token of a company moved left on the chart
 abbrev pub moved_left : Game → Company → Game
-moved_left game company = record { seats = game.seats; events = with_move left_of game.events company }
+moved_left game company = record { seats = game.seats; events = with_move square_left_of game.events company }
 
 -- after the company has withheld so much
 abbrev pub withheld : Game → Company → ℕ → Game
-withheld game company amount = moved_left (broken_told (with_event game (event.Withheld company amount))) company
+withheld game company amount = moved_left (broken_recorded (with_event game (event.Withheld company amount))) company

@@ -2,7 +2,7 @@
 -- how far the turn has come, and a board that has the first of the tiles and tokens that were laid.
 use Rattle.std.specs.Prelude.{◌≡◌}
 use Rattle.history.specs.Sound.{IsSound}
-use Rattle.operating.specs.Ground.{IsFront}
+use Rattle.operating.specs.MapState.{IsFront}
 use Rattle.operating.specs.InTurn.{InTurn, in_turn}
 use Rattle.operating.specs.declared.company_turn.CompanyTurn.{CompanyTurn}
 

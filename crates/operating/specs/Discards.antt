@@ -6,7 +6,7 @@ use Rattle.std.specs.Prelude.{◌==◌, Bool, false, not, ◌||◌, if◌then◌
 use Rattle.std.specs.Int.Signed.{lt_z}
 use Rattle.std.specs.List.{fold}
 use Rattle.std.specs.Option.{option_or}
-use Rattle.events.specs.Event.{Obeyance, obeyed_of, office_of, round_of}
+use Rattle.events.specs.Event.{Obeyance, obeyed_of, office_of, round_begun_by}
 use Rattle.events.specs.declared.event.Event.{Event}
 use Rattle.events.specs.declared.event.Event.TheVariants.{Discarded}
 use Rattle.events.specs.declared.ruling.TrainRule.{TrainRule}
@@ -83,7 +83,7 @@ discarded_by company other = None
 -- and one serves where the company discards while the seat presides
 abbrev pub kinds_then : Seat → Company → Lines → Event → List Kind
 kinds_then seat company lines event =
-    if is_some (round_of event)
+    if is_some (round_begun_by event)
     then []
     else without (with_kind lines.kinds (line_of seat company (obeyed_of event))) (if lines.presides then discarded_by company event else None)
 

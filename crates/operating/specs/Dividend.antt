@@ -19,7 +19,7 @@ use Rattle.events.specs.declared.ruling.Refusal.TheVariants as refusal
 use Rattle.history.specs.LookBack.{Game, cash_of, with_event}
 use Rattle.history.specs.Shares.{shares_of}
 use Rattle.history.specs.Sound.{IsSound}
-use Rattle.history.specs.Tell.{broken_told}
+use Rattle.history.specs.Record.{broken_recorded}
 use Rattle.history.specs.Trains.{so_many}
 use Rattle.market.specs.Moves.{right_of}
 use Rattle.market.specs.Token.{with_move}
@@ -45,7 +45,7 @@ dividend_of events company place revenue = so_many (shares_of events company pla
 -- after a dividend of the bank to a holder, if it is over 0; perhaps that breaks the bank
 abbrev pub paid_to : Company → Holder → ℕ → Game → Game
 paid_to company holder amount game =
-    if amount == 0 then game else broken_told (with_event game (event.Dividend company holder amount))
+    if amount == 0 then game else broken_recorded (with_event game (event.Dividend company holder amount))
 
 -- after the dividend for the tenths at a place goes to a holder
 abbrev pub paid_for : Company → Holder → Shareholder → ℕ → Game → Game

@@ -7,7 +7,7 @@
 -- he is bankrupt, and nothing is bought.
 use Rattle.std.specs.Prelude.{◌≡◌, ◌⊎◌, ℕ, Bool, true, false, ◌&&◌, ◌||◌, if◌then◌else◌, List, [], ◌∷◌, Option, Some, None, option_map, Result, Ok, is_none, find, codes, ℤ, pos, ◌-ℤ◌}
 use Rattle.std.specs.Int.Signed.{lt_z}
-use Rattle.board.specs.Ground.{position_of}
+use Rattle.board.specs.MapState.{position_of}
 use Rattle.certificate.specs.TwoTrain.{CanRun}
 use Rattle.certs.specs.Sale.{sale_judgement}
 use Rattle.certs.specs.SaleAct.{after_sale}
@@ -25,8 +25,8 @@ use Rattle.events.specs.declared.ruling.StockRule.TheVariants.{NotOfStock}
 use Rattle.history.specs.Bids.{free_cash_of}
 use Rattle.history.specs.Conditions.{is_met}
 use Rattle.history.specs.LookBack.{Game, cash_of, with_event}
-use Rattle.history.specs.Trains.{so_many, stable_size, trains_held}
-use Rattle.operating.specs.Ground.{ground_now}
+use Rattle.history.specs.Trains.{so_many, train_count, trains_held}
+use Rattle.operating.specs.MapState.{map_state_now}
 use Rattle.operating.specs.Phases.{after_train}
 use Rattle.operating.specs.Trains.{cost_of, numbered_kinds, sells}
 use Rattle.operating.specs.declared.operator.Operator.{Operator}
@@ -46,11 +46,11 @@ use Rattle.turns.specs.Ruling.{done, judged, obeyed_by}
 
 -- the company has a train
 abbrev pub has_trains : List Event → Company → Bool
-has_trains events company = lt_z (pos 0) (stable_size events (Some company))
+has_trains events company = lt_z (pos 0) (train_count events (Some company))
 
 -- the company has no train, and could run one of kind 2
 abbrev pub IsDue : Game → Company → Type 0
-IsDue game company = (has_trains game.events company ≡ false) × CanRun (position_of (ground_now game.events)) company
+IsDue game company = (has_trains game.events company ≡ false) × CanRun (position_of (map_state_now game.events)) company
 
 -- the purchase of a train of a kind, for which none is traded in
 abbrev pub plain : Kind → TrainSeller → Purchase

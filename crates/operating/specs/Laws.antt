@@ -1,7 +1,7 @@
 -- Laws of company turns.
 use Rattle.std.specs.Prelude.{◌≡◌, ℕ, true, false, ◌||◌, List, ◌++◌, is_some}
 use Rattle.std.specs.List.{list_any}
-use Rattle.events.specs.Event.{round_of}
+use Rattle.events.specs.Event.{round_begun_by}
 use Rattle.events.specs.declared.event.Event.{Event}
 use Rattle.history.specs.LookBack.{Game}
 use Rattle.history.specs.Operating.{has_operated}
@@ -19,7 +19,7 @@ CompanyOperates =
 
 -- none of these events begins a round
 abbrev pub BeginsNoRound : List Event → Type 0
-BeginsNoRound events = list_any (λ event. is_some (round_of event)) events ≡ false
+BeginsNoRound events = list_any (λ event. is_some (round_begun_by event)) events ≡ false
 
 -- after is before with more events, none of which begins a round
 pub record OnlyAdds (before after : Game) : Type 0 where

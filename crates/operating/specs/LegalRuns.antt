@@ -9,7 +9,7 @@ use Rattle.operating.specs.InTurn.{InTurn}
 use Rattle.operating.specs.Runs.{judged_run, position_now, steps_now}
 use Rattle.operating.specs.Turn.{LineLeads, begun, is_held}
 use Rattle.operating.specs.declared.operator.Operator.{Operator}
-use Rattle.operating.specs.declared.runs.Ran.{Ran}
+use Rattle.operating.specs.declared.runs.CompletedRun.{CompletedRun}
 use Rattle.order_grammar.specs.declared.fault.Fault.{Fault}
 use Rattle.order_grammar.specs.declared.order.Order.{Order}
 use Rattle.order_grammar.specs.declared.order.Order.TheVariants as order
@@ -19,7 +19,7 @@ use Rattle.tables.specs.declared.rolling_stock.Kind.{Kind}
 use Rattle.tables.specs.declared.roster.Company.{Company}
 
 -- the walk of a run, if it is obeyed
-abbrev pub walk_if_ran : List Step → Result Ran RunRule → List (List Step)
+abbrev pub walk_if_ran : List Step → Result CompletedRun RunRule → List (List Step)
 walk_if_ran steps (Ok ran) = steps ∷ []
 walk_if_ran steps (Err rule) = []
 
@@ -50,7 +50,7 @@ LinesRun by turn before (line ∷ lines) new all =
 -- that the walks of the runs cross which were obeyed before it in the turn.
 abbrev pub ObeyedRunsAreLegal : Type 0
 ObeyedRunsAreLegal =
-    (by : Operator) (game : Game) (lines : List Numbered) (turn : InTurn) (before : List (List Step)) (kind : Kind) (run : List Place) (ran : Ran) →
+    (by : Operator) (game : Game) (lines : List Numbered) (turn : InTurn) (before : List (List Step)) (kind : Kind) (run : List Place) (ran : CompletedRun) →
     LinesRun by (begun game by.company) [] lines turn before →
     judged_run turn by.company kind run ≡ Ok ran →
     IsLegalRun (position_now turn.game.events) by.company kind (all_crossed before) (steps_now turn.game.events run)

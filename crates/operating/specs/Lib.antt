@@ -1,4 +1,4 @@
-pub mod Ground
+pub mod MapState
 pub mod Judgement
 pub mod Act
 pub mod Done

@@ -10,7 +10,7 @@ use Rattle.events.specs.declared.event.Event.TheVariants as event
 use Rattle.events.specs.declared.event.TrainSeller.{TrainSeller}
 use Rattle.events.specs.declared.event.TrainSeller.TheVariants as seller
 use Rattle.history.specs.LookBack.{Game, owner_of, with_event}
-use Rattle.history.specs.Trains.{phase_of, so_many, stable_size, trains_held, trains_sold}
+use Rattle.history.specs.Trains.{phase_of, so_many, train_count, trains_held, trains_sold}
 use Rattle.operating.specs.Discards.{next_discard}
 use Rattle.operating.specs.Trains.{cost_of}
 use Rattle.operating.specs.declared.purchase.Purchase.{Purchase}
@@ -47,17 +47,17 @@ abbrev pub with_one_rusted : Option Company → Kind → Game → Game
 with_one_rusted owner kind game = with_event game (event.Rusted owner kind)
 
 -- with RUSTED of each train of the kind that a company has, or the pool
-abbrev pub with_stable_rusted : Option Company → Kind → Game → Game
-with_stable_rusted owner kind game =
+abbrev pub with_trains_rusted : Option Company → Kind → Game → Game
+with_trains_rusted owner kind game =
     iterate (with_one_rusted owner kind) (so_many (trains_held game.events owner kind)) game
 
 -- with RUSTED of each train of the kind that a company has
 abbrev pub with_company_rusted : Kind → Game → Company → Game
-with_company_rusted kind game company = with_stable_rusted (Some company) kind game
+with_company_rusted kind game company = with_trains_rusted (Some company) kind game
 
 -- with RUSTED of each train of the kind: company by company in roster order, then those of the pool
 abbrev pub with_kind_rusted : Game → Kind → Game
-with_kind_rusted game kind = with_stable_rusted None kind (fold (with_company_rusted kind) game companies)
+with_kind_rusted game kind = with_trains_rusted None kind (fold (with_company_rusted kind) game companies)
 
 -- the trains of a kind rust at the first train of this kind
 abbrev pub rusts_at : Option Kind → Kind → Bool
@@ -87,7 +87,7 @@ with_next_discarded company game = with_discarded game company (next_discard gam
 
 -- how many trains a company has over the limit of the phase
 abbrev pub excess_of : Game → Company → ℕ
-excess_of game company = so_many (stable_size game.events (Some company) -ℤ pos (limit_of (phase_of game.events)))
+excess_of game company = so_many (train_count game.events (Some company) -ℤ pos (limit_of (phase_of game.events)))
 
 -- with DISCARDED of each train that a company has over the limit
 abbrev pub with_limit_kept : Game → Company → Game

@@ -6,7 +6,7 @@ use Rattle.std.specs.Prelude.{◌≡◌, ◌+◌, ◌-◌, ◌*◌, ◌≤◌, �
 use Rattle.std.specs.List.{list_any}
 use Rattle.std.specs.Option.{option_or}
 use lib.Signed.{le_z, lt_z}
-use Rattle.board.specs.Ground.{position_of}
+use Rattle.board.specs.MapState.{position_of}
 use Rattle.board.specs.Turn.{place_of_step}
 use Rattle.board.specs.declared.asker.TurnStep.TheVariants as step
 use Rattle.certificate.specs.Fault.{named_steps, run_fault}
@@ -22,11 +22,11 @@ use Rattle.history.specs.Trains.{trains_held}
 use Rattle.map_tables.specs.declared.rules.RunRule.{RunRule}
 use Rattle.map_tables.specs.declared.rules.RunRule.TheVariants as run_rule
 use Rattle.map_tables.specs.declared.place.Place.{Place}
-use Rattle.operating.specs.Ground.{ground_now}
+use Rattle.operating.specs.MapState.{map_state_now}
 use Rattle.operating.specs.InTurn.{InTurn, in_turn, told}
 use Rattle.operating.specs.declared.operator.Operator.{Operator}
 use Rattle.operating.specs.declared.progress.Progress.{Progress}
-use Rattle.operating.specs.declared.runs.Ran.{Ran}
+use Rattle.operating.specs.declared.runs.CompletedRun.{CompletedRun}
 use Rattle.operating.specs.declared.runs.Runs.{Runs}
 use Rattle.order_grammar.specs.declared.order.Order.{Order}
 use Rattle.reach.specs.Position.{Position}
@@ -39,7 +39,7 @@ use Rattle.tables.specs.declared.roster.Company.{Company}
 
 -- the position of the map now
 abbrev pub position_now : List Event → Position
-position_now events = position_of (ground_now events)
+position_now events = position_of (map_state_now events)
 
 -- the walk that some places name now
 abbrev pub steps_now : List Event → List Place → List Step
@@ -72,7 +72,7 @@ rules_of_turn game company progress kind =
 
 -- what a run over a position does, where the borders are used that are marked so: what it earns, and the borders that are used
 -- once it is run
-abbrev pub ran_by : Position → Kind → List Bool → List Place → Ran
+abbrev pub ran_by : Position → Kind → List Bool → List Place → CompletedRun
 ran_by position kind used run = record {
   kind = kind;
   earned = earned position (named_steps position run);
@@ -80,7 +80,7 @@ ran_by position kind used run = record {
 }
 
 -- a run that breaks this rule, if it breaks one, and else does this
-abbrev pub ran_unless : Ran → Option RunRule → Result Ran RunRule
+abbrev pub ran_unless : CompletedRun → Option RunRule → Result CompletedRun RunRule
 ran_unless ran None = Ok ran
 ran_unless ran (Some rule) = Err rule
 
@@ -89,7 +89,7 @@ abbrev pub broken_by : Position → Company → Kind → List Bool → List Plac
 broken_by position company kind used run = run_fault position company kind (borders_used used) run
 
 -- what a run does, or the first rule of runs that it breaks
-abbrev pub ran_unless_fault : Position → Company → Kind → List Bool → List Place → Result Ran RunRule
+abbrev pub ran_unless_fault : Position → Company → Kind → List Bool → List Place → Result CompletedRun RunRule
 ran_unless_fault position company kind used run =
     ran_unless (ran_by position kind used run) (broken_by position company kind used run)
 
@@ -100,12 +100,12 @@ run_judgement turn company kind run =
     (broken_by (position_now turn.game.events) company kind turn.progress.runs.borders run)
 
 -- what a run of a train of a kind does, or the first rule that it breaks
-abbrev pub judged_run : InTurn → Company → Kind → List Place → Result Ran RunRule
+abbrev pub judged_run : InTurn → Company → Kind → List Place → Result CompletedRun RunRule
 judged_run turn company kind run =
     ran_unless (ran_by (position_now turn.game.events) kind turn.progress.runs.borders run) (run_judgement turn company kind run)
 
 -- once a train has run
-abbrev pub with_ran : Runs → Ran → Runs
+abbrev pub with_ran : Runs → CompletedRun → Runs
 with_ran runs ran = record {
   trains = slice_set runs.trains (place_of_kind ran.kind) (has_run runs ran.kind +ℤ pos 1);
   borders = ran.borders;
@@ -113,7 +113,7 @@ with_ran runs ran = record {
 }
 
 -- how far the turn has come then
-abbrev pub run_done : Progress → Ran → Progress
+abbrev pub run_done : Progress → CompletedRun → Progress
 run_done progress ran = record progress { pointer = step.Run; runs = with_ran progress.runs ran }
 
 -- as many trains of a kind as may have run where one more is still to be counted
@@ -122,14 +122,14 @@ runs_most = pos (2 ^ 63 - 2)
 
 -- a train may still do this: few of its kind have run, it marks no more than the borders, and it earns at most 160
 -- dollars for each one that it uses, so that it earns little
-pub record IsCounted (runs : Runs) (ran : Ran) : Type 0 where
+pub record IsCounted (runs : Runs) (ran : CompletedRun) : Type 0 where
   pub few : has_run runs ran.kind ≤ℤ runs_most
   pub marks : length ran.borders ≡ length runs.borders
   pub bounded : ran.earned + 160 * unused ran.borders ≤ 160 * unused runs.borders
   pub small : ran.earned ≤ 94640
 
 -- after the order of this line, by which a train has run or which broke a rule
-abbrev pub run_ruled : Operator → InTurn → Numbered → Order → Result Ran RunRule → InTurn
+abbrev pub run_ruled : Operator → InTurn → Numbered → Order → Result CompletedRun RunRule → InTurn
 run_ruled by turn line order (Err rule) = told by turn line (Refused (refusal.Run rule) line.condition order)
 run_ruled by turn line order (Ok ran) =
     in_turn (with_event (told by turn line (Obeyed line.condition order)).game (event.Runs by.company ran.earned)) (run_done turn.progress ran)

@@ -2,7 +2,7 @@
 use Rattle.std.specs.Prelude.{Result, Ok, Err}
 use Rattle.history.specs.LookBack.{Game}
 use Rattle.history.specs.Sound.{IsSound}
-use Rattle.operating.specs.Ground.{IsFront}
+use Rattle.operating.specs.MapState.{IsFront}
 use Rattle.operating.specs.declared.table.Table.{Table}
 
 -- its list is sound, and its board has the first of the tiles and tokens that were laid

@@ -2,8 +2,8 @@
 -- tiles on the map and those in the stock are as many as the manifest has, and the stock never owes one.
 use Rattle.std.specs.Prelude.{◌≡◌, ℕ, ◌+◌, cond, List, [], ◌∷◌, ◌++◌, Some, None, reverse, ℤ, pos, ◌+ℤ◌, ◌-ℤ◌, ◌≤ℤ◌}
 use Rattle.std.specs.List.{count_by}
-use Rattle.map_tables.specs.Lying.{tile_on}
-use Rattle.board.specs.LayRules.{ground_rules, is_tile, lying_of}
+use Rattle.map_tables.specs.OnMap.{tile_on}
+use Rattle.board.specs.LayRules.{map_rules, is_tile, on_map_of}
 use Rattle.board.specs.declared.asker.Asker.{Asker}
 use Rattle.events.specs.Event.{tile_laid}
 use Rattle.events.specs.declared.event.Event.{Event}
@@ -13,7 +13,7 @@ use Rattle.history.specs.Operating.{lays_of}
 use Rattle.map_tables.specs.Tile.{entry_of}
 use Rattle.map_tables.specs.declared.lay.Lay.{Lay}
 use Rattle.map_tables.specs.declared.tiles.TileNo.{TileNo}
-use Rattle.operating.specs.Ground.{ground_now}
+use Rattle.operating.specs.MapState.{map_state_now}
 use Rattle.operating.specs.Turn.{IsCompanyTurn}
 use Rattle.tables.specs.Rules.{first_broken}
 use Rattle.tables.specs.declared.roster.Company.{Company}
@@ -39,7 +39,7 @@ stock_of lays tile = (pos (entry_of tile).count -ℤ pos (taken_of lays tile)) +
 
 -- of each number those on the map and those in the stock are as many as the manifest has, and the stock owes none
 pub record TilesAreAll (events : List Event) : Type 0 where
-  pub all : (tile : TileNo) → pos (lying_of (lays_of events) tile) +ℤ stock_of (lays_of events) tile ≡ pos (entry_of tile).count
+  pub all : (tile : TileNo) → pos (on_map_of (lays_of events) tile) +ℤ stock_of (lays_of events) tile ≡ pos (entry_of tile).count
   pub owes_none : (tile : TileNo) → pos 0 ≤ℤ stock_of (lays_of events) tile
 
 -- so it is at first
@@ -55,7 +55,7 @@ OthersKeepTiles =
 abbrev pub LaysKeepTiles : Type 0
 LaysKeepTiles =
     (game : Game) (company : Company) (asker : Asker) (lay : Lay) (cost : ℕ) →
-    first_broken (ground_rules (ground_now game.events) asker lay) ≡ None →
+    first_broken (map_rules (map_state_now game.events) asker lay) ≡ None →
     TilesAreAll game.events → TilesAreAll (with_event game (Laid company lay cost)).events
 
 -- and after a company's turn

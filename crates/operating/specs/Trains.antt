@@ -13,7 +13,7 @@ use Rattle.events.specs.declared.ruling.TrainRule.TheVariants.{NotOnSale, TrainL
 use Rattle.history.specs.LookBack.{Game, cash_of}
 use Rattle.history.specs.Offers.{has_consent}
 use Rattle.history.specs.Shares.{president_of}
-use Rattle.history.specs.Trains.{phase_of, stable_size, trains_held, trains_sold}
+use Rattle.history.specs.Trains.{phase_of, train_count, trains_held, trains_sold}
 use Rattle.operating.specs.Discards.{has_train}
 use Rattle.operating.specs.declared.purchase.Purchase.{Purchase}
 use Rattle.order_grammar.specs.declared.order.Offer.{Offer}
@@ -74,9 +74,9 @@ traded_count (Some kind) = 1
 
 -- the company would have more trains than the phase allows. One that is to be traded in is not counted, whether
 -- the company has it or not
-abbrev pub is_full : List Event → Company → Option Kind → Bool
-is_full events company trade_in =
-    not (lt_z (stable_size events (Some company) -ℤ pos (traded_count trade_in)) (pos (limit_of (phase_of events))))
+abbrev pub is_at_train_limit : List Event → Company → Option Kind → Bool
+is_at_train_limit events company trade_in =
+    not (lt_z (train_count events (Some company) -ℤ pos (traded_count trade_in)) (pos (limit_of (phase_of events))))
 
 -- the price of a train of a kind for a company that trades a train in: a D is cheaper then
 abbrev pub price_for_trade : Kind → ℕ
@@ -145,10 +145,10 @@ is_not_sellers events buyer kind (seller.Company company) =
     not (has_train events company kind) || same_company buyer company
 
 -- the rules of a purchase by a company
-abbrev pub purchase_rules : Game → Company → Purchase → List (Rule TrainRule)
-purchase_rules game company purchase =
+abbrev pub train_purchase_rules : Game → Company → Purchase → List (Rule TrainRule)
+train_purchase_rules game company purchase =
     record { code = NotOnSale; broken = not (is_on_sale game.events purchase.from purchase.kind) }
-    ∷ record { code = TrainLimit; broken = is_full game.events company purchase.trade_in }
+    ∷ record { code = TrainLimit; broken = is_at_train_limit game.events company purchase.trade_in }
     ∷ record { code = CashTooSmall; broken = is_too_dear game company purchase }
     ∷ record { code = NoConsent; broken = lacks_consent game.events company purchase }
     ∷ record { code = NotSellers; broken = is_not_sellers game.events company purchase.kind purchase.from }
@@ -157,4 +157,4 @@ purchase_rules game company purchase =
 
 -- the first rule that a purchase by a company breaks
 abbrev pub train_judgement : Game → Company → Purchase → Option TrainRule
-train_judgement game company purchase = first_broken (purchase_rules game company purchase)
+train_judgement game company purchase = first_broken (train_purchase_rules game company purchase)

@@ -29,7 +29,7 @@ use Rattle.operating.specs.Best.{BestLeads}
 use Rattle.operating.specs.Act.{after_lay, after_token, with_home, withheld}
 use Rattle.operating.specs.Dividend.{after_pay, after_withhold}
 use Rattle.operating.specs.Forced.{EndLeads}
-use Rattle.operating.specs.Ground.{ground_now}
+use Rattle.operating.specs.MapState.{map_state_now}
 use Rattle.operating.specs.InTurn.{InTurn, at_start, in_turn, is_unpaid, lay_done, pay_done, ruled, token_done, told}
 use Rattle.operating.specs.Judgement.{asker_of}
 use Rattle.operating.specs.Phases.{after_train}
@@ -69,13 +69,13 @@ token_answered by turn line place (Err rule) = told by turn line (Refused (refus
 -- a LAY in this line leads to new: the rules of lays give an answer, by what lies
 pub record LayLeads (by : Operator) (turn : InTurn) (line : Numbered) (lay : Lay) (new : InTurn) : Type 0 where
   pub answer : Result ℤ LayRule
-  pub answered : IsLayAnswer (ground_now turn.game.events) (asker_of turn.game by.company turn.progress) lay answer
+  pub answered : IsLayAnswer (map_state_now turn.game.events) (asker_of turn.game by.company turn.progress) lay answer
   pub after : new ≡ lay_answered by turn line lay answer
 
 -- a TOKEN in this line leads to new
 pub record TokenLeads (by : Operator) (turn : InTurn) (line : Numbered) (place : Place) (new : InTurn) : Type 0 where
   pub answer : Result ℤ TokenRule
-  pub answered : IsTokenAnswer (ground_now turn.game.events) (asker_of turn.game by.company turn.progress) place answer
+  pub answered : IsTokenAnswer (map_state_now turn.game.events) (asker_of turn.game by.company turn.progress) place answer
   pub after : new ≡ token_answered by turn line place answer
 
 -- with what the company withholds by itself, where the turn is not past its pay

@@ -16,11 +16,11 @@ ghost use Rattle.sheets.specs.Part.{line_with};
 
 use crate::company_turn::CompanyTurn;
 use crate::forced::has_trains;
-use crate::ground::catch_up;
+use crate::map_state::update_map_state;
 use crate::progress::Progress;
-use crate::running::tell_runs;
+use crate::running::record_runs;
 use certificate::{Runner, RunnerFault};
-use history::{History, Past, Refusal, RunRule, TrainCount, so_many};
+use history::{GameView, History, Refusal, RunRule, TrainCount, so_many};
 use order_grammar::Order;
 use reach::Network;
 use sheets::ReadLine;
@@ -92,7 +92,7 @@ impl CompanyTurn {
     {
         let by = self.by;
         record(&mut self.history, by.president, line, &Order::RunBest, None)?;
-        tell_runs(&mut self.history, by.company, revenue)?;
+        record_runs(&mut self.history, by.company, revenue)?;
         self.progress = self.progress.with_best(revenue);
         Ok(())
     }
@@ -115,7 +115,7 @@ impl CompanyTurn {
         certificate::laws::a_greatest_exists();
         certificate::laws::one_greatest();
         let board = &mut *self.board;
-        catch_up(board, &self.history)?;
+        update_map_state(board, &self.history)?;
         board.keeps_laws();
         let company = self.by.company;
         let trains = trains_of(self.alloc, &self.history.now(), company)?;
@@ -138,7 +138,7 @@ fn best_rule(history: &History, company: Company, progress: &Progress) -> Option
 }
 
 /// Whether a company has no train, or some train of it has run in the turn.
-fn has_none_to_run(past: &Past, company: Company, progress: &Progress) -> bool
+fn has_none_to_run(past: &GameView, company: Company, progress: &Progress) -> bool
     ensures { result ≡ has_none_to_run past.now.events.now company progress.now }
 {
     !has_trains(past, company) || progress.has_any_run()
@@ -154,7 +154,7 @@ fn amount(money: Money) -> Amount
 }
 
 /// The trains that a company has, kind by kind. The only error is want of memory.
-fn trains_of(alloc: Global, past: &Past, company: Company) -> Result<CompanyTrains, AllocError>
+fn trains_of(alloc: Global, past: &GameView, company: Company) -> Result<CompanyTrains, AllocError>
     ensures { IfOk result (λ trains. trains.items ≡ trains_now past.now.events.now company) }
 {
     let mut trains = CompanyTrains::new(alloc);

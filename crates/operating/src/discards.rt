@@ -10,7 +10,7 @@ ghost use Rattle.events.specs.Event.{obeyed_of, office_of};
 ghost use Rattle.history.specs.Shares.{president_said};
 ghost use Rattle.tables.specs.Train.{same_kind};
 
-use history::{Event, History, Past, Ruling, TrainRule};
+use history::{Event, GameView, History, Ruling, TrainRule};
 use order_grammar::Order;
 use std::alloc::{AllocError, Global};
 use tables::{Company, Kind, Seat};
@@ -31,7 +31,7 @@ pub(crate) fn judge_discard(
 }
 
 /// Whether the seat is not president of the company, or the company has no such train.
-fn is_no_discard(past: &Past, seat: Seat, company: Company, kind: Kind) -> bool
+fn is_no_discard(past: &GameView, seat: Seat, company: Company, kind: Kind) -> bool
     ensures { result ≡ is_no_discard past.now.events.now seat company kind }
 {
     !is_president(past.president(company), seat) || !has_train(past, company, kind)
@@ -45,7 +45,7 @@ pub(crate) fn is_president(president: Option<Seat>, seat: Seat) -> bool
 }
 
 /// Whether a company has a train of a kind.
-pub(crate) fn has_train(past: &Past, company: Company, kind: Kind) -> bool
+pub(crate) fn has_train(past: &GameView, company: Company, kind: Kind) -> bool
     ensures { result ≡ has_train past.now.events.now company kind }
 {
     past.trains(Some(company), kind) > 0
@@ -69,7 +69,7 @@ pub(crate) fn next_discard(
 }
 
 /// The first of these kinds of which a company has a train.
-fn first_held(past: &Past, company: Company, kinds: &[Kind]) -> Option<Kind>
+fn first_held(past: &GameView, company: Company, kinds: &[Kind]) -> Option<Kind>
     ensures { result ≡ first_held past.now.events.now company kinds.now }
 {
     for kind in kinds {
@@ -83,7 +83,7 @@ fn first_held(past: &Past, company: Company, kinds: &[Kind]) -> Option<Kind>
 /// The kinds of a president's lines for a company that are still to serve in this round, in order.
 fn lines_of(
     alloc: Global,
-    past: &Past,
+    past: &GameView,
     company: Company,
     president: Option<Seat>,
 ) -> Result<Vec<Kind>, AllocError>

@@ -181,6 +181,6 @@ fn pay_to(
         holder,
         amount,
     })?;
-    history.tell_broken()?;
+    history.record_broken()?;
     Ok(())
 }

@@ -5,20 +5,20 @@ ghost use Rattle.history.specs.Sound.{IsSound};
 ghost use Rattle.history.specs.Trains.{so_many as as_many};
 ghost use Rattle.operating.specs.CompanyTurn.{IsInOrder};
 ghost use Rattle.operating.specs.Forced.{EndLeads, IsDue, after_forced, after_raise, after_raise_line, after_raises, cheapest, concluded, falls_short, first_on_sale, first_to_sell, has_trains, lack_of, may_spell_raise, needed_rule, next_to_sell, one_tenth, plain, raise_rule, sale_rule, sold_further, sold_singly, with_aid, with_one_sold};
-ghost use Rattle.operating.specs.Ground.{IsFront};
+ghost use Rattle.operating.specs.MapState.{IsFront};
 ghost use Rattle.operating.specs.Trains.{IsSmallPurchase};
 ghost use Rattle.order_grammar.specs.declared.order.Order.TheVariants.{Raise};
 ghost use Rattle.sheets.specs.Part.{line_unread, line_with};
 
 use crate::company_turn::CompanyTurn;
-use crate::ground::catch_up;
+use crate::map_state::update_map_state;
 use crate::operator::Operator;
 use crate::phases::buy_train;
 use crate::purchase::{NUMBERED, Purchase, sells};
 use board::Board;
 use certificate::can_run;
 use certs::{Sale, may_sell, sell_block};
-use history::{Event, History, Party, Past, Refusal, StockRule, TrainSeller, so_many};
+use history::{Event, GameView, History, Party, Refusal, StockRule, TrainSeller, so_many};
 use order_grammar::{Condition, Order, begins_with_word};
 use sheets::{PartsLeft, ReadLine, UnreadLine};
 use std::alloc::{AllocError, Global};
@@ -56,15 +56,15 @@ fn is_due(board: &mut Board, history: &History, company: Company) -> Result<bool
     if has_trains(&history.now(), company) {
         return Ok(false);
     }
-    catch_up(board, history)?;
+    update_map_state(board, history)?;
     Ok(can_run(&*board, company))
 }
 
 /// Whether a company has a train.
-pub(crate) fn has_trains(past: &Past, company: Company) -> bool
+pub(crate) fn has_trains(past: &GameView, company: Company) -> bool
     ensures { result ≡ has_trains past.now.events.now company }
 {
-    past.stable_size(Some(company)) > 0
+    past.train_count(Some(company)) > 0
 }
 
 /// A company buys the train that it must, or its president is bankrupt.
@@ -82,7 +82,7 @@ fn buy_by_force(
     ensures after { OnOk result (history.new ≡ after_forced by block.old.before history.old) }
     ensures sound { OnOk result (IsSound history.new) }
 {
-    history.tell(Event::Forced(by.company))?;
+    history.record_event(Event::Forced(by.company))?;
     rule_raises(history, by, block, true)?;
     sell_singly(history, by)?;
     conclude(alloc, history, by)?;
@@ -350,7 +350,7 @@ fn conclude(alloc: Global, history: &mut History, by: Operator) -> Result<(), Al
     ensures sound { OnOk result (IsSound history.new) }
 {
     if falls_short(history, by) {
-        history.tell(Event::Bankrupt(by.president))?;
+        history.record_event(Event::Bankrupt(by.president))?;
         return Ok(());
     }
     let purchase = cheapest(&history.now());
@@ -409,7 +409,7 @@ fn lack(history: &History, company: Company) -> Money
 
 /// The cheapest train that the bank or the pool sells, the bank's where both sell it.
 #[tactic(auto, unfolding(crate::specs::Forced::cheapest))]
-fn cheapest(past: &Past) -> Purchase
+fn cheapest(past: &GameView) -> Purchase
     ensures purchase { result ≡ cheapest past.now.events.now }
     ensures small { IsSmallPurchase result }
 {
@@ -418,7 +418,7 @@ fn cheapest(past: &Past) -> Purchase
 
 /// The first of these kinds that is for sale; a D of the bank where none is.
 #[tactic(auto, unfolding(crate::specs::Forced::first_on_sale))]
-fn first_on_sale(past: &Past, kinds: &[Kind]) -> Purchase
+fn first_on_sale(past: &GameView, kinds: &[Kind]) -> Purchase
     ensures purchase { result ≡ first_on_sale past.now.events.now kinds.now }
     ensures small { IsSmallPurchase result }
 {

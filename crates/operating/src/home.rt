@@ -1,7 +1,7 @@
 ghost use Rattle.std.specs.Prelude.{◌≡◌, OnOk};
 ghost use Rattle.operating.specs.Act.{has_home_token, with_home};
 ghost use Rattle.history.specs.Sound.{IsSound};
-ghost use Rattle.map_tables.specs.Lying.{has_token, names, same_stop};
+ghost use Rattle.map_tables.specs.OnMap.{has_token, names, same_stop};
 
 use history::{Event, History};
 use map_tables::{Place, Stop, home, joined_stop};

@@ -12,7 +12,7 @@
 //!
 //! Reading order: `operator` (whose turn it is), `runs` (what its trains have done), `progress`
 //! (how far the turn has come), `company_turn` (all that lasts for the turn: the functions that rule
-//! a line are its methods), `table` (the game and its board between turns), `ground` (what lies on the map), `asker` (the company as the rules of
+//! a line are its methods), `table` (the game and its board between turns), `map_state` (what lies on the map), `asker` (the company as the rules of
 //! the board see it), `home`, `lay` and `token` (what orders do) with `cost`,
 //! `running`, `best`, `withholding`, `dividend`, `purchase` (the rules of trains), `discards`, `phases`
 //! (what a train brings), `train`, `private` (that it buys), `forced` (what it must buy), `turn`
@@ -31,10 +31,10 @@ mod discards;
 mod dividend;
 mod forced;
 mod forced_laws;
-mod ground;
 mod home;
 pub mod laws;
 mod lay;
+mod map_state;
 mod offers;
 mod operator;
 mod phases;

@@ -6,7 +6,7 @@ ghost use Rattle.operating.specs.Phases.{after_train, begins_phase, bought, exce
 ghost use Rattle.operating.specs.Phases.{rusts_at, with_all_closed, with_bop_closed, with_closed};
 ghost use Rattle.operating.specs.Phases.{with_company_rusted, with_kind_rusted, with_kind_rusted_at};
 ghost use Rattle.operating.specs.Phases.{with_limit_kept, with_limits_kept, with_next_discarded, with_phase};
-ghost use Rattle.operating.specs.Phases.{with_privates_closed, with_rusted, with_stable_rusted, with_trade};
+ghost use Rattle.operating.specs.Phases.{with_privates_closed, with_rusted, with_trains_rusted, with_trade};
 ghost use Rattle.operating.specs.Trains.{IsSmallPurchase, train_judgement};
 ghost use Rattle.std.specs.List.{fold};
 ghost use Rattle.tables.specs.Roster.{companies};
@@ -111,7 +111,7 @@ fn begin_phase(alloc: Global, history: &mut History, phase: Kind) -> Result<(), 
     ensures after { OnOk result (history.new ≡ with_phase history.old phase) }
     ensures sound { OnOk result (IsSound history.new) }
 {
-    history.tell(Event::Phase(phase))?;
+    history.record_event(Event::Phase(phase))?;
     rust_kinds(history, phase)?;
     close_privates(history, phase)?;
     keep_limits(alloc, history)?;
@@ -156,7 +156,7 @@ fn rust_kind(history: &mut History, kind: Kind) -> Result<(), AllocError>
     ensures sound { OnOk result (IsSound history.new) }
 {
     rust_of_companies(history, kind)?;
-    rust_stable(history, None, kind)
+    rust_trains_of(history, None, kind)
 }
 
 /// The trains of a kind rust that the companies have.
@@ -167,15 +167,19 @@ fn rust_of_companies(history: &mut History, kind: Kind) -> Result<(), AllocError
     ensures sound { OnOk result (IsSound history.new) }
 {
     for company in Company::ALL {
-        rust_stable(history, Some(company), kind)?;
+        rust_trains_of(history, Some(company), kind)?;
     }
     Ok(())
 }
 
 /// The trains of a kind rust that a company has, or the pool where there is none.
-fn rust_stable(history: &mut History, owner: Option<Company>, kind: Kind) -> Result<(), AllocError>
+fn rust_trains_of(
+    history: &mut History,
+    owner: Option<Company>,
+    kind: Kind,
+) -> Result<(), AllocError>
     requires { IsSound history.old }
-    ensures after { OnOk result (history.new ≡ with_stable_rusted owner kind history.old) }
+    ensures after { OnOk result (history.new ≡ with_trains_rusted owner kind history.old) }
     ensures sound { OnOk result (IsSound history.new) }
 {
     for _ in 0..so_many(Money::from(history.trains(owner, kind))) {
@@ -236,7 +240,7 @@ fn keep_limit(alloc: Global, history: &mut History, company: Company) -> Result<
 fn excess(history: &History, company: Company) -> Money
     ensures { excess_of history.now company ≡ so_many result }
 {
-    Money::from(history.now().stable_size(Some(company))) - limit(history.phase()) as Money
+    Money::from(history.now().train_count(Some(company))) - limit(history.phase()) as Money
 }
 
 /// A company discards a train, if it has one.

@@ -11,7 +11,7 @@ ghost use Rattle.order_grammar.specs.declared.order.Order.TheVariants.{BuyOwnedP
 ghost use Rattle.sheets.specs.Part.{line_with};
 
 use crate::company_turn::CompanyTurn;
-use history::{Event, History, Holder, Party, Past, PrivateRule, Refusal};
+use history::{Event, GameView, History, Holder, Party, PrivateRule, Refusal};
 use order_grammar::{Offer, Order};
 use sheets::ReadLine;
 use std::alloc::AllocError;
@@ -100,7 +100,12 @@ fn judge_private(
 }
 
 /// The first rule that the purchase of a private breaks.
-fn broken_by(past: &Past, company: Company, private: Private, price: Amount) -> Option<PrivateRule>
+fn broken_by(
+    past: &GameView,
+    company: Company,
+    private: Private,
+    price: Amount,
+) -> Option<PrivateRule>
     ensures { result ≡ private_judgement
         (record { seats = past.now.seats; events = past.now.events.now }) company private price }
 {
@@ -123,7 +128,7 @@ fn broken_by(past: &Past, company: Company, private: Private, price: Amount) -> 
 }
 
 /// Whether a company has less than a price.
-fn is_too_dear(past: &Past, company: Company, price: Amount) -> bool
+fn is_too_dear(past: &GameView, company: Company, price: Amount) -> bool
     ensures { result ≡ is_too_dear
         (record { seats = past.now.seats; events = past.now.events.now }) company price }
 {
@@ -131,7 +136,7 @@ fn is_too_dear(past: &Past, company: Company, price: Amount) -> bool
 }
 
 /// Whether phase 3 has not begun.
-fn is_too_early(past: &Past) -> bool
+fn is_too_early(past: &GameView) -> bool
     ensures { result ≡ is_too_early past.now.events.now }
 {
     past.phase().place() < Kind::Three.place()
@@ -146,7 +151,7 @@ fn is_wrong_price(private: Private, price: Amount) -> bool
 }
 
 /// Whether a player owns a private, and consents to its sale to a company at a price.
-fn is_given(past: &Past, buyer: Company, private: Private, price: Amount) -> bool
+fn is_given(past: &GameView, buyer: Company, private: Private, price: Amount) -> bool
     ensures { result ≡ is_given past.now.events.now buyer private price }
 {
     let sale = Offer::Private {
@@ -158,7 +163,7 @@ fn is_given(past: &Past, buyer: Company, private: Private, price: Amount) -> boo
 }
 
 /// Whether this owner is a player, and consents to a sale where this seat takes.
-fn is_given_by(past: &Past, owner: Option<Holder>, taker: Option<Seat>, sale: Offer) -> bool
+fn is_given_by(past: &GameView, owner: Option<Holder>, taker: Option<Seat>, sale: Offer) -> bool
     ensures { result ≡ is_given_by past.now.events.now owner taker sale }
 {
     match (owner, taker) {

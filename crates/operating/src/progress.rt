@@ -4,7 +4,7 @@ ghost use Rattle.operating.specs.Dividend.{is_past_pay};
 ghost use Rattle.operating.specs.Runs.{IsCounted, has_any_run, is_past_runs, run_done};
 ghost use Rattle.operating.specs.InTurn.{at_start, is_unpaid, lay_done, pay_done, token_done};
 
-use crate::runs::{Ran, Runs};
+use crate::runs::{CompletedRun, Runs};
 use board::{Asker, Board, TurnStep, is_dh_lay};
 use map_tables::Lay;
 use tables::Amount;
@@ -61,7 +61,7 @@ impl Progress {
     }
 
     /// Once a train has run: the turn is past its token, too.
-    pub(crate) fn with_run(self, ran: Ran) -> Progress
+    pub(crate) fn with_run(self, ran: CompletedRun) -> Progress
         requires { IsCounted self.runs ran }
         ensures { result ≡ run_done self ran }
     {

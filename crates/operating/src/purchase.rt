@@ -1,7 +1,7 @@
 //! The purchase of a train: what is on sale, what it costs, and the rules.
 ghost use Rattle.std.specs.Prelude.{◌≡◌, ◌≤◌, pos};
 ghost use Rattle.operating.specs.Trains.{IsSmallPurchase, cost_of, first_left_of, presidents_agree, train_judgement};
-ghost use Rattle.operating.specs.Trains.{first_left, is_full, is_left};
+ghost use Rattle.operating.specs.Trains.{first_left, is_at_train_limit, is_left};
 ghost use Rattle.operating.specs.Trains.{is_no_trade_in, is_on_sale, is_too_dear};
 ghost use Rattle.operating.specs.Trains.{lacks_consent, is_not_sellers};
 ghost use Rattle.operating.specs.Trains.{may_be_traded, may_trade};
@@ -10,7 +10,7 @@ ghost use Rattle.operating.specs.Trains.{sells, sells_diesels};
 ghost use Rattle.operating.specs.Trains.{traded_count};
 
 use crate::discards::has_train;
-use history::{History, Party, Past, TrainRule, TrainSeller};
+use history::{GameView, History, Party, TrainRule, TrainSeller};
 use order_grammar::Offer;
 use tables::{Amount, Company, Kind, Money, Seat, limit, train};
 
@@ -68,7 +68,7 @@ pub(crate) fn judge_purchase(
 }
 
 /// The first rule that a purchase breaks.
-fn broken_by(past: &Past, company: Company, purchase: Purchase) -> Option<TrainRule>
+fn broken_by(past: &GameView, company: Company, purchase: Purchase) -> Option<TrainRule>
     requires { IsSmallPurchase purchase }
     ensures { result ≡ train_judgement
         (record { seats = past.now.seats; events = past.now.events.now }) company purchase }
@@ -95,7 +95,7 @@ fn broken_by(past: &Past, company: Company, purchase: Purchase) -> Option<TrainR
 }
 
 /// Whether such a train is on sale there.
-fn is_on_sale(past: &Past, from: TrainSeller, kind: Kind) -> bool
+fn is_on_sale(past: &GameView, from: TrainSeller, kind: Kind) -> bool
     ensures { result ≡ is_on_sale past.now.events.now from kind }
 {
     match from {
@@ -106,28 +106,28 @@ fn is_on_sale(past: &Past, from: TrainSeller, kind: Kind) -> bool
 }
 
 /// Whether the bank sells trains of a kind.
-pub(crate) fn sells(past: &Past, kind: Kind) -> bool
+pub(crate) fn sells(past: &GameView, kind: Kind) -> bool
     ensures { result ≡ sells past.now.events.now kind }
 {
     first_left(past) == Some(kind) || (kind == Kind::Diesel && sells_diesels(past))
 }
 
 /// Whether the bank sells a D: it has sold a 6.
-fn sells_diesels(past: &Past) -> bool
+fn sells_diesels(past: &GameView) -> bool
     ensures { result ≡ sells_diesels past.now.events.now }
 {
     past.trains_sold(Kind::Six) > 0
 }
 
 /// The least kind of 2 to 6 of which the bank has some left.
-fn first_left(past: &Past) -> Option<Kind>
+fn first_left(past: &GameView) -> Option<Kind>
     ensures { result ≡ first_left past.now.events.now }
 {
     first_of(past, &NUMBERED)
 }
 
 /// The first of these kinds of which the bank has some left.
-fn first_of(past: &Past, kinds: &[Kind]) -> Option<Kind>
+fn first_of(past: &GameView, kinds: &[Kind]) -> Option<Kind>
     ensures { result ≡ first_left_of past.now.events.now kinds.now }
 {
     for kind in kinds {
@@ -139,7 +139,7 @@ fn first_of(past: &Past, kinds: &[Kind]) -> Option<Kind>
 }
 
 /// Whether the bank has trains of a kind left.
-fn is_left(past: &Past, kind: Kind) -> bool
+fn is_left(past: &GameView, kind: Kind) -> bool
     ensures { result ≡ is_left past.now.events.now kind }
 {
     match train(kind).number {
@@ -150,10 +150,10 @@ fn is_left(past: &Past, kind: Kind) -> bool
 
 /// Whether a company would have more trains than the phase allows. One that is to be traded in is
 /// not counted, whether the company has it or not.
-fn is_full(past: &Past, company: Company, trade_in: Option<Kind>) -> bool
-    ensures { result ≡ is_full past.now.events.now company trade_in }
+fn is_full(past: &GameView, company: Company, trade_in: Option<Kind>) -> bool
+    ensures { result ≡ is_at_train_limit past.now.events.now company trade_in }
 {
-    let kept = Money::from(past.stable_size(Some(company))) - traded_count(trade_in);
+    let kept = Money::from(past.train_count(Some(company))) - traded_count(trade_in);
     kept >= limit(past.phase()) as Money
 }
 
@@ -186,7 +186,7 @@ fn traded_count(trade_in: Option<Kind>) -> Money
 }
 
 /// Whether a train costs more than the company has.
-fn is_too_dear(past: &Past, company: Company, purchase: Purchase) -> bool
+fn is_too_dear(past: &GameView, company: Company, purchase: Purchase) -> bool
     requires { IsSmallPurchase purchase }
     ensures { result ≡ is_too_dear
         (record { seats = past.now.seats; events = past.now.events.now }) company purchase }
@@ -195,7 +195,7 @@ fn is_too_dear(past: &Past, company: Company, purchase: Purchase) -> bool
 }
 
 /// Whether a company that is to sell a train has not consented, or the price is 0.
-fn lacks_consent(past: &Past, buyer: Company, purchase: Purchase) -> bool
+fn lacks_consent(past: &GameView, buyer: Company, purchase: Purchase) -> bool
     requires { IsSmallPurchase purchase }
     ensures { result ≡ lacks_consent past.now.events.now buyer purchase }
 {
@@ -213,7 +213,7 @@ fn lacks_consent(past: &Past, buyer: Company, purchase: Purchase) -> bool
 }
 
 /// Whether the one president consents to what the other takes; not where there are not both.
-fn presidents_agree(past: &Past, giver: Option<Seat>, taker: Option<Seat>, sale: Offer) -> bool
+fn presidents_agree(past: &GameView, giver: Option<Seat>, taker: Option<Seat>, sale: Offer) -> bool
     ensures { result ≡ presidents_agree past.now.events.now giver taker sale }
 {
     match (giver, taker) {
@@ -223,7 +223,7 @@ fn presidents_agree(past: &Past, giver: Option<Seat>, taker: Option<Seat>, sale:
 }
 
 /// Whether a company that is to sell a train has none of the kind, or is the buyer.
-fn is_not_sellers(past: &Past, buyer: Company, kind: Kind, from: TrainSeller) -> bool
+fn is_not_sellers(past: &GameView, buyer: Company, kind: Kind, from: TrainSeller) -> bool
     ensures { result ≡ is_not_sellers past.now.events.now buyer kind from }
 {
     match from {
@@ -233,7 +233,7 @@ fn is_not_sellers(past: &Past, buyer: Company, kind: Kind, from: TrainSeller) ->
 }
 
 /// Whether a train is to be traded in that is not there, or that may not be.
-fn is_no_trade_in(past: &Past, company: Company, kind: Kind, trade_in: Option<Kind>) -> bool
+fn is_no_trade_in(past: &GameView, company: Company, kind: Kind, trade_in: Option<Kind>) -> bool
     ensures { result ≡ is_no_trade_in past.now.events.now company kind trade_in }
 {
     match trade_in {
@@ -243,7 +243,7 @@ fn is_no_trade_in(past: &Past, company: Company, kind: Kind, trade_in: Option<Ki
 }
 
 /// Whether a train that the company has may be traded in for one of this kind.
-fn may_trade(past: &Past, company: Company, kind: Kind, trade_in: Kind) -> bool
+fn may_trade(past: &GameView, company: Company, kind: Kind, trade_in: Kind) -> bool
     ensures { result ≡ may_trade past.now.events.now company kind trade_in }
 {
     kind == Kind::Diesel && may_be_traded(trade_in) && past.trains(Some(company), trade_in) > 0

@@ -2,7 +2,7 @@ ghost use Rattle.std.specs.Prelude.{◌≡◌, ◌≤◌, ◌≤ℤ◌, false, I
 ghost use lib.Signed.{le_z};
 ghost use Rattle.events.specs.declared.event.Event.TheVariants as event;
 ghost use Rattle.history.specs.Trains.{trains_held};
-ghost use Rattle.board.specs.Ground.{position_of};
+ghost use Rattle.board.specs.MapState.{position_of};
 ghost use Rattle.history.specs.LookBack.{with_event};
 ghost use Rattle.history.specs.Sound.{IsSound};
 ghost use Rattle.operating.specs.CompanyTurn.{GoesOn, IsInOrder, state};
@@ -12,9 +12,9 @@ ghost use Rattle.sheets.specs.Part.{line_with};
 ghost use Rattle.tables.specs.Rules.{first_broken};
 
 use crate::company_turn::CompanyTurn;
-use crate::ground::catch_up;
+use crate::map_state::update_map_state;
 use crate::progress::Progress;
-use crate::runs::{Ran, Runs};
+use crate::runs::{CompletedRun, Runs};
 use board::Board;
 use certificate::check_run;
 use history::{Event, History, Refusal, RunRule};
@@ -46,7 +46,11 @@ impl CompanyTurn {
 
     /// What a run of the company's train does, or the first rule that it breaks. The error is want
     /// of memory.
-    fn judge_run(&mut self, kind: Kind, run: &Run) -> Result<Result<Ran, RunRule>, AllocError>
+    fn judge_run(
+        &mut self,
+        kind: Kind,
+        run: &Run,
+    ) -> Result<Result<CompletedRun, RunRule>, AllocError>
         requires { IsInOrder self.old }
         ensures judged { IfOk result (λ judged. judged
             ≡ judged_run (state self.old) self.old.by.company kind run.now) }
@@ -60,7 +64,7 @@ impl CompanyTurn {
             return Ok(Err(rule));
         }
         let board = &mut *self.board;
-        catch_up(board, &self.history)?;
+        update_map_state(board, &self.history)?;
         Ok(run_on(board, company, kind, run, &self.progress.runs))
     }
 
@@ -69,7 +73,7 @@ impl CompanyTurn {
         &mut self,
         line: ReadLine,
         order: &Order,
-        judged: Result<Ran, RunRule>,
+        judged: Result<CompletedRun, RunRule>,
     ) -> Result<(), AllocError>
         requires order { IsInOrder self.old }
         requires counted { IfOk judged (λ ran. IsCounted self.old.progress.runs ran) }
@@ -81,7 +85,7 @@ impl CompanyTurn {
         match judged {
             Ok(ran) => {
                 record(&mut self.history, by.president, line, order, None)?;
-                tell_runs(&mut self.history, by.company, ran.earned)?;
+                record_runs(&mut self.history, by.company, ran.earned)?;
                 self.progress = self.progress.with_run(ran);
                 Ok(())
             }
@@ -102,7 +106,7 @@ fn run_on(
     kind: Kind,
     run: &Run,
     runs: &Runs,
-) -> Result<Ran, RunRule>
+) -> Result<CompletedRun, RunRule>
     requires few { has_run runs.now kind ≤ℤ runs_most }
     ensures ran { result
         ≡ ran_unless_fault (position_of board.now) company kind runs.now.borders run.now }
@@ -112,7 +116,7 @@ fn run_on(
     certificate::laws::runs_earn_by_borders();
     let mut borders = runs.borders;
     match check_run(board, company, kind, run, &mut borders) {
-        Ok(money) => Ok(Ran {
+        Ok(money) => Ok(CompletedRun {
             kind,
             earned: money as Amount,
             borders,
@@ -149,7 +153,7 @@ fn has_run_all(history: &History, company: Company, kind: Kind, runs: &Runs) -> 
 }
 
 /// Tells what a run of a company earned.
-pub(crate) fn tell_runs(
+pub(crate) fn record_runs(
     history: &mut History,
     company: Company,
     revenue: Amount,
@@ -160,6 +164,6 @@ pub(crate) fn tell_runs(
         ≡ with_event history.old (event.Runs company revenue)) }
     ensures sound { OnOk result (IsSound history.new) }
 {
-    history.tell(Event::Runs { company, revenue })?;
+    history.record_event(Event::Runs { company, revenue })?;
     Ok(())
 }

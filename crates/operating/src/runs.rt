@@ -7,7 +7,7 @@ use tables::{Amount, Kind};
 
 /// What a train did.
 #[derive(Clone, Copy, Debug)]
-pub(crate) struct Ran {
+pub(crate) struct CompletedRun {
     /// Its kind.
     pub(crate) kind: Kind,
     /// What it earned, in dollars.
@@ -68,7 +68,7 @@ impl Runs {
     }
 
     /// Once a train has run.
-    pub(crate) fn with(self, ran: Ran) -> Runs
+    pub(crate) fn with(self, ran: CompletedRun) -> Runs
         requires { IsCounted self ran }
         ensures { result ≡ with_ran self ran }
     {

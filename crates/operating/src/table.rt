@@ -1,6 +1,6 @@
 //! A game and the board of its map.
 ghost use Rattle.std.specs.Prelude.{◌≡◌, [], IfOk};
-ghost use Rattle.board.specs.Ground.{ground_of};
+ghost use Rattle.board.specs.MapState.{map_state_of};
 ghost use Rattle.history.specs.Sound.{IsSound};
 ghost use Rattle.operating.specs.Table.{IsLaidOut};
 ghost use Rattle.tables.specs.declared.rolling_stock.Kind.TheVariants as kind;
@@ -36,7 +36,7 @@ impl Table {
 /// would pay for its bytes whenever it is called.
 #[inline(never)]
 fn empty_board(alloc: Global) -> Result<Box<Board>, AllocError>
-    ensures { IfOk result (λ board. board.value ≡ ground_of [] [] kind.Two) }
+    ensures { IfOk result (λ board. board.value ≡ map_state_of [] [] kind.Two) }
 {
     Ok(Box::new(alloc, Board::empty(alloc, Kind::Two))?)
 }

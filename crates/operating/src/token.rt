@@ -7,7 +7,7 @@ ghost use Rattle.sheets.specs.Part.{line_with};
 use crate::asker::asker;
 use crate::company_turn::CompanyTurn;
 use crate::cost::amount_of;
-use crate::ground::catch_up;
+use crate::map_state::update_map_state;
 use board::TokenFault;
 use history::{Event, Refusal};
 use map_tables::Place;
@@ -25,7 +25,7 @@ impl CompanyTurn {
         ensures order { OnOk result (GoesOn self.old self.new) }
     {
         let board = &mut *self.board;
-        catch_up(board, &self.history)?;
+        update_map_state(board, &self.history)?;
         let order = Order::Token(place);
         let by = self.by;
         let asker = asker(&self.history, by.company, self.progress);

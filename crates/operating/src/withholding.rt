@@ -44,7 +44,7 @@ pub(crate) fn withhold(
     ensures sound { OnOk result (IsSound history.new) }
 {
     history.append(Event::Withheld { company, amount })?;
-    history.tell_broken()?;
+    history.record_broken()?;
     move_token_left(history, company)?;
     Ok(())
 }

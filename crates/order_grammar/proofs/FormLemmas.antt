@@ -6,7 +6,7 @@ use Rattle.std.proofs.lemmas.List.Recursion.{and_at}
 use Rattle.std.proofs.lemmas.List.{append-nil, at_drop_all, drop_more, length-map, get_or-map}
 use Rattle.order_grammar.specs.Form.{Row, forms, tail_reading, values_reading, row_reading, rows_reading, words_reading, nearness, nearer}
 use Rattle.order_grammar.specs.Keyword.{text_of_keyword}
-use Rattle.order_grammar.specs.Row.{row_of, is_short, joined_values}
+use Rattle.order_grammar.specs.Row.{row_of, is_short_row, joined_values}
 use Rattle.order_grammar.specs.Token.{GivesFirst}
 use Rattle.order_grammar.specs.Words.{Placed, raised, same_word, texts_of}
 use Rattle.order_grammar.specs.declared.class.Class.{Class}
@@ -72,12 +72,12 @@ rows-next first rest nearest forms i d lt reading is =
     rw (drop_more (map row_of forms) i (row_of d) size, get_or-map row_of forms i d (row_of d) lt, is) refl
 
 -- a form among short ones is short
-pub short_form : (forms : List Form) (i : ℕ) (d : Form) → list_all is_short (map row_of forms) ≡ true → i < length forms →
-    is_short (row_of (get_or forms i d)) ≡ true
+pub short_form : (forms : List Form) (i : ℕ) (d : Form) → list_all is_short_row (map row_of forms) ≡ true → i < length forms →
+    is_short_row (row_of (get_or forms i d)) ≡ true
 short_form forms i d short lt =
     let size : i < length (map row_of forms) = omega (arith, length-map forms row_of) in
-    ap is_short (sym (get_or-map row_of forms i d (row_of d) lt))
-    ∙ and_at (list_all is_short) is_short refl (λ _ _. refl) (map row_of forms) i (row_of d) size short
+    ap is_short_row (sym (get_or-map row_of forms i d (row_of d) lt))
+    ∙ and_at (list_all is_short_row) is_short_row refl (λ _ _. refl) (map row_of forms) i (row_of d) size short
 
 -- no word is left for a class
 pub values_reading-none : (front : List Value) (too_large : Bool) (classes : List Class) (r : Repeated) (i : ℕ) (d : Class) (all : List (List ℕ)) →

@@ -42,7 +42,7 @@ use Rattle.order_grammar.specs.Line.{reading_by}
 use Rattle.order_grammar.specs.Name.{is_name, is_capital, is_digit, is_letter_or_digit}
 use Rattle.order_grammar.specs.Order.{made_of, parts_of, Parts}
 use Rattle.order_grammar.specs.Print.{spaced, joined, text_of_value, words_of_order, words_of_tail, words_of_parts, spelling_of, conditional_spelling}
-use Rattle.order_grammar.specs.Row.{has_room, is_short}
+use Rattle.order_grammar.specs.Row.{has_room, is_short_row}
 use Rattle.order_grammar.specs.Spells.{AreWordsFor, HasSmallNumbers, IsNumber, IsNumbered, is_round_of_line, BeginWithOneOf, FitsLineIn, IsOrderIn}
 use Rattle.order_grammar.specs.SpellsVersion.{AreConditionWords, AreOrderWords, AreWordsUnder, BeginAnOrder, FitsLineUnder, HasSmallCondition, IsOrderUnder}
 use Rattle.order_grammar.specs.Texts.{TextKind, order_file, play_words}
@@ -491,7 +491,7 @@ values_short (c ∷ classes) r (v ∷ values) t room of =
     (omega (arith, rest.0), rest.1)
 
 -- each form is short
-forms_short : list_all is_short forms ≡ true
+forms_short : list_all is_short_row forms ≡ true
 forms_short = refl
 
 -- parts with the places of a run fit a line
@@ -537,7 +537,7 @@ spelt_out order parts is has =
     let row = among_any (is_row_of parts.keyword values parts.tail) forms h.0 in
     let of_row =
     and_parts (same_word (text_of_keyword row.0.keyword) (text_of_keyword parts.keyword)) (are_of_classes row.0.classes row.0.repeated values parts.tail) row.2 in
-    let short = and_parts (nat_le (length row.0.classes) 5) (has_room row.0.repeated) (all_among is_short forms row.0 forms_short row.1) in
+    let short = and_parts (nat_le (length row.0.classes) 5) (has_room row.0.repeated) (all_among is_short_row forms row.0 forms_short row.1) in
     let counted = values_short row.0.classes row.0.repeated values parts.tail short.1 of_row.1 in
     let spelt = values_spelt values parts.tail h.1 counted.1.plain in
     let words = words_of_parts (Some parts) in

@@ -34,8 +34,8 @@ has_room (repeated.Names least most) = nat_le most 6
 has_room repeated.Places = true
 
 -- whether the code has room for the values of a row
-abbrev pub is_short : Row → Bool
-is_short row = nat_le (length row.classes) 5 && has_room row.repeated
+abbrev pub is_short_row : Row → Bool
+is_short_row row = nat_le (length row.classes) 5 && has_room row.repeated
 
 -- the names that words are
 abbrev pub names_reading : ℕ → ℕ → List (List ℕ) → Option (ArrayVec Name)

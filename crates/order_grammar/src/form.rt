@@ -14,7 +14,7 @@ ghost use Rattle.order_grammar.specs.Form.{
   values_by_row,
   words_reading,
 };
-ghost use Rattle.order_grammar.specs.Row.{AreRead, has_room, is_short, names_reading, row_of};
+ghost use Rattle.order_grammar.specs.Row.{AreRead, has_room, is_short_row, names_reading, row_of};
 ghost use Rattle.order_grammar.specs.Words.{raised, texts_of};
 ghost use Rattle.order_grammar.specs.declared.form.Repeated.TheVariants.{Nothing};
 
@@ -22,7 +22,7 @@ use crate::class::{Class, Reading};
 use crate::fault::Fault;
 use crate::keyword::Keyword;
 use crate::name::Name;
-use crate::order::{Order, Tail, Values, put_order, put_plain};
+use crate::order::{Order, Tail, Values, order_from_plain, put_order};
 use crate::words::{Words, is_word};
 use arrayvec::ArrayVec;
 use map_tables::{Place, Run};
@@ -264,7 +264,7 @@ pub(crate) fn certificate_forms() -> &'static [Form]
 /// Puts the order that the words of a line spell in place of another; else tells why they spell none:
 /// what comes nearest over some forms.
 pub(crate) fn read_order(forms: &[Form], words: &Words, order: &mut Order) -> Result<(), Fault>
-    requires { IsTrue (list_all is_short (map row_of forms.now)) }
+    requires { IsTrue (list_all is_short_row (map row_of forms.now)) }
     ensures { put_reading result order.new
         ≡ words_reading (map row_of forms.now) (texts_of words.now) }
 {
@@ -283,7 +283,7 @@ pub(crate) fn read_nearest(
     rest: &Words,
     order: &mut Order,
 ) -> Result<(), Fault>
-    requires { IsTrue (list_all is_short (map row_of forms.now)) }
+    requires { IsTrue (list_all is_short_row (map row_of forms.now)) }
     ensures { put_reading result order.new
         ≡ rows_reading (map row_of forms.now) (raised first.now) (texts_of rest.now) }
 {
@@ -326,7 +326,7 @@ impl Form {
     /// the first word is another, `WrongWords` where the later words do not fit, `NumberTooLarge`
     /// where only numbers do not.
     fn read(&self, first: &[u8], rest: &Words, order: &mut Order) -> Result<(), Fault>
-        requires { IsTrue (is_short (row_of self.now)) }
+        requires { IsTrue (is_short_row (row_of self.now)) }
         ensures { put_reading result order.new
             ≡ row_reading (row_of self.now) (raised first.now) (texts_of rest.now) }
     {
@@ -342,7 +342,7 @@ impl Form {
     /// What words are as texts of the form's classes, and takes them away; `None` where they do not
     /// fit.
     fn read_values(&self, rest: &mut Words) -> Option<Front>
-        requires { IsTrue (is_short (row_of self.now)) }
+        requires { IsTrue (is_short_row (row_of self.now)) }
         ensures { AreRead (row_of self.now) (texts_of rest.old) (texts_of rest.new) result }
     {
         let mut values = Values::new();
@@ -362,7 +362,7 @@ impl Form {
 
     /// Puts the order that words spell by a form in which no class is repeated.
     fn read_plain(&self, words: &Words, order: &mut Order) -> Result<(), Fault>
-        requires short { IsTrue (is_short (row_of self.now)) }
+        requires short { IsTrue (is_short_row (row_of self.now)) }
         requires plain { self.now.repeated ≡ Nothing }
         ensures { let row = row_of self.now in
             put_reading result order.new
@@ -378,7 +378,7 @@ impl Form {
         if front.too_large {
             return Err(Fault::NumberTooLarge);
         }
-        if put_plain(self.keyword, front.values.as_slice(), order) {
+        if order_from_plain(self.keyword, front.values.as_slice(), order) {
             Ok(())
         } else {
             Err(Fault::WrongWords)
@@ -389,7 +389,7 @@ impl Form {
     /// other forms need not pay for that.)
     #[inline(never)]
     fn read_repeated(&self, words: &Words, order: &mut Order) -> Result<(), Fault>
-        requires { IsTrue (is_short (row_of self.now)) }
+        requires { IsTrue (is_short_row (row_of self.now)) }
         ensures { let row = row_of self.now in
             put_reading result order.new
             ≡ order_of_values row.keyword (values_by_row row (texts_of words.now)) }

@@ -284,7 +284,7 @@ pub(crate) fn put_order(keyword: Keyword, values: &[Value], tail: Tail, order: &
     ensures { put_if result order.new ≡ order_from keyword values.now tail }
 {
     match tail {
-        Tail::Nothing => put_plain(keyword, values, order),
+        Tail::Nothing => order_from_plain(keyword, values, order),
         Tail::Names(names) => match keyword {
             Keyword::Players if values.is_empty() => {
                 *order = Order::Players(names);
@@ -307,7 +307,7 @@ pub(crate) fn put_order(keyword: Keyword, values: &[Value], tail: Tail, order: &
 }
 
 /// Puts the order of these parts, where no class is repeated, in place of another.
-pub(crate) fn put_plain(keyword: Keyword, values: &[Value], order: &mut Order) -> bool
+pub(crate) fn order_from_plain(keyword: Keyword, values: &[Value], order: &mut Order) -> bool
     ensures { put_if result order.new ≡ order_from keyword values.now Nothing }
 {
     match keyword {
@@ -320,7 +320,7 @@ pub(crate) fn put_plain(keyword: Keyword, values: &[Value], order: &mut Order) -
         }
         Keyword::Sell | Keyword::Raise => put_tenths(keyword, values, order),
         Keyword::Offer => put_offer(values, order),
-        Keyword::Exchange | Keyword::Token | Keyword::Run => put_one(keyword, values, order),
+        Keyword::Exchange | Keyword::Token | Keyword::Run => order_from_one(keyword, values, order),
         Keyword::Lay => put_lay(values, order),
         Keyword::Pay | Keyword::Withhold | Keyword::Discard => put_revenue_or_discard(
             keyword, values, order,
@@ -433,7 +433,7 @@ fn put_tenths(keyword: Keyword, values: &[Value], order: &mut Order) -> bool
 
 /// The order of these parts that names one thing: what is exchanged, where a token is placed, or the
 /// best runs.
-fn put_one(keyword: Keyword, values: &[Value], order: &mut Order) -> bool
+fn order_from_one(keyword: Keyword, values: &[Value], order: &mut Order) -> bool
     requires { IsOfOne keyword }
     ensures { put_if result order.new ≡ order_from keyword values.now Nothing }
 {

@@ -2,7 +2,7 @@ ghost use Rattle.std.specs.Prelude.{◌≡◌, IfOk, IsTrue, None, map};
 ghost use Rattle.std.specs.List.{list_all};
 ghost use Rattle.order_grammar.specs.Condition.{put_ordered};
 ghost use Rattle.order_grammar.specs.Line.{cert_reading_of, order_of, reading_by, reading_of, words_within};
-ghost use Rattle.order_grammar.specs.Row.{is_short, row_of};
+ghost use Rattle.order_grammar.specs.Row.{is_short_row, row_of};
 ghost use Rattle.order_grammar.specs.Version.{ordered_of, reading_in, words_reading_in};
 ghost use Rattle.order_grammar.specs.Words.{AreWordsOf, is_printable, texts_of};
 
@@ -109,7 +109,7 @@ pub fn read_cert_line(line: &[u8]) -> Result<Line<'_>, Fault>
 
 /// Reads a line of at most so many bytes by some forms.
 fn read_by<'a>(most: usize, forms: &[Form], line: &'a [u8]) -> Result<Line<'a>, Fault>
-    requires { IsTrue (list_all is_short (map row_of forms.now)) }
+    requires { IsTrue (list_all is_short_row (map row_of forms.now)) }
     ensures order { order_of result ≡ reading_by most (map row_of forms.now) line.now }
     ensures condition { IfOk result (λ read. read.condition ≡ None) }
     ensures words { IfOk result (λ read. AreWordsOf line.now read.words) }

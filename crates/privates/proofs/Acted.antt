@@ -11,7 +11,7 @@ use Rattle.order_grammar.specs.declared.condition.Condition.{Condition}
 use Rattle.order_grammar.specs.declared.order.Order.{Order}
 use Rattle.order_grammar.specs.declared.order.Order.TheVariants as order
 use Rattle.privates.specs.Judgement.{price_of, refusal_of}
-use Rattle.privates.specs.Sale.{after_sale, gifts, settle, settled, settled_by, settled_of}
+use Rattle.privates.specs.Sale.{after_sale, gifts, settle_auctions, settled, settled_by, settled_of}
 use Rattle.privates.specs.Turn.{InTurn, acted, after_ruling, opening_rules}
 use Rattle.sheets.specs.Part.{Numbered}
 use Rattle.tables.specs.declared.roster.Private.{Private}
@@ -57,10 +57,10 @@ in_cheapest seat seats events (Some private) = in_bids seat seats events private
 -- nor by the sales that follow from a sale
 in_settled : (seat : Seat) (seats : ℕ) (events : List Event) → TellsWhoActed seat false events (settled seats events)
 unfolding settled
-in_settled seat seats events = nobody_in_steps seat (settle seats) (λ list. in_cheapest seat seats list (cheapest_of list)) 6 events
+in_settled seat seats events = nobody_in_steps seat (settle_auctions seats) (λ list. in_cheapest seat seats list (cheapest_of list)) 6 events
 
 -- by a line whose order is done
-order_tells : (seats : ℕ) (seat : Seat) (turn : InTurn) (number : ℕ) (condition : Option Condition) (done : Order) → refusal_of seats turn.events seat turn.deeds done ≡ None →
+order_tells : (seats : ℕ) (seat : Seat) (turn : InTurn) (number : ℕ) (condition : Option Condition) (done : Order) → refusal_of seats turn.events seat turn.actions done ≡ None →
     LineTells opening_rules seat turn (after_ruling seats seat turn number (Obeyed condition done))
 order_tells seats seat turn number condition (order.BuyPrivate private) kept =
     let ruled : List Event = recorded seat number (Obeyed condition (order.BuyPrivate private)) turn.events in
@@ -70,7 +70,7 @@ order_tells seats seat turn number condition (order.BuyPrivate private) kept =
       told =
           in_both seat true false turn.events ruled (settled seats sold) (one_more seat true turn.events (event.Ruled seat number (Obeyed condition (order.BuyPrivate private))) refl)
           (in_both seat false false ruled sold (settled seats sold) (in_sale seat ruled private seat (price_of ruled private)) (in_settled seat seats sold));
-      acted = now_acted turn.deeds;
+      acted = now_acted turn.actions;
     }
 order_tells seats seat turn number condition (order.Bid private amount) kept =
     let ruled : List Event = recorded seat number (Obeyed condition (order.Bid private amount)) turn.events in
@@ -79,7 +79,7 @@ order_tells seats seat turn number condition (order.Bid private amount) kept =
       told =
           in_both seat true false turn.events ruled (ruled ++ event.Bids private seat amount ∷ []) (one_more seat true turn.events (event.Ruled seat number (Obeyed condition (order.Bid private amount))) refl)
           (one_more seat false ruled (event.Bids private seat amount) refl);
-      acted = now_acted turn.deeds;
+      acted = now_acted turn.actions;
     }
 order_tells seats seat turn number condition other kept = absurd (cc)
 
@@ -88,5 +88,5 @@ pub opening_turns_tell : TurnsTellWhoActed opening_rules
 opening_turns_tell =
     turns_tell opening_rules refl
     (λ (seats : ℕ) (seat : Seat) (turn : InTurn) (line : Numbered).
-    of_ruled (acted seats seat) (refusal_of seats turn.events seat turn.deeds) seat turn line.number (LineTells opening_rules seat turn)
+    of_ruled (acted seats seat) (refusal_of seats turn.events seat turn.actions) seat turn line.number (LineTells opening_rules seat turn)
     (nobody_ruled opening_rules seat turn line.number) (order_tells seats seat turn line.number) has_place_in_group turn.events line)

@@ -7,7 +7,7 @@ use Rattle.events.specs.declared.event.Bid.{Bid}
 use Rattle.events.specs.declared.event.Event.{Event}
 use Rattle.history.specs.Bids.{bid_of, bids_on, free_for}
 use Rattle.history.specs.LookBack.{Game, cheapest_of}
-use Rattle.history.specs.Orders.{limit_of}
+use Rattle.history.specs.Orders.{bid_limit_of}
 use Rattle.privates.proofs.Auctions.{auction_won}
 use Rattle.privates.proofs.StandingBids.{AmountsDiffer, EachBid, Stands, bid_free, bids_differ, bids_stand, cheapest_unsold}
 use Rattle.privates.specs.Act.{MayPay}
@@ -37,7 +37,7 @@ limit_is_small bid (Some ordered) free small ordered_small =
 pub limits_hold : (seats : ℕ) (events : List Event) (private : Private) (bids : List Bid) → LimitsHold (map (bidder_of seats events private) bids)
 limits_hold seats events private [] = tt
 limits_hold seats events private (bid ∷ bids) =
-    (limit_over_bid (pos bid.amount) (limit_of events private bid.seat) (free_for seats events bid.seat private), limits_hold seats events private bids)
+    (limit_over_bid (pos bid.amount) (bid_limit_of events private bid.seat) (free_for seats events bid.seat private), limits_hold seats events private bids)
 
 -- sums are the same as signed numbers where they are
 same_sum : (a b : ℕ) → pos a ≡ pos b → a ≡ b
@@ -98,8 +98,8 @@ winner_pays game private bids are some cheapest underway =
     let free : pos its.amount ≤ℤ free_for game.seats game.events its.seat private = bid_free game.seats game.events private its.seat its.amount one.so.stands (underway.sound.solvent its.seat) in
     let least : pos its.amount ≤ℤ won.1 = subst (λ (b : Bidder). bid_by b ≤ℤ won.1) (sym one.is) (of_one (λ (other : Bidder). bid_by other ≤ℤ won.1) bidders is_won.winner is_won.bids is_won.at_least_each_bid) in
     let limit : won.1 ≤ℤ limit_by (made its) = subst (λ (b : Bidder). won.1 ≤ℤ limit_by b) (sym one.is) is_won.within_limit in
-    let in_cash = limit_in_cash (pos its.amount) (limit_of game.events private its.seat) (free_for game.seats game.events its.seat private) free in
-    let small = limit_is_small its.amount (limit_of game.events private its.seat) (free_for game.seats game.events its.seat private) (underway.sound.bids_small private its.seat its.amount one.so.stands) (underway.waiting.limits private its.seat) in
+    let in_cash = limit_in_cash (pos its.amount) (bid_limit_of game.events private its.seat) (free_for game.seats game.events its.seat private) free in
+    let small = limit_is_small its.amount (bid_limit_of game.events private its.seat) (free_for game.seats game.events its.seat private) (underway.sound.bids_small private its.seat its.amount one.so.stands) (underway.waiting.limits private its.seat) in
     let size = size_of won.1 its.amount least in
     let seat : its.seat ≡ won.0 = ap (λ (b : Bidder). b.0) one.is ∙ sym is_won.buys in
     let under = one.so.under in

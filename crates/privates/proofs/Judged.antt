@@ -12,7 +12,7 @@ use Rattle.history.specs.LookBack.{Game, cash_of, with_event}
 use Rattle.order_grammar.specs.declared.order.Order.{Order}
 use Rattle.order_grammar.specs.declared.order.Order.TheVariants.{BuyPrivate, Bid}
 use Rattle.privates.specs.Act.{MayAct, MayPay}
-use Rattle.privates.specs.Judgement.{bid_rules, is_near, judgement_of, price_of, purchase_rules}
+use Rattle.privates.specs.Judgement.{bid_rules, is_near, judgement_of, price_of, private_purchase_rules}
 use Rattle.tables.specs.Roster.{face_of}
 use Rattle.tables.proofs.Rules.{none_broken}
 use Rattle.tables.specs.declared.roster.Private.{Private}
@@ -26,7 +26,7 @@ within sum free kept = lt_z_no (subst (λ (b : Bool). T (not b)) (sym kept) tt)
 -- an order that breaks no rule can be done
 pub may_act : (seats : ℕ) (events : List Event) (seat : Seat) (used : Bool) (order : Order) → judgement_of seats events seat used order ≡ None → MayAct seats events seat order
 may_act seats events seat used (BuyPrivate private) none =
-    let kept = none_broken (purchase_rules seats events seat used private) none in
+    let kept = none_broken (private_purchase_rules seats events seat used private) none in
     record { unsold = kept.0; free = within (pos (price_of events private)) (free_for seats events seat private) kept.1.1.0 }
 may_act seats events seat used (Bid private amount) none =
     let kept = none_broken (bid_rules seats events seat used private amount) none in

@@ -18,7 +18,7 @@ use Rattle.history.proofs.BidWords.{bid_of_at_end, seated_after_bid}
 use Rattle.history.specs.Bids.{bid_of, bid_said, bids_on}
 use Rattle.history.specs.LookBack.{Game, cheapest_of, is_sold, owner_of, priority_of, sv_price_of}
 use Rattle.history.specs.Sound.{BiddersAreSeated}
-use Rattle.history.specs.Tell.{after_revenues, breaks, paid_to_owner, with_broken}
+use Rattle.history.specs.Record.{after_revenues, breaks, paid_to_owner, with_broken}
 use Rattle.order_grammar.specs.declared.condition.Condition.{Condition}
 use Rattle.order_grammar.specs.declared.order.Order.{Order}
 use Rattle.order_grammar.specs.declared.order.Order.TheVariants as order
@@ -30,9 +30,9 @@ use Rattle.privates.specs.BidsRise.{BidsRise, OpeningBidsRise, is_near_earlier, 
 use Rattle.privates.specs.Closing.{after_fall, after_passing, all_sold, closed, given_away}
 use Rattle.privates.specs.Judgement.{judgement_of, price_of, refusal_of}
 use Rattle.privates.specs.Opening.{IsOpeningRound}
-use Rattle.privates.specs.Sale.{after_sale, gifts, settle, settled, settled_by, settled_of}
+use Rattle.privates.specs.Sale.{after_sale, gifts, settle_auctions, settled, settled_by, settled_of}
 use Rattle.privates.specs.Standing.{after_standing_line, standing_ruling}
-use Rattle.privates.specs.Turn.{InTurn, acted, after_line, after_ruling, opening_rules}
+use Rattle.privates.specs.Turn.{InTurn, acted, after_opening_line, after_ruling, opening_rules}
 use Rattle.sheets.specs.Part.{Numbered}
 use Rattle.sheets.specs.Taken.{after_each}
 use Rattle.tables.specs.Roster.{face_of, privates, revenue_of, same_private}
@@ -144,10 +144,10 @@ after_cheapest_rise seats events None before = before
 after_cheapest_rise seats events (Some private) before = after_bids_rise seats events private (bids_on seats events private) before
 
 -- after some of these
-after_steps_rise : (seats n : ℕ) (events : List Event) → RiseAt seats events → RiseAt seats (iterate (settle seats) n events)
+after_steps_rise : (seats n : ℕ) (events : List Event) → RiseAt seats events → RiseAt seats (iterate (settle_auctions seats) n events)
 after_steps_rise seats zero events before = before
 after_steps_rise seats (suc n) events before =
-    after_cheapest_rise seats (iterate (settle seats) n events) (cheapest_of (iterate (settle seats) n events)) (after_steps_rise seats n events before)
+    after_cheapest_rise seats (iterate (settle_auctions seats) n events) (cheapest_of (iterate (settle_auctions seats) n events)) (after_steps_rise seats n events before)
 
 -- after the sales that follow from a sale
 settled_rise : (seats : ℕ) (events : List Event) → RiseAt seats events → RiseAt seats (settled seats events)
@@ -204,7 +204,7 @@ bid_rise seats events seat private amount may under before =
 
 -- after a line whose order is done
 order_rise : (seats : ℕ) (seat : Seat) (turn : InTurn) (number : ℕ) → seat.0 < seats → RiseAt seats turn.events → (condition : Option Condition) (done : Order) →
-    refusal_of seats turn.events seat turn.deeds done ≡ None → RiseAt seats (after_ruling seats seat turn number (Obeyed condition done)).events
+    refusal_of seats turn.events seat turn.actions done ≡ None → RiseAt seats (after_ruling seats seat turn number (Obeyed condition done)).events
 order_rise seats seat turn number under before condition (order.BuyPrivate private) kept =
     let told : Event = event.Ruled seat number (Obeyed condition (order.BuyPrivate private)) in
     let ruled : List Event = turn.events ++ told ∷ [] in
@@ -213,17 +213,17 @@ order_rise seats seat turn number under before condition (order.BuyPrivate priva
 order_rise seats seat turn number under before condition (order.Bid private amount) kept =
     let told : Event = event.Ruled seat number (Obeyed condition (order.Bid private amount)) in
     let ruled : List Event = turn.events ++ told ∷ [] in
-    let none = none_as_refusal Opening (judgement_of seats turn.events seat turn.deeds (order.Bid private amount)) kept in
+    let none = none_as_refusal Opening (judgement_of seats turn.events seat turn.actions (order.Bid private amount)) kept in
     bid_rise seats ruled seat private amount
-    (may_act_after (record { seats = seats; events = turn.events }) (record { seats = seats; events = ruled }) told seat turn.deeds (order.Bid private amount) refl (record { payment = refl; ownership = refl; bidding = refl; transfer = refl; par = refl; square = refl; office = refl; float = refl; sv_price = refl; train = refl; tile = refl; token = refl }) none)
+    (may_act_after (record { seats = seats; events = turn.events }) (record { seats = seats; events = ruled }) told seat turn.actions (order.Bid private amount) refl (record { payment = refl; ownership = refl; bidding = refl; transfer = refl; par = refl; square = refl; office = refl; float = refl; sv_price = refl; train = refl; tile = refl; token = refl }) none)
     under (with_other seats turn.events told refl before)
 order_rise seats seat turn number under before condition other kept = absurd (cc)
 
 -- after a line
 line_rise : (seats : ℕ) (seat : Seat) (turn : InTurn) (line : Numbered) → seat.0 < seats → RiseAt seats turn.events →
-    RiseAt seats (after_line seats seat turn line).events
+    RiseAt seats (after_opening_line seats seat turn line).events
 line_rise seats seat turn line under before =
-    of_ruled (acted seats seat) (refusal_of seats turn.events seat turn.deeds) seat turn line.number (λ (after : InTurn). RiseAt seats after.events)
+    of_ruled (acted seats seat) (refusal_of seats turn.events seat turn.actions) seat turn line.number (λ (after : InTurn). RiseAt seats after.events)
     (λ (ruling : Ruling) (none : obeyed_by ruling ≡ None). with_other seats turn.events (event.Ruled seat line.number ruling) refl before)
     (order_rise seats seat turn line.number under before) has_place_in_group turn.events line
 
@@ -233,7 +233,7 @@ rules_at seats =
     record {
       standing = after_standing_line;
       nothing = false;
-      line = λ any seat turn line. if nat_lt seat.0 seats then after_line seats seat turn line else turn;
+      line = λ any seat turn line. if nat_lt seat.0 seats then after_opening_line seats seat turn line else turn;
       has_acted = λ acted. acted;
       over = all_sold;
       closed = λ any events. closed seats events;
@@ -249,7 +249,7 @@ says_under a b under = grind (arith, nat_tests)
 
 -- after a line where the test of its seat passes
 tested_rise : (seats : ℕ) (seat : Seat) (turn : InTurn) (line : Numbered) (b : Bool) → (b ≡ true → seat.0 < seats) → RiseAt seats turn.events →
-    RiseAt seats (if b then after_line seats seat turn line else turn).events
+    RiseAt seats (if b then after_opening_line seats seat turn line else turn).events
 tested_rise seats seat turn line true under before =
     line_rise seats seat turn line (under refl) before
 tested_rise seats seat turn line false under before = before
@@ -268,7 +268,7 @@ module _ (seats : ℕ) (some : 0 < seats) (start : InPlay (List Event) Numbered)
       let group : List Numbered = next_group (groups_at at.groups at.seat) in
       ap (λ (b : Bool).
       turn_over (turns_of opening_rules seats) at
-      (turned opening_rules (after_each (λ (turn : InTurn) (line : Numbered). if b then after_line seats seat turn line else turn) (in_turn at.now false) group)))
+      (turned opening_rules (after_each (λ (turn : InTurn) (line : Numbered). if b then after_opening_line seats seat turn line else turn) (in_turn at.now false) group)))
       (sym (says_under at.seat seats under))
 
   -- and so are all of them

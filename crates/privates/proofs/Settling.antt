@@ -9,7 +9,7 @@ use Rattle.history.proofs.EventAtEnd.{last_said_at_end}
 use Rattle.history.specs.Bids.{bids_on}
 use Rattle.history.specs.LookBack.{cheapest_of, is_sold, owner_said}
 use Rattle.privates.proofs.StandingBids.{cheapest_unsold}
-use Rattle.privates.specs.Sale.{settle, settled, settled_by, settled_of}
+use Rattle.privates.specs.Sale.{settle_auctions, settled, settled_by, settled_of}
 use Rattle.tables.specs.Steps.{iterate}
 use Rattle.tables.specs.declared.roster.Private.{Private}
 use Rattle.tables.specs.declared.roster.Private.TheVariants.{SchuylkillValley, ChamplainStLawrence, DelawareHudson, MohawkHudson, CamdenAmboy, BaltimoreOhio}
@@ -84,7 +84,7 @@ one_fewer events more BaltimoreOhio buyer price one =
 
 -- a step changes nothing, or leaves one fewer unsold
 abbrev Steps : ℕ → List Event → Type 0
-Steps seats events = (settle seats events ≡ events) ⊎ (unsold (settle seats events) + 1 ≤ unsold events)
+Steps seats events = (settle_auctions seats events ≡ events) ⊎ (unsold (settle_auctions seats events) + 1 ≤ unsold events)
 
 -- so do the bids on the cheapest private
 bids_step : (seats : ℕ) (events : List Event) (private : Private) (bids : List Bid) → one_unsold events private ≡ 1 → (settled_by seats events private bids ≡ events) ⊎ (unsold (settled_by seats events private bids) + 1 ≤ unsold events)
@@ -102,13 +102,13 @@ one_step : (seats : ℕ) (events : List Event) → Steps seats events
 one_step seats events = cheapest_step seats events (cheapest_of events) refl
 
 -- so many steps leave so many fewer, unless nothing was left to settle
-all_steps : (seats n : ℕ) (events : List Event) → (settle seats (iterate (settle seats) n events) ≡ iterate (settle seats) n events) ⊎ (unsold (iterate (settle seats) n events) + n ≤ unsold events)
+all_steps : (seats n : ℕ) (events : List Event) → (settle_auctions seats (iterate (settle_auctions seats) n events) ≡ iterate (settle_auctions seats) n events) ⊎ (unsold (iterate (settle_auctions seats) n events) + n ≤ unsold events)
 all_steps seats zero events = inr (omega arith)
 all_steps seats (suc n) events =
-    let here : List Event = iterate (settle seats) n events in
+    let here : List Event = iterate (settle_auctions seats) n events in
     elim (all_steps seats n events) [
-      | inl same ↦ inl (ap (settle seats) same)
-      | inr fewer ↦ elim (one_step seats here) [ inl same ↦ inl (ap (settle seats) same) | inr less ↦ inr (omega arith) ]
+      | inl same ↦ inl (ap (settle_auctions seats) same)
+      | inr fewer ↦ elim (one_step seats here) [ inl same ↦ inl (ap (settle_auctions seats) same) | inr less ↦ inr (omega arith) ]
     ]
 
 -- six are unsold at most
@@ -117,13 +117,13 @@ six_most events =
     omega (arith, one_most events SchuylkillValley, one_most events ChamplainStLawrence, one_most events DelawareHudson, one_most events MohawkHudson, one_most events CamdenAmboy, one_most events BaltimoreOhio)
 
 -- after six steps nothing is left to settle
-pub nothing_left : (seats : ℕ) (events : List Event) → settle seats (settled seats events) ≡ settled seats events
+pub nothing_left : (seats : ℕ) (events : List Event) → settle_auctions seats (settled seats events) ≡ settled seats events
 unfolding settled
 nothing_left seats events =
     elim (all_steps seats 6 events) [
       | inl same ↦ same
       | inr fewer ↦
-          elim (one_step seats (iterate (settle seats) 6 events)) [
+          elim (one_step seats (iterate (settle_auctions seats) 6 events)) [
             | inl same ↦ same
             | inr less ↦ let most = six_most events in absurd (omega arith)
           ]

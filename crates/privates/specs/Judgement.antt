@@ -46,8 +46,8 @@ is_too_low seats events private amount =
 -- the rules that a purchase may break, in a turn that has bought or bid before or not: the private is
 -- sold; it is not the cheapest that is unsold; its price is over what the seat can spend on it; the turn
 -- is used
-abbrev pub purchase_rules : ℕ → List Event → Seat → Bool → Private → List (Rule OpeningRule)
-purchase_rules seats events seat used private =
+abbrev pub private_purchase_rules : ℕ → List Event → Seat → Bool → Private → List (Rule OpeningRule)
+private_purchase_rules seats events seat used private =
     record { code = Sold; broken = is_sold events private }
     ∷ record { code = NotCheapest; broken = not (is_cheapest events private) }
     ∷ record { code = CashTooSmall; broken = lt_z (free_for seats events seat private) (pos (price_of events private)) }
@@ -67,7 +67,7 @@ bid_rules seats events seat used private amount =
 
 -- the first rule that an order breaks in a turn; any order but a purchase or a bid breaks the first
 abbrev pub judgement_of : ℕ → List Event → Seat → Bool → Order → Option OpeningRule
-judgement_of seats events seat used (BuyPrivate private) = first_broken (purchase_rules seats events seat used private)
+judgement_of seats events seat used (BuyPrivate private) = first_broken (private_purchase_rules seats events seat used private)
 judgement_of seats events seat used (Bid private amount) = first_broken (bid_rules seats events seat used private amount)
 judgement_of seats events seat used other = Some NotOfOpening
 

@@ -5,7 +5,7 @@ use Rattle.std.specs.Prelude.{ℕ}
 use Rattle.events.specs.declared.event.Event.TheVariants as event
 use Rattle.history.specs.LookBack.{Game, with_event}
 use Rattle.history.specs.Sound.{IsSound}
-use Rattle.history.specs.Tell.{left_told}
+use Rattle.history.specs.Record.{left_recorded}
 use Rattle.privates.specs.UnderwayKept.{begun_underway, event_underway, left_underway}
 use Rattle.privates.specs.Underway.{IsUnderway, MayBegin}
 use Rattle.tables.specs.declared.round.Round.{Round}
@@ -23,5 +23,5 @@ passes game seat underway sound =
     event_underway game (with_event game (event.Passes seat)) (event.Passes seat) refl (λ its other. refl) refl sound underway
 
 -- so does a count of lines
-pub leaves : (game : Game) (seat : Seat) (lines : ℕ) → IsUnderway game → IsSound (left_told seat lines game) → IsUnderway (left_told seat lines game)
-leaves game seat lines underway sound = left_underway game (left_told seat lines game) seat lines refl sound underway
+pub leaves : (game : Game) (seat : Seat) (lines : ℕ) → IsUnderway game → IsSound (left_recorded seat lines game) → IsUnderway (left_recorded seat lines game)
+leaves game seat lines underway sound = left_underway game (left_recorded seat lines game) seat lines refl sound underway

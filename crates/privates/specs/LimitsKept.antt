@@ -8,7 +8,7 @@ use Rattle.events.specs.declared.ruling.Ruling.{Ruling}
 use Rattle.events.specs.declared.ruling.Ruling.TheVariants.{Obeyed, Refused, Faulty}
 use Rattle.history.proofs.EventAtEnd.{now_said_before, now_said_here}
 use Rattle.history.specs.LookBack.{in_round}
-use Rattle.history.specs.Orders.{limit_of}
+use Rattle.history.specs.Orders.{bid_limit_of}
 use Rattle.order_grammar.specs.declared.order.Order.{Order}
 use Rattle.order_grammar.specs.declared.order.Order.TheVariants as order
 use Rattle.turns.specs.Small.{IsSmallOrder, IsSmallRuling}
@@ -30,7 +30,7 @@ limits_kept events event silent small =
 -- in a round that begins there are no limits
 pub no_limits : (events : List Event) (round : Round) → LimitsAreSmall (events ++ event.Round round ∷ [])
 no_limits events round =
-    λ private seat amount said. let none : limit_of (events ++ event.Round round ∷ []) private seat ≡ None = now_said_here (limit_said private seat) events (event.Round round) None refl in cc
+    λ private seat amount said. let none : bid_limit_of (events ++ event.Round round ∷ []) private seat ≡ None = now_said_here (limit_said private seat) events (event.Round round) None refl in cc
 
 -- a small limit that a test lets through
 named_small : (b : Bool) (limit amount : ℕ) → limit ≤ 99999 → (if b then Some limit else None) ≡ Some amount → amount ≤ 99999
@@ -43,7 +43,7 @@ limit_small private (order.Limit other limit) amount small said = named_small (s
 limit_small private other amount small said = cc
 
 -- a limit after an order that was obeyed: what it says, if it is of the seat, or what was said before
-after_said : (private : Private) (seat : Seat) (events : List Event) (event : Event) (said : Option ℕ) (amount : ℕ) → limit_said private seat event ≡ option_map Some said → limit_of (events ++ event ∷ []) private seat ≡ Some amount → (said ≡ Some amount) ⊎ (limit_of events private seat ≡ Some amount)
+after_said : (private : Private) (seat : Seat) (events : List Event) (event : Event) (said : Option ℕ) (amount : ℕ) → limit_said private seat event ≡ option_map Some said → bid_limit_of (events ++ event ∷ []) private seat ≡ Some amount → (said ≡ Some amount) ⊎ (bid_limit_of events private seat ≡ Some amount)
 after_said private seat events event None amount silent is = inr (sym (now_said_before (limit_said private seat) events event silent) ∙ is)
 after_said private seat events event (Some said) amount speaks is = inl (sym (now_said_here (limit_said private seat) events event (Some said) speaks) ∙ is)
 

@@ -10,7 +10,7 @@ use Rattle.events.specs.declared.event.Event.{Event}
 use Rattle.events.specs.declared.event.Event.TheVariants.{Given, Par, President, Sold}
 use Rattle.history.specs.Bids.{bids_on, free_for}
 use Rattle.history.specs.LookBack.{cheapest_of}
-use Rattle.history.specs.Orders.{limit_of, par_ordered_of}
+use Rattle.history.specs.Orders.{bid_limit_of, par_ordered_of}
 use Rattle.privates.specs.Auction.{Bidder, auction_of}
 use Rattle.tables.specs.Steps.{iterate}
 use Rattle.tables.specs.declared.roster.Company.TheVariants as company
@@ -48,7 +48,7 @@ abbrev pub bidder_of : ℕ → List Event → Private → Bid → Bidder
 bidder_of seats events private bid = (
   bid.seat,
   pos bid.amount,
-  limit_from (pos bid.amount) (limit_of events private bid.seat) (free_for seats events bid.seat private),
+  limit_from (pos bid.amount) (bid_limit_of events private bid.seat) (free_for seats events bid.seat private),
 )
 
 -- after a sale to the winner of an auction, who pays this; no price is under 0
@@ -67,9 +67,9 @@ settled_of seats events None = events
 settled_of seats events (Some private) = settled_by seats events private (bids_on seats events private)
 
 -- one step of the sales that follow from a sale: the cheapest private is sold if there are bids on it
-abbrev pub settle : ℕ → List Event → List Event
-settle seats events = settled_of seats events (cheapest_of events)
+abbrev pub settle_auctions : ℕ → List Event → List Event
+settle_auctions seats events = settled_of seats events (cheapest_of events)
 
 -- after the sales that follow from a sale: as there are six privates, nothing is left to settle then
 unfoldable pub settled : ℕ → List Event → List Event
-settled seats events = iterate (settle seats) 6 events
+settled seats events = iterate (settle_auctions seats) 6 events

@@ -40,11 +40,11 @@ after_ruling seats seat turn number ruling = turn_ruled (acted seats seat) seat 
 -- what becomes of a line of a group
 abbrev pub ruling_in : ℕ → Seat → InTurn → Numbered → Ruling
 ruling_in seats seat turn line =
-    line_ruling has_place_in_group (refusal_of seats turn.events seat turn.deeds) turn.events line
+    line_ruling has_place_in_group (refusal_of seats turn.events seat turn.actions) turn.events line
 
 -- in a turn, after a line of a group
-abbrev pub after_line : ℕ → Seat → InTurn → Numbered → InTurn
-after_line seats seat turn line = after_ruling seats seat turn line.number (ruling_in seats seat turn line)
+abbrev pub after_opening_line : ℕ → Seat → InTurn → Numbered → InTurn
+after_opening_line seats seat turn line = after_ruling seats seat turn line.number (ruling_in seats seat turn line)
 
 -- the rules of an opening round: a seat that bought or bid has acted, and the turns are over once all privates
 -- are sold, also where not all seats have passed in succession
@@ -53,7 +53,7 @@ opening_rules =
     record {
       standing = after_standing_line;
       nothing = false;
-      line = after_line;
+      line = after_opening_line;
       has_acted = λ acted. acted;
       over = all_sold;
       closed = closed;

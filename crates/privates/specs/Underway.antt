@@ -3,7 +3,7 @@
 use Rattle.std.specs.Prelude.{◌≡◌, ℕ, ◌≤◌, List, false, Some, None}
 use Rattle.events.specs.declared.event.Event.{Event}
 use Rattle.history.specs.LookBack.{Game, is_sold}
-use Rattle.history.specs.Orders.{limit_of}
+use Rattle.history.specs.Orders.{bid_limit_of}
 use Rattle.history.specs.Shares.{square_of}
 use Rattle.history.specs.Sound.{IsSound}
 use Rattle.tables.specs.declared.roster.Company.TheVariants as company
@@ -21,7 +21,7 @@ BaltimoreWaits events = is_sold events BaltimoreOhio ≡ false → square_of eve
 
 -- no limit of this round is over 99,999
 abbrev pub LimitsAreSmall : List Event → Type 0
-LimitsAreSmall events = (private : Private) (seat : Seat) (amount : ℕ) → limit_of events private seat ≡ Some amount → amount ≤ 99999
+LimitsAreSmall events = (private : Private) (seat : Seat) (amount : ℕ) → bid_limit_of events private seat ≡ Some amount → amount ≤ 99999
 
 -- what holds beside soundness
 pub record IsWaiting (events : List Event) : Type 0 where

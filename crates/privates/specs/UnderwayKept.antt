@@ -9,7 +9,7 @@ use Rattle.events.specs.declared.ruling.Ruling.{Ruling}
 use Rattle.history.proofs.EventAtEnd.{last_said_at_end, square_of_before}
 use Rattle.history.specs.LookBack.{Game, is_sold, last_said, owner_of, owner_said, with_event}
 use Rattle.history.specs.Sound.{IsSound}
-use Rattle.history.specs.Tell.{after_revenues, breaks, paid_to_owner, revenues_told, with_broken, with_left}
+use Rattle.history.specs.Record.{after_revenues, breaks, paid_to_owner, revenues_recorded, with_broken, with_left}
 use Rattle.privates.specs.LimitsKept.{limit_said, limits_kept, limits_ruled, no_limits}
 use Rattle.turns.specs.Small.{IsSmallRuling}
 use Rattle.privates.specs.Underway.{BaltimoreWaits, IsUnderway, IsWaiting, LimitsAreSmall, PennsylvaniaWaits}
@@ -103,7 +103,7 @@ waiting_revenues seats events (its ∷ others) before =
     waiting_revenues seats (paid_to_owner seats events its (owner_of events its)) others (waiting_paid seats events its (owner_of events its) before)
 
 -- the revenues of all
-pub revenues_underway : (game new : Game) → new ≡ revenues_told game → IsSound new → IsUnderway game → IsUnderway new
+pub revenues_underway : (game new : Game) → new ≡ revenues_recorded game → IsSound new → IsUnderway game → IsUnderway new
 revenues_underway game new told sound before =
     record {
       sound = sound;

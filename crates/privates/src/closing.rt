@@ -1,7 +1,7 @@
 ghost use Rattle.std.specs.Prelude.{◌≡◌, ◌≢◌, ◌<◌, ◌≤◌, ◌-◌, OnOk, false};
 ghost use Rattle.events.specs.declared.event.Event.TheVariants as event;
 ghost use Rattle.history.specs.LookBack.{is_sold, priority_of, sv_price_of, with_event};
-ghost use Rattle.history.specs.Tell.{revenues_told};
+ghost use Rattle.history.specs.Record.{revenues_recorded};
 ghost use Rattle.privates.specs.Closing.{after_fall, closed, given_away};
 ghost use Rattle.privates.specs.Underway.{IsUnderway};
 ghost use Rattle.tables.specs.declared.roster.Private.TheVariants.{SchuylkillValley};
@@ -89,9 +89,9 @@ fn give_away(history: &mut History, seat: Seat) -> Result<(), AllocError>
 /// Each sold private pays its owner, in roster order.
 fn pay_revenues(history: &mut History) -> Result<(), AllocError>
     requires { IsUnderway history.old }
-    ensures game { OnOk result (history.new ≡ revenues_told history.old) }
+    ensures game { OnOk result (history.new ≡ revenues_recorded history.old) }
     ensures underway { OnOk result (IsUnderway history.new) }
 {
-    history.tell_revenues()?;
+    history.record_revenues()?;
     Ok(())
 }

@@ -2,10 +2,10 @@ ghost use Rattle.std.specs.Prelude.{◌≡◌, ◌≤◌, pos};
 ghost use Rattle.std.specs.Int.Signed.{lt_z};
 ghost use Rattle.history.specs.Bids.{free_for};
 ghost use Rattle.history.specs.LookBack.{cheapest_in};
-ghost use Rattle.privates.specs.Judgement.{bid_rules, is_near, is_the, is_too_low, judgement_of, price_of, purchase_rules};
+ghost use Rattle.privates.specs.Judgement.{bid_rules, is_near, is_the, is_too_low, judgement_of, price_of, private_purchase_rules};
 ghost use Rattle.tables.specs.Rules.{first_broken};
 
-use history::{Bid, History, OpeningRule, Owners, Past};
+use history::{Bid, GameView, History, OpeningRule, Owners};
 use order_grammar::Order;
 use tables::{Amount, Money, Private, Seat, face};
 
@@ -13,7 +13,7 @@ use tables::{Amount, Money, Private, Seat, face};
 const STEP: u64 = 5;
 
 /// What the bank asks for a private: SV's price may have fallen, the others' is their face.
-pub(crate) fn price_of(past: &Past, private: Private) -> Amount
+pub(crate) fn price_of(past: &GameView, private: Private) -> Amount
     ensures { result ≡ price_of past.now.events.now private }
 {
     match private {
@@ -37,9 +37,14 @@ pub fn judge(history: &History, seat: Seat, order: &Order, turn_used: bool) -> O
 }
 
 /// The first rule that a purchase breaks.
-fn judge_purchase(past: &Past, seat: Seat, private: Private, turn_used: bool) -> Option<OpeningRule>
+fn judge_purchase(
+    past: &GameView,
+    seat: Seat,
+    private: Private,
+    turn_used: bool,
+) -> Option<OpeningRule>
     ensures { result ≡ first_broken
-        (purchase_rules past.now.seats past.now.events.now seat turn_used private) }
+        (private_purchase_rules past.now.seats past.now.events.now seat turn_used private) }
 {
     let owners = past.owners();
     if owners.is_sold(private) {
@@ -59,7 +64,7 @@ fn judge_purchase(past: &Past, seat: Seat, private: Private, turn_used: bool) ->
 
 /// The first rule that a bid breaks.
 fn judge_bid(
-    past: &Past,
+    past: &GameView,
     seat: Seat,
     private: Private,
     amount: Amount,
@@ -96,14 +101,14 @@ fn is_cheapest(owners: &Owners, private: Private) -> bool
 }
 
 /// Whether a sum is over what a seat can spend on a private.
-fn is_short(past: &Past, seat: Seat, private: Private, sum: Amount) -> bool
+fn is_short(past: &GameView, seat: Seat, private: Private, sum: Amount) -> bool
     ensures { result ≡ lt_z (free_for past.now.seats past.now.events.now seat private) (pos sum) }
 {
     past.free_for(seat, private) < Money::from(sum)
 }
 
 /// Whether a bid on a private is too low.
-fn is_too_low(past: &Past, private: Private, amount: Amount) -> bool
+fn is_too_low(past: &GameView, private: Private, amount: Amount) -> bool
     requires { past.now.seats ≤ 6 }
     ensures { result ≡ is_too_low past.now.seats past.now.events.now private amount }
 {

@@ -5,7 +5,7 @@ ghost use Rattle.privates.specs.BidsRise.{OpeningBidsRise, StandingBidsSuffice};
 ghost use Rattle.events.specs.declared.event.Event.{Event};
 ghost use Rattle.history.specs.LookBack.{Game};
 ghost use Rattle.privates.specs.Opening.{EndsSoon, IsOpeningRound};
-ghost use Rattle.privates.specs.Sale.{settle, settled};
+ghost use Rattle.privates.specs.Sale.{settle_auctions, settled};
 ghost use Rattle.privates.specs.Turn.{opening_rules};
 ghost use Rattle.tables.specs.declared.round.Round.{Round};
 ghost use Rattle.turns.specs.Acted.{TurnsTellWhoActed};
@@ -20,7 +20,7 @@ pub fn auction_is_won()
 /// The sales that follow from a sale come to an end: after them no bids are left on the cheapest
 /// private that is unsold.
 pub fn nothing_is_left_to_settle()
-    ensures { (seats : ℕ) (events : List Event) → settle seats (settled seats events)
+    ensures { (seats : ℕ) (events : List Event) → settle_auctions seats (settled seats events)
         ≡ settled seats events }
 {}
 

@@ -18,7 +18,7 @@ use turns::{TurnRules, play_round};
 struct OpeningTurns;
 
 impl TurnRules for OpeningTurns {
-    type Deeds = bool;
+    type TurnActions = bool;
 
     ghost rules = { opening_rules };
 
@@ -46,13 +46,13 @@ impl TurnRules for OpeningTurns {
         seat: Seat,
         line: UnreadLine,
         order: &mut Order,
-        deeds: bool,
+        actions: bool,
     ) -> Result<bool, AllocError> {
-        turn::rule_line(history, seat, line, order, deeds)
+        turn::rule_line(history, seat, line, order, actions)
     }
 
-    fn has_acted(&self, deeds: bool) -> bool {
-        deeds
+    fn has_acted(&self, actions: bool) -> bool {
+        actions
     }
 
     fn is_over(&self, history: &History) -> bool {

@@ -4,13 +4,13 @@ ghost use Rattle.events.specs.declared.event.Event.TheVariants as event;
 ghost use Rattle.history.specs.Bids.{bids_on};
 ghost use Rattle.history.specs.LookBack.{cheapest_of, with_event};
 ghost use Rattle.privates.specs.Act.{MayPay};
-ghost use Rattle.privates.specs.Sale.{after_sale, bidder_of, par_set_by, settle, settled, settled_by};
+ghost use Rattle.privates.specs.Sale.{after_sale, bidder_of, par_set_by, settle_auctions, settled, settled_by};
 ghost use Rattle.tables.specs.declared.roster.Private.TheVariants.{BaltimoreOhio, CamdenAmboy};
 ghost use Rattle.privates.specs.Underway.{IsUnderway};
 
 use crate::bidding::auction;
 use arrayvec::ArrayVec;
-use history::{Bid, Event, History, Past};
+use history::{Bid, Event, GameView, History};
 use std::alloc::AllocError;
 use tables::{Amount, Company, Money, PLAYERS_MOST, Private, Seat};
 
@@ -125,7 +125,7 @@ fn sell_baltimore(history: &mut History, buyer: Seat, price: Amount) -> Result<(
 }
 
 /// The par value that a buyer of BOP sets for BO: that of his last obeyed PAR line, else 67.
-fn par_set_by(past: &Past, buyer: Seat) -> Amount
+fn par_set_by(past: &GameView, buyer: Seat) -> Amount
     ensures par { result ≡ par_set_by past.now.events.now buyer }
     ensures small { result ≤ 1000000 }
 {
@@ -154,7 +154,7 @@ fn settle(history: &mut History) -> Result<(), AllocError>
     requires underway { IsUnderway history.old }
     ensures seats { OnOk result (history.new.seats ≡ history.old.seats) }
     ensures events { OnOk result (history.new.events
-        ≡ settle history.old.seats history.old.events) }
+        ≡ settle_auctions history.old.seats history.old.events) }
     ensures underway { OnOk result (IsUnderway history.new) }
 {
     match history.cheapest_unsold() {
@@ -210,7 +210,7 @@ fn price_paid(won: (Seat, Money)) -> Amount
 
 /// Those who bid on a private, each with his bid and his limit.
 fn bidders_of(
-    past: &Past,
+    past: &GameView,
     private: Private,
     bids: &[Bid],
 ) -> ArrayVec<(Seat, Money, Money), PLAYERS_MOST>
@@ -226,7 +226,7 @@ fn bidders_of(
 }
 
 /// A bidder with his bid and his limit.
-fn bidder_of(past: &Past, private: Private, bid: Bid) -> (Seat, Money, Money)
+fn bidder_of(past: &GameView, private: Private, bid: Bid) -> (Seat, Money, Money)
     ensures { result ≡ bidder_of past.now.seats past.now.events.now private bid }
 {
     let amount = Money::from(bid.amount);

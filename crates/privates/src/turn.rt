@@ -4,7 +4,7 @@ ghost use Rattle.history.specs.LookBack.{with_event};
 ghost use Rattle.privates.specs.Act.{MayAct, MayBid, MayPay};
 ghost use Rattle.privates.specs.Judgement.{price_of as price_asked, refusal_of};
 ghost use Rattle.privates.specs.Sale.{after_sale, settled};
-ghost use Rattle.privates.specs.Turn.{after_act, after_line};
+ghost use Rattle.privates.specs.Turn.{after_act, after_opening_line};
 ghost use Rattle.privates.specs.Underway.{IsUnderway};
 ghost use Rattle.sheets.specs.Part.{line_unread};
 ghost use Rattle.turns.specs.RoundOfTurns.{in_turn};
@@ -57,7 +57,7 @@ pub(crate) fn rule_line(
     requires underway { IsUnderway history.old }
     ensures seats { OnOk result (history.new.seats ≡ history.old.seats) }
     ensures turn { IfOk result (λ used. in_turn history.new.events used
-        ≡ after_line history.old.seats seat (in_turn history.old.events turn_used)
+        ≡ after_opening_line history.old.seats seat (in_turn history.old.events turn_used)
         (line_unread line.entry)) }
     ensures underway { OnOk result (IsUnderway history.new) }
 {

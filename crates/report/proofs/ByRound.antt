@@ -3,11 +3,11 @@
 use Rattle.std.proofs.Common.{◌≡◌, ℕ, Bool, true, false, List, [], ◌∷◌, ◌++◌, Option, Some, None, is_some, refl, ap, sym, subst, ◌∙◌, arith}
 use Rattle.std.specs.Prelude.{IsSome, ⊤}
 use Rattle.std.specs.List.{flat_map}
-use Rattle.events.specs.Event.{round_of}
+use Rattle.events.specs.Event.{round_begun_by}
 use Rattle.events.specs.declared.event.Event.{Event}
 use Rattle.history.specs.LookBack.{Game}
 use Rattle.report.specs.Laws.{ReportIsItsParts}
-use Rattle.report.specs.Report.{end_of_play, ends_round, header, is_round, is_the_round, lines_of_round, round_begun, rounds_in, text_of_one, texts_of_rounds, unread_lines, with_event}
+use Rattle.report.specs.Report.{end_of_play, ends_round, header, is_round, is_the_round, lines_of_round, round_begun, rounds_in, text_of_one, texts_of_rounds, unread_lines, with_event_in_round}
 use Rattle.rounds.specs.Begun.{AreInOrder, BeginWithRound, IsBeforeEach, RoundsFollowInOrder, rounds_begun, with_round}
 use Rattle.sheets.specs.File.{unread_of}
 use Rattle.tables.specs.Round.{is_before, same_round}
@@ -97,7 +97,7 @@ module _ (file : List ℕ) (seats : ℕ) where
       ∙ ap (λ text. lines_of_round file seats before first ++ text) (all_later before first rounds begun rounds is different.2 ∙ texts (before ++ first) rounds different.3))
 
 -- the first of the rounds with an event in front begins what that event begins
-front_begins : (event : Event) (ended : Bool) (rounds : List (List Event)) → FirstBegins (round_of event) (with_event event ended rounds)
+front_begins : (event : Event) (ended : Bool) (rounds : List (List Event)) → FirstBegins (round_begun_by event) (with_event_in_round event ended rounds)
 front_begins event true rounds = refl
 front_begins event false [] = refl
 front_begins event false (round ∷ rounds) = refl
@@ -115,24 +115,24 @@ none_found (Some round) goes = absurd cc
 -- where no later round begins, these begin none
 none_begun : (events : List Event) → ends_round events ≡ false → round_begun events ≡ None
 none_begun [] goes = refl
-none_begun (event ∷ events) goes = none_found (round_of event) goes
+none_begun (event ∷ events) goes = none_found (round_begun_by event) goes
 
 -- an event in front of rounds begins its round before them
-one_begun : (event : Event) (ended : Bool) (rounds : List (List Event)) (first : Option Round) → FirstBegins first rounds → (ended ≡ false → first ≡ None) → rounds_of (with_event event ended rounds) ≡ with_round (round_of event) (rounds_of rounds)
+one_begun : (event : Event) (ended : Bool) (rounds : List (List Event)) (first : Option Round) → FirstBegins first rounds → (ended ≡ false → first ≡ None) → rounds_of (with_event_in_round event ended rounds) ≡ with_round (round_begun_by event) (rounds_of rounds)
 one_begun event true rounds first is none = refl
 one_begun event false [] first is none = refl
 one_begun event false (round ∷ rounds) first is none =
-    ap (λ one. with_round (round_of event) (with_round one (rounds_of rounds))) (sym (is ∙ none refl))
+    ap (λ one. with_round (round_begun_by event) (with_round one (rounds_of rounds))) (sym (is ∙ none refl))
 
 -- the rounds that the parts of events begin are those that the events begin
 all_begun : (events : List Event) → rounds_of (rounds_in events) ≡ rounds_begun events
 all_begun [] = refl
 all_begun (event ∷ events) =
     one_begun event (ends_round events) (rounds_in events) (round_begun events) (first_begins events) (none_begun events)
-    ∙ ap (with_round (round_of event)) (all_begun events)
+    ∙ ap (with_round (round_begun_by event)) (all_begun events)
 
 -- with an event in front, each part but the first begins a round
-one_later_begins : (event : Event) (ended : Bool) (rounds : List (List Event)) (first : Option Round) → FirstBegins first rounds → is_some first ≡ ended → LaterBegin rounds → LaterBegin (with_event event ended rounds)
+one_later_begins : (event : Event) (ended : Bool) (rounds : List (List Event)) (first : Option Round) → FirstBegins first rounds → is_some first ≡ ended → LaterBegin rounds → LaterBegin (with_event_in_round event ended rounds)
 one_later_begins event true [] first is some later = tt
 one_later_begins event true (round ∷ rounds) first is some later = (subst IsSome (sym is) some, later)
 one_later_begins event false [] first is some later = tt
@@ -143,7 +143,7 @@ later_begin : (events : List Event) → LaterBegin (rounds_in events)
 later_begin [] = tt
 later_begin (event ∷ []) = tt
 later_begin (event ∷ next ∷ events) =
-    one_later_begins event (is_some (round_of next)) (rounds_in (next ∷ events)) (round_of next) (first_begins (next ∷ events)) refl (later_begin (next ∷ events))
+    one_later_begins event (is_some (round_begun_by next)) (rounds_in (next ∷ events)) (round_begun_by next) (first_begins (next ∷ events)) refl (later_begin (next ∷ events))
 
 -- so does the first, if it is said to
 all_begin : (first : Option Round) (rounds : List (List Event)) → FirstBegins first rounds → IsSome first → LaterBegin rounds → EachBegins rounds
@@ -154,7 +154,7 @@ all_begin first (round ∷ rounds) is some later = (subst IsSome (sym is) some, 
 each_begins : (events : List Event) → BeginWithRound events → EachBegins (rounds_in events)
 each_begins [] begins = tt
 each_begins (event ∷ events) begins =
-    all_begin (round_of event) (rounds_in (event ∷ events)) (first_begins (event ∷ events)) begins (later_begin (event ∷ events))
+    all_begin (round_begun_by event) (rounds_in (event ∷ events)) (first_begins (event ∷ events)) begins (later_begin (event ∷ events))
 
 -- a round that comes before another is not the same
 apart : (a b : Round) → is_before a b ≡ true → same_round b a ≡ false

@@ -5,16 +5,16 @@ use Rattle.std.specs.List.{flat_map, list_any}
 use Rattle.std.proofs.lemmas.Bool.{false≢true}
 use Rattle.std.proofs.lemmas.List.{append-nil, drop_more}
 use Rattle.std.proofs.lemmas.List.Folds.{list_any-append}
-use Rattle.events.specs.Event.{round_of}
+use Rattle.events.specs.Event.{round_begun_by}
 use Rattle.events.specs.declared.event.Event.{Event}
 use Rattle.report.specs.Line.{event_line}
 use Rattle.report.specs.Parts.{last_round, last_round_text}
-use Rattle.report.specs.Report.{ends_round, lines_of_round, rounds_in, rounds_text, texts_of_rounds, with_event}
+use Rattle.report.specs.Report.{ends_round, lines_of_round, rounds_in, rounds_text, texts_of_rounds, with_event_in_round}
 use Rattle.report.specs.Statement.{statement}
 
 -- an event begins a round
 abbrev begins : Event → Bool
-begins event = is_some (round_of event)
+begins event = is_some (round_begun_by event)
 
 -- some event of a list does that has one which does
 some_begins : (front more : List Event) (event : Event) → begins event ≡ true → list_any begins (front ++ event ∷ more) ≡ true
@@ -57,7 +57,7 @@ told_last file seats before all last (round ∷ rounds) is =
     ∙ sym (append_assoc (lines_of_round file seats before round) (texts_of_rounds file seats (before ++ round) rounds) (lines_of_round file seats all last))
 
 -- an event in front of rounds is in front of the events of all
-in_front : (event : Event) (ended : Bool) (rounds : List (List Event)) → flat_map (λ round. round) (with_event event ended rounds) ≡ event ∷ flat_map (λ round. round) rounds
+in_front : (event : Event) (ended : Bool) (rounds : List (List Event)) → flat_map (λ round. round) (with_event_in_round event ended rounds) ≡ event ∷ flat_map (λ round. round) rounds
 in_front event true rounds = refl
 in_front event false [] = refl
 in_front event false (round ∷ rounds) = refl
@@ -69,7 +69,7 @@ all_rounds (event ∷ events) =
     ap (λ (list : List Event). event ∷ list) (all_rounds events) ∙ sym (in_front event (ends_round events) (rounds_in events))
 
 -- there is a round where there is an event
-some_round : (event : Event) (ended : Bool) (rounds : List (List Event)) → (first : List Event) × (others : List (List Event)) × (with_event event ended rounds ≡ first ∷ others)
+some_round : (event : Event) (ended : Bool) (rounds : List (List Event)) → (first : List Event) × (others : List (List Event)) × (with_event_in_round event ended rounds ≡ first ∷ others)
 some_round event true rounds = (event ∷ [], rounds, refl)
 some_round event false [] = (event ∷ [], [], refl)
 some_round event false (round ∷ rounds) = (event ∷ round, rounds, refl)
@@ -77,7 +77,7 @@ some_round event false (round ∷ rounds) = (event ∷ round, rounds, refl)
 -- an event in front of some rounds and a further one
 one_more_in_front :
     (event : Event) (ended : Bool) (rounds others : List (List Event)) (first last : List Event) → rounds ≡ first ∷ others →
-    with_event event ended (rounds ++ last ∷ []) ≡ with_event event ended rounds ++ last ∷ []
+    with_event_in_round event ended (rounds ++ last ∷ []) ≡ with_event_in_round event ended rounds ++ last ∷ []
 one_more_in_front event true rounds others first last is = refl
 one_more_in_front event false [] others first last is = absurd cc
 one_more_in_front event false (round ∷ rounds) others first last is = refl
@@ -86,9 +86,9 @@ one_more_in_front event false (round ∷ rounds) others first last is = refl
 one_round : (event : Event) (more : List Event) → list_any begins more ≡ false → rounds_in (event ∷ more) ≡ (event ∷ more) ∷ []
 one_round event [] none = refl
 one_round event (next ∷ more) none =
-    elim (begins next) as (λ (b : Bool). (b || list_any begins more) ≡ false → with_event event b (rounds_in (next ∷ more)) ≡ (event ∷ next ∷ more) ∷ []) [
+    elim (begins next) as (λ (b : Bool). (b || list_any begins more) ≡ false → with_event_in_round event b (rounds_in (next ∷ more)) ≡ (event ∷ next ∷ more) ∷ []) [
       | true ↦ λ never. absurd (false≢true (sym never))
-      | false ↦ λ others. ap (with_event event false) (one_round next more others)
+      | false ↦ λ others. ap (with_event_in_round event false) (one_round next more others)
     ]
     none
 
@@ -98,11 +98,11 @@ pub cut_before :
     rounds_in (old ++ event ∷ more) ≡ rounds_in old ++ (event ∷ more) ∷ []
 cut_before [] more event is none = one_round event more none
 cut_before (first ∷ []) more event is none =
-    ap (λ (b : Bool). with_event first b (rounds_in (event ∷ more))) is
+    ap (λ (b : Bool). with_event_in_round first b (rounds_in (event ∷ more))) is
     ∙ ap (λ (rounds : List (List Event)). (first ∷ []) ∷ rounds) (one_round event more none)
 cut_before (first ∷ next ∷ old) more event is none =
     let some = some_round next (ends_round old) (rounds_in old) in
-    ap (with_event first (begins next)) (cut_before (next ∷ old) more event is none)
+    ap (with_event_in_round first (begins next)) (cut_before (next ∷ old) more event is none)
     ∙ one_more_in_front first (begins next) (rounds_in (next ∷ old)) some.1 some.0 (event ∷ more) some.2
 
 -- the text of a list that a round is added to: that of the list, and then that of the round

@@ -5,7 +5,7 @@ use Rattle.std.specs.Prelude.{slice_range, if◌then◌else◌}
 use Rattle.std.proofs.lemmas.Grind.{common_steps}
 use Rattle.std.proofs.lemmas.List.{take_more, drop_more, drop-drop, drop-take, take-append-drop}
 use Rattle.events.specs.declared.event.Event.{Event}
-use Rattle.report.specs.Report.{ends_round, is_round, lines_of_round, rounds_in, text_of_one, texts_of_rounds, with_event}
+use Rattle.report.specs.Report.{ends_round, is_round, lines_of_round, rounds_in, text_of_one, texts_of_rounds, with_event_in_round}
 use Rattle.tables.specs.declared.round.Round as table
 
 -- events in front of rounds: of the first of them, or a round by themselves where that ends with them
@@ -14,7 +14,7 @@ with_events events false (round ∷ rounds) = (events ++ round) ∷ rounds
 with_events events ended rounds = events ∷ rounds
 
 -- an event between them is the last of those in front
-between : (front : List Event) (event : Event) (ended : Bool) (rounds : List (List Event)) → with_events front false (with_event event ended rounds) ≡ with_events (front ++ event ∷ []) ended rounds
+between : (front : List Event) (event : Event) (ended : Bool) (rounds : List (List Event)) → with_events front false (with_event_in_round event ended rounds) ≡ with_events (front ++ event ∷ []) ended rounds
 between front event true rounds = refl
 between front event false [] = refl
 between front event false (round ∷ rounds) = ap (λ first. first ∷ rounds) (sym (append_assoc front (event ∷ []) round))
@@ -24,7 +24,7 @@ pub one_event_more : (front : List Event) (event : Event) (rest : List Event) �
 one_event_more front event rest goes_on = rw goes_on (between front event (ends_round rest) (rounds_in rest))
 
 -- an event by itself in front
-alone : (event : Event) (ended : Bool) (rounds : List (List Event)) → with_event event ended rounds ≡ with_events (event ∷ []) ended rounds
+alone : (event : Event) (ended : Bool) (rounds : List (List Event)) → with_event_in_round event ended rounds ≡ with_events (event ∷ []) ended rounds
 alone event true rounds = refl
 alone event false [] = refl
 alone event false (round ∷ rounds) = refl

@@ -88,9 +88,9 @@ text_of_seller seller.BankPool = codes "POOL"
 text_of_seller (seller.Company company) = code_of_company company
 
 -- a company's code, or the word for the bank pool where there is none
-abbrev pub text_of_stable : Option Company → List ℕ
-text_of_stable None = codes "POOL"
-text_of_stable (Some company) = code_of_company company
+abbrev pub text_of_train_owner : Option Company → List ℕ
+text_of_train_owner None = codes "POOL"
+text_of_train_owner (Some company) = code_of_company company
 
 -- the line of a train that a company buys
 abbrev pub train_line : Company → Kind → TrainSeller → ℕ → List ℕ
@@ -129,7 +129,7 @@ event_line file (Dividend company holder amount) =
 event_line file (Traded company kind) = line_of (codes "TRADED") (code_of_company company ∷ code_of_kind kind ∷ [])
 event_line file (Train company kind from price) = train_line company kind from price
 event_line file (Phase kind) = line_of (codes "PHASE") (code_of_kind kind ∷ [])
-event_line file (Rusted owner kind) = line_of (codes "RUSTED") (text_of_stable owner ∷ code_of_kind kind ∷ [])
+event_line file (Rusted owner kind) = line_of (codes "RUSTED") (text_of_train_owner owner ∷ code_of_kind kind ∷ [])
 event_line file (Discarded company kind) = line_of (codes "DISCARDED") (code_of_company company ∷ code_of_kind kind ∷ [])
 event_line file (Closed private) = line_of (codes "CLOSED") (code_of_private private ∷ [])
 event_line file (PrivateBought private company seller price) = private_line file (codes "PRIVATE") private (holder.Company company) price

@@ -2,7 +2,7 @@
 -- statement, the unread lines, and the end.
 use Rattle.std.specs.Prelude.{◌≡◌, ℕ, ◌+◌, Bool, true, false, if◌then◌else◌, List, [], ◌∷◌, ◌++◌, length, take, drop, slice_range, codes, decimal, Option, Some, None, is_none, is_some, Result, Ok, Err}
 use Rattle.std.specs.List.{flat_map, range_with_len}
-use Rattle.events.specs.Event.{round_of}
+use Rattle.events.specs.Event.{round_begun_by}
 use Rattle.events.specs.declared.event.Event.{Event}
 use Rattle.order_grammar.specs.Fault.{code_of}
 use Rattle.order_grammar.specs.Print.{spaced, text_of_round}
@@ -44,17 +44,17 @@ header file = game_line (version_of file) ++ players_line file
 -- a later round begins before these events, or nothing follows
 abbrev pub ends_round : List Event → Bool
 ends_round [] = true
-ends_round (event ∷ events) = is_some (round_of event)
+ends_round (event ∷ events) = is_some (round_begun_by event)
 
 -- an event in front of rounds: of the first of them, or a round by itself where that ends with it
-abbrev pub with_event : Event → Bool → List (List Event) → List (List Event)
-with_event event false (round ∷ rounds) = (event ∷ round) ∷ rounds
-with_event event ended rounds = (event ∷ []) ∷ rounds
+abbrev pub with_event_in_round : Event → Bool → List (List Event) → List (List Event)
+with_event_in_round event false (round ∷ rounds) = (event ∷ round) ∷ rounds
+with_event_in_round event ended rounds = (event ∷ []) ∷ rounds
 
 -- the list of events, cut in front of each that begins a round
 abbrev pub rounds_in : List Event → List (List Event)
 rounds_in [] = []
-rounds_in (event ∷ events) = with_event event (ends_round events) (rounds_in events)
+rounds_in (event ∷ events) = with_event_in_round event (ends_round events) (rounds_in events)
 
 -- the lines of a round's events, and the statement as it stands after them
 abbrev pub lines_of_round : List ℕ → ℕ → List Event → List Event → List ℕ
@@ -83,7 +83,7 @@ IsLengthOfRound events count = rounds_in events ≡ take count events ∷ rounds
 -- the round that these events begin
 abbrev pub round_begun : List Event → Option round.Round
 round_begun [] = None
-round_begun (event ∷ events) = round_of event
+round_begun (event ∷ events) = round_begun_by event
 
 -- it is this round
 abbrev pub is_the_round : round.Round → Option round.Round → Bool

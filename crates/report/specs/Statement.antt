@@ -15,7 +15,7 @@ use Rattle.history.specs.LookBack.{cash_of, owner_in, owner_of, same_holder}
 use Rattle.history.specs.Operating.{tokens_placed}
 use Rattle.history.specs.Shares.{president_of, shares_of, square_of}
 use Rattle.history.specs.Trains.{so_many, trains_held}
-use Rattle.history.specs.declared.look_back.Past.{Past}
+use Rattle.history.specs.declared.look_back.GameView.{GameView}
 use Rattle.history.specs.declared.owners.Owners.{Owners}
 use Rattle.report.specs.Column.{at_left, at_right}
 use Rattle.report.specs.Line.{name_of}
@@ -54,7 +54,7 @@ unfoldable pub cash_column : ℕ → List Event → Party → List ℕ
 cash_column seats events party = at_right 6 (signed_decimal (cash_of seats events party))
 
 -- the same, as a game stood
-abbrev pub cash_column_at : Past → Party → List ℕ
+abbrev pub cash_column_at : GameView → Party → List ℕ
 cash_column_at past party = cash_column past.seats past.events.now party
 
 -- how many of a seat's certificates count, in their column
@@ -73,7 +73,7 @@ player_line file seats events seat =
     ++ codes_owned events seat ++ 10 ∷ []
 
 -- the same, as a game stood
-abbrev pub player_line_at : List ℕ → Past → Seat → List ℕ
+abbrev pub player_line_at : List ℕ → GameView → Seat → List ℕ
 player_line_at file past seat = player_line file past.seats past.events.now seat
 
 -- the name of a company's president
@@ -90,7 +90,7 @@ company_figures seats events company square =
     ++ tenths_column events company InitialOffering ++ tenths_column events company BankPool ++ at_right 2 (decimal (tokens_placed events company))
 
 -- the same, as a game stood
-abbrev pub company_figures_at : Past → Company → Square → List ℕ
+abbrev pub company_figures_at : GameView → Company → Square → List ℕ
 company_figures_at past company square = company_figures past.seats past.events.now company square
 
 -- a kind after a space, so many times
@@ -113,7 +113,7 @@ company_line file seats events company square =
     ++ 32 ∷ president_name file (president_of events company) ++ trains_text events company ++ 10 ∷ []
 
 -- the same, as a game stood
-abbrev pub company_line_at : List ℕ → Past → Company → Square → List ℕ
+abbrev pub company_line_at : List ℕ → GameView → Company → Square → List ℕ
 company_line_at file past company square = company_line file past.seats past.events.now company square
 
 -- the line of a company on a square, if it is on one
@@ -126,7 +126,7 @@ abbrev pub started_line : List ℕ → ℕ → List Event → Company → List �
 started_line file seats events company = line_on_square file seats events company (square_of events company)
 
 -- the same, as a game stood
-abbrev pub started_line_at : List ℕ → Past → Company → List ℕ
+abbrev pub started_line_at : List ℕ → GameView → Company → List ℕ
 started_line_at file past company = started_line file past.seats past.events.now company
 
 -- the lines of the started companies, in roster order
@@ -134,7 +134,7 @@ unfoldable pub company_lines : List ℕ → ℕ → List Event → List ℕ
 company_lines file seats events = flat_map (λ company. started_line file seats events company) companies
 
 -- the same, as a game stood
-abbrev pub company_lines_at : List ℕ → Past → List ℕ
+abbrev pub company_lines_at : List ℕ → GameView → List ℕ
 company_lines_at file past = company_lines file past.seats past.events.now
 
 -- the bank's line
@@ -142,7 +142,7 @@ unfoldable pub bank_line : ℕ → List Event → List ℕ
 bank_line seats events = codes "BANK " ++ cash_column seats events party.Bank ++ 10 ∷ []
 
 -- the same, as a game stood
-abbrev pub bank_line_at : Past → List ℕ
+abbrev pub bank_line_at : GameView → List ℕ
 bank_line_at past = bank_line past.seats past.events.now
 
 -- the players' lines
@@ -150,7 +150,7 @@ unfoldable pub player_lines : List ℕ → ℕ → List Event → List ℕ
 player_lines file seats events = flat_map (λ seat. player_line file seats events (record { 0 = seat })) (range_with_len 0 seats)
 
 -- the same, as a game stood
-abbrev pub player_lines_at : List ℕ → Past → List ℕ
+abbrev pub player_lines_at : List ℕ → GameView → List ℕ
 player_lines_at file past = player_lines file past.seats past.events.now
 
 -- the statement of a list of events
@@ -159,5 +159,5 @@ statement file seats events =
     player_lines file seats events ++ company_lines file seats events ++ bank_line seats events
 
 -- the same, as a game stood
-abbrev pub statement_at : List ℕ → Past → List ℕ
+abbrev pub statement_at : List ℕ → GameView → List ℕ
 statement_at file past = statement file past.seats past.events.now

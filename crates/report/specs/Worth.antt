@@ -8,7 +8,7 @@ use Rattle.events.specs.declared.event.Shareholder.TheVariants.{Seat as OfSeat}
 use Rattle.history.specs.LookBack.{cash_of, owner_of}
 use Rattle.history.specs.Shares.{shares_of}
 use Rattle.history.specs.Trains.{so_many}
-use Rattle.history.specs.declared.look_back.Past.{Past}
+use Rattle.history.specs.declared.look_back.GameView.{GameView}
 use Rattle.report.specs.Line.{line_of, name_of}
 use Rattle.report.specs.Statement.{is_seat}
 use Rattle.std.specs.Fmt.{signed_decimal}
@@ -43,7 +43,7 @@ abbrev pub worth_line : List ℕ → ℕ → List Event → Seat → List ℕ
 worth_line file seats events seat = line_of (codes "WORTH") (name_of file seat ∷ signed_decimal (worth_of seats events seat) ∷ [])
 
 -- the same, as a game stood
-abbrev pub worth_line_at : List ℕ → Past → Seat → List ℕ
+abbrev pub worth_line_at : List ℕ → GameView → Seat → List ℕ
 worth_line_at file past seat = worth_line file past.seats past.events.now seat
 
 -- the lines of all players, in the order of their seats
@@ -51,5 +51,5 @@ unfoldable pub worth_lines : List ℕ → ℕ → List Event → List ℕ
 worth_lines file seats events = flat_map (λ seat. worth_line file seats events (record { 0 = seat })) (range_with_len 0 seats)
 
 -- the same, as a game stood
-abbrev pub worth_lines_at : List ℕ → Past → List ℕ
+abbrev pub worth_lines_at : List ℕ → GameView → List ℕ
 worth_lines_at file past = worth_lines file past.seats past.events.now

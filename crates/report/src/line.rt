@@ -1,11 +1,11 @@
 ghost use Rattle.std.specs.Prelude.{◌≡◌, OnOk};
 ghost use Rattle.report.specs.Column.{Adds};
-ghost use Rattle.report.specs.Line.{IsOfCompany, IsOfForce, IsOfPrivate, IsOfTenths, IsOfTrains, IsOfTurn, event_line, exchange_line, field_text, lay_line, line_of_company, line_of_fields, line_of_seat, line_of_word, name_of, private_line, ruled_line, text_of_seller, text_of_square, text_of_stable};
+ghost use Rattle.report.specs.Line.{IsOfCompany, IsOfForce, IsOfPrivate, IsOfTenths, IsOfTrains, IsOfTurn, event_line, exchange_line, field_text, lay_line, line_of_company, line_of_fields, line_of_seat, line_of_word, name_of, private_line, ruled_line, text_of_seller, text_of_square, text_of_train_owner};
 
 use Field::{
     At, Holds, In, Name, Number, OfRound, On, OrderOf, Source, Tenths, Tile, Turned, Word,
 };
-use history::{Event, Holder, KeptRuling, TrainSeller, Verdict};
+use history::{Event, Holder, PackedRuling, TrainSeller, Verdict};
 use map_tables::{Hex, Lay, Place, Rotation, TileNo};
 use order_grammar::{ShareSource, print_number, print_round};
 use sheets::Sheets;
@@ -40,7 +40,7 @@ pub(crate) enum Field<'a> {
     /// A round.
     OfRound(Round),
     /// The spelling of a ruling's order under its condition, if it has one.
-    OrderOf(&'a KeptRuling),
+    OrderOf(&'a PackedRuling),
 }
 
 /// The letters of the rows of the stock market.
@@ -261,7 +261,7 @@ fn push_of_trains(out: &mut Vec<u8>, sheets: &Sheets, event: &Event) -> Result<(
         }
         Event::Phase(kind) => tell(out, sheets, "PHASE", &[Word(kind.code())]),
         Event::Rusted { owner, kind } => {
-            let fields = [Word(stable_word(*owner)), Word(kind.code())];
+            let fields = [Word(train_owner_word(*owner)), Word(kind.code())];
             tell(out, sheets, "RUSTED", &fields)
         }
         Event::Discarded { company, kind } => {
@@ -304,8 +304,8 @@ fn seller_word(seller: TrainSeller) -> &'static str
 }
 
 /// A company's code, or the word for the bank pool where there is none.
-fn stable_word(owner: Option<Company>) -> &'static str
-    ensures { result.now ≡ text_of_stable owner }
+fn train_owner_word(owner: Option<Company>) -> &'static str
+    ensures { result.now ≡ text_of_train_owner owner }
 {
     match owner {
         Some(company) => company.code(),
@@ -444,7 +444,7 @@ fn push_ruled(
     sheets: &Sheets,
     seat: Seat,
     line: u32,
-    ruling: &KeptRuling,
+    ruling: &PackedRuling,
 ) -> Result<(), AllocError>
     ensures { OnOk result (Adds out.old out.new (ruled_line sheets.now seat line ruling.now)) }
 {

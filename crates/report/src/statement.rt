@@ -11,7 +11,7 @@ ghost use Rattle.treasury.specs.Accounts.{AreAccountsAt, HasAccount};
 use crate::column::{push_left, push_right};
 use crate::line::{name, push_name};
 use certs::Holdings;
-use history::{History, Holder, Owners, Party, Past, Shareholder, Tenths, so_many};
+use history::{GameView, History, Holder, Owners, Party, Shareholder, Tenths, so_many};
 use order_grammar::NAME_MOST;
 use sheets::Sheets;
 use std::alloc::AllocError;
@@ -39,7 +39,7 @@ const TOKEN_WIDTH: usize = 2;
 /// A game as it stood, with who owns and holds what in it and what each party has, read once.
 #[derive(Clone, Copy)]
 pub(crate) struct Standing<'a> {
-    past: Past<'a>,
+    past: GameView<'a>,
     owners: Owners,
     accounts: Accounts,
     holdings: Holdings,
@@ -63,7 +63,7 @@ impl<'a> Standing<'a> {
     }
 
     /// A game as it stood.
-    pub(crate) fn at(past: Past<'a>) -> Standing<'a>
+    pub(crate) fn at(past: GameView<'a>) -> Standing<'a>
         ensures seats { result.past.seats ≡ past.entry.seats }
         ensures events { result.past.events.now ≡ past.entry.events.now }
     {

@@ -8,7 +8,7 @@ ghost use Rattle.sheets.specs.File.{players_of};
 use crate::line::push_name;
 use crate::statement::owns;
 use certs::market_price;
-use history::{Owners, Party, Past, Shareholder, so_many};
+use history::{GameView, Owners, Party, Shareholder, so_many};
 use order_grammar::print_number;
 use sheets::Sheets;
 use std::alloc::AllocError;
@@ -16,7 +16,11 @@ use tables::{Amount, Company, Money, Private, Seat, face};
 
 /// Adds the line of what each player is worth.
 #[tactic(auto, unfolding(crate::specs::Worth::worth_lines))]
-pub(crate) fn push_worths(out: &mut Vec<u8>, sheets: &Sheets, past: &Past) -> Result<(), AllocError>
+pub(crate) fn push_worths(
+    out: &mut Vec<u8>,
+    sheets: &Sheets,
+    past: &GameView,
+) -> Result<(), AllocError>
     requires { past.now.seats ≡ length (players_of sheets.now) }
     ensures { OnOk result (Adds out.old out.new (worth_lines_at sheets.now past.now)) }
 {
@@ -27,7 +31,12 @@ pub(crate) fn push_worths(out: &mut Vec<u8>, sheets: &Sheets, past: &Past) -> Re
 }
 
 /// Adds the line of what a player is worth.
-fn push_worth(out: &mut Vec<u8>, sheets: &Sheets, past: &Past, seat: Seat) -> Result<(), AllocError>
+fn push_worth(
+    out: &mut Vec<u8>,
+    sheets: &Sheets,
+    past: &GameView,
+    seat: Seat,
+) -> Result<(), AllocError>
     ensures { OnOk result (Adds out.old out.new (worth_line_at sheets.now past.now seat)) }
 {
     out.extend_from_slice(b"WORTH ")?;
@@ -40,7 +49,7 @@ fn push_worth(out: &mut Vec<u8>, sheets: &Sheets, past: &Past, seat: Seat) -> Re
 
 /// What a seat is worth, in dollars: its cash, its tenths at the market price, and its privates at
 /// their face value.
-pub fn player_worth(past: &Past, seat: Seat) -> Money
+pub fn player_worth(past: &GameView, seat: Seat) -> Money
     ensures { result ≡ worth_of past.now.seats past.now.events.now seat }
 {
     let owned = tenths_worth(past, seat) + u128::from(privates_worth(past, seat));
@@ -48,7 +57,7 @@ pub fn player_worth(past: &Past, seat: Seat) -> Money
 }
 
 /// What all tenths that a seat has are worth, in dollars.
-fn tenths_worth(past: &Past, seat: Seat) -> u128
+fn tenths_worth(past: &GameView, seat: Seat) -> u128
     ensures sum { result ≡ worth_of_all_tenths past.now.events.now seat }
     ensures small { result ≤ 2 ^ 112 }
 {
@@ -61,7 +70,7 @@ fn tenths_worth(past: &Past, seat: Seat) -> u128
 
 /// What the tenths of a company that a seat has are worth, in dollars: nothing where the company has
 /// no market price.
-fn company_worth(past: &Past, seat: Seat, company: Company) -> u128
+fn company_worth(past: &GameView, seat: Seat, company: Company) -> u128
     ensures worth { result ≡ worth_of_tenths past.now.events.now seat company }
     ensures small { result ≤ 2 ^ 109 }
 {
@@ -70,7 +79,7 @@ fn company_worth(past: &Past, seat: Seat, company: Company) -> u128
 }
 
 /// What all privates are worth that a seat owns, in dollars.
-fn privates_worth(past: &Past, seat: Seat) -> Amount
+fn privates_worth(past: &GameView, seat: Seat) -> Amount
     ensures sum { result ≡ worth_of_privates past.now.events.now seat }
     ensures small { result ≤ 1320 }
 {
@@ -83,7 +92,7 @@ fn privates_worth(past: &Past, seat: Seat) -> Amount
 }
 
 /// What a private is worth to a seat, in dollars: nothing where another owns it.
-fn private_worth(past: &Past, owners: &Owners, seat: Seat, private: Private) -> Amount
+fn private_worth(past: &GameView, owners: &Owners, seat: Seat, private: Private) -> Amount
     requires { AreOwnersIn past.now.events.now owners.now }
     ensures worth { result ≡ worth_of_private past.now.events.now seat private }
     ensures small { result ≤ 220 }

@@ -1,7 +1,7 @@
 -- A list of events goes on within a round: no event that is new begins a round.
 use Rattle.std.proofs.Common.{◌≡◌, ℕ, List, [], ◌∷◌, ◌++◌, Bool, false, ◌||◌, Option, Some, None, is_some, refl, sym, ap, ◌∙◌}
 use Rattle.std.proofs.lemmas.List.{append_assoc, append-nil}
-use Rattle.events.specs.Event.{round_of}
+use Rattle.events.specs.Event.{round_begun_by}
 use Rattle.events.specs.declared.event.Event.{Event}
 use Rattle.events.specs.declared.event.Event.TheVariants as event
 use Rattle.history.specs.LookBack.{Game}
@@ -27,7 +27,7 @@ round_in_front (Some round) front back = refl
 pub begun_in_both : (front back : List Event) → rounds_begun (front ++ back) ≡ rounds_begun front ++ rounds_begun back
 begun_in_both [] back = refl
 begun_in_both (event ∷ front) back =
-    ap (with_round (round_of event)) (begun_in_both front back) ∙ round_in_front (round_of event) (rounds_begun front) (rounds_begun back)
+    ap (with_round (round_begun_by event)) (begun_in_both front back) ∙ round_in_front (round_begun_by event) (rounds_begun front) (rounds_begun back)
 
 -- it goes on further
 goes_further : (a b c : List Event) → GoesOn a b → GoesOn b c → GoesOn a c
@@ -47,7 +47,7 @@ none_first (Some round) rest more none others = absurd (cc)
 -- events none of which begins a round
 begin_none : (more : List Event) → BeginsNoRound more → rounds_begun more ≡ []
 begin_none [] none = refl
-begin_none (event ∷ more) none = none_first (round_of event) _ (rounds_begun more) none (begin_none more)
+begin_none (event ∷ more) none = none_first (round_begun_by event) _ (rounds_begun more) none (begin_none more)
 
 -- it goes on by a company's turn
 by_turns : TurnOnlyAdds → OfTurns GoesOn
@@ -76,7 +76,7 @@ begin_nothing (Some round) more rest none others = absurd (cc)
 -- so no event does
 none_begins : (more : List Event) → rounds_begun more ≡ [] → BeginsNoRound more
 none_begins [] none = refl
-none_begins (event ∷ more) none = begin_nothing (round_of event) (rounds_begun more) _ none (none_begins more)
+none_begins (event ∷ more) none = begin_nothing (round_begun_by event) (rounds_begun more) _ none (none_begins more)
 
 -- a round leaves the seats as they are
 seats_of_round : (file : List ℕ) (round : Round) (old new : Game) → IsPlayed file round old new → new.seats ≡ old.seats

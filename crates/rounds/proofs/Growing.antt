@@ -7,12 +7,12 @@ use Rattle.std.proofs.lemmas.Bool.{and_parts}
 use Rattle.std.proofs.lemmas.List.{append_assoc, append-nil}
 use Rattle.std.proofs.lemmas.List.Folds.{list_all-append}
 use Rattle.std.specs.List.{list_all}
-use Rattle.events.specs.Event.{bidding_of, operated_by, ownership_of, phase_set, round_of, tile_laid, token_placed, train_moved}
+use Rattle.events.specs.Event.{bidding_of, operated_by, ownership_of, phase_set, round_begun_by, tile_laid, token_placed, train_moved}
 use Rattle.events.specs.declared.event.Event.{Event}
 use Rattle.events.specs.declared.event.Event.TheVariants as event
 use Rattle.events.specs.declared.event.Holder.{Holder}
 use Rattle.history.specs.LookBack.{owner_of}
-use Rattle.history.specs.Tell.{after_revenues, breaks, paid_to_owner, with_broken}
+use Rattle.history.specs.Record.{after_revenues, breaks, paid_to_owner, with_broken}
 use Rattle.operating.specs.PrivateLaws.{names_owner}
 use Rattle.operating.specs.SaleLaws.{sells_to_company}
 use Rattle.rounds.specs.Plain.{is_plain}
@@ -27,7 +27,7 @@ use Rattle.tables.specs.declared.seat.Seat.{Seat}
 -- an event stands aside
 abbrev pub is_aside : Event → Bool
 is_aside event =
-    is_none (round_of event)
+    is_none (round_begun_by event)
     && (is_none (tile_laid event)
     && (is_none (token_placed event)
     && (is_none (operated_by event)

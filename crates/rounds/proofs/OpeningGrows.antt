@@ -9,16 +9,16 @@ use Rattle.events.specs.declared.ruling.Ruling.{Ruling}
 use Rattle.events.specs.declared.ruling.Ruling.TheVariants as ruling
 use Rattle.history.specs.Bids.{bids_on}
 use Rattle.history.specs.LookBack.{Game, cheapest_of, is_sold, priority_of, sv_price_of}
-use Rattle.history.specs.Tell.{after_revenues}
+use Rattle.history.specs.Record.{after_revenues}
 use Rattle.order_grammar.specs.declared.condition.Condition.{Condition}
 use Rattle.order_grammar.specs.declared.order.Order.{Order}
 use Rattle.order_grammar.specs.declared.order.Order.TheVariants as order
 use Rattle.privates.specs.Closing.{after_fall, after_passing, all_sold, closed, given_away}
 use Rattle.privates.specs.Judgement.{price_of, refusal_of}
 use Rattle.privates.specs.Opening.{IsOpeningRound}
-use Rattle.privates.specs.Sale.{after_sale, gifts, settle, settled, settled_by, settled_of}
+use Rattle.privates.specs.Sale.{after_sale, gifts, settle_auctions, settled, settled_by, settled_of}
 use Rattle.privates.specs.Standing.{has_place_before, standing_refusal, standing_ruling}
-use Rattle.privates.specs.Turn.{InTurn, acted, after_act, after_line, after_ruling, opening_rules, ruling_in}
+use Rattle.privates.specs.Turn.{InTurn, acted, after_act, after_opening_line, after_ruling, opening_rules, ruling_in}
 use Rattle.rounds.proofs.Growing.{Grows, GrowsPlainly, and_plain, by_steps, further, in_either, is_aside, passes_plain, passes_test, revenues_grow, stands_plainly, stays, told}
 use Rattle.rounds.proofs.PlainLines.{recorded_plain, ruled_plain, ruling_plain}
 use Rattle.rounds.proofs.PlainTurns.{AddsPlain}
@@ -65,7 +65,7 @@ cheapest_grows seats events (Some private) = bids_grow seats events private (bid
 settled_grows : (seats : ℕ) (events : List Event) → GrowsPlainly is_aside events (settled seats events)
 unfolding settled
 settled_grows seats events =
-    by_steps (settle seats) (λ list. cheapest_grows seats list (cheapest_of list)) 6 events
+    by_steps (settle_auctions seats) (λ list. cheapest_grows seats list (cheapest_of list)) 6 events
 
 -- by an order that was obeyed
 act_grows : (seats : ℕ) (seat : Seat) (events : List Event) (done : Order) →
@@ -87,11 +87,11 @@ done_grows seats seat turn number condition done =
 
 -- by a line of a turn
 line_grows : (seats : ℕ) (seat : Seat) (turn : InTurn) (line : Numbered) →
-    Grows turn.events (after_line seats seat turn line).events
+    Grows turn.events (after_opening_line seats seat turn line).events
 line_grows seats seat turn line =
-    of_ruled (acted seats seat) (refusal_of seats turn.events seat turn.deeds) seat turn line.number (λ (after : InTurn). Grows turn.events after.events)
+    of_ruled (acted seats seat) (refusal_of seats turn.events seat turn.actions) seat turn line.number (λ (after : InTurn). Grows turn.events after.events)
     (λ (ruled : Ruling) (none : obeyed_by ruled ≡ None). told turn.events (event.Ruled seat line.number ruled) refl)
-    (λ (condition : Option Condition) (done : Order) (kept : refusal_of seats turn.events seat turn.deeds done ≡ None).
+    (λ (condition : Option Condition) (done : Order) (kept : refusal_of seats turn.events seat turn.actions done ≡ None).
     done_grows seats seat turn line.number condition done)
     has_place_in_group turn.events line
 
@@ -137,6 +137,6 @@ opening_adds =
           (λ at done. passes_plain is_aside at.events (after_act seats seat at.events done)
           (act_grows seats seat at.events done))
           seat turn line.number (ruling_in seats seat turn line)
-          (ruling_plain has_place_in_group (refusal_of seats turn.events seat turn.deeds) turn.events line plain);
+          (ruling_plain has_place_in_group (refusal_of seats turn.events seat turn.actions) turn.events line plain);
       closed = λ seats events. passes_plain is_aside events (closed seats events) (close_grows seats events);
     }

@@ -11,7 +11,7 @@ use Rattle.history.specs.LookBack.{Game}
 use Rattle.history.specs.Sound.{BiddersAreSeated}
 use Rattle.privates.specs.Opening.{IsOpeningRound}
 use Rattle.privates.specs.Standing.{after_standing_line, standing_ruling}
-use Rattle.privates.specs.Turn.{InTurn, after_line, all_sold, opening_rules}
+use Rattle.privates.specs.Turn.{InTurn, after_opening_line, all_sold, opening_rules}
 use Rattle.privates.specs.Closing.{closed}
 use Rattle.rounds.proofs.OpeningSteps.{OfOpening, of_close, of_line}
 use Rattle.rounds.proofs.RoundSteps.{says_still}
@@ -73,7 +73,7 @@ rules_at seats =
     record {
       standing = after_standing_line;
       nothing = false;
-      line = λ any seat turn line. if nat_lt seat.0 seats then after_line seats seat turn line else turn;
+      line = λ any seat turn line. if nat_lt seat.0 seats then after_opening_line seats seat turn line else turn;
       has_acted = λ acted. acted;
       over = all_sold;
       closed = λ any events. closed seats events;
@@ -89,7 +89,7 @@ says_under a b under = grind (arith, nat_tests)
 
 -- by a line where the test of its seat passes
 tested_line : (seats : ℕ) (seat : Seat) (turn : InTurn) (line : Numbered) (b : Bool) → (b ≡ true → seat.0 < seats) →
-    StillSeated seats turn.events (if b then after_line seats seat turn line else turn).events
+    StillSeated seats turn.events (if b then after_opening_line seats seat turn line else turn).events
 tested_line seats seat turn line true under =
     of_line (AtTable seats) (StillSeated seats) (opening_parts seats) seats seat turn line (under refl)
 tested_line seats seat turn line false under = λ seated. seated
@@ -110,7 +110,7 @@ module _ (seats : ℕ) (some : 0 < seats) (start : InPlay (List Event) Numbered)
       ap (λ (b : Bool).
       turn_over (turns_of opening_rules seats) at
       (turned opening_rules
-      (after_each (λ (turn : InTurn) (line : Numbered). if b then after_line seats seat turn line else turn)
+      (after_each (λ (turn : InTurn) (line : Numbered). if b then after_opening_line seats seat turn line else turn)
       (in_turn at.now false) group)))
       (sym (says_under at.seat seats under))
 

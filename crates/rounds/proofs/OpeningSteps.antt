@@ -14,7 +14,7 @@ use Rattle.events.specs.declared.ruling.Ruling.TheVariants.{Obeyed}
 use Rattle.history.proofs.EventAtEnd.{is_sold_before}
 use Rattle.history.specs.Bids.{bids_on}
 use Rattle.history.specs.LookBack.{cheapest_of, is_sold, priority_of, sv_price_of}
-use Rattle.history.specs.Tell.{after_revenues}
+use Rattle.history.specs.Record.{after_revenues}
 use Rattle.order_grammar.specs.declared.condition.Condition.{Condition}
 use Rattle.order_grammar.specs.declared.order.Order.{Order}
 use Rattle.order_grammar.specs.declared.order.Order.TheVariants as order
@@ -22,8 +22,8 @@ use Rattle.privates.proofs.Judged.{may_act_after}
 use Rattle.privates.proofs.StandingBids.{cheapest_unsold}
 use Rattle.privates.specs.Closing.{after_fall, after_passing, all_sold, closed, given_away}
 use Rattle.privates.specs.Judgement.{judgement_of, price_of, refusal_of}
-use Rattle.privates.specs.Sale.{after_sale, gifts, settle, settled, settled_by, settled_of}
-use Rattle.privates.specs.Turn.{InTurn, acted, after_line, after_ruling}
+use Rattle.privates.specs.Sale.{after_sale, gifts, settle_auctions, settled, settled_by, settled_of}
+use Rattle.privates.specs.Turn.{InTurn, acted, after_opening_line, after_ruling}
 use Rattle.rounds.proofs.Growing.{GrowsStill, is_still, passes_test, revenues_grow}
 use Rattle.sheets.specs.Part.{Numbered}
 use Rattle.tables.specs.Roster.{privates}
@@ -111,11 +111,11 @@ module _ (Sits : Seat → Type 0) (R : List Event → List Event → Type 0) (of
       of_bids seats events private (bids_on seats events private) (cheapest_unsold events private is)
 
   -- of some of these
-  of_steps : (seats n : ℕ) (events : List Event) → R events (iterate (settle seats) n events)
+  of_steps : (seats n : ℕ) (events : List Event) → R events (iterate (settle_auctions seats) n events)
   of_steps seats zero events = of.same events
   of_steps seats (suc n) events =
-      let there : List Event = iterate (settle seats) n events in
-      of.both events there (settle seats there) (of_steps seats n events)
+      let there : List Event = iterate (settle_auctions seats) n events in
+      of.both events there (settle_auctions seats there) (of_steps seats n events)
       (of_cheapest seats there (cheapest_of there) refl)
 
   -- of the sales that follow from a sale
@@ -133,15 +133,15 @@ module _ (Sits : Seat → Type 0) (R : List Event → List Event → Type 0) (of
 
   -- of a line whose order is done
   of_order : (seats : ℕ) (seat : Seat) (turn : InTurn) (number : ℕ) → Sits seat → (condition : Option Condition) (done : Order) →
-      refusal_of seats turn.events seat turn.deeds done ≡ None →
+      refusal_of seats turn.events seat turn.actions done ≡ None →
       R turn.events (after_ruling seats seat turn number (Obeyed condition done)).events
   of_order seats seat turn number sits condition (order.BuyPrivate private) kept =
       let told : Event = event.Ruled seat number (Obeyed condition (order.BuyPrivate private)) in
       let ruled : List Event = turn.events ++ told ∷ [] in
       let none = none_as_refusal Opening
-      (judgement_of seats turn.events seat turn.deeds (order.BuyPrivate private)) kept in
+      (judgement_of seats turn.events seat turn.actions (order.BuyPrivate private)) kept in
       let may = may_act_after (record { seats = seats; events = turn.events })
-      (record { seats = seats; events = ruled }) told seat turn.deeds (order.BuyPrivate private) refl
+      (record { seats = seats; events = ruled }) told seat turn.actions (order.BuyPrivate private) refl
       (ruling_quiet seat number (Obeyed condition (order.BuyPrivate private))) none in
       of.both turn.events ruled (settled seats (after_sale ruled private seat (price_of ruled private)))
       (of.still turn.events told refl)
@@ -155,9 +155,9 @@ module _ (Sits : Seat → Type 0) (R : List Event → List Event → Type 0) (of
 
   -- of a line
   pub of_line : (seats : ℕ) (seat : Seat) (turn : InTurn) (line : Numbered) → Sits seat →
-      R turn.events (after_line seats seat turn line).events
+      R turn.events (after_opening_line seats seat turn line).events
   of_line seats seat turn line sits =
-      of_ruled (acted seats seat) (refusal_of seats turn.events seat turn.deeds) seat turn line.number
+      of_ruled (acted seats seat) (refusal_of seats turn.events seat turn.actions) seat turn line.number
       (λ (after : InTurn). R turn.events after.events)
       (λ (ruling : Ruling) (none : obeyed_by ruling ≡ None).
       of.still turn.events (event.Ruled seat line.number ruling) refl)

@@ -14,18 +14,18 @@ use Rattle.events.specs.declared.ruling.Ruling.{Ruling}
 use Rattle.events.specs.declared.ruling.Ruling.TheVariants.{Obeyed, Refused, Faulty}
 use Rattle.history.specs.LookBack.{Game, owner_of, with_event}
 use Rattle.history.specs.Shares.{president_of, square_of}
-use Rattle.history.specs.Tell.{broken_told}
+use Rattle.history.specs.Record.{broken_recorded}
 use Rattle.history.specs.Trains.{so_many}
 use Rattle.map_tables.specs.declared.rules.RunRule.{RunRule}
 use Rattle.map_tables.specs.Home.{home_of}
 use Rattle.map_tables.specs.Place.{place_of}
 use Rattle.map_tables.specs.declared.lay.Lay.{Lay}
 use Rattle.map_tables.specs.declared.place.Place.{Place}
-use Rattle.market.specs.Moves.{left_of, right_of}
+use Rattle.market.specs.Moves.{square_left_of, right_of}
 use Rattle.market.specs.Token.{with_move}
 use Rattle.operating.proofs.ForcedBuying.{cheapest_plain}
 use Rattle.operating.proofs.ForcedGames.{operator}
-use Rattle.operating.proofs.TrainSteps.{IsPassedOn, OfClosings, of_bop, of_choice, of_iterate, of_next, of_phase, of_stable, of_trade}
+use Rattle.operating.proofs.TrainSteps.{IsPassedOn, OfClosings, of_bop, of_choice, of_iterate, of_next, of_phase, of_train_owner, of_trade}
 use Rattle.operating.specs.Act.{has_home_token, with_home, withheld}
 use Rattle.operating.specs.Best.{BestRuled, best_earned, best_judgement}
 use Rattle.operating.specs.Dividend.{all_paid, paid_for, paid_out, paid_to, paid_to_seats, pay_judgement, withhold_judgement}
@@ -78,14 +78,14 @@ by_event : (game : Game) (its : Event) → is_plain its ≡ true → AddsPlainly
 by_event game its is = growing.told game.events its is
 
 -- by BROKEN, where the bank breaks
-by_broken : (game : Game) → AddsPlainly game (broken_told game)
-by_broken game = passes_plain is_still game.events (broken_told game).events (broken_grows game.seats game.events)
+by_broken : (game : Game) → AddsPlainly game (broken_recorded game)
+by_broken game = passes_plain is_still game.events (broken_recorded game).events (broken_grows game.seats game.events)
 
 -- by an event, and by BROKEN
-by_payment : (game : Game) (its : Event) → is_plain its ≡ true → AddsPlainly game (broken_told (with_event game its))
+by_payment : (game : Game) (its : Event) → is_plain its ≡ true → AddsPlainly game (broken_recorded (with_event game its))
 by_payment game its is =
     let paid : Game = with_event game its in
-    on.both game paid (broken_told paid) (by_event game its is) (by_broken paid)
+    on.both game paid (broken_recorded paid) (by_event game its is) (by_broken paid)
 
 -- by the move of a token on the chart
 by_move : (move : Square → Square) (game : Game) (company : Company) →
@@ -106,8 +106,8 @@ module _ (company : Company) where
   by_withheld : (game : Game) (amount : ℕ) → AddsPlainly game (withheld game company amount)
   by_withheld game amount =
       let its : Event = event.Withheld company amount in
-      let paid : Game = broken_told (with_event game its) in
-      on.both game paid (withheld game company amount) (by_payment game its refl) (by_move left_of paid company)
+      let paid : Game = broken_recorded (with_event game its) in
+      on.both game paid (withheld game company amount) (by_payment game its refl) (by_move square_left_of paid company)
 
   by_settled : (turn : InTurn) → TurnAdds turn (settled company turn)
   by_settled turn =
@@ -122,7 +122,7 @@ module _ (company : Company) where
   by_dividend : (to : Holder) (amount : ℕ) (game : Game) → AddsPlainly game (paid_to company to amount game)
   by_dividend to amount game =
       let its : Event = event.Dividend company to amount in
-      of_choice AddsPlainly (amount == 0) game game (broken_told (with_event game its)) (on.same game)
+      of_choice AddsPlainly (amount == 0) game game (broken_recorded (with_event game its)) (on.same game)
       (by_payment game its refl)
 
   -- by those of some seats
@@ -179,7 +179,7 @@ module _ (company : Company) where
       (of_bop AddsPlainly on closes came company) in
       let later : AddsPlainly (with_event all phase) followed =
       of_phase AddsPlainly on closes
-      (λ old. of_stable AddsPlainly on old (λ now owner. by_event now (event.Rusted owner old) refl))
+      (λ old. of_train_owner AddsPlainly on old (λ now owner. by_event now (event.Rusted owner old) refl))
       (of_next AddsPlainly on (λ now its kind. by_event now (event.Discarded its kind) refl)) all purchase.kind in
       of_choice AddsPlainly (begins_phase game.events purchase.from purchase.kind) game followed all
       (on.both game all followed first

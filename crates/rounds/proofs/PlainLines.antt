@@ -123,21 +123,21 @@ pub recorded_plain : (seat : Seat) (number : ℕ) (ruling : Ruling) (events : Li
 recorded_plain seat number ruling events is =
     told events (event.Ruled seat number ruling) (ap (λ (condition : Option Condition). is_none condition) is)
 
-module _ {Deeds : Type 0} (act : InTurn Deeds → Order → InTurn Deeds)
-    (acts : (turn : InTurn Deeds) (order : Order) → GrowsPlain turn.events (act turn order).events) where
+module _ {TurnActions : Type 0} (act : InTurn TurnActions → Order → InTurn TurnActions)
+    (acts : (turn : InTurn TurnActions) (order : Order) → GrowsPlain turn.events (act turn order).events) where
   -- what an order brings that is done, if there is one
-  done_plain : (turn : InTurn Deeds) (found : Option Order) → GrowsPlain turn.events (done act turn found).events
+  done_plain : (turn : InTurn TurnActions) (found : Option Order) → GrowsPlain turn.events (done act turn found).events
   done_plain turn None = stays turn.events
   done_plain turn (Some order) = acts turn order
 
   -- in a turn, after a line without a condition
-  pub ruled_plain : (seat : Seat) (turn : InTurn Deeds) (number : ℕ) (ruling : Ruling) → condition_ruled ruling ≡ None →
+  pub ruled_plain : (seat : Seat) (turn : InTurn TurnActions) (number : ℕ) (ruling : Ruling) → condition_ruled ruling ≡ None →
       GrowsPlain turn.events (after_ruling act seat turn number ruling).events
   ruled_plain seat turn number ruling is =
       let ruled : List Event = recorded seat number ruling turn.events in
       further turn.events ruled (after_ruling act seat turn number ruling).events
       (recorded_plain seat number ruling turn.events is)
-      (done_plain (in_turn ruled turn.deeds) (obeyed_by ruling))
+      (done_plain (in_turn ruled turn.actions) (obeyed_by ruling))
 
 module _ (step : Seat → List Event → Numbered → List Event)
     (adds : (seat : Seat) (events : List Event) (line : Numbered) → IsPlain line →

@@ -65,20 +65,20 @@ left_plain seat (its ∷ groups) =
     count_plain (seat_at seat) count (count == 0) (left_from (seat + 1) groups) (left_plain (seat + 1) groups)
 
 -- what is to be shown of a kind of round: a line without a condition adds but plain events, and so does the close
-pub record AddsPlain {Deeds : Type 0} (rules : RoundRules Deeds) : Type 0 where
+pub record AddsPlain {TurnActions : Type 0} (rules : RoundRules TurnActions) : Type 0 where
   pub standing : (seat : Seat) (events : List Event) (line : Numbered) → IsPlain line →
       GrowsPlain events (rules.standing seat events line)
-  pub line : (seats : ℕ) (seat : Seat) (turn : InTurn Deeds) (line : Numbered) → IsPlain line →
+  pub line : (seats : ℕ) (seat : Seat) (turn : InTurn TurnActions) (line : Numbered) → IsPlain line →
       GrowsPlain turn.events (rules.line seats seat turn line).events
   pub closed : (seats : ℕ) (events : List Event) → GrowsPlain events (rules.closed seats events)
 
-module _ {Deeds : Type 0} (rules : RoundRules Deeds) (adds : AddsPlain rules) where
+module _ {TurnActions : Type 0} (rules : RoundRules TurnActions) (adds : AddsPlain rules) where
   -- the lines of a turn
-  by_lines : (seats : ℕ) (seat : Seat) (turn : InTurn Deeds) (lines : List Numbered) → ArePlain lines →
+  by_lines : (seats : ℕ) (seat : Seat) (turn : InTurn TurnActions) (lines : List Numbered) → ArePlain lines →
       GrowsPlain turn.events (after_lines rules seats seat turn lines).events
   by_lines seats seat turn [] are = stays turn.events
   by_lines seats seat turn (line ∷ lines) are =
-      let next : InTurn Deeds = rules.line seats seat turn line in
+      let next : InTurn TurnActions = rules.line seats seat turn line in
       further turn.events next.events (after_lines rules seats seat next lines).events
       (adds.line seats seat turn line are.0) (by_lines seats seat next lines are.1)
 
@@ -88,11 +88,11 @@ module _ {Deeds : Type 0} (rules : RoundRules Deeds) (adds : AddsPlain rules) wh
   by_turn seats at are =
       let seat : Seat = seat_at at.seat in
       let lines : List Numbered = next_group (groups_at at.groups at.seat) in
-      let turn : InTurn Deeds = after_group rules seats seat at.now lines in
+      let turn : InTurn TurnActions = after_group rules seats seat at.now lines in
       further at.now turn.events (after_turn (turns_of rules seats) at).now
       (by_lines seats seat (in_turn at.now rules.nothing) lines
       (next_plain (groups_at at.groups at.seat) (at_plain at.groups at.seat are)))
-      (in_either turn.events turn.events (turn.events ++ event.Passes seat ∷ []) (rules.has_acted turn.deeds)
+      (in_either turn.events turn.events (turn.events ++ event.Passes seat ∷ []) (rules.has_acted turn.actions)
       (stays turn.events) (told turn.events (event.Passes seat) refl))
 
   -- the groups that are left after some turns have no condition

@@ -7,7 +7,7 @@ use Rattle.events.specs.declared.event.Event.TheVariants as event
 use Rattle.history.specs.LookBack.{Game, priority_of}
 use Rattle.history.specs.Operating.{rulings_in_round}
 use Rattle.history.specs.Shares.{president_of}
-use Rattle.history.specs.Tell.{revenues_told, with_left}
+use Rattle.history.specs.Record.{revenues_recorded, with_left}
 use Rattle.operating.specs.InTurn.{InTurn}
 use Rattle.operating.specs.Standing as rules
 use Rattle.operating.specs.Forced.{EndLeads}
@@ -81,7 +81,7 @@ module _ (first second : List ℕ) where
   -- they open an operating round the same way
   same_operating_opened : (round : Round) (old : Game) → ReadAlikeFor round first second → operating.opened first round old ≡ operating.opened second round old
   same_operating_opened round old same =
-      ap (λ (events : List Event). revenues_told (record { seats = old.seats; events = events }))
+      ap (λ (events : List Event). revenues_recorded (record { seats = old.seats; events = events }))
       (same_standing rules.after_standing_line round (old.events ++ event.Round round ∷ []) (range_with_len 0 old.seats) same)
 
   -- the block of a company leads to the same

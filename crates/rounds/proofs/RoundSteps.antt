@@ -5,7 +5,7 @@ use Rattle.std.proofs.Common.{◌≡◌, ℕ, zero, suc, Bool, true, false, ◌&
 use Rattle.std.proofs.lemmas.Bool.{and_parts}
 use Rattle.std.proofs.lemmas.List.{append_assoc, append-nil}
 use Rattle.std.specs.List.{list_all}
-use Rattle.events.specs.Event.{bidding_of, operated_by, ownership_of, phase_set, round_of, tile_laid, token_placed, train_moved}
+use Rattle.events.specs.Event.{bidding_of, operated_by, ownership_of, phase_set, round_begun_by, tile_laid, token_placed, train_moved}
 use Rattle.events.specs.declared.event.Event.{Event}
 use Rattle.events.specs.declared.event.Event.TheVariants as event
 use Rattle.history.specs.LookBack.{Game}
@@ -26,7 +26,7 @@ use Rattle.tables.specs.declared.round.Round.TheVariants.{Opening, Stock, Operat
 
 -- what an event that stands aside says
 pub record SaysNothing (event : Event) : Type 0 where
-  pub round : round_of event ≡ None
+  pub round : round_begun_by event ≡ None
   pub tile : tile_laid event ≡ None
   pub token : token_placed event ≡ None
   pub turn : operated_by event ≡ None
@@ -59,7 +59,7 @@ not_so false so = refl
 -- an event that stands aside says nothing of these
 says_nothing : (event : Event) → is_aside event ≡ true → SaysNothing event
 says_nothing event aside =
-    let round = nothing_and (round_of event) _ aside in
+    let round = nothing_and (round_begun_by event) _ aside in
     let tile = nothing_and (tile_laid event) _ round.1 in
     let token = nothing_and (token_placed event) _ tile.1 in
     let turn = nothing_and (operated_by event) _ token.1 in

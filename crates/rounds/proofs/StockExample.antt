@@ -1,6 +1,6 @@
 -- The game of the second small file, computed from the definitions.
 use Rattle.std.proofs.Common.{◌≡◌, ℕ, zero, suc, ◌<◌, false, List, [], ◌∷◌, ◌++◌, refl, arith}
-use Rattle.certs.specs.Purchase.{is_at_limit, is_none_there, is_over_six, is_second, is_short, purchase_judgement}
+use Rattle.certs.specs.Purchase.{is_at_limit, is_sold_out_there, is_over_six, is_second, is_short_of_cash, purchase_judgement}
 use Rattle.events.specs.declared.event.Event.{Event}
 use Rattle.history.specs.LookBack.{Game}
 use Rattle.market.specs.OperatingOrder.{operating_order_of}
@@ -54,7 +54,7 @@ stock_end = in_play (second_opening ++ second_stock_round) 2 3 ([] ∷ [] ∷ []
 
 -- before the fifth turn it is not over
 stock_goes_on : (k : ℕ) → k < 5 → turns_over (stock_turns 3) (iterate (after_turn (stock_turns 3)) k (stock.opened 3 second_file (Stock 1) second_opening)) ≡ false
-unfolding sheet_of players_of body_of content_of version_of written_lines is_blank begins is_sheet_line purchase_judgement is_none_there is_short is_at_limit is_over_six is_second
+unfolding sheet_of players_of body_of content_of version_of written_lines is_blank begins is_sheet_line purchase_judgement is_sold_out_there is_short_of_cash is_at_limit is_over_six is_second
 stock_goes_on zero below = refl
 stock_goes_on (suc zero) below = refl
 stock_goes_on (suc (suc zero)) below = refl
@@ -64,7 +64,7 @@ stock_goes_on (suc (suc (suc (suc (suc k))))) below = absurd (omega arith)
 
 -- the stock round leads to the end
 stock_played : stock.IsStockRound second_file (Stock 1) after_opening second_end.game
-unfolding sheet_of players_of body_of content_of version_of written_lines is_blank begins is_sheet_line purchase_judgement is_none_there is_short is_at_limit is_over_six is_second operating_order_of
+unfolding sheet_of players_of body_of content_of version_of written_lines is_blank begins is_sheet_line purchase_judgement is_sold_out_there is_short_of_cash is_at_limit is_over_six is_second operating_order_of
 stock_played =
     record {
       last = stock_end;

@@ -26,7 +26,7 @@ use Rattle.stock_round.specs.Closing.{all_risen, is_sold_out, risen}
 use Rattle.stock_round.specs.Judgement.{exchange_source, refusal_of}
 use Rattle.stock_round.specs.Standing.{fault_of_standing}
 use Rattle.stock_round.specs.StockRound.{IsStockRound}
-use Rattle.stock_round.specs.Turn.{InTurn, acted, after_line, after_ruling, ruling_in, stock_rules}
+use Rattle.stock_round.specs.Turn.{InTurn, acted, after_stock_line, after_ruling, ruling_in, stock_rules}
 use Rattle.tables.specs.declared.roster.Company.{Company}
 use Rattle.tables.specs.declared.roster.Company.TheVariants.{NewYorkCentral}
 use Rattle.tables.specs.declared.round.Round.{Round}
@@ -121,11 +121,11 @@ done_grows seats seat turn number condition done =
 
 -- by a line of a turn
 line_grows : (seats : ℕ) (seat : Seat) (turn : InTurn) (line : Numbered) →
-    GrowsStill turn.events (after_line seats seat turn line).events
+    GrowsStill turn.events (after_stock_line seats seat turn line).events
 line_grows seats seat turn line =
-    of_ruled (acted seats seat) (refusal_of seats turn.events seat turn.deeds.bought) seat turn line.number (λ (after : InTurn). GrowsStill turn.events after.events)
+    of_ruled (acted seats seat) (refusal_of seats turn.events seat turn.actions.bought) seat turn line.number (λ (after : InTurn). GrowsStill turn.events after.events)
     (λ (ruled : Ruling) (none : obeyed_by ruled ≡ None). told turn.events (event.Ruled seat line.number ruled) refl)
-    (λ (condition : Option Condition) (done : Order) (kept : refusal_of seats turn.events seat turn.deeds.bought done ≡ None).
+    (λ (condition : Option Condition) (done : Order) (kept : refusal_of seats turn.events seat turn.actions.bought done ≡ None).
     done_grows seats seat turn line.number condition done)
     has_place_in_group turn.events line
 
@@ -176,7 +176,7 @@ stock_adds =
           (λ at done. passes_plain is_still at.events (after_act seats seat at.events done)
           (act_grows seats seat at.events done))
           seat turn line.number (ruling_in seats seat turn line)
-          (ruling_plain has_place_in_group (refusal_of seats turn.events seat turn.deeds.bought) turn.events line plain);
+          (ruling_plain has_place_in_group (refusal_of seats turn.events seat turn.actions.bought) turn.events line plain);
       closed = λ seats events.
           let order : List Company = operating_order_of events in
           passes_plain is_still events (all_risen events order) (rises_grow events order);

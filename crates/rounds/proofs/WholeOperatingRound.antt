@@ -4,11 +4,11 @@ use Rattle.std.proofs.lemmas.List.{append-nil}
 use Rattle.std.specs.List.{range_with_len}
 use Rattle.events.specs.declared.event.Event.{Event}
 use Rattle.events.specs.declared.event.Event.TheVariants as event
-use Rattle.history.proofs.Telling.{left_first}
+use Rattle.history.proofs.Recording.{left_first}
 use Rattle.history.specs.Laws.{RulingsAreCounted}
 use Rattle.history.specs.LookBack.{Game, with_event}
 use Rattle.history.specs.Operating.{rulings_in_round}
-use Rattle.history.specs.Tell.{revenues_told, with_left}
+use Rattle.history.specs.Record.{revenues_recorded, with_left}
 use Rattle.operating.specs.Standing.{after_standing}
 use Rattle.rounds.specs.OperatingRound.{IsOperatingRound, TurnsLead, finished, lines_left, opened, told_left}
 use Rattle.sheets.specs.File.{players_of}
@@ -22,7 +22,7 @@ same_game : (a b : Game) → a.seats ≡ b.seats → a.events ≡ b.events → a
 same_game a b seats events = λ i. record { seats = seats i; events = events i }
 
 -- the ROUND event, the standing lines and the revenues open a round
-pub round_opened : (file : List ℕ) (round : Round) (old told ruled paid : Game) → old.seats ≡ length (players_of file) → told ≡ with_event old (event.Round round) → ruled.seats ≡ told.seats → ruled.events ≡ after_standing (length (players_of file)) file round told.events → paid ≡ revenues_told ruled → paid ≡ opened file round old
+pub round_opened : (file : List ℕ) (round : Round) (old told ruled paid : Game) → old.seats ≡ length (players_of file) → told ≡ with_event old (event.Round round) → ruled.seats ≡ told.seats → ruled.events ≡ after_standing (length (players_of file)) file round told.events → paid ≡ revenues_recorded ruled → paid ≡ opened file round old
 round_opened file round old told ruled paid players is_told ruled_seats is_ruled is_paid =
     let start : List Event = old.events ++ event.Round round ∷ [] in
     let events : ruled.events ≡ after_standing old.seats file round start =
@@ -33,7 +33,7 @@ round_opened file round old told ruled paid players is_told ruled_seats is_ruled
     let is : ruled ≡ record { seats = old.seats; events = after_standing old.seats file round start } =
     same_game ruled (record { seats = old.seats; events = after_standing old.seats file round start }) (ruled_seats ∙ ap (λ (game : Game). game.seats) is_told) events
     in
-    is_paid ∙ ap revenues_told is
+    is_paid ∙ ap revenues_recorded is
 
 -- what opened a round, the turns of the companies and what was left are a round
 pub whole_round : (file : List ℕ) (round : Round) (old paid turned new : Game) → old.seats ≡ length (players_of file) → paid ≡ opened file round old → TurnsLead file round paid turned → turned.seats ≡ paid.seats → new.seats ≡ turned.seats → new.events ≡ finished file round (length (players_of file)) turned.events → IsOperatingRound file round old new

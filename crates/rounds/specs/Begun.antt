@@ -1,6 +1,6 @@
 -- The rounds that the events of a game begin.
 use Rattle.std.specs.Prelude.{◌≡◌, ℕ, true, List, [], ◌∷◌, ◌++◌, Option, Some, None, IsSome, ⊤}
-use Rattle.events.specs.Event.{round_of}
+use Rattle.events.specs.Event.{round_begun_by}
 use Rattle.events.specs.declared.event.Event.{Event}
 use Rattle.events.specs.declared.event.Event.TheVariants as event
 use Rattle.history.specs.LookBack.{Game}
@@ -18,12 +18,12 @@ with_round (Some round) rounds = round ∷ rounds
 -- the rounds that events begin, in order
 abbrev pub rounds_begun : List Event → List Round
 rounds_begun [] = []
-rounds_begun (event ∷ events) = with_round (round_of event) (rounds_begun events)
+rounds_begun (event ∷ events) = with_round (round_begun_by event) (rounds_begun events)
 
 -- the first of events begins a round, if there are any
 abbrev pub BeginWithRound : List Event → Type 0
 BeginWithRound [] = ⊤
-BeginWithRound (event ∷ events) = IsSome (round_of event)
+BeginWithRound (event ∷ events) = IsSome (round_begun_by event)
 
 -- a round comes before each of these in the order of all rounds
 abbrev pub IsBeforeEach : Round → List Round → Type 0

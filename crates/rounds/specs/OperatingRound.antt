@@ -8,7 +8,7 @@ use Rattle.events.specs.declared.event.Event.{Event}
 use Rattle.events.specs.declared.event.Event.TheVariants as event
 use Rattle.history.specs.LookBack.{Game, bankrupt_in}
 use Rattle.history.specs.Operating.{has_operated, rulings_in_round}
-use Rattle.history.specs.Tell.{revenues_told, with_left}
+use Rattle.history.specs.Record.{revenues_recorded, with_left}
 use Rattle.market.specs.OperatingOrder.{operates, operating_order_of, times}
 use Rattle.operating.specs.Standing.{after_standing}
 use Rattle.operating.specs.Turn.{IsCompanyTurn}
@@ -21,7 +21,7 @@ use Rattle.tables.specs.declared.seat.Seat.{Seat}
 -- the round before its first company: its standing lines are ruled, and the privates have paid
 abbrev pub opened : List ℕ → Round → Game → Game
 opened file round old =
-    revenues_told (record { seats = old.seats; events = after_standing old.seats file round (old.events ++ event.Round round ∷ []) })
+    revenues_recorded (record { seats = old.seats; events = after_standing old.seats file round (old.events ++ event.Round round ∷ []) })
 
 -- the first company in operating order that has not operated in the round
 abbrev pub first_idle : List Event → Option Company

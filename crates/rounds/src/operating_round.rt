@@ -3,7 +3,7 @@ ghost use Rattle.events.specs.declared.event.Event.TheVariants as event;
 ghost use Rattle.history.specs.LookBack.{with_event};
 ghost use Rattle.history.specs.Shares.{is_floated};
 ghost use Rattle.history.specs.Sound.{IsSound};
-ghost use Rattle.history.specs.Tell.{with_left};
+ghost use Rattle.history.specs.Record.{with_left};
 ghost use Rattle.operating.specs.Calls.{Makes};
 ghost use Rattle.operating.specs.Table.{IsLaidOut, game_on};
 ghost use Rattle.operating.specs.Turn.{IsCompanyTurn};
@@ -44,9 +44,9 @@ pub(crate) fn play_operating<R: Runner>(
     let mut history = history;
     begin(&mut history, round)?;
     rule_standing_lines(&mut history, sheets, round)?;
-    history.tell_revenues()?;
+    history.record_revenues()?;
     let mut history = take_turns(alloc, history, sheets, round, runner)?;
-    tell_all_left(&mut history, sheets, round)?;
+    record_all_left(&mut history, sheets, round)?;
     Ok(history)
 }
 
@@ -56,7 +56,7 @@ fn begin(history: &mut History, round: Round) -> Result<(), AllocError>
     ensures event { OnOk result (history.new ≡ with_event history.old (event.Round round)) }
     ensures sound { OnOk result (IsSound history.new) }
 {
-    history.tell(Event::Round(round))?;
+    history.record_event(Event::Round(round))?;
     Ok(())
 }
 
@@ -138,7 +138,7 @@ fn first_idle(history: &History) -> Option<Company>
 }
 
 /// Tells how many lines of each sheet were not taken up, heads of blocks not counted.
-fn tell_all_left(history: &mut History, sheets: &Sheets, round: Round) -> Result<(), AllocError>
+fn record_all_left(history: &mut History, sheets: &Sheets, round: Round) -> Result<(), AllocError>
     requires { IsSound history.old }
     ensures seats { OnOk result (history.new.seats ≡ history.old.seats) }
     ensures events { OnOk result (history.new.events
@@ -148,13 +148,13 @@ fn tell_all_left(history: &mut History, sheets: &Sheets, round: Round) -> Result
     // A law: a count of lines that were left changes no count of rulings.
     history::laws::rulings_are_counted();
     for seat in 0..sheets.seats() {
-        tell_left(history, sheets, round, Seat::at(seat))?;
+        record_left(history, sheets, round, Seat::at(seat))?;
     }
     Ok(())
 }
 
 /// Tells how many lines of a seat's sheet were not taken up.
-fn tell_left(
+fn record_left(
     history: &mut History,
     sheets: &Sheets,
     round: Round,
@@ -168,6 +168,6 @@ fn tell_left(
 {
     let lines = sheets.parts(seat, round).count() as usize;
     let left = lines.saturating_sub(history.rulings_in_round(seat));
-    history.tell_left(seat, left as u32)?;
+    history.record_left(seat, left as u32)?;
     Ok(())
 }

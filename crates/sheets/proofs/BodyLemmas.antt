@@ -6,10 +6,10 @@ use Rattle.std.specs.List.{prefix_len}
 use Rattle.std.proofs.lemmas.List.{append-nil}
 use Rattle.order_grammar.specs.declared.condition.Version.{Version}
 use Rattle.order_grammar.specs.declared.fault.Fault.{Fault}
-use Rattle.sheets.specs.File.{is_sheet_line, begins, same_post, block, sheet_in, good_lines, unread_fault, unread_in}
+use Rattle.sheets.specs.File.{is_sheet_line, begins, same_sheet_key, block, sheet_in, good_lines, unread_fault, unread_in}
 use Rattle.sheets.specs.Collecting.{Open, open_with, Stands}
 use Rattle.sheets.specs.Limits.{sheets_most}
-use Rattle.sheets.specs.declared.post.Post.{Post}
+use Rattle.sheets.specs.declared.sheet_key.SheetKey.{SheetKey}
 
 -- the later of a sheet and nothing
 pub option_or-none : (a : Option (List (List ℕ))) → option_or a None ≡ a
@@ -32,18 +32,18 @@ unfolding begins
 begins_none players line e = rw e refl
 
 -- a line that begins no sheet changes none
-skipped : (players lines : List (List ℕ)) (line : List ℕ) (post : Post) → begins players line ≡ None →
-    sheet_in players (line ∷ lines) post ≡ sheet_in players lines post
-skipped players lines line post e = rw e (option_or-none (sheet_in players lines post))
+skipped : (players lines : List (List ℕ)) (line : List ℕ) (sheet_key : SheetKey) → begins players line ≡ None →
+    sheet_in players (line ∷ lines) sheet_key ≡ sheet_in players lines sheet_key
+skipped players lines line sheet_key e = rw e (option_or-none (sheet_in players lines sheet_key))
 
 -- nor is it counted
 uncounted : (players lines : List (List ℕ)) (line : List ℕ) → begins players line ≡ None → good_lines players (line ∷ lines) ≡ good_lines players lines
 uncounted players lines line e = rw e (zero-add (good_lines players lines))
 
 -- a line that begins a sheet is counted
-counted : (players lines : List (List ℕ)) (line : List ℕ) (post : Post) → begins players line ≡ Some post →
+counted : (players lines : List (List ℕ)) (line : List ℕ) (sheet_key : SheetKey) → begins players line ≡ Some sheet_key →
     good_lines players (line ∷ lines) ≡ 1 + good_lines players lines
-counted players lines line post e = rw e refl
+counted players lines line sheet_key e = rw e refl
 
 -- a block goes on with a line that has another first word
 block-line : (line : List ℕ) (lines : List (List ℕ)) → is_sheet_line line ≡ false → block (line ∷ lines) ≡ line ∷ block lines
@@ -67,9 +67,9 @@ unread-outside : (version : Version) (players lines : List (List ℕ)) (line : L
 unread-outside version players lines line e = rw e refl
 
 -- a good SHEET line has none
-unread-good : (version : Version) (players lines : List (List ℕ)) (line : List ℕ) (inside : Bool) (post : Post) → is_sheet_line line ≡ true → begins players line ≡ Some post →
+unread-good : (version : Version) (players lines : List (List ℕ)) (line : List ℕ) (inside : Bool) (sheet_key : SheetKey) → is_sheet_line line ≡ true → begins players line ≡ Some sheet_key →
     unread_in version players inside (line ∷ lines) ≡ unread_in version players true lines
-unread-good version players lines line inside post e b = rw (e, b) refl
+unread-good version players lines line inside sheet_key e b = rw (e, b) refl
 
 -- a SHEET line with a fault has one
 unread-bad : (version : Version) (players lines : List (List ℕ)) (line : List ℕ) (inside : Bool) → is_sheet_line line ≡ true → begins players line ≡ None →
@@ -82,37 +82,37 @@ unread-either : (version : Version) (players lines : List (List ℕ)) (line : Li
 unread-either version players lines line e = rw e refl
 
 -- a block that goes on
-open-line : (post q : Post) (had lines : List (List ℕ)) (line : List ℕ) → is_sheet_line line ≡ false →
-    open_with (Some (record { post = post; lines = had })) (line ∷ lines) q ≡ open_with (Some (record { post = post; lines = had ++ line ∷ [] })) lines q
-open-line post q had lines line e =
-    ap (λ b. cond (same_post post q) (Some b) None) (ap (λ b. had ++ b) (block-line line lines e) ∙ sym (append_assoc had (line ∷ []) (block lines)))
+open-line : (sheet_key q : SheetKey) (had lines : List (List ℕ)) (line : List ℕ) → is_sheet_line line ≡ false →
+    open_with (Some (record { sheet_key = sheet_key; lines = had })) (line ∷ lines) q ≡ open_with (Some (record { sheet_key = sheet_key; lines = had ++ line ∷ [] })) lines q
+open-line sheet_key q had lines line e =
+    ap (λ b. cond (same_sheet_key sheet_key q) (Some b) None) (ap (λ b. had ++ b) (block-line line lines e) ∙ sym (append_assoc had (line ∷ []) (block lines)))
 
 -- a block that ends
-open-end : (post q : Post) (had lines : List (List ℕ)) (line : List ℕ) → is_sheet_line line ≡ true →
-    open_with (Some (record { post = post; lines = had })) (line ∷ lines) q ≡ cond (same_post post q) (Some had) None
-open-end post q had lines line e = ap (λ b. cond (same_post post q) (Some b) None) (ap (λ b. had ++ b) (block-end line lines e) ∙ append-nil had)
+open-end : (sheet_key q : SheetKey) (had lines : List (List ℕ)) (line : List ℕ) → is_sheet_line line ≡ true →
+    open_with (Some (record { sheet_key = sheet_key; lines = had })) (line ∷ lines) q ≡ cond (same_sheet_key sheet_key q) (Some had) None
+open-end sheet_key q had lines line e = ap (λ b. cond (same_sheet_key sheet_key q) (Some b) None) (ap (λ b. had ++ b) (block-end line lines e) ∙ append-nil had)
 
 -- a sheet that begins
-begun : (players lines : List (List ℕ)) (line : List ℕ) (post q : Post) (had : Option (List (List ℕ))) → begins players line ≡ Some post →
-    option_or (sheet_in players (line ∷ lines) q) had ≡ option_or (sheet_in players lines q) (option_or (open_with (Some (record { post = post; lines = [] })) lines q) had)
-begun players lines line post q had e = rw e (option_or-option_or (sheet_in players lines q) (cond (same_post post q) (Some (block lines)) None) had)
+begun : (players lines : List (List ℕ)) (line : List ℕ) (sheet_key q : SheetKey) (had : Option (List (List ℕ))) → begins players line ≡ Some sheet_key →
+    option_or (sheet_in players (line ∷ lines) q) had ≡ option_or (sheet_in players lines q) (option_or (open_with (Some (record { sheet_key = sheet_key; lines = [] })) lines q) had)
+begun players lines line sheet_key q had e = rw e (option_or-option_or (sheet_in players lines q) (cond (same_sheet_key sheet_key q) (Some (block lines)) None) had)
 
-module _ (version : Version) (players body : List (List ℕ)) (sheets : Post → Option (List (List ℕ))) (unread : List Fault) (good : ℕ) where
+module _ (version : Version) (players body : List (List ℕ)) (sheets : SheetKey → Option (List (List ℕ))) (unread : List Fault) (good : ℕ) where
   -- other sheets with the same look-ups
-  pub stands_same : (others : Post → Option (List (List ℕ))) (lines : List (List ℕ)) (current : Option Open) → ((post : Post) → others post ≡ sheets post) → Stands version players body lines current sheets unread good → Stands version players body lines current others unread good
+  pub stands_same : (others : SheetKey → Option (List (List ℕ))) (lines : List (List ℕ)) (current : Option Open) → ((sheet_key : SheetKey) → others sheet_key ≡ sheets sheet_key) → Stands version players body lines current sheets unread good → Stands version players body lines current others unread good
   stands_same others lines current same s = record {
-    sheets_are = λ post. ap (λ o. option_or (sheet_in players lines post) (option_or (open_with current lines post) o)) (same post) ∙ s.sheets_are post;
+    sheets_are = λ sheet_key. ap (λ o. option_or (sheet_in players lines sheet_key) (option_or (open_with current lines sheet_key) o)) (same sheet_key) ∙ s.sheets_are sheet_key;
     unread_are = s.unread_are;
     good_are = s.good_are;
     few = s.few;
   }
 
   -- a line inside a sheet
-  pub stands_inside : (line : List ℕ) (lines : List (List ℕ)) (post : Post) (had : List (List ℕ)) → is_sheet_line line ≡ false → Stands version players body (line ∷ lines) (Some (record { post = post; lines = had })) sheets unread good → Stands version players body lines (Some (record { post = post; lines = had ++ line ∷ [] })) sheets unread good
-  stands_inside line lines post had other s =
+  pub stands_inside : (line : List ℕ) (lines : List (List ℕ)) (sheet_key : SheetKey) (had : List (List ℕ)) → is_sheet_line line ≡ false → Stands version players body (line ∷ lines) (Some (record { sheet_key = sheet_key; lines = had })) sheets unread good → Stands version players body lines (Some (record { sheet_key = sheet_key; lines = had ++ line ∷ [] })) sheets unread good
+  stands_inside line lines sheet_key had other s =
       let none : begins players line ≡ None = begins_none players line other in
       record {
-        sheets_are = λ q. ap (λ o. option_or o (option_or (open_with (Some (record { post = post; lines = had ++ line ∷ [] })) lines q) (sheets q))) (sym (skipped players lines line q none)) ∙ sym (ap (λ o. option_or (sheet_in players (line ∷ lines) q) (option_or o (sheets q))) (open-line post q had lines line other)) ∙ s.sheets_are q;
+        sheets_are = λ q. ap (λ o. option_or o (option_or (open_with (Some (record { sheet_key = sheet_key; lines = had ++ line ∷ [] })) lines q) (sheets q))) (sym (skipped players lines line q none)) ∙ sym (ap (λ o. option_or (sheet_in players (line ∷ lines) q) (option_or o (sheets q))) (open-line sheet_key q had lines line other)) ∙ s.sheets_are q;
         unread_are = ap (λ codes. unread ++ codes) (sym (unread-inside version players lines line other)) ∙ s.unread_are;
         good_are = ap (λ n. good + n) (sym (uncounted players lines line none)) ∙ s.good_are;
         few = s.few;
@@ -130,22 +130,22 @@ module _ (version : Version) (players body : List (List ℕ)) (sheets : Post →
       }
 
   -- a SHEET line ends the sheet before it
-  pub stands_closed : (line : List ℕ) (lines : List (List ℕ)) (post : Post) (had : List (List ℕ)) → is_sheet_line line ≡ true → Stands version players body (line ∷ lines) (Some (record { post = post; lines = had })) sheets unread good → Stands version players body (line ∷ lines) None (λ q. cond (same_post post q) (Some had) (sheets q)) unread good
-  stands_closed line lines post had is s =
+  pub stands_closed : (line : List ℕ) (lines : List (List ℕ)) (sheet_key : SheetKey) (had : List (List ℕ)) → is_sheet_line line ≡ true → Stands version players body (line ∷ lines) (Some (record { sheet_key = sheet_key; lines = had })) sheets unread good → Stands version players body (line ∷ lines) None (λ q. cond (same_sheet_key sheet_key q) (Some had) (sheets q)) unread good
+  stands_closed line lines sheet_key had is s =
       record {
-        sheets_are = λ q. ap (λ o. option_or (sheet_in players (line ∷ lines) q) o) (sym (option_or-cond (same_post post q) had (sheets q)) ∙ ap (λ o. option_or o (sheets q)) (sym (open-end post q had lines line is))) ∙ s.sheets_are q;
+        sheets_are = λ q. ap (λ o. option_or (sheet_in players (line ∷ lines) q) o) (sym (option_or-cond (same_sheet_key sheet_key q) had (sheets q)) ∙ ap (λ o. option_or o (sheets q)) (sym (open-end sheet_key q had lines line is))) ∙ s.sheets_are q;
         unread_are = ap (λ codes. unread ++ codes) (sym (unread-either version players lines line is)) ∙ s.unread_are;
         good_are = s.good_are;
         few = s.few;
       }
 
   -- a good SHEET line begins a sheet
-  pub stands_begun : (line : List ℕ) (lines : List (List ℕ)) (post : Post) → is_sheet_line line ≡ true → begins players line ≡ Some post → good < sheets_most → Stands version players body (line ∷ lines) None sheets unread good → Stands version players body lines (Some (record { post = post; lines = [] })) sheets unread (good + 1)
-  stands_begun line lines post is some below s =
+  pub stands_begun : (line : List ℕ) (lines : List (List ℕ)) (sheet_key : SheetKey) → is_sheet_line line ≡ true → begins players line ≡ Some sheet_key → good < sheets_most → Stands version players body (line ∷ lines) None sheets unread good → Stands version players body lines (Some (record { sheet_key = sheet_key; lines = [] })) sheets unread (good + 1)
+  stands_begun line lines sheet_key is some below s =
       record {
-        sheets_are = λ q. sym (begun players lines line post q (sheets q) some) ∙ s.sheets_are q;
-        unread_are = ap (λ codes. unread ++ codes) (sym (unread-good version players lines line false post is some)) ∙ s.unread_are;
-        good_are = omega (arith, s.good_are, counted players lines line post some);
+        sheets_are = λ q. sym (begun players lines line sheet_key q (sheets q) some) ∙ s.sheets_are q;
+        unread_are = ap (λ codes. unread ++ codes) (sym (unread-good version players lines line false sheet_key is some)) ∙ s.unread_are;
+        good_are = omega (arith, s.good_are, counted players lines line sheet_key some);
         few = omega arith;
       }
 
@@ -160,5 +160,5 @@ module _ (version : Version) (players body : List (List ℕ)) (sheets : Post →
       }
 
   -- one good SHEET line too many
-  pub too_many : (line : List ℕ) (lines : List (List ℕ)) (post : Post) → begins players line ≡ Some post → sheets_most ≤ good → Stands version players body (line ∷ lines) None sheets unread good → sheets_most < good_lines players body
-  too_many line lines post some full s = omega (arith, s.good_are, counted players lines line post some)
+  pub too_many : (line : List ℕ) (lines : List (List ℕ)) (sheet_key : SheetKey) → begins players line ≡ Some sheet_key → sheets_most ≤ good → Stands version players body (line ∷ lines) None sheets unread good → sheets_most < good_lines players body
+  too_many line lines sheet_key some full s = omega (arith, s.good_are, counted players lines line sheet_key some)

@@ -10,7 +10,7 @@ use Rattle.sheets.specs.Limits.{file_most, sheets_most}
 use Rattle.sheets.specs.Text.{written_lines}
 use Rattle.sheets.specs.declared.fault.FileFault.{FileFault}
 use Rattle.sheets.specs.declared.fault.FileFault.TheVariants.{Header, Players, TooLong, TooManySheets, Memory}
-use Rattle.sheets.specs.declared.post.Post.{Post}
+use Rattle.sheets.specs.declared.sheet_key.SheetKey.{SheetKey}
 
 -- a file with too many bytes
 pub too_long : (file : List ℕ) → file_most < length file → content_of file ≡ Err TooLong
@@ -49,9 +49,9 @@ fails_by players body TooLong content e h = absurd h
 fails_by players body TooManySheets content e h = e ∙ many players body h
 
 -- what is kept of a file is what it says
-pub collected : (file : List ℕ) (version : Version) (players body : List (List ℕ)) (sheets : Post → Option (List (List ℕ))) (unread : List Fault) →
+pub collected : (file : List ℕ) (version : Version) (players body : List (List ℕ)) (sheets : SheetKey → Option (List (List ℕ))) (unread : List Fault) →
     version ≡ version_in (written_lines file) → content_of file ≡ Ok (record { players = players; body = body }) → 3 ≤ length players → length players ≤ 6 →
-    ((post : Post) → sheets post ≡ sheet_in players body post) → unread ≡ unread_in version players false body → IsCollected file version players sheets unread
+    ((sheet_key : SheetKey) → sheets sheet_key ≡ sheet_in players body sheet_key) → unread ≡ unread_in version players false body → IsCollected file version players sheets unread
 unfolding version_of players_of body_of sheet_of unread_of
 collected file version players body sheets unread named e least most same codes = record {
   accepted = rw e refl;
@@ -59,6 +59,6 @@ collected file version players body sheets unread named e least most same codes 
   players_are = rw e refl;
   least = least;
   most = most;
-  sheets_are = λ post. rw e (same post);
+  sheets_are = λ sheet_key. rw e (same sheet_key);
   unread_are = rw e (codes ∙ ap (λ (v : Version). unread_in v players false body) named);
 }

@@ -2,30 +2,30 @@
 use Rattle.std.proofs.Common.{◌≡◌, ℕ, List, [], ◌∷◌, ◌++◌, true, false, cond, eqb, Option, Some, None, refl, sym, ◌∙◌, ap}
 use Rattle.std.specs.Prelude.{◌&&◌, unwrap_or}
 use Rattle.std.specs.Option.{option_or}
-use Rattle.sheets.specs.File.{Sent, begins, block, lines_begun, sheet_in, sent_by, sent_in, last_for, post_at, sheet_of, posts_of, players_of, body_of, version_of}
+use Rattle.sheets.specs.File.{Sent, begins, block, lines_begun, sheet_in, sent_by, sent_in, last_for, sheet_key_at, sheet_of, posts_of, players_of, body_of, version_of}
 use Rattle.sheets.specs.Part.{parts_of}
 use Rattle.sheets.specs.Laws.{LastSheetCounts, ArrivalChangesNoParts, ArrivalChangesNothing}
 use Rattle.order_grammar.specs.declared.condition.Version.{Version}
-use Rattle.sheets.specs.declared.post.Post.{Post}
+use Rattle.sheets.specs.declared.sheet_key.SheetKey.{SheetKey}
 use Rattle.tables.specs.Round.{same_round}
 use Rattle.tables.specs.declared.round.Round.{Round}
 use Rattle.sheets.proofs.BodyLemmas.{option_or-none}
 
 -- what a line begins, in front of what later lines begin
-begun_first : (seat : ℕ) (round : Round) (lines : List (List ℕ)) (begun : Option Post) (later : List Sent) →
-    option_or (last_for round later) (lines_begun (post_at seat round) lines begun) ≡ last_for round (sent_by seat lines begun ++ later)
+begun_first : (seat : ℕ) (round : Round) (lines : List (List ℕ)) (begun : Option SheetKey) (later : List Sent) →
+    option_or (last_for round later) (lines_begun (sheet_key_at seat round) lines begun) ≡ last_for round (sent_by seat lines begun ++ later)
 begun_first seat round lines None later = option_or-none (last_for round later)
-begun_first seat round lines (Some post) later =
-    elim (eqb post.seat.0 seat) as (λ t. option_or (last_for round later) (cond (t && same_round post.round round) (Some lines) None) ≡ last_for round (cond t (record { round = post.round; lines = lines } ∷ []) [] ++ later)) [
+begun_first seat round lines (Some sheet_key) later =
+    elim (eqb sheet_key.seat.0 seat) as (λ t. option_or (last_for round later) (cond (t && same_round sheet_key.round round) (Some lines) None) ≡ last_for round (cond t (record { round = sheet_key.round; lines = lines } ∷ []) [] ++ later)) [
       | true ↦ refl
       | false ↦ option_or-none (last_for round later)
     ]
 
 -- the last sheet of some lines
-last_in : (players lines : List (List ℕ)) (seat : ℕ) (round : Round) → sheet_in players lines (post_at seat round) ≡ last_for round (sent_in players lines seat)
+last_in : (players lines : List (List ℕ)) (seat : ℕ) (round : Round) → sheet_in players lines (sheet_key_at seat round) ≡ last_for round (sent_in players lines seat)
 last_in players [] seat round = refl
 last_in players (line ∷ lines) seat round =
-    ap (λ o. option_or o (lines_begun (post_at seat round) (block lines) (begins players line))) (last_in players lines seat round)
+    ap (λ o. option_or o (lines_begun (sheet_key_at seat round) (block lines) (begins players line))) (last_in players lines seat round)
     ∙ begun_first seat round (block lines) (begins players line) (sent_in players lines seat)
 
 -- the law of the last sheet

@@ -8,9 +8,9 @@ use Rattle.order_grammar.specs.Spells.{IsSmallRound, Spells}
 use Rattle.order_grammar.specs.declared.fault.Fault.{Fault}
 use Rattle.order_grammar.specs.declared.order.Order.{Order}
 use Rattle.order_grammar.specs.declared.order.Order.TheVariants as order
-use Rattle.sheets.specs.File.{begins, block, body_of, is_sheet_line, lines_begun, players_of, post_at, post_begun, post_for, same_post, seat_from, sheet_in, sheet_of}
+use Rattle.sheets.specs.File.{begins, block, body_of, is_sheet_line, lines_begun, players_of, sheet_key_at, sheet_key_begun, sheet_key_for, same_sheet_key, seat_from, sheet_in, sheet_of}
 use Rattle.sheets.specs.Laws.{SheetsAreNumbered, number_of}
-use Rattle.sheets.specs.declared.post.Post.{Post}
+use Rattle.sheets.specs.declared.sheet_key.SheetKey.{SheetKey}
 use Rattle.tables.specs.Round.{number_most, same_round}
 use Rattle.tables.specs.declared.round.Round.{Round}
 use Rattle.tables.specs.declared.round.Round.TheVariants.{Opening, Stock, Operating}
@@ -41,19 +41,19 @@ small_round (Operating set number) small = small
 
 module _ (spelt : ReadWhereSpelt) (players : List (List ℕ)) where
   -- a sheet is for the round that its line names
-  named_small : (line : List ℕ) (name : List ℕ) (round : Round) (seat : Option Seat) (post : Post) → reading_of line ≡ Ok (order.Sheet name round) → post_for round seat ≡ Some post → number_of post.round ≤ number_most
-  named_small line name round None post read begun = cc
-  named_small line name round (Some seat) post read begun =
-      let same : record { seat = seat; round = round } ≡ post = cc in
+  named_small : (line : List ℕ) (name : List ℕ) (round : Round) (seat : Option Seat) (sheet_key : SheetKey) → reading_of line ≡ Ok (order.Sheet name round) → sheet_key_for round seat ≡ Some sheet_key → number_of sheet_key.round ≤ number_most
+  named_small line name round None sheet_key read begun = cc
+  named_small line name round (Some seat) sheet_key read begun =
+      let same : record { seat = seat; round = round } ≡ sheet_key = cc in
       let small : IsSmallRound round = ((spelt line (order.Sheet name round)).0 read).small in
-      subst (λ (r : Round). number_of r ≤ number_most) (ap (λ (one : Post). one.round) same) (small_round round small)
+      subst (λ (r : Round). number_of r ≤ number_most) (ap (λ (one : SheetKey). one.round) same) (small_round round small)
 
   -- so is that of each sheet that a line with this reading begins
-  begun_small : (line : List ℕ) (reading : Result Order Fault) (post : Post) → reading_of line ≡ reading → post_begun players reading ≡ Some post → number_of post.round ≤ number_most
-  begun_small line (Ok (order.Sheet name round)) post read begun =
-      named_small line name round (seat_from 0 players name) post read begun
-  begun_small line (Ok other) post read begun = cc
-  begun_small line (Err fault) post read begun = cc
+  begun_small : (line : List ℕ) (reading : Result Order Fault) (sheet_key : SheetKey) → reading_of line ≡ reading → sheet_key_begun players reading ≡ Some sheet_key → number_of sheet_key.round ≤ number_most
+  begun_small line (Ok (order.Sheet name round)) sheet_key read begun =
+      named_small line name round (seat_from 0 players name) sheet_key read begun
+  begun_small line (Ok other) sheet_key read begun = cc
+  begun_small line (Err fault) sheet_key read begun = cc
 
   -- what is chosen is there
   chosen : {X : Type 0} (b : Bool) (found : Option X) (x : X) → cond b found None ≡ Some x → found ≡ Some x
@@ -61,32 +61,32 @@ module _ (spelt : ReadWhereSpelt) (players : List (List ℕ)) where
   chosen false found x same = cc
 
   -- and that of each sheet that a line begins
-  begins_small : (line : List ℕ) (post : Post) → begins players line ≡ Some post → number_of post.round ≤ number_most
+  begins_small : (line : List ℕ) (sheet_key : SheetKey) → begins players line ≡ Some sheet_key → number_of sheet_key.round ≤ number_most
   unfolding begins
-  begins_small line post begun = begun_small line (reading_of line) post refl (chosen (is_sheet_line line) _ post begun)
+  begins_small line sheet_key begun = begun_small line (reading_of line) sheet_key refl (chosen (is_sheet_line line) _ sheet_key begun)
 
   -- the same post has a round as small
-  found_small : (one post : Post) (lines : List (List ℕ)) (same : Bool) → same_post one post ≡ same → number_of one.round ≤ number_most → IsSome (cond same (Some lines) None) → number_of post.round ≤ number_most
-  found_small one post lines true same small there =
-      subst (λ (n : ℕ). n ≤ number_most) (same_number one.round post.round (and_parts (one.seat.0 == post.seat.0) (same_round one.round post.round) same).1)
+  found_small : (one sheet_key : SheetKey) (lines : List (List ℕ)) (same : Bool) → same_sheet_key one sheet_key ≡ same → number_of one.round ≤ number_most → IsSome (cond same (Some lines) None) → number_of sheet_key.round ≤ number_most
+  found_small one sheet_key lines true same small there =
+      subst (λ (n : ℕ). n ≤ number_most) (same_number one.round sheet_key.round (and_parts (one.seat.0 == sheet_key.seat.0) (same_round one.round sheet_key.round) same).1)
       small
-  found_small one post lines false same small there = absurd (search rules)
+  found_small one sheet_key lines false same small there = absurd (search rules)
 
   -- a sheet that is there was begun later, or by this line
-  there_small : (later : Option (List (List ℕ))) (begun : Option Post) (lines : List (List ℕ)) (post : Post) → (IsSome later → number_of post.round ≤ number_most) → ((one : Post) → begun ≡ Some one → number_of one.round ≤ number_most) → IsSome (option_or later (lines_begun post lines begun)) → number_of post.round ≤ number_most
-  there_small (Some more) begun lines post from_later from_begun there = from_later there
-  there_small None None lines post from_later from_begun there = from_later there
-  there_small None (Some one) lines post from_later from_begun there =
-      found_small one post lines (same_post one post) refl (from_begun one refl) there
+  there_small : (later : Option (List (List ℕ))) (begun : Option SheetKey) (lines : List (List ℕ)) (sheet_key : SheetKey) → (IsSome later → number_of sheet_key.round ≤ number_most) → ((one : SheetKey) → begun ≡ Some one → number_of one.round ≤ number_most) → IsSome (option_or later (lines_begun sheet_key lines begun)) → number_of sheet_key.round ≤ number_most
+  there_small (Some more) begun lines sheet_key from_later from_begun there = from_later there
+  there_small None None lines sheet_key from_later from_begun there = from_later there
+  there_small None (Some one) lines sheet_key from_later from_begun there =
+      found_small one sheet_key lines (same_sheet_key one sheet_key) refl (from_begun one refl) there
 
   -- and that of each sheet of these lines
-  pub sheet_small : (lines : List (List ℕ)) (post : Post) → IsSome (sheet_in players lines post) → number_of post.round ≤ number_most
-  sheet_small [] post there = absurd (search rules)
-  sheet_small (line ∷ lines) post there =
-      there_small (sheet_in players lines post) (begins players line) (block lines) post (sheet_small lines post) (begins_small line) there
+  pub sheet_small : (lines : List (List ℕ)) (sheet_key : SheetKey) → IsSome (sheet_in players lines sheet_key) → number_of sheet_key.round ≤ number_most
+  sheet_small [] sheet_key there = absurd (search rules)
+  sheet_small (line ∷ lines) sheet_key there =
+      there_small (sheet_in players lines sheet_key) (begins players line) (block lines) sheet_key (sheet_small lines sheet_key) (begins_small line) there
 
 -- no sheet is for a round past 99,999
 pub sheets_are_numbered_law : ReadWhereSpelt → SheetsAreNumbered
 unfolding sheet_of
 sheets_are_numbered_law spelt file seat round there =
-    sheet_small spelt (players_of file) (body_of file) (post_at seat round) there
+    sheet_small spelt (players_of file) (body_of file) (sheet_key_at seat round) there

@@ -3,17 +3,17 @@ use Rattle.std.specs.Prelude.{◌≡◌, ℕ, ◌+◌, ◌-◌, ◌<◌, ◌≤�
 use Rattle.std.specs.Option.{option_or}
 use Rattle.order_grammar.specs.declared.condition.Version.{Version}
 use Rattle.order_grammar.specs.declared.fault.Fault.{Fault}
-use Rattle.sheets.specs.File.{same_post, block, sheet_in, good_lines, unread_in, players_of, unread_of, sheet_of, version_of, IsAccepted}
+use Rattle.sheets.specs.File.{same_sheet_key, block, sheet_in, good_lines, unread_in, players_of, unread_of, sheet_of, version_of, IsAccepted}
 use Rattle.sheets.specs.Limits.{sheets_most}
 use Rattle.sheets.specs.Text.{written_lines, BeginsWith}
 use Rattle.sheets.specs.declared.fault.FileFault.{FileFault}
 use Rattle.sheets.specs.declared.fault.FileFault.TheVariants.{TooManySheets, Memory}
 use Rattle.sheets.specs.declared.open_sheet.OpenSheet.{OpenSheet}
-use Rattle.sheets.specs.declared.post.Post.{Post}
+use Rattle.sheets.specs.declared.sheet_key.SheetKey.{SheetKey}
 
 -- a sheet that is open: whose it is, and its lines so far
 pub record Open : Type 0 where
-  pub post : Post
+  pub sheet_key : SheetKey
   pub lines : List (List ℕ)
 
 -- the text of an open sheet, of which this is left
@@ -22,56 +22,56 @@ IsOpen None None rest = Unit {0}
 IsOpen None (Some current) rest = ⊥
 IsOpen (Some sheet) None rest = ⊥
 IsOpen (Some sheet) (Some current) rest =
-    (sheet.post ≡ current.post) × ((front : List ℕ) × BeginsWith front current.lines rest sheet.text.now)
+    (sheet.sheet_key ≡ current.sheet_key) × ((front : List ℕ) × BeginsWith front current.lines rest sheet.text.now)
 
 -- the open sheet, with the lines that are still to come in it
-abbrev pub open_with : Option Open → List (List ℕ) → Post → Option (List (List ℕ))
-open_with None more post = None
-open_with (Some current) more post = if same_post current.post post then Some (current.lines ++ block more) else None
+abbrev pub open_with : Option Open → List (List ℕ) → SheetKey → Option (List (List ℕ))
+open_with None more sheet_key = None
+open_with (Some current) more sheet_key = if same_sheet_key current.sheet_key sheet_key then Some (current.lines ++ block more) else None
 
 -- a sheet once these lines are read too
-abbrev pub sheet_with : List (List ℕ) → Option Open → (Post → Option (List (List ℕ))) → List (List ℕ) → Post → Option (List (List ℕ))
-sheet_with players current sheets lines post =
-    option_or (sheet_in players lines post) (option_or (open_with current lines post) (sheets post))
+abbrev pub sheet_with : List (List ℕ) → Option Open → (SheetKey → Option (List (List ℕ))) → List (List ℕ) → SheetKey → Option (List (List ℕ))
+sheet_with players current sheets lines sheet_key =
+    option_or (sheet_in players lines sheet_key) (option_or (open_with current lines sheet_key) (sheets sheet_key))
 
 -- what is kept and what is left are together what the whole body has
-pub record Stands (version : Version) (players body lines : List (List ℕ)) (current : Option Open) (sheets : Post → Option (List (List ℕ))) (unread : List Fault) (good : ℕ) : Type 0 where
-  pub sheets_are : (post : Post) → sheet_with players current sheets lines post ≡ sheet_in players body post
+pub record Stands (version : Version) (players body lines : List (List ℕ)) (current : Option Open) (sheets : SheetKey → Option (List (List ℕ))) (unread : List Fault) (good : ℕ) : Type 0 where
+  pub sheets_are : (sheet_key : SheetKey) → sheet_with players current sheets lines sheet_key ≡ sheet_in players body sheet_key
   pub unread_are : unread ++ unread_in version players (is_some current) lines ≡ unread_in version players false body
   pub good_are : good + good_lines players lines ≡ good_lines players body
   pub few : good ≤ sheets_most
 
 -- the same, where this text is left
-abbrev pub Reaches : Version → List (List ℕ) → List (List ℕ) → List ℕ → Option OpenSheet → (Post → Option (List (List ℕ))) → List Fault → ℕ → Type 0
+abbrev pub Reaches : Version → List (List ℕ) → List (List ℕ) → List ℕ → Option OpenSheet → (SheetKey → Option (List (List ℕ))) → List Fault → ℕ → Type 0
 Reaches version players body rest sheet sheets unread good =
     (current : Option Open) × IsOpen sheet current rest × Stands version players body (written_lines rest) current sheets unread good
 
 -- the sheets once an open one is kept that ends where this is left
-abbrev pub closed : Option OpenSheet → List ℕ → (Post → Option (List (List ℕ))) → Post → Option (List (List ℕ))
-closed None rest sheets post = sheets post
-closed (Some sheet) rest sheets post =
-    if same_post sheet.post post
+abbrev pub closed : Option OpenSheet → List ℕ → (SheetKey → Option (List (List ℕ))) → SheetKey → Option (List (List ℕ))
+closed None rest sheets sheet_key = sheets sheet_key
+closed (Some sheet) rest sheets sheet_key =
+    if same_sheet_key sheet.sheet_key sheet_key
     then Some (written_lines (take (length sheet.text.now - length rest) sheet.text.now))
-    else sheets post
+    else sheets sheet_key
 
 -- the sheet that was begun, of which all is left
-abbrev pub IsBegun : Post → List ℕ → Option OpenSheet → Type 0
-IsBegun post rest None = ⊥
-IsBegun post rest (Some sheet) = (sheet.post ≡ post) × (sheet.text.now ≡ rest)
+abbrev pub IsBegun : SheetKey → List ℕ → Option OpenSheet → Type 0
+IsBegun sheet_key rest None = ⊥
+IsBegun sheet_key rest (Some sheet) = (sheet.sheet_key ≡ sheet_key) × (sheet.text.now ≡ rest)
 
 -- A SHEET line came where no sheet was open and so many good ones had come: it begins the sheet of this
 -- post, or it has a fault.
-abbrev pub HasBegun : List ℕ → Fault → ℕ → List Fault → Option Post → Option OpenSheet → ℕ → List Fault → Type 0
+abbrev pub HasBegun : List ℕ → Fault → ℕ → List Fault → Option SheetKey → Option OpenSheet → ℕ → List Fault → Type 0
 HasBegun rest fault good unread None sheet count codes =
     (sheet ≡ None) × (count ≡ good) × (codes ≡ unread ++ fault ∷ [])
-HasBegun rest fault good unread (Some post) sheet count codes =
-    IsBegun post rest sheet × (good < sheets_most) × (count ≡ good + 1) × (codes ≡ unread)
+HasBegun rest fault good unread (Some sheet_key) sheet count codes =
+    IsBegun sheet_key rest sheet × (good < sheets_most) × (count ≡ good + 1) × (codes ≡ unread)
 
 -- why reading stops at a SHEET line that would begin the sheet of this post, where so many good ones
 -- had come
-abbrev pub StopsAt : ℕ → Option Post → FileFault → Type 0
+abbrev pub StopsAt : ℕ → Option SheetKey → FileFault → Type 0
 StopsAt good None fault = fault ≡ Memory
-StopsAt good (Some post) fault = (fault ≡ TooManySheets) × (sheets_most ≤ good)
+StopsAt good (Some sheet_key) fault = (fault ≡ TooManySheets) × (sheets_most ≤ good)
 
 -- why reading stops, where there are so many good SHEET lines
 abbrev pub StopsBy : ℕ → FileFault → Type 0
@@ -80,11 +80,11 @@ StopsBy good TooManySheets = sheets_most < good
 StopsBy good other = ⊥
 
 -- what a file is kept as
-pub record IsCollected (file : List ℕ) (version : Version) (players : List (List ℕ)) (sheets : Post → Option (List (List ℕ))) (unread : List Fault) : Type 0 where
+pub record IsCollected (file : List ℕ) (version : Version) (players : List (List ℕ)) (sheets : SheetKey → Option (List (List ℕ))) (unread : List Fault) : Type 0 where
   pub accepted : IsAccepted file
   pub version_is : version ≡ version_of file
   pub players_are : players ≡ players_of file
   pub least : 3 ≤ length players
   pub most : length players ≤ 6
-  pub sheets_are : (post : Post) → sheets post ≡ sheet_of file post.seat.0 post.round
+  pub sheets_are : (sheet_key : SheetKey) → sheets sheet_key ≡ sheet_of file sheet_key.seat.0 sheet_key.round
   pub unread_are : unread ≡ unread_of file

@@ -17,7 +17,7 @@ use Rattle.sheets.specs.Reading.{order_read}
 use Rattle.sheets.specs.Text.{written_lines}
 use Rattle.sheets.specs.declared.fault.FileFault.{FileFault}
 use Rattle.sheets.specs.declared.fault.FileFault.TheVariants.{Header, Players, TooLong, TooManySheets, Memory}
-use Rattle.sheets.specs.declared.post.Post.{Post}
+use Rattle.sheets.specs.declared.sheet_key.SheetKey.{SheetKey}
 use Rattle.tables.specs.Round.{same_round}
 use Rattle.tables.specs.declared.round.Round.{Round}
 use Rattle.tables.specs.declared.seat.Seat.{Seat}
@@ -84,42 +84,42 @@ unfoldable pub is_sheet_line : List ℕ → Bool
 is_sheet_line line = same_word (first_of_words (words_of line)) (codes "SHEET")
 
 -- the sheet of a seat for a round
-abbrev pub post_at : ℕ → Round → Post
-post_at seat round = record { seat = record { 0 = seat }; round = round }
+abbrev pub sheet_key_at : ℕ → Round → SheetKey
+sheet_key_at seat round = record { seat = record { 0 = seat }; round = round }
 
 -- the sheet for a round of the one who has a seat
-abbrev pub post_for : Round → Option Seat → Option Post
-post_for round None = None
-post_for round (Some seat) = Some (record { seat = seat; round = round })
+abbrev pub sheet_key_for : Round → Option Seat → Option SheetKey
+sheet_key_for round None = None
+sheet_key_for round (Some seat) = Some (record { seat = seat; round = round })
 
 -- the sheet that a line with this order begins: that of a player
-abbrev pub post_begun : List (List ℕ) → Result Order Fault → Option Post
-post_begun players (Ok (order.Sheet name round)) = post_for round (seat_from 0 players name)
-post_begun players other = None
+abbrev pub sheet_key_begun : List (List ℕ) → Result Order Fault → Option SheetKey
+sheet_key_begun players (Ok (order.Sheet name round)) = sheet_key_for round (seat_from 0 players name)
+sheet_key_begun players other = None
 
 -- the sheet that a line begins whose first word is SHEET, which all versions read alike; a line that begins one is a
 -- good SHEET line
-unfoldable pub begins : List (List ℕ) → List ℕ → Option Post
-begins players line = if is_sheet_line line then post_begun players (reading_of line) else None
+unfoldable pub begins : List (List ℕ) → List ℕ → Option SheetKey
+begins players line = if is_sheet_line line then sheet_key_begun players (reading_of line) else None
 
 -- the same seat and the same round
-abbrev pub same_post : Post → Post → Bool
-same_post a b = a.seat.0 == b.seat.0 && same_round a.round b.round
+abbrev pub same_sheet_key : SheetKey → SheetKey → Bool
+same_sheet_key a b = a.seat.0 == b.seat.0 && same_round a.round b.round
 
 -- the lines up to the next whose first word is SHEET
 abbrev pub block : List (List ℕ) → List (List ℕ)
 block lines = take_while (λ line. not (is_sheet_line line)) lines
 
 -- these lines, if they are of the sheet that a line begins
-abbrev pub lines_begun : Post → List (List ℕ) → Option Post → Option (List (List ℕ))
-lines_begun post lines None = None
-lines_begun post lines (Some begun) = if same_post begun post then Some lines else None
+abbrev pub lines_begun : SheetKey → List (List ℕ) → Option SheetKey → Option (List (List ℕ))
+lines_begun sheet_key lines None = None
+lines_begun sheet_key lines (Some begun) = if same_sheet_key begun sheet_key then Some lines else None
 
 -- the lines after the last good SHEET line of a sheet: a later sheet replaces an earlier one whole
-abbrev pub sheet_in : List (List ℕ) → List (List ℕ) → Post → Option (List (List ℕ))
-sheet_in players [] post = None
-sheet_in players (line ∷ lines) post =
-    option_or (sheet_in players lines post) (lines_begun post (block lines) (begins players line))
+abbrev pub sheet_in : List (List ℕ) → List (List ℕ) → SheetKey → Option (List (List ℕ))
+sheet_in players [] sheet_key = None
+sheet_in players (line ∷ lines) sheet_key =
+    option_or (sheet_in players lines sheet_key) (lines_begun sheet_key (block lines) (begins players line))
 
 -- how many good SHEET lines there are
 abbrev pub good_lines : List (List ℕ) → List (List ℕ) → ℕ
@@ -205,7 +205,7 @@ body_of file = body_in (content_of file)
 
 -- what the player of a seat last sent for a round: its lines
 unfoldable pub sheet_of : List ℕ → ℕ → Round → Option (List (List ℕ))
-sheet_of file seat round = sheet_in (players_of file) (body_of file) (post_at seat round)
+sheet_of file seat round = sheet_in (players_of file) (body_of file) (sheet_key_at seat round)
 
 -- the codes of the unread lines, in order
 unfoldable pub unread_of : List ℕ → List Fault
@@ -217,10 +217,10 @@ pub record Sent : Type 0 where
   pub lines : List (List ℕ)
 
 -- the sheet that a line begins, if it is of this seat
-abbrev pub sent_by : ℕ → List (List ℕ) → Option Post → List Sent
+abbrev pub sent_by : ℕ → List (List ℕ) → Option SheetKey → List Sent
 sent_by seat lines None = []
-sent_by seat lines (Some post) =
-    if post.seat.0 == seat then record { round = post.round; lines = lines } ∷ [] else []
+sent_by seat lines (Some sheet_key) =
+    if sheet_key.seat.0 == seat then record { round = sheet_key.round; lines = lines } ∷ [] else []
 
 -- the sheets of a seat that these lines begin, in order
 abbrev pub sent_in : List (List ℕ) → List (List ℕ) → ℕ → List Sent

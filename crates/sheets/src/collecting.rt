@@ -2,16 +2,16 @@ ghost use Rattle.std.specs.Prelude.{is_some, ◌≡◌, false, ℕ, ◌+◌, ◌
 ghost use Rattle.std.specs.HashMap.{get};
 ghost use Rattle.order_grammar.specs.Line.{reading_of};
 ghost use Rattle.sheets.specs.Collecting.{HasBegun, Reaches, StopsAt, StopsBy, closed};
-ghost use Rattle.sheets.specs.File.{begins, is_sheet_line, post_begun, fault_of_reading, same_post, sheet_in, unread_fault, unread_in, good_lines};
+ghost use Rattle.sheets.specs.File.{begins, is_sheet_line, sheet_key_begun, fault_of_reading, same_sheet_key, sheet_in, unread_fault, unread_in, good_lines};
 ghost use Rattle.sheets.specs.Limits.{file_most, sheets_most};
 ghost use Rattle.sheets.specs.Text.{IsFirstLine, written_lines};
-ghost use Rattle.sheets.specs.declared.post.Post.{Post};
+ghost use Rattle.sheets.specs.declared.sheet_key.SheetKey.{SheetKey};
 
 use crate::fault::FileFault;
 use crate::open_sheet::OpenSheet;
 use crate::players::Players;
-use crate::post::Post;
 use crate::sheet::Sheet;
+use crate::sheet_key::SheetKey;
 use crate::text::{Piece, first_written};
 use order_grammar::{Fault, Order, Version, begins_with_word, read_order_in};
 use std::alloc::{AllocError, Global};
@@ -23,7 +23,7 @@ pub const SHEETS_MOST: usize = 65_536;
 /// What has come of the lines after the players line.
 #[derive(Drop)]
 pub(crate) struct Collection<'a> {
-    pub(crate) sheets: HashMap<Post, Sheet<'a>>,
+    pub(crate) sheets: HashMap<SheetKey, Sheet<'a>>,
     pub(crate) unread: Vec<Fault>,
     current: Option<OpenSheet<'a>>,
     good: usize,
@@ -38,8 +38,8 @@ pub(crate) fn collect_body<'a>(
 ) -> Result<Collection<'a>, FileFault>
     requires few { length players.now ≤ 6 }
     requires short { length body.now ≤ file_most }
-    ensures sheets { IfOk result (λ c. (post : Post) →
-        get same_post c.sheets post ≡ sheet_in players.now (written_lines body.now) post) }
+    ensures sheets { IfOk result (λ c. (sheet_key : SheetKey) →
+        get same_sheet_key c.sheets sheet_key ≡ sheet_in players.now (written_lines body.now) sheet_key) }
     ensures unread { IfOk result (λ c.
         c.unread.items ≡ unread_in version players.now false (written_lines body.now)) }
     ensures good { OnOk result (good_lines players.now (written_lines body.now) ≤ sheets_most) }
@@ -75,12 +75,12 @@ impl<'a> Collection<'a> {
         requires first { IsFirstLine piece.line.now piece.rest.now text.now }
         ensures ok { OnOk result ((body : List (List ℕ)) →
             Reaches version players.now body text.now self.old.current
-            (get same_post self.old.sheets) self.old.unread.items self.old.good →
+            (get same_sheet_key self.old.sheets) self.old.unread.items self.old.good →
             Reaches version players.now body piece.entry.rest.now self.new.current
-            (get same_post self.new.sheets) self.new.unread.items self.new.good) }
+            (get same_sheet_key self.new.sheets) self.new.unread.items self.new.good) }
         ensures err { IfErr result (λ fault. (body : List (List ℕ)) →
             Reaches version players.now body text.now self.old.current
-            (get same_post self.old.sheets) self.old.unread.items self.old.good →
+            (get same_sheet_key self.old.sheets) self.old.unread.items self.old.good →
             StopsBy (good_lines players.now body) fault) }
     {
         if is_sheet_line(piece.line) {
@@ -97,16 +97,16 @@ impl<'a> Collection<'a> {
     /// Keeps the sheet that is open, which ends where `rest` begins.
     fn close(&mut self, rest: &[u8]) -> Result<(), AllocError>
         ensures current { self.new.current ≡ None }
-        ensures sheets { OnOk result ((post : Post) →
-            get same_post self.new.sheets post
-            ≡ closed self.old.current rest.now (get same_post self.old.sheets) post) }
+        ensures sheets { OnOk result ((sheet_key : SheetKey) →
+            get same_sheet_key self.new.sheets sheet_key
+            ≡ closed self.old.current rest.now (get same_sheet_key self.old.sheets) sheet_key) }
         ensures unread { self.new.unread.items ≡ self.old.unread.items }
         ensures good { self.new.good ≡ self.old.good }
     {
         if let Some(sheet) = self.current.take() {
             let length = sheet.text.len().saturating_sub(rest.len());
             let text = &sheet.text[..length];
-            self.sheets.insert(sheet.post, Sheet::of(text))?;
+            self.sheets.insert(sheet.sheet_key, Sheet::of(text))?;
         }
         Ok(())
     }
@@ -125,19 +125,19 @@ impl<'a> Collection<'a> {
         ensures ok { OnOk result (
             HasBegun piece.entry.rest.now (unread_fault version piece.entry.line.now)
             self.old.good self.old.unread.items
-            (post_begun players.now (reading_of piece.entry.line.now))
+            (sheet_key_begun players.now (reading_of piece.entry.line.now))
             self.new.current self.new.good self.new.unread.items) }
         ensures err { IfErr result
-            (StopsAt self.old.good (post_begun players.now (reading_of piece.entry.line.now))) }
+            (StopsAt self.old.good (sheet_key_begun players.now (reading_of piece.entry.line.now))) }
     {
-        match post_begun(players, piece.line) {
-            Some(post) => {
+        match sheet_key_begun(players, piece.line) {
+            Some(sheet_key) => {
                 if self.good >= SHEETS_MOST {
                     return Err(FileFault::TooManySheets);
                 }
                 self.good += 1;
                 self.current = Some(OpenSheet {
-                    post,
+                    sheet_key,
                     text: piece.rest,
                 });
             }
@@ -173,7 +173,7 @@ fn begins_sheet(players: &Players, line: &[u8]) -> bool
     requires { length players.now ≤ 6 }
     ensures { result ≡ is_some (begins players.now line.now) }
 {
-    is_sheet_line(line) && post_begun(players, line).is_some()
+    is_sheet_line(line) && sheet_key_begun(players, line).is_some()
 }
 
 /// Whether the first word of a line is SHEET.
@@ -187,28 +187,28 @@ fn is_sheet_line(line: &[u8]) -> bool
 /// Whose sheet for which round a line begins, if it begins one. (Apart from its callers, which would
 /// else clear the room for an order with each line that they do not read.)
 #[inline(never)]
-fn post_begun(players: &Players, line: &[u8]) -> Option<Post>
+fn sheet_key_begun(players: &Players, line: &[u8]) -> Option<SheetKey>
     requires { length players.now ≤ 6 }
-    ensures { result ≡ post_begun players.now (reading_of line.now) }
+    ensures { result ≡ sheet_key_begun players.now (reading_of line.now) }
 {
     order_grammar::laws::version_one_has_no_conditions();
     let mut order = Order::Blank;
     match read_order_in(Version::One, line, &mut order) {
-        Ok(_) => post_of(players, &order),
+        Ok(_) => sheet_key_of(players, &order),
         Err(_) => None,
     }
 }
 
 /// Whose sheet for which round an order begins, if it begins one.
-fn post_of(players: &Players, order: &Order) -> Option<Post>
+fn sheet_key_of(players: &Players, order: &Order) -> Option<SheetKey>
     requires { length players.now ≤ 6 }
-    ensures { result ≡ post_begun players.now (Ok order.now) }
+    ensures { result ≡ sheet_key_begun players.now (Ok order.now) }
 {
     let Order::Sheet { name, round } = order else {
         return None;
     };
     let seat = players.seat_of(name)?;
-    Some(Post {
+    Some(SheetKey {
         seat,
         round: *round,
     })

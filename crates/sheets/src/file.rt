@@ -9,8 +9,8 @@ use crate::collecting::{collect_body, examine_body};
 use crate::fault::FileFault;
 use crate::parts::PartsLeft;
 use crate::players::{Players, players_named};
-use crate::post::Post;
 use crate::sheet::{Lines, Sheet};
+use crate::sheet_key::SheetKey;
 use crate::text::first_written;
 use order_grammar::{Fault, Order, Version, read_line};
 use std::alloc::Global;
@@ -30,7 +30,7 @@ pub struct Sheets<'a> {
     file: &'a [u8],
     version: Version,
     players: Players,
-    sheets: HashMap<Post, Sheet<'a>>,
+    sheets: HashMap<SheetKey, Sheet<'a>>,
     unread: Vec<Fault>,
 }
 
@@ -39,7 +39,7 @@ impl<'a> Model for Sheets<'a> {
     ghost use Rattle.std.specs.Prelude.{ℕ, List};
     ghost use Rattle.std.specs.HashMap.{get};
     ghost use Rattle.sheets.specs.Collecting.{IsCollected};
-    ghost use Rattle.sheets.specs.File.{same_post};
+    ghost use Rattle.sheets.specs.File.{same_sheet_key};
 
     ghost Value = { List ℕ };
 
@@ -47,7 +47,7 @@ impl<'a> Model for Sheets<'a> {
 
     ghost invariant = { λ sheets.
         IsCollected sheets.file.now sheets.version sheets.players
-        (get same_post sheets.sheets) sheets.unread.items };
+        (get same_sheet_key sheets.sheets) sheets.unread.items };
 }
 
 impl<'a> Sheets<'a> {
@@ -63,11 +63,11 @@ impl<'a> Sheets<'a> {
     pub fn sheet(&self, seat: Seat, round: &Round) -> Option<&Sheet<'a>>
         ensures { option_copied result ≡ sheet_of self.now seat.0 round.now }
     {
-        let post = Post {
+        let sheet_key = SheetKey {
             seat,
             round: *round,
         };
-        self.sheets.get(&post)
+        self.sheets.get(&sheet_key)
     }
 
     /// The parts of the sheet of this seat for this round; without a sheet there are none.

@@ -8,7 +8,7 @@
 //! groups or blocks that heads open.
 //!
 //! Reading order: `fault`, `text` (the lines of a text), `sheet`, `parts` (a sheet as the rounds
-//! take it up), `place` (orders that have none), `players`, `post` and `open_sheet` (whose sheet it
+//! take it up), `place` (orders that have none), `players`, `sheet_key` and `open_sheet` (whose sheet it
 //! is, and where it began), `collecting` (line after line), `file` (`collect`, `examine`), `laws`. In
 //! `specs/`, `File` says what a file says, `Reading` what is read of a line, `Part` what the parts of
 //! a sheet are, `Block` which of them is a company's, `Place` what becomes of an order without a
@@ -23,8 +23,8 @@ mod open_sheet;
 mod parts;
 mod place;
 mod players;
-mod post;
 mod sheet;
+mod sheet_key;
 mod text;
 
 pub use collecting::SHEETS_MOST;

@@ -1,13 +1,13 @@
 ghost use Rattle.std.specs.Prelude.{◌≤◌, length};
 ghost use Rattle.sheets.specs.Limits.{file_most};
 
-use crate::post::Post;
+use crate::sheet_key::SheetKey;
 
 /// Where a sheet that is open began.
 #[derive(Clone, Copy)]
 pub(crate) struct OpenSheet<'a> {
     /// Whose sheet it is.
-    pub(crate) post: Post,
+    pub(crate) sheet_key: SheetKey,
     /// The text from its first line on.
     pub(crate) text: &'a [u8],
     ghost short: { length text.now ≤ file_most },

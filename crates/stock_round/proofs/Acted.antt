@@ -8,7 +8,7 @@ use Rattle.events.specs.declared.event.Event.{Event}
 use Rattle.events.specs.declared.event.Event.TheVariants as event
 use Rattle.events.specs.declared.ruling.Ruling.TheVariants.{Obeyed}
 use Rattle.history.specs.Shares.{par_of, president_of, square_of}
-use Rattle.history.specs.Tell.{breaks, with_broken}
+use Rattle.history.specs.Record.{breaks, with_broken}
 use Rattle.market.specs.Moves.{fallen}
 use Rattle.market.specs.Token.{moved_from, same_square}
 use Rattle.order_grammar.specs.declared.condition.Condition.{Condition}
@@ -102,7 +102,7 @@ has_sold false true = refl
 has_sold false false = refl
 
 -- by a line whose order is done
-order_tells : (seats : ℕ) (seat : Seat) (turn : InTurn) (number : ℕ) (condition : Option Condition) (done : Order) → refusal_of seats turn.events seat turn.deeds.bought done ≡ None →
+order_tells : (seats : ℕ) (seat : Seat) (turn : InTurn) (number : ℕ) (condition : Option Condition) (done : Order) → refusal_of seats turn.events seat turn.actions.bought done ≡ None →
     LineTells stock_rules seat turn (after_ruling seats seat turn number (Obeyed condition done))
 order_tells seats seat turn number condition (order.Par company price) kept =
     let line : Event = event.Ruled seat number (Obeyed condition (order.Par company price)) in
@@ -110,7 +110,7 @@ order_tells seats seat turn number condition (order.Par company price) kept =
     record {
       acts = true;
       told = in_both seat false true turn.events ruled (after_start ruled seat company price) (one_more seat false turn.events line refl) (record { more = _; longer = refl; last = refl });
-      acted = has_bought (is_some turn.deeds.bought || turn.deeds.sold);
+      acted = has_bought (is_some turn.actions.bought || turn.actions.sold);
     }
 order_tells seats seat turn number condition (order.BuyShare company from) kept =
     let line : Event = event.Ruled seat number (Obeyed condition (order.BuyShare company from)) in
@@ -118,7 +118,7 @@ order_tells seats seat turn number condition (order.BuyShare company from) kept 
     record {
       acts = true;
       told = in_both seat false true turn.events ruled (after_purchase seats ruled seat company from) (one_more seat false turn.events line refl) (in_purchase seat seats ruled company from);
-      acted = has_bought (is_some turn.deeds.bought || turn.deeds.sold);
+      acted = has_bought (is_some turn.actions.bought || turn.actions.sold);
     }
 order_tells seats seat turn number condition (order.Sell company tenths) kept =
     let line : Event = event.Ruled seat number (Obeyed condition (order.Sell company tenths)) in
@@ -126,7 +126,7 @@ order_tells seats seat turn number condition (order.Sell company tenths) kept =
     record {
       acts = true;
       told = in_both seat true false turn.events ruled (after_sale seats ruled seat company tenths) (one_more seat true turn.events line refl) (in_sale seat seats ruled company tenths);
-      acted = has_sold (is_some turn.deeds.bought) turn.deeds.sold;
+      acted = has_sold (is_some turn.actions.bought) turn.actions.sold;
     }
 order_tells seats seat turn number condition order.ExchangeMohawk kept =
     let line : Event = event.Ruled seat number (Obeyed condition order.ExchangeMohawk) in
@@ -134,7 +134,7 @@ order_tells seats seat turn number condition order.ExchangeMohawk kept =
     record {
       acts = false;
       told = in_both seat false false turn.events ruled (after_exchange seats ruled seat) (one_more seat false turn.events line refl) (in_exchange seat seats ruled);
-      acted = or_nothing (is_some turn.deeds.bought || turn.deeds.sold);
+      acted = or_nothing (is_some turn.actions.bought || turn.actions.sold);
     }
 order_tells seats seat turn number condition other kept = absurd (cc)
 
@@ -143,5 +143,5 @@ pub stock_turns_tell : TurnsTellWhoActed stock_rules
 stock_turns_tell =
     turns_tell stock_rules refl
     (λ (seats : ℕ) (seat : Seat) (turn : InTurn) (line : Numbered).
-    of_ruled (acted seats seat) (refusal_of seats turn.events seat turn.deeds.bought) seat turn line.number (LineTells stock_rules seat turn)
+    of_ruled (acted seats seat) (refusal_of seats turn.events seat turn.actions.bought) seat turn line.number (LineTells stock_rules seat turn)
     (nobody_ruled stock_rules seat turn line.number) (order_tells seats seat turn line.number) has_place_in_group turn.events line)

@@ -3,7 +3,7 @@ use Rattle.std.proofs.Common.{◌≡◌, ℕ, ◌*◌, ◌≤◌, ◌<◌, Bool,
 use Rattle.std.proofs.lemmas.Bool.Decides.{nat_tests}
 use Rattle.std.proofs.lemmas.Int.{ints}
 use Rattle.std.specs.Int.Signed.{lt_z}
-use Rattle.certs.specs.Purchase.{is_none_there, is_short, tenth_price_of}
+use Rattle.certs.specs.Purchase.{is_sold_out_there, is_short_of_cash, tenth_price_of}
 use Rattle.events.specs.Event.{is_par_value, place_of_source}
 use Rattle.events.specs.declared.event.Event.{Event}
 use Rattle.events.specs.declared.event.Event.TheVariants as event
@@ -31,8 +31,8 @@ use Rattle.tables.specs.declared.seat.Seat.{Seat}
 use Rattle.tables.specs.declared.squares.Square.{Square}
 
 -- a seat that is not short of a sum has it
-paid : (seats : ℕ) (events : List Event) (seat : Seat) (cost : ℕ) → is_short seats events seat cost ≡ false → pos cost ≤ℤ free_cash_of seats events seat
-unfolding is_short
+paid : (seats : ℕ) (events : List Event) (seat : Seat) (cost : ℕ) → is_short_of_cash seats events seat cost ≡ false → pos cost ≤ℤ free_cash_of seats events seat
+unfolding is_short_of_cash
 paid seats events seat cost may = grind (arith, ints, may)
 
 -- the start of a company
@@ -47,7 +47,7 @@ there_is events company from may = grind (arith, ints, may)
 
 -- the purchase of a tenth
 pub purchase_sound : (game new : Game) (seat : Seat) (company : Company) (from : ShareSource) (price : ℕ) → MayBuy game.seats game.events seat company from → seat.0 < game.seats → price ≡ tenth_price_of game.events company from → new ≡ with_event game (event.Bought company seat 1 from price) → IsSound game → IsSound new
-unfolding is_none_there
+unfolding is_sold_out_there
 purchase_sound game new seat company from price may within is_price told sound =
     let pays : pos price ≤ℤ free_cash_of game.seats game.events seat = subst (λ (n : ℕ). pos n ≤ℤ free_cash_of game.seats game.events seat) (sym is_price) (paid game.seats game.events seat (tenth_price_of game.events company from) may.pays) in
     subst IsSound (sym told)

@@ -3,7 +3,7 @@
 use Rattle.std.proofs.Common.{◌≡◌, ℕ, ◌*◌, Bool, false, not, ◌||◌, ◌&&◌, List, [], ◌∷◌, ◌++◌, Option, Some, None, is_some, unwrap_or, ℤ, pos, ◌-ℤ◌, ◌+ℤ◌, refl, sym, subst, ap, ◌∙◌}
 use Rattle.std.specs.Int.Signed.{lt_z}
 use Rattle.certs.proofs.SaleAllowed.{holds, sale_allowed, same_start, still_may_sell}
-use Rattle.certs.specs.Purchase.{in_zone, is_none_there, is_over_six, is_short, lifts_six, price_on, purchase_judgement, purchase_rules, tenth_price_of}
+use Rattle.certs.specs.Purchase.{in_zone, is_sold_out_there, is_over_six, is_short_of_cash, lifts_six, price_on, purchase_judgement, share_purchase_rules, tenth_price_of}
 use Rattle.certs.specs.declared.deal.Purchase.TheVariants as purchase
 use Rattle.events.specs.Event.{IsQuiet, party_at, place_of_source}
 use Rattle.events.specs.declared.event.Event.{Event}
@@ -32,14 +32,14 @@ use Rattle.tables.specs.declared.squares.Square.{Square}
 start_allowed : (seats : ℕ) (events : List Event) (seat : Seat) (company : Company) (price : ℕ) (bought : Option Company) → purchase_judgement seats events seat (purchase.Par company price) bought ≡ None → MayStart seats events seat company price
 unfolding purchase_judgement
 start_allowed seats events seat company price bought none =
-    let kept = none_broken (purchase_rules seats events seat (purchase.Par company price) bought) none in
+    let kept = none_broken (share_purchase_rules seats events seat (purchase.Par company price) bought) none in
     record { par = kept.1.1.0; fresh = kept.1.1.1.0; pays = kept.1.1.1.1.0 }
 
 -- a tenth can be bought
 purchase_allowed : (seats : ℕ) (events : List Event) (seat : Seat) (company : Company) (from : ShareSource) (bought : Option Company) → purchase_judgement seats events seat (purchase.Share company from) bought ≡ None → MayBuy seats events seat company from
 unfolding purchase_judgement
 purchase_allowed seats events seat company from bought none =
-    let kept = none_broken (purchase_rules seats events seat (purchase.Share company from) bought) none in
+    let kept = none_broken (share_purchase_rules seats events seat (purchase.Share company from) bought) none in
     record { there = kept.1.0; started = holds (is_started events company) kept.1.1.1.0; pays = kept.1.1.1.1.0 }
 
 -- an order that breaks no rule can be done
@@ -62,8 +62,8 @@ same_price before after company source.InitialOffering same = ap (λ (par : Opti
 same_price before after company source.BankPool same = ap price_on (same.square company)
 
 -- a seat can pay as much
-same_purse : (seats : ℕ) (before after : List Event) (seat : Seat) (cost same_cost : ℕ) → SaysTheSame before after → same_cost ≡ cost → is_short seats after seat same_cost ≡ is_short seats before seat cost
-unfolding is_short
+same_purse : (seats : ℕ) (before after : List Event) (seat : Seat) (cost same_cost : ℕ) → SaysTheSame before after → same_cost ≡ cost → is_short_of_cash seats after seat same_cost ≡ is_short_of_cash seats before seat cost
+unfolding is_short_of_cash
 same_purse seats before after seat cost same_cost same is_same =
     ap (λ (n : ℕ). lt_z (free_cash_of seats after seat) (pos n)) is_same
     ∙ ap (λ (free : ℤ). lt_z free (pos cost)) (same_free seats before after seat same)
@@ -84,7 +84,7 @@ same_exchange before after seat same =
 
 -- an order can still be done where a list says the same
 still_may : (seats : ℕ) (before after : List Event) (seat : Seat) (order : Order) → SaysTheSame before after → MayAct seats before seat order → MayAct seats after seat order
-unfolding is_none_there
+unfolding is_sold_out_there
 still_may seats before after seat (Par company price) same may =
     record {
       par = may.par;

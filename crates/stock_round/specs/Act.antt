@@ -11,7 +11,7 @@ use Rattle.events.specs.declared.event.Event.{Event}
 use Rattle.events.specs.declared.event.Event.TheVariants as event
 use Rattle.events.specs.declared.event.Shareholder.TheVariants.{InitialOffering as AtOffering}
 use Rattle.history.specs.Shares.{is_floated, par_of, shares_of}
-use Rattle.history.specs.Tell.{with_broken}
+use Rattle.history.specs.Record.{with_broken}
 use Rattle.order_grammar.specs.declared.order.Order.{Order}
 use Rattle.order_grammar.specs.declared.order.Order.TheVariants.{Par, BuyShare, Sell, ExchangeMohawk}
 use Rattle.order_grammar.specs.declared.order.ShareSource.{ShareSource}

@@ -1,7 +1,7 @@
 -- What an order needs so that it can be done: those of its rules that say what the game has, and not what was
 -- done before in the turn or the round. They are kept after the ruling as they were before it.
 use Rattle.std.specs.Prelude.{◌≡◌, ℕ, ◌*◌, List, true, false}
-use Rattle.certs.specs.Purchase.{is_no_par, is_none_there, is_short, tenth_price_of}
+use Rattle.certs.specs.Purchase.{is_no_par, is_sold_out_there, is_short_of_cash, tenth_price_of}
 use Rattle.certs.specs.declared.deal.Purchase.TheVariants as purchase
 pub use Rattle.certs.specs.SaleAct.{MaySell}
 use Rattle.events.specs.declared.event.Event.{Event}
@@ -18,13 +18,13 @@ use Rattle.tables.specs.declared.seat.Seat.{Seat}
 pub record MayStart (seats : ℕ) (events : List Event) (seat : Seat) (company : Company) (price : ℕ) : Type 0 where
   pub par : is_no_par (purchase.Par company price) ≡ false
   pub fresh : is_started events company ≡ false
-  pub pays : is_short seats events seat (president_tenths * price) ≡ false
+  pub pays : is_short_of_cash seats events seat (president_tenths * price) ≡ false
 
 -- the seat can buy a tenth of the company from there
 pub record MayBuy (seats : ℕ) (events : List Event) (seat : Seat) (company : Company) (from : ShareSource) : Type 0 where
-  pub there : is_none_there events (purchase.Share company from) ≡ false
+  pub there : is_sold_out_there events (purchase.Share company from) ≡ false
   pub started : is_started events company ≡ true
-  pub pays : is_short seats events seat (tenth_price_of events company from) ≡ false
+  pub pays : is_short_of_cash seats events seat (tenth_price_of events company from) ≡ false
 
 -- the seat can give up MH for a tenth of NYC
 abbrev pub MayExchange : List Event → Seat → Type 0

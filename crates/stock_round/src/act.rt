@@ -4,9 +4,9 @@ ghost use Rattle.history.specs.Sound.{IsSound};
 ghost use Rattle.stock_round.specs.Act.{after_act, after_exchange, after_purchase, after_start};
 ghost use Rattle.stock_round.specs.Allowed.{MayAct, MayBuy, MayExchange, MayStart};
 
-use crate::float::tell_float;
+use crate::float::record_float;
 use crate::payments::{give_up_mohawk, pay_for_tenth};
-use certs::{Sale, sell_block, tell_president};
+use certs::{Sale, record_president, sell_block};
 use history::{Event, History};
 use order_grammar::{Order, ShareSource};
 use std::alloc::AllocError;
@@ -82,8 +82,8 @@ fn buy(
     ensures sound { OnOk result (IsSound history.new) }
 {
     pay_for_tenth(history, seat, company, from)?;
-    tell_president(history, company)?;
-    tell_float(history, company)
+    record_president(history, company)?;
+    record_float(history, company)
 }
 
 /// A seat gives up MH for a tenth of NYC.
@@ -99,6 +99,6 @@ fn exchange(history: &mut History, seat: Seat) -> Result<(), AllocError>
 {
     let company = Company::NewYorkCentral;
     give_up_mohawk(history, seat)?;
-    tell_president(history, company)?;
-    tell_float(history, company)
+    record_president(history, company)?;
+    record_float(history, company)
 }

@@ -27,13 +27,13 @@ fn raise_all(history: &mut History, companies: &[Company]) -> Result<(), AllocEr
     ensures sound { OnOk result (IsSound history.new) }
 {
     for company in companies {
-        raise_if_sold_out(history, *company)?;
+        move_up_if_sold_out(history, *company)?;
     }
     Ok(())
 }
 
 /// A company moves up, if it is sold out.
-fn raise_if_sold_out(history: &mut History, company: Company) -> Result<(), AllocError>
+fn move_up_if_sold_out(history: &mut History, company: Company) -> Result<(), AllocError>
     requires { IsSound history.old }
     ensures seats { OnOk result (history.new.seats ≡ history.old.seats) }
     ensures events { OnOk result (history.new.events ≡ risen history.old.events company) }

@@ -7,25 +7,25 @@ use tables::Company;
 /// What a seat has done in a turn: of which company it has bought, if of any, and whether it has
 /// sold.
 #[derive(Clone, Copy, Debug, Default)]
-pub(crate) struct Deals {
+pub(crate) struct ShareDeals {
     /// The company of which the seat has bought.
     pub(crate) bought: Option<Company>,
     /// Whether the seat has sold.
     pub(crate) sold: bool,
 }
 
-impl Deals {
+impl ShareDeals {
     /// What has been done once an order is obeyed too. An exchange is neither a purchase nor a
     /// sale.
-    pub(crate) fn with(self, order: &Order) -> Deals
+    pub(crate) fn with(self, order: &Order) -> ShareDeals
         ensures { result ≡ with_deal self order.now }
     {
         match order {
-            Order::Par { company, .. } | Order::BuyShare { company, .. } => Deals {
+            Order::Par { company, .. } | Order::BuyShare { company, .. } => ShareDeals {
                 bought: Some(*company),
                 sold: self.sold,
             },
-            Order::Sell { .. } => Deals {
+            Order::Sell { .. } => ShareDeals {
                 bought: self.bought,
                 sold: true,
             },

@@ -16,7 +16,7 @@ const TENTHS_OF_COMPANY: Amount = 10;
 
 /// A company floats, where few enough of its tenths are left in the initial offering and it has not
 /// floated yet: the bank pays it ten times its par value.
-pub(crate) fn tell_float(history: &mut History, company: Company) -> Result<(), AllocError>
+pub(crate) fn record_float(history: &mut History, company: Company) -> Result<(), AllocError>
     requires { IsSound history.old }
     ensures seats { OnOk result (history.new.seats ≡ history.old.seats) }
     ensures events { OnOk result (history.new.events
@@ -49,6 +49,6 @@ fn float(history: &mut History, company: Company) -> Result<(), AllocError>
 {
     let amount = TENTHS_OF_COMPANY * par_value(history, company);
     history.append(Event::Floats { company, amount })?;
-    history.tell_broken()?;
+    history.record_broken()?;
     Ok(())
 }

@@ -4,7 +4,7 @@ ghost use Rattle.sheets.specs.File.{players_of};
 ghost use Rattle.stock_round.specs.StockRound.{IsStockRound};
 ghost use Rattle.stock_round.specs.Turn.{stock_rules};
 
-use crate::deals::Deals;
+use crate::deals::ShareDeals;
 use crate::{closing, standing, turn};
 use history::History;
 use order_grammar::Order;
@@ -17,7 +17,7 @@ use turns::{TurnRules, play_round};
 struct StockTurns;
 
 impl TurnRules for StockTurns {
-    type Deeds = Deals;
+    type TurnActions = ShareDeals;
 
     ghost rules = { stock_rules };
 
@@ -35,8 +35,8 @@ impl TurnRules for StockTurns {
         standing::rule_standing_line(history, seat, line, order)
     }
 
-    fn nothing(&self) -> Deals {
-        Deals {
+    fn nothing(&self) -> ShareDeals {
+        ShareDeals {
             bought: None,
             sold: false,
         }
@@ -48,13 +48,13 @@ impl TurnRules for StockTurns {
         seat: Seat,
         line: UnreadLine,
         order: &mut Order,
-        deeds: Deals,
-    ) -> Result<Deals, AllocError> {
-        turn::rule_line(history, seat, line, order, deeds)
+        actions: ShareDeals,
+    ) -> Result<ShareDeals, AllocError> {
+        turn::rule_line(history, seat, line, order, actions)
     }
 
-    fn has_acted(&self, deeds: Deals) -> bool {
-        deeds.has_acted()
+    fn has_acted(&self, actions: ShareDeals) -> bool {
+        actions.has_acted()
     }
 
     fn is_over(&self, _history: &History) -> bool {

@@ -2,12 +2,12 @@ ghost use Rattle.std.specs.Prelude.{◌≡◌, ◌≤◌, ◌<◌, OnOk, IfOk};
 ghost use Rattle.history.specs.Sound.{IsSound};
 ghost use Rattle.sheets.specs.Part.{line_unread};
 ghost use Rattle.stock_round.specs.Judgement.{refusal_of};
-ghost use Rattle.stock_round.specs.Turn.{after_line};
+ghost use Rattle.stock_round.specs.Turn.{after_stock_line};
 ghost use Rattle.turns.specs.RoundOfTurns.{in_turn};
 ghost use Rattle.turns.specs.Ruling.{has_place_in_group};
 
 use crate::act::act;
-use crate::deals::Deals;
+use crate::deals::ShareDeals;
 use crate::judgement::judge;
 use history::{History, Refusal};
 use order_grammar::Order;
@@ -45,14 +45,14 @@ pub(crate) fn rule_line(
     seat: Seat,
     line: UnreadLine,
     order: &mut Order,
-    deals: Deals,
-) -> Result<Deals, AllocError>
+    deals: ShareDeals,
+) -> Result<ShareDeals, AllocError>
     requires few { history.old.seats ≤ 6 }
     requires at_table { seat.0 < history.old.seats }
     requires sound { IsSound history.old }
     ensures seats { OnOk result (history.new.seats ≡ history.old.seats) }
     ensures turn { IfOk result (λ now. in_turn history.new.events now
-        ≡ after_line history.old.seats seat (in_turn history.old.events deals)
+        ≡ after_stock_line history.old.seats seat (in_turn history.old.events deals)
         (line_unread line.entry)) }
     ensures sound { OnOk result (IsSound history.new) }
 {

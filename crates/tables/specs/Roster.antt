@@ -99,15 +99,15 @@ certificate_limit_of players =
     if players == 3 then 20 else if players == 4 then 16 else if players == 5 then 13 else if players == 6 then 11 else 0
 
 -- how many tokens a company has, its home token among them
-abbrev pub tokens_of : Company → ℕ
-tokens_of company.Pennsylvania = 4
-tokens_of company.NewYorkCentral = 4
-tokens_of company.CanadianPacific = 4
-tokens_of company.BaltimoreOhio = 3
-tokens_of company.ChesapeakeOhio = 3
-tokens_of company.Erie = 3
-tokens_of company.NewHaven = 2
-tokens_of company.BostonMaine = 2
+abbrev pub token_supply_of : Company → ℕ
+token_supply_of company.Pennsylvania = 4
+token_supply_of company.NewYorkCentral = 4
+token_supply_of company.CanadianPacific = 4
+token_supply_of company.BaltimoreOhio = 3
+token_supply_of company.ChesapeakeOhio = 3
+token_supply_of company.Erie = 3
+token_supply_of company.NewHaven = 2
+token_supply_of company.BostonMaine = 2
 
 -- the price of a company's next token when so many lie: the home token is free, the second costs 40 and
 -- each later one 100

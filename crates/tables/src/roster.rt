@@ -1,5 +1,5 @@
 ghost use Rattle.std.specs.Prelude.{◌≡◌, ◌<◌, codes};
-ghost use Rattle.tables.specs.Roster.{code_of_company, code_of_private, face_of, place_of_company, place_of_private, revenue_of, token_price_of, tokens_of};
+ghost use Rattle.tables.specs.Roster.{code_of_company, code_of_private, face_of, place_of_company, place_of_private, revenue_of, token_price_of, token_supply_of};
 
 use crate::seat::Amount;
 
@@ -160,7 +160,7 @@ pub fn revenue(private: Private) -> Amount
 
 /// How many tokens a company has, its home token among them.
 pub fn tokens(company: Company) -> usize
-    ensures { result ≡ tokens_of company }
+    ensures { result ≡ token_supply_of company }
 {
     match company {
         Company::Pennsylvania | Company::NewYorkCentral | Company::CanadianPacific => 4,

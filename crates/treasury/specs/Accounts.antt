@@ -9,7 +9,7 @@ use Rattle.events.specs.declared.event.Holder.TheVariants as holder
 use Rattle.events.specs.declared.event.Party.{Party}
 use Rattle.events.specs.declared.event.Party.TheVariants as party
 use Rattle.history.specs.LookBack.{Game, IsModerate, cash_of, same_party}
-use Rattle.history.specs.declared.look_back.Past.{Past}
+use Rattle.history.specs.declared.look_back.GameView.{GameView}
 use Rattle.tables.specs.Roster.{place_of_company}
 use Rattle.tables.specs.Seat.{seat_at}
 use Rattle.tables.specs.declared.roster.Company.{Company}
@@ -33,7 +33,7 @@ AreAccountsOf game accounts =
     (party : Party) → HasAccount party → cash_in accounts party ≡ cash_of game.seats game.events party
 
 -- each holds what its party had in a game as it stood
-abbrev pub AreAccountsAt : Past → Accounts → Type 0
+abbrev pub AreAccountsAt : GameView → Accounts → Type 0
 AreAccountsAt past accounts = AreAccountsOf (record { seats = past.seats; events = past.events.now }) accounts
 
 -- and nobody has, or owes, more than 2 ^ 100
@@ -41,9 +41,9 @@ abbrev pub AreModerate : Accounts → Type 0
 AreModerate accounts = (party : Party) → HasAccount party → IsModerate (cash_in accounts party)
 
 -- a party that is not the bank has less than the sum that it is to pay
-abbrev pub is_short : Accounts → Party → ℤ → Bool
-is_short accounts party.Bank sum = false
-is_short accounts (party.Holder holder) sum = lt_z (cash_in accounts (party.Holder holder)) sum
+abbrev pub lacks_cash : Accounts → Party → ℤ → Bool
+lacks_cash accounts party.Bank sum = false
+lacks_cash accounts (party.Holder holder) sum = lt_z (cash_in accounts (party.Holder holder)) sum
 
 -- what of a sum goes to a party's account, if the sum is the first party's
 abbrev pub part_of : Party → Party → ℤ → ℤ

@@ -15,10 +15,10 @@ ghost use Rattle.treasury.specs.Accounts.{
   IsAdded,
   IsSum,
   cash_in,
-  is_short,
+  lacks_cash,
 };
 
-use history::{History, Holder, Party, Past};
+use history::{GameView, History, Holder, Party};
 use tables::{Company, Money, PLAYERS_MOST, Seat};
 use thiserror::Error;
 
@@ -45,7 +45,7 @@ impl Accounts {
     }
 
     /// The accounts of a game as it stood.
-    pub fn at(past: &Past) -> Accounts
+    pub fn at(past: &GameView) -> Accounts
         ensures accounts { AreAccountsAt past.now result }
         ensures moderate { AreModerate result }
     {
@@ -78,7 +78,7 @@ impl Accounts {
         requires from_cash { IsModerate (cash_in self.old from) }
         requires to_cash { IsModerate (cash_in self.old to) }
         ensures paid { OnOk result (ArePaid self.old self.new from to sum) }
-        ensures short { IsErr result ↔ (is_short self.old from sum ≡ true) }
+        ensures short { IsErr result ↔ (lacks_cash self.old from sum ≡ true) }
         ensures unchanged { OnErr result (self.new ≡ self.old) }
     {
         if from != Party::Bank && self.cash(from) < sum {
@@ -115,7 +115,7 @@ impl Accounts {
 }
 
 /// What each seat has, by its number.
-fn cash_of_seats(now: &Past) -> [Money; PLAYERS_MOST]
+fn cash_of_seats(now: &GameView) -> [Money; PLAYERS_MOST]
     ensures cash { AreOfSeats now.now.seats now.now.events.now result }
     ensures moderate { AreModerateForSeats result }
 {
@@ -127,7 +127,7 @@ fn cash_of_seats(now: &Past) -> [Money; PLAYERS_MOST]
 }
 
 /// What each company has, by its place in the roster.
-fn cash_of_companies(now: &Past) -> [Money; 8]
+fn cash_of_companies(now: &GameView) -> [Money; 8]
     ensures cash { AreOfCompanies now.now.seats now.now.events.now result }
     ensures moderate { AreModerateForCompanies result }
 {

@@ -78,10 +78,10 @@ in_either seat acted old one other true first second = first
 in_either seat acted old one other false first second = second
 
 -- a line of a turn tells who acted in it, and the turn has it too
-pub record LineTells {Deeds : Type 0} (rules : RoundRules Deeds) (seat : Seat) (old new : InTurn Deeds) : Type 0 where
+pub record LineTells {TurnActions : Type 0} (rules : RoundRules TurnActions) (seat : Seat) (old new : InTurn TurnActions) : Type 0 where
   pub acts : Bool
   pub told : TellsWhoActed seat acts old.events new.events
-  pub acted : rules.has_acted new.deeds ≡ (rules.has_acted old.deeds || acts)
+  pub acted : rules.has_acted new.actions ≡ (rules.has_acted old.actions || acts)
 
 -- of three the first two or the last two first
 either_order : (a b c : Bool) → ((a || b) || c) ≡ (a || (b || c))
@@ -93,40 +93,40 @@ pub or_nothing : (a : Bool) → a ≡ (a || false)
 or_nothing true = refl
 or_nothing false = refl
 
-module _ {Deeds : Type 0} (rules : RoundRules Deeds) (seats : ℕ) (seat : Seat) (line_tells : (turn : InTurn Deeds) (line : Numbered) → LineTells rules seat turn (rules.line seats seat turn line)) where
+module _ {TurnActions : Type 0} (rules : RoundRules TurnActions) (seats : ℕ) (seat : Seat) (line_tells : (turn : InTurn TurnActions) (line : Numbered) → LineTells rules seat turn (rules.line seats seat turn line)) where
   -- so do some lines
-  lines_tell : (turn : InTurn Deeds) (lines : List Numbered) → LineTells rules seat turn (after_lines rules seats seat turn lines)
-  lines_tell turn [] = record { acts = false; told = nobody seat turn.events; acted = or_nothing (rules.has_acted turn.deeds) }
+  lines_tell : (turn : InTurn TurnActions) (lines : List Numbered) → LineTells rules seat turn (after_lines rules seats seat turn lines)
+  lines_tell turn [] = record { acts = false; told = nobody seat turn.events; acted = or_nothing (rules.has_acted turn.actions) }
   lines_tell turn (line ∷ lines) =
-      let next : InTurn Deeds = rules.line seats seat turn line in
-      let last : InTurn Deeds = after_lines rules seats seat next lines in
+      let next : InTurn TurnActions = rules.line seats seat turn line in
+      let last : InTurn TurnActions = after_lines rules seats seat next lines in
       let here = line_tells turn line in
       let rest = lines_tell next lines in
       record {
         acts = here.acts || rest.acts;
         told = in_both seat here.acts rest.acts turn.events next.events last.events here.told rest.told;
-        acted = rest.acted ∙ ap (λ (b : Bool). b || rest.acts) here.acted ∙ either_order (rules.has_acted turn.deeds) here.acts rest.acts;
+        acted = rest.acted ∙ ap (λ (b : Bool). b || rest.acts) here.acted ∙ either_order (rules.has_acted turn.actions) here.acts rest.acts;
       }
 
   -- so does a turn, at the start of which the seat has not acted
   group_tells : rules.has_acted rules.nothing ≡ false → (events : List Event) (lines : List Numbered) →
-      TellsWhoActed seat (rules.has_acted (after_lines rules seats seat (in_turn events rules.nothing) lines).deeds) events (after_lines rules seats seat (in_turn events rules.nothing) lines).events
+      TellsWhoActed seat (rules.has_acted (after_lines rules seats seat (in_turn events rules.nothing) lines).actions) events (after_lines rules seats seat (in_turn events rules.nothing) lines).events
   group_tells idle events lines =
       let all = lines_tell (in_turn events rules.nothing) lines in
-      let acted : all.acts ≡ rules.has_acted (after_lines rules seats seat (in_turn events rules.nothing) lines).deeds =
+      let acted : all.acts ≡ rules.has_acted (after_lines rules seats seat (in_turn events rules.nothing) lines).actions =
       sym (all.acted ∙ ap (λ (b : Bool). b || all.acts) idle)
       in
       subst (λ (b : Bool). TellsWhoActed seat b events (after_lines rules seats seat (in_turn events rules.nothing) lines).events) acted all.told
 
 -- a ruling by which no order is done names nobody
-pub nobody_ruled : {Deeds : Type 0} (rules : RoundRules Deeds) (seat : Seat) (turn : InTurn Deeds) (number : ℕ) (ruling : Ruling) →
-    obeyed_by ruling ≡ None → LineTells rules seat turn (in_turn (recorded seat number ruling turn.events) turn.deeds)
+pub nobody_ruled : {TurnActions : Type 0} (rules : RoundRules TurnActions) (seat : Seat) (turn : InTurn TurnActions) (number : ℕ) (ruling : Ruling) →
+    obeyed_by ruling ≡ None → LineTells rules seat turn (in_turn (recorded seat number ruling turn.events) turn.actions)
 nobody_ruled rules seat turn number (Obeyed condition order) none = absurd (cc)
 nobody_ruled rules seat turn number other none =
-    record { acts = false; told = one_more seat false turn.events (event.Ruled seat number other) refl; acted = or_nothing (rules.has_acted turn.deeds) }
+    record { acts = false; told = one_more seat false turn.events (event.Ruled seat number other) refl; acted = or_nothing (rules.has_acted turn.actions) }
 
 -- so each turn of a round tells it
-pub turns_tell : {Deeds : Type 0} (rules : RoundRules Deeds) → rules.has_acted rules.nothing ≡ false →
-    ((seats : ℕ) (seat : Seat) (turn : InTurn Deeds) (line : Numbered) → LineTells rules seat turn (rules.line seats seat turn line)) →
+pub turns_tell : {TurnActions : Type 0} (rules : RoundRules TurnActions) → rules.has_acted rules.nothing ≡ false →
+    ((seats : ℕ) (seat : Seat) (turn : InTurn TurnActions) (line : Numbered) → LineTells rules seat turn (rules.line seats seat turn line)) →
     TurnsTellWhoActed rules
 turns_tell rules idle line_tells seats seat events lines = group_tells rules seats seat (line_tells seats seat) idle events lines

@@ -18,7 +18,7 @@ few_at file round first zero seat = omega arith
 few_at file round first (suc count) zero = few_groups file round first
 few_at file round first (suc count) (suc seat) = few_at file round (first + 1) count seat
 
-module _ {Deeds : Type 0} (rules : RoundRules Deeds) where
+module _ {TurnActions : Type 0} (rules : RoundRules TurnActions) where
   -- the turns of a round can begin
   can_begin : (file : List ℕ) (round : Round) (old : Game) → CanBegin (turns_of rules old.seats) (opened rules old.seats file round old.events)
   can_begin file round old =

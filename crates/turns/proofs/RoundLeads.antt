@@ -15,16 +15,16 @@ use Rattle.tables.specs.declared.seat.Seat.{Seat}
 use Rattle.turns.specs.RoundOfTurns.{InTurn, IsRoundOfTurns, RoundRules, after_group, after_lines, after_standing, finished, in_turn, left_from, opened, turns_of}
 
 -- what leads from a list to itself, on over another, and over each step of a round
-pub record LeadsOverSteps {Deeds : Type 0} (rules : RoundRules Deeds) (Leads : List Event → List Event → Type 0) : Type 0 where
+pub record LeadsOverSteps {TurnActions : Type 0} (rules : RoundRules TurnActions) (Leads : List Event → List Event → Type 0) : Type 0 where
   pub stays : (events : List Event) → Leads events events
   pub further : (a b c : List Event) → Leads a b → Leads b c → Leads a c
   pub standing : (seat : Seat) (events : List Event) (line : Numbered) → Leads events (rules.standing seat events line)
-  pub line : (seats : ℕ) (seat : Seat) (turn : InTurn Deeds) (line : Numbered) → Leads turn.events (rules.line seats seat turn line).events
+  pub line : (seats : ℕ) (seat : Seat) (turn : InTurn TurnActions) (line : Numbered) → Leads turn.events (rules.line seats seat turn line).events
   pub passes : (events : List Event) (seat : Seat) → Leads events (events ++ event.Passes seat ∷ [])
   pub closed : (seats : ℕ) (events : List Event) → Leads events (rules.closed seats events)
   pub leaves : (events : List Event) (seat : Seat) (lines : ℕ) → Leads events (events ++ event.Left seat lines ∷ [])
 
-module _ {Deeds : Type 0} (rules : RoundRules Deeds) (Leads : List Event → List Event → Type 0) (leads : LeadsOverSteps rules Leads) where
+module _ {TurnActions : Type 0} (rules : RoundRules TurnActions) (Leads : List Event → List Event → Type 0) (leads : LeadsOverSteps rules Leads) where
   -- over the standing lines of a seat
   over_lines_before : (seat : Seat) (events : List Event) (lines : List Numbered) → Leads events (after_each (rules.standing seat) events lines)
   over_lines_before seat events [] = leads.stays events
@@ -41,10 +41,10 @@ module _ {Deeds : Type 0} (rules : RoundRules Deeds) (Leads : List Event → Lis
       (over_lines_before (seat_at seat) events (parts_for file round seat).before) (over_standing file round first seats)
 
   -- over the lines of a turn
-  over_lines : (seats : ℕ) (seat : Seat) (turn : InTurn Deeds) (lines : List Numbered) → Leads turn.events (after_lines rules seats seat turn lines).events
+  over_lines : (seats : ℕ) (seat : Seat) (turn : InTurn TurnActions) (lines : List Numbered) → Leads turn.events (after_lines rules seats seat turn lines).events
   over_lines seats seat turn [] = leads.stays turn.events
   over_lines seats seat turn (line ∷ lines) =
-      let next : InTurn Deeds = rules.line seats seat turn line in
+      let next : InTurn TurnActions = rules.line seats seat turn line in
       leads.further turn.events next.events (after_lines rules seats seat next lines).events
       (leads.line seats seat turn line) (over_lines seats seat next lines)
 
@@ -57,10 +57,10 @@ module _ {Deeds : Type 0} (rules : RoundRules Deeds) (Leads : List Event → Lis
   over_turn : (seats : ℕ) (at : InPlay (List Event) Numbered) → Leads at.now (after_turn (turns_of rules seats) at).now
   over_turn seats at =
       let seat : Seat = seat_at at.seat in
-      let turn : InTurn Deeds = after_group rules seats seat at.now (next_group (groups_at at.groups at.seat)) in
+      let turn : InTurn TurnActions = after_group rules seats seat at.now (next_group (groups_at at.groups at.seat)) in
       leads.further at.now turn.events (after_turn (turns_of rules seats) at).now
       (over_lines seats seat (in_turn at.now rules.nothing) (next_group (groups_at at.groups at.seat)))
-      (over_pass (rules.has_acted turn.deeds) turn.events seat)
+      (over_pass (rules.has_acted turn.actions) turn.events seat)
 
   -- over some turns
   over_turns : (seats n : ℕ) (start : InPlay (List Event) Numbered) → Leads start.now (iterate (after_turn (turns_of rules seats)) n start).now

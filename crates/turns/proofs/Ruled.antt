@@ -57,9 +57,9 @@ kept_under true broken none = none
 kept_under false broken none = absurd (cc)
 
 -- what holds after each order that is done, and after each ruling by which none is, holds after a line of a turn
-module _ {Deeds : Type 0} (act : InTurn Deeds → Order → InTurn Deeds) (judgement : Order → Option Refusal) (seat : Seat) (turn : InTurn Deeds) (number : ℕ)
-    (P : InTurn Deeds → Type 0)
-    (left : (ruling : Ruling) → obeyed_by ruling ≡ None → P (in_turn (recorded seat number ruling turn.events) turn.deeds))
+module _ {TurnActions : Type 0} (act : InTurn TurnActions → Order → InTurn TurnActions) (judgement : Order → Option Refusal) (seat : Seat) (turn : InTurn TurnActions) (number : ℕ)
+    (P : InTurn TurnActions → Type 0)
+    (left : (ruling : Ruling) → obeyed_by ruling ≡ None → P (in_turn (recorded seat number ruling turn.events) turn.actions))
     (each : (condition : Option Condition) (order : Order) → judgement order ≡ None → P (after_ruling act seat turn number (Obeyed condition order))) where
   -- of an order that breaks this rule first, or none
   of_judged : (condition : Option Condition) (order : Order) (broken : Option Refusal) → (broken ≡ None → judgement order ≡ None) → P (after_ruling act seat turn number (judged condition order broken))

@@ -14,7 +14,7 @@ use Rattle.tables.specs.declared.seat.Seat.{Seat}
 use Rattle.turns.specs.RoundOfTurns.{RoundRules, after_group, in_play, turned, turns_of}
 
 -- no seat acts without lines
-pub no_lines : {Deeds : Type 0} (rules : RoundRules Deeds) (seats : ℕ) → rules.has_acted rules.nothing ≡ false → IsIdleWithoutLines (turns_of rules seats)
+pub no_lines : {TurnActions : Type 0} (rules : RoundRules TurnActions) (seats : ℕ) → rules.has_acted rules.nothing ≡ false → IsIdleWithoutLines (turns_of rules seats)
 no_lines rules seats idle = λ seat events. idle
 
 -- the turns are not over while nothing ends them and not all have passed
@@ -44,7 +44,7 @@ played seats seat passes turn groups =
       groups = groups;
     }
 
-module _ {Deeds : Type 0} (rules : RoundRules Deeds) (seats : ℕ) (events : List Event) (seat passes : ℕ) (unruled : List Parts) (d new : Parts) (taker : Seat) (within : seat < length unruled) (is_seat : taker ≡ seat_at seat) (dropped : groups_of new ≡ drop 1 (groups_of (get_or unruled seat d))) where
+module _ {TurnActions : Type 0} (rules : RoundRules TurnActions) (seats : ℕ) (events : List Event) (seat passes : ℕ) (unruled : List Parts) (d new : Parts) (taker : Seat) (within : seat < length unruled) (is_seat : taker ≡ seat_at seat) (dropped : groups_of new ≡ drop 1 (groups_of (get_or unruled seat d))) where
   -- a turn that took the next group of a seat's sheet is one turn of the round
   turn_taken : (turn : Turned (List Event)) →
       turn ≡ turned rules (after_group rules seats taker events (next_group (groups_of (get_or unruled seat d)))) →

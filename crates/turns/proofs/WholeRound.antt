@@ -10,7 +10,7 @@ use Rattle.tables.specs.Turns.{InPlay, TurnsEnd}
 use Rattle.tables.specs.declared.round.Round.{Round}
 use Rattle.turns.specs.RoundOfTurns.{IsRoundOfTurns, RoundRules, TurnsLead, after_standing, finished, groups_for, in_play, left_from, opened, turns_of}
 
-module _ {Deeds : Type 0} (rules : RoundRules Deeds) where
+module _ {TurnActions : Type 0} (rules : RoundRules TurnActions) where
   -- the round before its first turn
   begun : (file : List ℕ) (round : Round) (old told ruled : Game) (first : ℕ) (groups : List (List (List Numbered))) →
       old.seats ≡ length (players_of file) → told ≡ with_event old (event.Round round) →

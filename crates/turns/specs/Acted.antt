@@ -21,6 +21,6 @@ abbrev pub TurnTells : Seat → List Event → Turned (List Event) → Type 0
 TurnTells seat old turn = TellsWhoActed seat turn.acted old turn.state
 
 -- each turn of a round does, whatever its lines are
-abbrev pub TurnsTellWhoActed : {Deeds : Type 0} → RoundRules Deeds → Type 0
+abbrev pub TurnsTellWhoActed : {TurnActions : Type 0} → RoundRules TurnActions → Type 0
 TurnsTellWhoActed rules =
     (seats : ℕ) (seat : Seat) (events : List Event) (lines : List Numbered) → TurnTells seat events ((turns_of rules seats).turn seat lines events)

@@ -8,7 +8,7 @@ use Rattle.std.specs.List.{range_with_len}
 use Rattle.events.specs.declared.event.Event.{Event}
 use Rattle.events.specs.declared.event.Event.TheVariants as event
 use Rattle.history.specs.LookBack.{Game, priority_of}
-use Rattle.history.specs.Tell.{with_left}
+use Rattle.history.specs.Record.{with_left}
 use Rattle.sheets.specs.Part.{Numbered}
 pub use Rattle.sheets.specs.Taken.{groups_for, in_play}
 use Rattle.sheets.specs.Taken.{after_all_before, after_each, told_of_left}
@@ -17,43 +17,43 @@ use Rattle.tables.specs.declared.round.Round.{Round}
 use Rattle.tables.specs.declared.seat.Seat.{Seat}
 
 -- in a turn: the list so far, and what the seat has done
-pub record InTurn (Deeds : Type 0) : Type 0 where
+pub record InTurn (TurnActions : Type 0) : Type 0 where
   pub events : List Event
-  pub deeds : Deeds
+  pub actions : TurnActions
 
 -- in a turn with this list, in which the seat has done this
-abbrev pub in_turn : {Deeds : Type 0} → List Event → Deeds → InTurn Deeds
-in_turn events deeds = record { events = events; deeds = deeds }
+abbrev pub in_turn : {TurnActions : Type 0} → List Event → TurnActions → InTurn TurnActions
+in_turn events actions = record { events = events; actions = actions }
 
 -- what a kind of round says for itself: the list after a standing line of a seat; what a seat has done before
 -- the first line of its turn, and where a line of it leads at a table of so many seats; whether a seat that has
 -- done this has acted; what ends the turns before all have passed; and the list after what follows the turns
-pub record RoundRules (Deeds : Type 0) : Type 0 where
+pub record RoundRules (TurnActions : Type 0) : Type 0 where
   pub standing : Seat → List Event → Numbered → List Event
-  pub nothing : Deeds
-  pub line : ℕ → Seat → InTurn Deeds → Numbered → InTurn Deeds
-  pub has_acted : Deeds → Bool
+  pub nothing : TurnActions
+  pub line : ℕ → Seat → InTurn TurnActions → Numbered → InTurn TurnActions
+  pub has_acted : TurnActions → Bool
   pub over : List Event → Bool
   pub closed : ℕ → List Event → List Event
 
 -- after the standing lines of seats, in order
-abbrev pub after_standing : {Deeds : Type 0} → RoundRules Deeds → List ℕ → Round → List Event → List ℕ → List Event
+abbrev pub after_standing : {TurnActions : Type 0} → RoundRules TurnActions → List ℕ → Round → List Event → List ℕ → List Event
 after_standing rules file round events seats = after_all_before rules.standing file round events seats
 
 -- after lines of a group, in order
-abbrev pub after_lines : {Deeds : Type 0} → RoundRules Deeds → ℕ → Seat → InTurn Deeds → List Numbered → InTurn Deeds
+abbrev pub after_lines : {TurnActions : Type 0} → RoundRules TurnActions → ℕ → Seat → InTurn TurnActions → List Numbered → InTurn TurnActions
 after_lines rules seats seat turn lines = after_each (rules.line seats seat) turn lines
 
 -- after a group of lines, at the start of which a seat has done nothing
-abbrev pub after_group : {Deeds : Type 0} → RoundRules Deeds → ℕ → Seat → List Event → List Numbered → InTurn Deeds
+abbrev pub after_group : {TurnActions : Type 0} → RoundRules TurnActions → ℕ → Seat → List Event → List Numbered → InTurn TurnActions
 after_group rules seats seat events lines = after_lines rules seats seat (in_turn events rules.nothing) lines
 
 -- where a turn has led, and whether the seat acted in it
-abbrev pub turned : {Deeds : Type 0} → RoundRules Deeds → InTurn Deeds → Turned (List Event)
-turned rules turn = record { state = turn.events; acted = rules.has_acted turn.deeds }
+abbrev pub turned : {TurnActions : Type 0} → RoundRules TurnActions → InTurn TurnActions → Turned (List Event)
+turned rules turn = record { state = turn.events; acted = rules.has_acted turn.actions }
 
 -- the turns of a round at a table of so many seats
-abbrev pub turns_of : {Deeds : Type 0} → RoundRules Deeds → ℕ → Play (List Event) Numbered
+abbrev pub turns_of : {TurnActions : Type 0} → RoundRules TurnActions → ℕ → Play (List Event) Numbered
 turns_of rules seats =
     record {
       seats = seats;
@@ -63,7 +63,7 @@ turns_of rules seats =
     }
 
 -- the round before its first turn: that is of the holder of priority
-abbrev pub opened : {Deeds : Type 0} → RoundRules Deeds → ℕ → List ℕ → Round → List Event → InPlay (List Event) Numbered
+abbrev pub opened : {TurnActions : Type 0} → RoundRules TurnActions → ℕ → List ℕ → Round → List Event → InPlay (List Event) Numbered
 opened rules seats file round events =
     in_play
     (after_standing rules file round (events ++ event.Round round ∷ []) (range_with_len 0 seats)) (priority_of seats events).0 0 (groups_for seats file round)
@@ -73,24 +73,24 @@ abbrev pub left_from : ℕ → List (List (List Numbered)) → List Event
 left_from seat groups = told_of_left with_left seat groups
 
 -- the list at the end of the round
-abbrev pub finished : {Deeds : Type 0} → RoundRules Deeds → ℕ → InPlay (List Event) Numbered → List Event
+abbrev pub finished : {TurnActions : Type 0} → RoundRules TurnActions → ℕ → InPlay (List Event) Numbered → List Event
 finished rules seats last = rules.closed seats last.now ++ left_from 0 last.groups
 
 -- the turns lead from a round in play to these events and these groups that are left
-pub record TurnsLead {Deeds : Type 0} (rules : RoundRules Deeds) (seats : ℕ) (from : InPlay (List Event) Numbered) (events : List Event) (groups : List (List (List Numbered))) : Type 0 where
+pub record TurnsLead {TurnActions : Type 0} (rules : RoundRules TurnActions) (seats : ℕ) (from : InPlay (List Event) Numbered) (events : List Event) (groups : List (List (List Numbered))) : Type 0 where
   pub last : InPlay (List Event) Numbered
   pub turns : TurnsEnd (turns_of rules seats) from last
   pub events_then : last.now ≡ events
   pub groups_then : last.groups ≡ groups
 
 -- new is old after a round of turns with the sheets of the file
-pub record IsRoundOfTurns {Deeds : Type 0} (rules : RoundRules Deeds) (file : List ℕ) (round : Round) (old new : Game) : Type 0 where
+pub record IsRoundOfTurns {TurnActions : Type 0} (rules : RoundRules TurnActions) (file : List ℕ) (round : Round) (old new : Game) : Type 0 where
   pub last : InPlay (List Event) Numbered
   pub turns : TurnsEnd (turns_of rules old.seats) (opened rules old.seats file round old.events) last
   pub after : new ≡ record { seats = old.seats; events = finished rules old.seats last }
 
 -- a round of turns with the sheets of the file has an outcome, after at most 513 turns for each seat
-pub record EndsSoon {Deeds : Type 0} (rules : RoundRules Deeds) (file : List ℕ) (round : Round) (old : Game) : Type 0 where
+pub record EndsSoon {TurnActions : Type 0} (rules : RoundRules TurnActions) (file : List ℕ) (round : Round) (old : Game) : Type 0 where
   pub new : Game
   pub played : IsRoundOfTurns rules file round old new
   pub few_turns : played.turns.steps ≤ 513 * old.seats

@@ -73,6 +73,6 @@ abbrev pub has_place_in_group : Order → Bool
 has_place_in_group order = not (is_of_file order)
 
 -- in a turn of a seat, after a line with this number and this ruling, where an order that is done leads so far
-abbrev pub after_ruling : {Deeds : Type 0} → (InTurn Deeds → Order → InTurn Deeds) → Seat → InTurn Deeds → ℕ → Ruling → InTurn Deeds
+abbrev pub after_ruling : {TurnActions : Type 0} → (InTurn TurnActions → Order → InTurn TurnActions) → Seat → InTurn TurnActions → ℕ → Ruling → InTurn TurnActions
 after_ruling act seat turn number ruling =
-    done act (in_turn (recorded seat number ruling turn.events) turn.deeds) (obeyed_by ruling)
+    done act (in_turn (recorded seat number ruling turn.events) turn.actions) (obeyed_by ruling)

@@ -3,7 +3,7 @@ ghost use Rattle.std.specs.List.{range_with_len};
 ghost use Rattle.events.specs.declared.event.Event.TheVariants as event;
 ghost use Rattle.history.specs.LookBack.{with_event};
 ghost use Rattle.history.specs.Sound.{IsSound};
-ghost use Rattle.history.specs.Tell.{left_told};
+ghost use Rattle.history.specs.Record.{left_recorded};
 ghost use Rattle.sheets.specs.File.{players_of};
 ghost use Rattle.sheets.specs.Part.{groups_of};
 ghost use Rattle.sheets.specs.Taken.{after_each};
@@ -45,7 +45,7 @@ pub fn play_round<T: TurnRules>(
     let unruled = unruled.as_mut_slice();
     take_turns(rules, &mut history, first.number(), unruled)?;
     rules.close(&mut history)?;
-    tell_all_left(rules, &mut history, unruled)?;
+    record_all_left(rules, &mut history, unruled)?;
     Ok(history)
 }
 
@@ -56,7 +56,7 @@ fn begin<T: TurnRules>(_rules: &T, history: &mut History, round: Round) -> Resul
     ensures event { OnOk result (history.new ≡ with_event history.old (event.Round round)) }
     ensures underway { OnOk result (T.holds history.new) }
 {
-    history.tell(Event::Round(round))?;
+    history.record_event(Event::Round(round))?;
     Ok(())
 }
 
@@ -179,12 +179,12 @@ fn pass<T: TurnRules>(_rules: &T, history: &mut History, seat: Seat) -> Result<(
     ensures event { OnOk result (history.new ≡ with_event history.old (event.Passes seat)) }
     ensures underway { OnOk result (T.holds history.new) }
 {
-    history.tell(Event::Passes(seat))?;
+    history.record_event(Event::Passes(seat))?;
     Ok(())
 }
 
 /// Tells how many lines of each sheet were not taken up, heads of groups not counted.
-fn tell_all_left<T: TurnRules>(
+fn record_all_left<T: TurnRules>(
     rules: &T,
     history: &mut History,
     unruled: &[PartsLeft],
@@ -198,22 +198,22 @@ fn tell_all_left<T: TurnRules>(
     ensures underway { OnOk result (T.holds history.new) }
 {
     for (seat, sheet) in unruled.iter().enumerate() {
-        tell_seat_left(rules, history, Seat::at(seat), sheet.count())?;
+        record_seat_left(rules, history, Seat::at(seat), sheet.count())?;
     }
     Ok(())
 }
 
 /// Tells how many lines of a seat's sheet were not taken up.
-fn tell_seat_left<T: TurnRules>(
+fn record_seat_left<T: TurnRules>(
     _rules: &T,
     history: &mut History,
     seat: Seat,
     lines: u32,
 ) -> Result<(), AllocError>
     requires { T.holds history.old }
-    ensures told { OnOk result (history.new ≡ left_told seat lines history.old) }
+    ensures told { OnOk result (history.new ≡ left_recorded seat lines history.old) }
     ensures underway { OnOk result (T.holds history.new) }
 {
-    history.tell_left(seat, lines)?;
+    history.record_left(seat, lines)?;
     Ok(())
 }

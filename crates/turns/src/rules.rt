@@ -3,7 +3,7 @@ ghost use Rattle.events.specs.declared.event.Event.{Event};
 ghost use Rattle.events.specs.declared.event.Event.TheVariants as event;
 ghost use Rattle.history.specs.LookBack.{Game, with_event};
 ghost use Rattle.history.specs.Sound.{IsSound};
-ghost use Rattle.history.specs.Tell.{left_told};
+ghost use Rattle.history.specs.Record.{left_recorded};
 ghost use Rattle.sheets.specs.Part.{line_unread};
 ghost use Rattle.tables.specs.declared.round.Round.{Round};
 ghost use Rattle.tables.specs.declared.seat.Seat.{Seat};
@@ -20,10 +20,10 @@ use tables::Seat;
 /// want of memory, and the game is dropped then.
 pub trait TurnRules {
     /// What a seat has done in a turn.
-    type Deeds: Copy;
+    type TurnActions: Copy;
 
     /// The rules of such a round.
-    ghost rules: { RoundRules Self.Deeds };
+    ghost rules: { RoundRules Self.TurnActions };
 
     /// What such a round needs of the list before it, beside soundness.
     ghost may_begin: { List Event → Type 0 };
@@ -47,7 +47,7 @@ pub trait TurnRules {
         ensures underway { OnOk result (holds history.new) };
 
     /// What a seat has done before the first line of its turn.
-    fn nothing(&self) -> Self::Deeds
+    fn nothing(&self) -> Self::TurnActions
         ensures { result ≡ rules.nothing };
 
     /// Rules a line of a group, and does what it orders if it is obeyed. Its order is put in place of
@@ -58,21 +58,21 @@ pub trait TurnRules {
         seat: Seat,
         line: UnreadLine,
         order: &mut Order,
-        deeds: Self::Deeds,
-    ) -> Result<Self::Deeds, AllocError>
+        actions: Self::TurnActions,
+    ) -> Result<Self::TurnActions, AllocError>
         requires few { history.old.seats ≤ 6 }
         requires at_table { seat.0 < history.old.seats }
         requires small { IsSmallReading (line_unread line).reading }
         requires underway { holds history.old }
         ensures seats { OnOk result (history.new.seats ≡ history.old.seats) }
         ensures turn { IfOk result (λ now. in_turn history.new.events now
-            ≡ rules.line history.old.seats seat (in_turn history.old.events deeds)
+            ≡ rules.line history.old.seats seat (in_turn history.old.events actions)
             (line_unread line.entry)) }
         ensures underway { OnOk result (holds history.new) };
 
     /// Whether a seat that has done this has acted: else it passes.
-    fn has_acted(&self, deeds: Self::Deeds) -> bool
-        ensures { result ≡ rules.has_acted deeds };
+    fn has_acted(&self, actions: Self::TurnActions) -> bool
+        ensures { result ≡ rules.has_acted actions };
 
     /// Whether the turns are over though not all seats have passed in succession.
     fn is_over(&self, history: &History) -> bool
@@ -103,7 +103,7 @@ pub trait TurnRules {
 
     /// So does a count of lines that were not taken up.
     ghost leaves: { (game : Game) (seat : Seat) (lines : ℕ) → holds game
-        → IsSound (left_told seat lines game) → holds (left_told seat lines game) };
+        → IsSound (left_recorded seat lines game) → holds (left_recorded seat lines game) };
 
     /// A seat that has done nothing has not acted.
     ghost idle: { rules.has_acted rules.nothing ≡ false };

@@ -11,7 +11,7 @@ ghost use Rattle.sheets.specs.Place.{placed as placed_reading};
 ghost use Rattle.tables.specs.declared.seat.Seat.{Seat as SeatNumber};
 ghost use Rattle.turns.specs.Ruling.{IsOrderToDo, judged, line_ruling, under};
 
-use history::{Event, History, KeptRuling, Refusal};
+use history::{Event, History, PackedRuling, Refusal};
 use order_grammar::{Fault, Order};
 use sheets::{ReadLine, UnreadLine};
 use std::alloc::AllocError;
@@ -149,10 +149,10 @@ pub fn record(
     let kept = history.keep(line.condition.as_ref(), order)?;
     let obeyed = broken.is_none();
     let ruling = match broken {
-        Some(rule) => KeptRuling::refused(rule, kept),
-        None => KeptRuling::obeyed(kept),
+        Some(rule) => PackedRuling::refused(rule, kept),
+        None => PackedRuling::obeyed(kept),
     };
-    history.tell(Event::Ruled {
+    history.record_event(Event::Ruled {
         seat,
         line: line.number,
         ruling,
@@ -172,7 +172,7 @@ pub fn record_fault(
         ≡ with_event history.old (event.Ruled seat line (Faulty fault))) }
     ensures sound { OnOk result (IsSound history.new) }
 {
-    let ruling = KeptRuling::faulty(fault);
-    history.tell(Event::Ruled { seat, line, ruling })?;
+    let ruling = PackedRuling::faulty(fault);
+    history.record_event(Event::Ruled { seat, line, ruling })?;
     Ok(())
 }

@@ -35,8 +35,8 @@ pub(crate) fn take_turn<T: TurnRules>(
     let Some(_head) = sheet.take_head() else {
         return Ok(rules.has_acted(rules.nothing()));
     };
-    let deeds = rule_lines(rules, history, seat, sheet)?;
-    Ok(rules.has_acted(deeds))
+    let actions = rule_lines(rules, history, seat, sheet)?;
+    Ok(rules.has_acted(actions))
 }
 
 /// Rules the lines of a group. Answers what the seat has done by them.
@@ -45,22 +45,22 @@ fn rule_lines<T: TurnRules>(
     history: &mut History,
     seat: Seat,
     sheet: &mut PartsLeft,
-) -> Result<T::Deeds, AllocError>
+) -> Result<T::TurnActions, AllocError>
     requires few { history.old.seats ≤ 6 }
     requires at_table { seat.0 < history.old.seats }
     requires small { PartsAreSmall sheet.old }
     requires underway { T.holds history.old }
     ensures seats { OnOk result (history.new.seats ≡ history.old.seats) }
-    ensures turn { IfOk result (λ deeds. in_turn history.new.events deeds
+    ensures turn { IfOk result (λ actions. in_turn history.new.events actions
         ≡ after_group T.rules history.old.seats seat history.old.events sheet.old.before) }
     ensures left { OnOk result (groups_of sheet.new ≡ groups_of sheet.old) }
     ensures ready { OnOk result (IsReady sheet.new) }
     ensures underway { OnOk result (T.holds history.new) }
 {
     let mut order = Order::Blank;
-    let mut deeds = rules.nothing();
+    let mut actions = rules.nothing();
     while let Some(line) = sheet.take_line() {
-        deeds = rules.rule_line(history, seat, line, &mut order, deeds)?;
+        actions = rules.rule_line(history, seat, line, &mut order, actions)?;
     }
-    Ok(deeds)
+    Ok(actions)
 }

@@ -18,14 +18,14 @@ use Rattle.order_grammar.specs.declared.fault.Fault.TheVariants.{UnknownWord}
 use Rattle.order_grammar.specs.declared.order.Order.{Order}
 use Rattle.order_grammar.proofs.KeywordLemmas.{same_word-is}
 use Rattle.order_grammar.proofs.VersionLemmas.{one_is_as_it_was, same_without_if}
-use Rattle.sheets.specs.File.{Content, begins, block, body_content, body_in, body_of, content_of, good_lines, header_version, is_sheet_line, lines_begun, lines_content, players_content, players_in, players_named, players_of, post_at, same_post, sheet_in, sheet_of, unread_fault, unread_in, unread_of, version_in, version_of}
+use Rattle.sheets.specs.File.{Content, begins, block, body_content, body_in, body_of, content_of, good_lines, header_version, is_sheet_line, lines_begun, lines_content, players_content, players_in, players_named, players_of, sheet_key_at, same_sheet_key, sheet_in, sheet_of, unread_fault, unread_in, unread_of, version_in, version_of}
 use Rattle.sheets.specs.Laws.{SameParts}
 use Rattle.sheets.specs.Limits.{file_most, sheets_most}
 use Rattle.sheets.specs.Part.{opens_part, parts_after}
 use Rattle.sheets.specs.Text.{written_lines}
 use Rattle.sheets.specs.declared.fault.FileFault.{FileFault}
 use Rattle.sheets.specs.declared.fault.FileFault.TheVariants.{TooManySheets}
-use Rattle.sheets.specs.declared.post.Post.{Post}
+use Rattle.sheets.specs.declared.sheet_key.SheetKey.{SheetKey}
 use Rattle.sheets.proofs.ContentLemmas.{short_enough}
 use Rattle.tables.specs.declared.round.Round.{Round}
 use Rattle.umpire.specs.Migrated.{file_in_two, header_of_two, is_if_line, is_unknown, line_in_two, named_version}
@@ -74,21 +74,21 @@ block_alike lines =
 abbrev gone : Option (List (List ℕ)) → Option (List (List ℕ))
 gone sheet = option_map (map line_in_two) sheet
 
-begun_goes : (post : Post) (lines : List (List ℕ)) (begun : Option Post) → lines_begun post (map line_in_two lines) begun ≡ gone (lines_begun post lines begun)
-begun_goes post lines None = refl
-begun_goes post lines (Some begun) =
-    elim (same_post begun post) as (λ b. cond b (Some (map line_in_two lines)) None ≡ gone (cond b (Some lines) None)) [ true ↦ refl | false ↦ refl ]
+begun_goes : (sheet_key : SheetKey) (lines : List (List ℕ)) (begun : Option SheetKey) → lines_begun sheet_key (map line_in_two lines) begun ≡ gone (lines_begun sheet_key lines begun)
+begun_goes sheet_key lines None = refl
+begun_goes sheet_key lines (Some begun) =
+    elim (same_sheet_key begun sheet_key) as (λ b. cond b (Some (map line_in_two lines)) None ≡ gone (cond b (Some lines) None)) [ true ↦ refl | false ↦ refl ]
 
 either_goes : (first second : Option (List (List ℕ))) → option_or (gone first) (gone second) ≡ gone (option_or first second)
 either_goes None second = refl
 either_goes (Some lines) second = refl
 
-sheet_goes : (players lines : List (List ℕ)) (post : Post) → sheet_in players (map line_in_two lines) post ≡ gone (sheet_in players lines post)
-sheet_goes players [] post = refl
-sheet_goes players (line ∷ lines) post =
-    let here : lines_begun post (block (map line_in_two lines)) (begins players (line_in_two line)) ≡ gone (lines_begun post (block lines) (begins players line)) =
-    rw (begins_alike players line, block_alike lines) (begun_goes post (block lines) (begins players line)) in
-    rw (sheet_goes players lines post, here) (either_goes (sheet_in players lines post) (lines_begun post (block lines) (begins players line)))
+sheet_goes : (players lines : List (List ℕ)) (sheet_key : SheetKey) → sheet_in players (map line_in_two lines) sheet_key ≡ gone (sheet_in players lines sheet_key)
+sheet_goes players [] sheet_key = refl
+sheet_goes players (line ∷ lines) sheet_key =
+    let here : lines_begun sheet_key (block (map line_in_two lines)) (begins players (line_in_two line)) ≡ gone (lines_begun sheet_key (block lines) (begins players line)) =
+    rw (begins_alike players line, block_alike lines) (begun_goes sheet_key (block lines) (begins players line)) in
+    rw (sheet_goes players lines sheet_key, here) (either_goes (sheet_in players lines sheet_key) (lines_begun sheet_key (block lines) (begins players line)))
 
 -- a line is read in version 2 as the line that it stands for in version 1
 pub if_unknown : (words : List (List ℕ)) → same_word (first_of_words words) (codes "IF") ≡ true → words_reading order_forms words ≡ Err UnknownWord
@@ -220,7 +220,7 @@ module _ (file : List ℕ) (named : named_version (written_lines file) ≡ Some 
   sheet_goes_over : (seat : ℕ) (round : Round) → sheet_of (file_in_two file) seat round ≡ gone (sheet_of file seat round)
   unfolding sheet_of
   sheet_goes_over seat round =
-      rw (players_alike, body_goes_over) (sheet_goes (players_of file) (body_of file) (post_at seat round))
+      rw (players_alike, body_goes_over) (sheet_goes (players_of file) (body_of file) (sheet_key_at seat round))
 
   pub posted_alike : (seat : ℕ) (round : Round) → is_some (sheet_of (file_in_two file) seat round) ≡ is_some (sheet_of file seat round)
   posted_alike seat round = ap is_some (sheet_goes_over seat round) ∙ still_posted (sheet_of file seat round)

@@ -1,7 +1,7 @@
 -- The runs so far stand before those that are told of the trains that are left; all of these can be written out.
 use Rattle.std.proofs.Common.{◌≡◌, [], ◌++◌, drop, reverse}
 use Rattle.std.specs.List.{AllByRecursion}
-use Rattle.best_run.specs.Trail.{CanBeClaimed, runs_told, written}
+use Rattle.best_run.specs.MovePath.{CanBeClaimed, runs_told, written}
 use Rattle.best_run.proofs.claimed.claimed_runs.Given as goal
 
 abbrev pub invariant-loop-kind : goal.invariant-loop-kind

@@ -3,9 +3,9 @@ use Rattle.std.proofs.Common.{◌≡◌, ℕ, List, ◌∷◌, ◌++◌, length,
 use Rattle.std.proofs.Math.Seq.{take-length}
 use Rattle.std.proofs.lemmas.List.{take-append-le}
 use Rattle.reach.specs.declared.walk.Step.{Step}
-use Rattle.best_run.specs.declared.trail.Mark.{Mark}
-use Rattle.best_run.specs.declared.trail.Mark.TheVariants.{Turn}
-use Rattle.best_run.specs.Trail.{after_walk, turned_about, walk_told}
+use Rattle.best_run.specs.declared.move_path.Mark.{Mark}
+use Rattle.best_run.specs.declared.move_path.Mark.TheVariants.{Turn}
+use Rattle.best_run.specs.MovePath.{after_walk, turned_about, walk_told}
 use Rattle.best_run.proofs.Told.{about_reversed, last_read}
 use Rattle.best_run.proofs.claimed.read_walk.Goals as goal
 

@@ -1,6 +1,6 @@
 -- What is told of the train by all its marks is told by those that are left, with the steps so far.
 use Rattle.std.proofs.Common.{◌≡◌, [], reverse, vec_len}
-use Rattle.best_run.specs.Trail.{after_walk, walk_told}
+use Rattle.best_run.specs.MovePath.{after_walk, walk_told}
 use Rattle.best_run.proofs.claimed.read_walk.Given as goal
 
 abbrev pub invariant-loop-mark : goal.invariant-loop-mark

@@ -3,7 +3,7 @@ use Rattle.std.proofs.Common.{◌≡◌, List, [], arith}
 use Rattle.certificate.specs.Set.{IsGreatest, TrainRun}
 use Rattle.certificate.proofs.Greatest.{a_greatest_exists, one_greatest}
 use Rattle.best_run.specs.Described.{Describes}
-use Rattle.best_run.specs.Trail.{marks_in, runs_told}
+use Rattle.best_run.specs.MovePath.{marks_in, runs_told}
 use Rattle.best_run.proofs.Greatest.{TellSet, can_claim, greatest_found, names_them, tell_set}
 use Rattle.best_run.proofs.revenue.find.Goals as goal
 
@@ -16,8 +16,8 @@ returns g c =
     let found = c.in_ok-found.found in
     let lawful = c.keeps_laws.ensures in
     let laid : Describes position company kinds task = c.in_ok-task.ensures.described in
-    let tells : TellSet position company lawful kinds task laid (marks_in found.trail) found.amount = tell_set position company lawful kinds task laid (marks_in found.trail) found.amount c.in_ok-found.ensures.earns in
-    let runs : List TrainRun = runs_told kinds [] (marks_in found.trail) in
+    let tells : TellSet position company lawful kinds task laid (marks_in found.move_path) found.amount = tell_set position company lawful kinds task laid (marks_in found.move_path) found.amount c.in_ok-found.ensures.earns in
+    let runs : List TrainRun = runs_told kinds [] (marks_in found.move_path) in
     let greatest : IsGreatest position company kinds found.amount = greatest_found position company lawful kinds task laid found c.in_ok-found.ensures in
     let some = a_greatest_exists position company kinds lawful in
     let same : found.amount ≡ some.0 = one_greatest position company kinds found.amount some.0 greatest some.1 in

@@ -2,7 +2,7 @@ use Rattle.std.proofs.Common.{true, false, ℤ, sym, ap, ◌∙◌, SFits}
 use Rattle.std.specs.Int.{w128}
 use Rattle.std.specs.Int.Signed.{le_z}
 use Rattle.std.proofs.lemmas.Int.{to_z-of_z}
-use Rattle.certs.proofs.Deals.{one_has_from}
+use Rattle.certs.proofs.ShareDeals.{one_has_from}
 use Rattle.certs.specs.Sale.{another_has}
 use Rattle.certs.proofs.sale.another_has.Goals as goal
 use mir.Val.{of_z, to_z}

@@ -2,7 +2,7 @@ use Rattle.std.proofs.Common.{subst, sym, ◌∙◌}
 use Rattle.std.specs.Int.{w128}
 use Rattle.std.proofs.lemmas.Int.{to_z-of_z}
 use Rattle.history.proofs.NetTables.{entry_changed, net_kept, sum_kept}
-use Rattle.history.specs.Books.{IsSafe, net_at}
+use Rattle.history.specs.Totals.{IsSafe, net_at}
 use Rattle.history.proofs.nets.change.Goals as goal
 
 pub returns-then-at-nets-clause-changed : goal.returns-then-at-nets-clause-changed

@@ -1,6 +1,6 @@
 -- The president pays what the company lacks, which he has.
 use Rattle.std.proofs.Common.{sym, ◌∙◌, arith}
-use Rattle.operating.proofs.ForcedAid.{aid_keeps_sound, aid_told, no_aid}
+use Rattle.operating.proofs.ForcedAid.{aid_keeps_sound, aid_recorded, no_aid}
 use Rattle.operating.proofs.forced.aid.Goals as goal
 
 pub append-requires : goal.append-requires
@@ -11,7 +11,7 @@ returns-then-amount-eq0-clause-after c = no_aid c.args.by c.args.history.now (sy
 
 pub returns-clause-after : goal.returns-clause-after
 returns-clause-after c =
-    aid_told c.args.by c.args.history.now c.append.new.self c.lacking-amount.result c.lacking-amount.ensures.amount c.if-amount-eq0.false c.in_ok-append.ensures.ok
+    aid_recorded c.args.by c.args.history.now c.append.new.self c.lacking-amount.result c.lacking-amount.ensures.amount c.if-amount-eq0.false c.in_ok-append.ensures.ok
 
 pub returns-clause-sound : goal.returns-clause-sound
 returns-clause-sound c =

@@ -18,7 +18,7 @@ buy_train-requires-clause-may c =
 
 pub returns-then-falls_short-clause-after : goal.returns-then-falls_short-clause-after
 returns-then-falls_short-clause-after c =
-    bankrupt_then c.args.by c.args.history.now c.tell.new.self (sym c.falls_short.ensures ∙ c.if-falls_short.true) c.in_ok-tell.ensures.ok
+    bankrupt_then c.args.by c.args.history.now c.record_event.new.self (sym c.falls_short.ensures ∙ c.if-falls_short.true) c.in_ok-record_event.ensures.ok
 
 pub returns-clause-after : goal.returns-clause-after
 returns-clause-after c =

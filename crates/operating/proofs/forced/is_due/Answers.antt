@@ -1,6 +1,6 @@
 -- A purchase is due where the company has no train, and can run by what lies.
 use Rattle.std.proofs.Common.{◌≡◌, true, false, List, ap, sym, subst, ◌∙◌}
-use Rattle.board.specs.Ground.{Ground, position_of}
+use Rattle.board.specs.MapState.{MapState, position_of}
 use Rattle.certificate.specs.TwoTrain.{CanRun}
 use Rattle.events.specs.declared.event.Event.{Event}
 use Rattle.operating.specs.Forced.{has_trains}
@@ -16,6 +16,6 @@ returns-then-has_trains-clause-due c = (
 
 pub returns-clause-due : goal.returns-clause-due
 returns-clause-due c = (
-  λ yes. (ap (λ (events : List Event). has_trains events c.args.company) (sym c.now.ensures.events) ∙ sym c.has_trains.ensures ∙ c.if-has_trains.false, subst (λ (laid : Ground). CanRun (position_of laid) c.args.company) c.in_ok-catch_up.ensures.ground (c.can_run.ensures.0 yes)),
-  λ due. c.can_run.ensures.1 (subst (λ (laid : Ground). CanRun (position_of laid) c.args.company) (sym c.in_ok-catch_up.ensures.ground) due.1),
+  λ yes. (ap (λ (events : List Event). has_trains events c.args.company) (sym c.now.ensures.events) ∙ sym c.has_trains.ensures ∙ c.if-has_trains.false, subst (λ (laid : MapState). CanRun (position_of laid) c.args.company) c.in_ok-update_map_state.ensures.map_state (c.can_run.ensures.0 yes)),
+  λ due. c.can_run.ensures.1 (subst (λ (laid : MapState). CanRun (position_of laid) c.args.company) (sym c.in_ok-update_map_state.ensures.map_state) due.1),
 )

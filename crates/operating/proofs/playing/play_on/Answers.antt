@@ -2,7 +2,7 @@ use Rattle.std.proofs.Common.{◌≡◌, ℕ, ◌≤◌, ◌<◌, List, [], Some
 use Rattle.std.specs.Prelude.{Box}
 use Rattle.std.specs.Global.{Global}
 use Rattle.std.proofs.lemmas.Result.{err_from_is_err_and}
-use Rattle.board.specs.Ground.{Ground}
+use Rattle.board.specs.MapState.{MapState}
 use Rattle.certificate.specs.declared.runner.RunnerFault.{RunnerFault}
 use Rattle.certificate.specs.declared.runner.RunnerFault.TheVariants.{Memory}
 use Rattle.history.specs.LookBack.{Game}
@@ -16,7 +16,7 @@ use Rattle.operating.proofs.Tables.{end_front, home_front}
 use Rattle.operating.proofs.TurnCalled.{end_calls, turn_broken_off, turn_calls}
 use Rattle.operating.specs.Calls.{Makes}
 use Rattle.operating.specs.CompanyTurn.{state}
-use Rattle.operating.specs.Ground.{IsFront}
+use Rattle.operating.specs.MapState.{IsFront}
 use Rattle.operating.specs.Table.{game_on}
 use Rattle.operating.specs.Turn.{LinesLead}
 use Rattle.operating.specs.TurnCalls.{LinesCall, TurnCalls}
@@ -34,7 +34,7 @@ pub rule_lines-requires-clause-order : goal.rule_lines-requires-clause-order
 rule_lines-requires-clause-order g c =
     record {
       sound = subst IsSound (sym c.begin-turn.ensures.history) c.in_ok-place_home.ensures.sound;
-      front = subst (λ (board : Box Ground Global). IsFront board.value c.begin-turn.result.history.events) (sym c.begin-turn.ensures.board)
+      front = subst (λ (board : Box MapState Global). IsFront board.value c.begin-turn.result.history.events) (sym c.begin-turn.ensures.board)
           (subst (λ (game : Game). IsFront c.args.table.board.value game.events) (sym c.begin-turn.ensures.history)
           (home_front c.args.table.board.value c.args.table.history c.place_home.new.history c.args.company c.in_ok-place_home.ensures.event c.requires.laid.front));
     }

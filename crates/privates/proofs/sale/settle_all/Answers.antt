@@ -1,6 +1,6 @@
 use Rattle.std.proofs.Common.{◌≡◌, ℕ, List, ◌∙◌, sym, ap, add-one, arith}
 use Rattle.events.specs.declared.event.Event.{Event}
-use Rattle.privates.specs.Sale.{settle, settled}
+use Rattle.privates.specs.Sale.{settle_auctions, settled}
 use Rattle.tables.specs.Steps.{iterate}
 use Rattle.privates.proofs.sale.settle_all.Goals as goal
 
@@ -13,9 +13,9 @@ loop-private-preserved c =
       seats = c.in_ok-settle.ensures.seats ∙ c.loop-private.invariant.seats;
       events =
           c.in_ok-settle.ensures.events
-          ∙ ap (λ (n : ℕ). settle n c.loop-private.history.events) c.loop-private.invariant.seats
-          ∙ ap (λ (events : List Event). settle seats events) c.loop-private.invariant.events
-          ∙ ap (λ (k : ℕ). iterate (settle seats) k start) (sym (add-one i));
+          ∙ ap (λ (n : ℕ). settle_auctions n c.loop-private.history.events) c.loop-private.invariant.seats
+          ∙ ap (λ (events : List Event). settle_auctions seats events) c.loop-private.invariant.events
+          ∙ ap (λ (k : ℕ). iterate (settle_auctions seats) k start) (sym (add-one i));
       underway = c.in_ok-settle.ensures.underway;
     }
 
@@ -23,4 +23,4 @@ pub returns-clause-events : goal.returns-clause-events
 unfolding settled
 returns-clause-events c =
     let all : c.loop-private._private-index ≡ 6 = omega arith in
-    c.loop-private.invariant.events ∙ ap (λ (k : ℕ). iterate (settle c.args.history.now.seats) k c.args.history.now.events) all
+    c.loop-private.invariant.events ∙ ap (λ (k : ℕ). iterate (settle_auctions c.args.history.now.seats) k c.args.history.now.events) all

@@ -1,5 +1,5 @@
 use Rattle.std.proofs.Common.{◌≡◌}
-use Rattle.privates.specs.Sale.{settle}
+use Rattle.privates.specs.Sale.{settle_auctions}
 use Rattle.privates.specs.Underway.{IsUnderway}
 use Rattle.tables.specs.Steps.{iterate}
 use Rattle.privates.proofs.sale.settle_all.Given as goal
@@ -8,6 +8,6 @@ use Rattle.privates.proofs.sale.settle_all.Given as goal
 abbrev pub invariant-loop-private : goal.invariant-loop-private
 invariant-loop-private l = record {
   seats : l.history.seats ≡ l.fn.history.seats;
-  events : l.history.events ≡ iterate (settle l.fn.history.seats) l._private-index l.fn.history.events;
+  events : l.history.events ≡ iterate (settle_auctions l.fn.history.seats) l._private-index l.fn.history.events;
   underway : IsUnderway l.history;
 }

@@ -1,7 +1,7 @@
 use Rattle.std.proofs.Common.{◌≡◌, ◌≤◌, ◌∙◌, Some, refl, sym, subst}
 use Rattle.std.specs.HashMap.{get}
 use Rattle.std.proofs.lemmas.Result.{err_from_is_err_and}
-use Rattle.sheets.specs.File.{content_of, body_content, Fails, same_post, good_lines}
+use Rattle.sheets.specs.File.{content_of, body_content, Fails, same_sheet_key, good_lines}
 use Rattle.sheets.specs.Limits.{sheets_most}
 use Rattle.sheets.specs.Text.{written_lines}
 use Rattle.sheets.proofs.ContentLemmas.{too_long, short_enough, few_enough, fails, fails_by, collected}
@@ -40,7 +40,7 @@ invariant_of-result c =
     let few : good_lines names body ≤ sheets_most = c.in_ok-collection.ensures.good in
     let content : content_of c.args.file.now ≡ body_content body (Some names) =
     short_enough c.args.file.now c.if-file-gt-FILE_MOST.false ∙ c.in_ok-version.ensures.content ∙ c.in_ok-players.ensures.content in
-    collected c.args.file.now c.in_ok-version.version names body (get same_post kept.sheets) kept.unread.items c.in_ok-version.ensures.version (content ∙ few_enough names body few) c.in_ok-players.ensures.least
+    collected c.args.file.now c.in_ok-version.version names body (get same_sheet_key kept.sheets) kept.unread.items c.in_ok-version.ensures.version (content ∙ few_enough names body few) c.in_ok-players.ensures.least
     c.in_ok-players.ensures.most
     c.in_ok-collection.ensures.sheets c.in_ok-collection.ensures.unread
 

@@ -2,6 +2,6 @@ use Rattle.certs.proofs.Succession.{president_sound}
 use Rattle.tables.specs.declared.roster.Company.TheVariants.{NewYorkCentral}
 use Rattle.stock_round.proofs.act.exchange.Goals as goal
 
-pub tell_float-requires : goal.tell_float-requires
-tell_float-requires c =
-    president_sound c.give_up_mohawk.new.history c.tell_president.new.history NewYorkCentral c.in_ok-tell_president.ensures.seats c.in_ok-tell_president.ensures.events c.in_ok-give_up_mohawk.ensures.sound
+pub record_float-requires : goal.record_float-requires
+record_float-requires c =
+    president_sound c.give_up_mohawk.new.history c.record_president.new.history NewYorkCentral c.in_ok-record_president.ensures.seats c.in_ok-record_president.ensures.events c.in_ok-give_up_mohawk.ensures.sound

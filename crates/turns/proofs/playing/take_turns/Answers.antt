@@ -12,7 +12,7 @@ use Rattle.turns.proofs.playing.take_turns.Goals as goal
 
 -- a seat's turn is one turn of the round
 one_turn :
-    {Deeds : Type 0} (rules : RoundRules Deeds) (seats same table : ℕ) (events after : List Event) (seat next passes counted : ℕ) (taker left : Seat) (groups new : List (List (List Numbered))) →
+    {TurnActions : Type 0} (rules : RoundRules TurnActions) (seats same table : ℕ) (events after : List Event) (seat next passes counted : ℕ) (taker left : Seat) (groups new : List (List (List Numbered))) →
     same ≡ seats → seats ≡ table → taker ≡ seat_at seat → left ≡ left_of table taker → next ≡ left.0 →
     in_play after (left_of same (seat_at seat)).0 counted new ≡ after_turn (turns_of rules same) (in_play events seat passes groups) →
     in_play after next counted new ≡ after_turn (turns_of rules seats) (in_play events seat passes groups)

@@ -2,34 +2,34 @@
 use Rattle.std.proofs.Common.{◌≡◌, ℕ, ◌+◌, ◌<◌, Bool, List, [], ◌∷◌, true, false, inl, None, Some, drop, get_or, length, slice_get, refl, sym, ap, subst, ◌∙◌, arith}
 use Rattle.std.proofs.lemmas.List.{drop_all, drop_more}
 use Rattle.std.proofs.lemmas.Option.{slice_get_read}
-use Rattle.best_run.specs.declared.explored.Found.{Found}
+use Rattle.best_run.specs.declared.memo.Found.{Found}
 use Rattle.best_run.specs.declared.state.Settled.{Settled}
-use Rattle.best_run.specs.declared.state.Standing.{Standing}
+use Rattle.best_run.specs.declared.state.PartialRun.{PartialRun}
 use Rattle.best_run.specs.declared.task.Task.{Task}
-use Rattle.best_run.specs.declared.trail.Mark.TheVariants.{Pass, Turn, Settle}
-use Rattle.best_run.specs.Trail.{go_along}
-use Rattle.best_run.specs.Moves.{Explores, Takes, begun, begun_by, between, can_take, ends_in, node_at, passed, settling, standing, stop_in, turned_back}
-use Rattle.best_run.specs.Ways.{AreWaysOf, StandsBefore, TriesWays}
-use Rattle.best_run.proofs.Likened.{alike_whole, low_alike, low_back}
-use Rattle.best_run.proofs.Along.{AnyWay, IsLater, begin_by_ways, go_by_ways, leads_begin, leads_go, leads_turn, turn_by_ways, way_fits, ways_more, ways_none, ways_skip}
+use Rattle.best_run.specs.declared.move_path.Mark.TheVariants.{Pass, Turn, Settle}
+use Rattle.best_run.specs.MovePath.{go_along}
+use Rattle.best_run.specs.Moves.{Explores, Takes, begun, begun_by, between, can_take, ends_in, node_at, passed, with_run_settled, partial, stop_in, turned_back}
+use Rattle.best_run.specs.Legs.{AreLegsOf, StandsBefore, TriesLegs}
+use Rattle.best_run.proofs.Likened.{canonical_whole, low_canonical, low_back}
+use Rattle.best_run.proofs.Along.{AnyLeg, IsLater, begin_by_legs, go_by_legs, leads_begin, leads_go, leads_turn, turn_by_legs, leg_fits, legs_more, legs_none, legs_skip}
 use Rattle.best_run.proofs.Departing.{departs_from}
 use Rattle.best_run.proofs.Described.{among_place}
-use Rattle.best_run.proofs.Eased.{falls_short}
+use Rattle.best_run.proofs.Eased.{is_pruned_by_suffix}
 use Rattle.best_run.proofs.Equal.{explores_capped}
 use Rattle.best_run.proofs.Homes.{TriesHomes, home_before, home_first, home_last, home_more}
 use Rattle.best_run.proofs.Kept.{explores_covered, explores_kept}
 use Rattle.best_run.proofs.Places.{less_by, node_is, one_at_side, one_low, one_of, room_by, take_free, value_low}
 use Rattle.best_run.proofs.Reached.{explores_reached}
 use Rattle.best_run.proofs.Traced.{explores_from, takes_from, traces_both}
-use Rattle.best_run.proofs.Tried.{begin_none, explores_between, explores_on, explores_standing, leads_pass, leads_settle, over_better, over_no_better, tries_on}
+use Rattle.best_run.proofs.Tried.{begin_none, explores_between, explores_on, explores_partial, leads_pass, leads_settle, over_better, over_no_better, tries_on}
 use Rattle.best_run.proofs.task.Task.+explore.Goals as goal
-use Rattle.best_run.proofs.task.Task.+explore.Goals.{begin_runs-then-node, begin_runs-else-node, turn_back-then-run-way, turn_back-else-run-way}
+use Rattle.best_run.proofs.task.Task.+explore.Goals.{begin_runs-then-node, begin_runs-else-node, turn_back-then-run-leg, turn_back-else-run-leg}
 
 pub begin_at-loop-index-init : goal.begin_at-loop-index-init
 begin_at-loop-index-init t c =
     let from = c.index-from.result.now in
-    let are : AreWaysOf c.args.self.now c.args.stop from.ways.items = departs_from c.args.self.now c.requires.ready c.args.stop from c.requires.stop c.index-from.ensures c.requires.begins in
-    ways_none c.args.self.now c.requires.fit c.args.stop c.requires.begins from.ways.items are (between c.args.settled.now) c.args.settled.now (λ way. begun c.args.self.now c.args.settled.now c.args.stop way.first) AnyWay c.args.best.now
+    let are : AreLegsOf c.args.self.now c.args.stop from.legs.items = departs_from c.args.self.now c.requires.ready c.args.stop from c.requires.stop c.index-from.ensures c.requires.begins in
+    legs_none c.args.self.now c.requires.fit c.args.stop c.requires.begins from.legs.items are (between c.args.settled.now) c.args.settled.now (λ leg. begun c.args.self.now c.args.settled.now c.args.stop leg.first) AnyLeg c.args.best.now
 
 pub begin_at-loop-index-preserved : goal.begin_at-loop-index-preserved
 begin_at-loop-index-preserved t c =
@@ -38,30 +38,30 @@ begin_at-loop-index-preserved t c =
     let stop = c.args.stop in
     let index = c.loop-index.index in
     let from = c.index-from.result.now in
-    let way = c.index-way.result.now in
-    let ways = from.ways.items in
-    let are : AreWaysOf task stop ways = departs_from task c.requires.ready stop from c.requires.stop c.index-from.ensures c.requires.begins in
-    let at : slice_get ways index ≡ Some way = slice_get_read ways (length ways) index way refl (omega arith) c.index-way.ensures in
-    let run = begun task settled stop way.first in
-    ways_more task c.requires.fit stop c.requires.begins ways are (between settled) settled (λ w. begun task settled stop w.first) AnyWay index way _ _ _ at c.loop-index.invariant
-    (takes_from task (between settled) settled run way (go_along way.steps.items) c.loop-index.best c.take.new.best c.trace_steps.new.self
-    (leads_begin task c.requires.fit settled c.marks_all_borders.ensures stop c.requires.begins c.requires.token c.requires.next ways are index way at)
-    (subst (λ (r : Standing). Takes task settled r way.piece c.loop-index.best c.take.new.best) (c.by-run.ensures ∙ ap (λ (r : Standing). begun_by r way.first) c.begun-begun.ensures) c.take.ensures)
+    let leg = c.index-leg.result.now in
+    let legs = from.legs.items in
+    let are : AreLegsOf task stop legs = departs_from task c.requires.ready stop from c.requires.stop c.index-from.ensures c.requires.begins in
+    let at : slice_get legs index ≡ Some leg = slice_get_read legs (length legs) index leg refl (omega arith) c.index-leg.ensures in
+    let run = begun task settled stop leg.first in
+    legs_more task c.requires.fit stop c.requires.begins legs are (between settled) settled (λ w. begun task settled stop w.first) AnyLeg index leg _ _ _ at c.loop-index.invariant
+    (takes_from task (between settled) settled run leg (go_along leg.steps.items) c.loop-index.best c.take.new.best c.trace_steps.new.self
+    (leads_begin task c.requires.fit settled c.marks_all_borders.ensures stop c.requires.begins c.requires.token c.requires.next legs are index leg at)
+    (subst (λ (r : PartialRun). Takes task settled r leg.segment c.loop-index.best c.take.new.best) (c.by-run.ensures ∙ ap (λ (r : PartialRun). begun_by r leg.first) c.begun-begun.ensures) c.take.ensures)
     c.trace_steps.ensures)
 
 pub begin_at-returns : goal.begin_at-returns
 begin_at-returns t c =
     let task = c.args.self.now in
     let from = c.index-from.result.now in
-    let are : AreWaysOf task c.args.stop from.ways.items = departs_from task c.requires.ready c.args.stop from c.requires.stop c.index-from.ensures c.requires.begins in
-    begin_by_ways task c.requires.fit c.args.settled.now c.marks_all_borders.ensures c.args.stop c.requires.begins from.ways.items are c.loop-index.index _ _ (omega arith) c.loop-index.invariant
+    let are : AreLegsOf task c.args.stop from.legs.items = departs_from task c.requires.ready c.args.stop from c.requires.stop c.index-from.ensures c.requires.begins in
+    begin_by_legs task c.requires.fit c.args.settled.now c.marks_all_borders.ensures c.args.stop c.requires.begins from.legs.items are c.loop-index.index _ _ (omega arith) c.loop-index.invariant
 
 pub go_on-loop-index-init : goal.go_on-loop-index-init
 go_on-loop-index-init t c =
     let run = c.args.run.now in
     let from = c.index-from.result.now in
-    let are : AreWaysOf c.args.self.now run.head from.ways.items = departs_from c.args.self.now c.requires.ready run.head from c.requires.head c.index-from.ensures c.requires.stands in
-    ways_none c.args.self.now c.requires.fit run.head c.requires.stands from.ways.items are (standing c.args.settled.now run) c.args.settled.now (λ way. run) AnyWay c.args.best.now
+    let are : AreLegsOf c.args.self.now run.head from.legs.items = departs_from c.args.self.now c.requires.ready run.head from c.requires.head c.index-from.ensures c.requires.stands in
+    legs_none c.args.self.now c.requires.fit run.head c.requires.stands from.legs.items are (partial c.args.settled.now run) c.args.settled.now (λ leg. run) AnyLeg c.args.best.now
 
 pub go_on-loop-index-preserved : goal.go_on-loop-index-preserved
 go_on-loop-index-preserved t c =
@@ -71,14 +71,14 @@ go_on-loop-index-preserved t c =
     let index = c.loop-index.index in
     let node = c.index-head.result.now in
     let from = c.index-from.result.now in
-    let way = c.index-way.result.now in
-    let ways = from.ways.items in
+    let leg = c.index-leg.result.now in
+    let legs = from.legs.items in
     let there : node_at task run.head ≡ Some node = node_is task c.requires.fit run.head node c.requires.head c.index-head.ensures in
-    let are : AreWaysOf task run.head ways = departs_from task c.requires.ready run.head from c.requires.head c.index-from.ensures c.requires.stands in
-    let at : slice_get ways index ≡ Some way = slice_get_read ways (length ways) index way refl (omega arith) c.index-way.ensures in
-    ways_more task c.requires.fit run.head c.requires.stands ways are (standing settled run) settled (λ w. run) AnyWay index way _ _ _ at c.loop-index.invariant
-    (takes_from task (standing settled run) settled run way (go_along way.steps.items) c.loop-index.best c.take.new.best c.trace_steps.new.self
-    (leads_go task c.requires.fit settled c.marks_all_borders.ensures run c.requires.stands (ap ends_in there ∙ c.if-head.false) ways are index way at)
+    let are : AreLegsOf task run.head legs = departs_from task c.requires.ready run.head from c.requires.head c.index-from.ensures c.requires.stands in
+    let at : slice_get legs index ≡ Some leg = slice_get_read legs (length legs) index leg refl (omega arith) c.index-leg.ensures in
+    legs_more task c.requires.fit run.head c.requires.stands legs are (partial settled run) settled (λ w. run) AnyLeg index leg _ _ _ at c.loop-index.invariant
+    (takes_from task (partial settled run) settled run leg (go_along leg.steps.items) c.loop-index.best c.take.new.best c.trace_steps.new.self
+    (leads_go task c.requires.fit settled c.marks_all_borders.ensures run c.requires.stands (ap ends_in there ∙ c.if-head.false) legs are index leg at)
     c.take.ensures
     c.trace_steps.ensures)
 
@@ -87,8 +87,8 @@ go_on-returns t c =
     let task = c.args.self.now in
     let run = c.args.run.now in
     let from = c.index-from.result.now in
-    let are : AreWaysOf task run.head from.ways.items = departs_from task c.requires.ready run.head from c.requires.head c.index-from.ensures c.requires.stands in
-    go_by_ways task c.requires.fit c.args.settled.now c.marks_all_borders.ensures run c.requires.stands from.ways.items are c.loop-index.index _ _ (omega arith) c.loop-index.invariant
+    let are : AreLegsOf task run.head from.legs.items = departs_from task c.requires.ready run.head from c.requires.head c.index-from.ensures c.requires.stands in
+    go_by_legs task c.requires.fit c.args.settled.now c.marks_all_borders.ensures run c.requires.stands from.legs.items are c.loop-index.index _ _ (omega arith) c.loop-index.invariant
 
 pub settle_next-returns-then-best-settled : goal.settle_next-returns-then-best-settled
 settle_next-returns-then-best-settled t c =
@@ -98,24 +98,24 @@ pub settle_next-returns-else-best-settled : goal.settle_next-returns-else-best-s
 settle_next-returns-else-best-settled t c =
     over_no_better c.args.self.now c.args.settled.now c.args.best.now (omega arith) (omega arith)
 
-pub settle_next-returns-then-falls_short : goal.settle_next-returns-then-falls_short
-settle_next-returns-then-falls_short t c =
-    falls_short c.args.self.now c.args.bounds.now c.args.settled.now c.args.best.now c.requires.bounds c.falls_short.ensures.whole c.requires.next
-    (c.falls_short.ensures.short c.if-falls_short.true)
+pub settle_next-returns-then-is_pruned_by_suffix : goal.settle_next-returns-then-is_pruned_by_suffix
+settle_next-returns-then-is_pruned_by_suffix t c =
+    is_pruned_by_suffix c.args.self.now c.args.bounds.now c.args.settled.now c.args.best.now c.requires.bounds c.is_pruned_by_suffix.ensures.whole c.requires.next
+    (c.is_pruned_by_suffix.ensures.short c.if-is_pruned_by_suffix.true)
 
-pub settle_next-returns-then-are_capped : goal.settle_next-returns-then-are_capped
-settle_next-returns-then-are_capped t c =
-    explores_capped c.args.self.now c.args.settled.now c.args.best.now c.falls_short.ensures.whole (c.are_capped.ensures c.if-are_capped.true)
+pub settle_next-returns-then-are_pruned_by_cap : goal.settle_next-returns-then-are_pruned_by_cap
+settle_next-returns-then-are_pruned_by_cap t c =
+    explores_capped c.args.self.now c.args.settled.now c.args.best.now c.is_pruned_by_suffix.ensures.whole (c.are_pruned_by_cap.ensures c.if-are_pruned_by_cap.true)
 
-pub settle_next-returns-then-reaches_too_little : goal.settle_next-returns-then-reaches_too_little
-settle_next-returns-then-reaches_too_little t c =
-    explores_reached c.args.self.now c.args.settled.now c.args.best.now (c.reaches_too_little.ensures c.if-reaches_too_little.true)
+pub settle_next-returns-then-is_pruned_by_reach : goal.settle_next-returns-then-is_pruned_by_reach
+settle_next-returns-then-is_pruned_by_reach t c =
+    explores_reached c.args.self.now c.args.settled.now c.args.best.now (c.is_pruned_by_reach.ensures c.if-is_pruned_by_reach.true)
 
 pub settle_next-returns : goal.settle_next-returns
 settle_next-returns t c =
     let task = c.args.self.now in
     let settled = c.args.settled.now in
-    explores_kept task (between settled) c.alike-alike.result c.args.best.now c.trace.new.self c.keep.new.self (low_back task c.requires.fit settled None c.alike-alike.result c.falls_short.ensures.whole c.alike-alike.ensures)
+    explores_kept task (between settled) c.canonical-canonical.result c.args.best.now c.trace.new.self c.keep.new.self (low_back task c.requires.fit settled None c.canonical-canonical.result c.is_pruned_by_suffix.ensures.whole c.canonical-canonical.ensures)
     (explores_between task settled c.args.best.now c.begin_runs.new.best c.trace.new.self c.begin_runs.ensures
     (explores_from task (between settled) (between (passed settled)) (Pass ∷ []) c.begin_runs.new.best c.settle_next.new.best c.trace.new.self (leads_pass task settled (omega arith))
     (subst (λ (s : Settled). Explores task (between s) c.begin_runs.new.best c.settle_next.new.best) c.passed-passed.ensures c.settle_next.ensures)
@@ -123,36 +123,36 @@ settle_next-returns t c =
     (omega arith))
     c.keep.ensures.kept
 
-pub settle_next-returns-then-covers : goal.settle_next-returns-then-covers
-settle_next-returns-then-covers t c =
-    explores_covered c.args.self.now c.requires.fit (between c.args.settled.now) c.alike-alike.result c.args.best.now (alike_whole c.args.self.now c.args.settled.now None c.alike-alike.result c.falls_short.ensures.whole c.alike-alike.ensures) (low_alike c.args.self.now c.requires.fit c.requires.ready c.args.settled.now None c.alike-alike.result c.falls_short.ensures.whole c.alike-alike.ensures) (c.covers.ensures c.if-covers.true)
+pub settle_next-returns-then-dominates : goal.settle_next-returns-then-dominates
+settle_next-returns-then-dominates t c =
+    explores_covered c.args.self.now c.requires.fit (between c.args.settled.now) c.canonical-canonical.result c.args.best.now (canonical_whole c.args.self.now c.args.settled.now None c.canonical-canonical.result c.is_pruned_by_suffix.ensures.whole c.canonical-canonical.ensures) (low_canonical c.args.self.now c.requires.fit c.requires.ready c.args.settled.now None c.canonical-canonical.result c.is_pruned_by_suffix.ensures.whole c.canonical-canonical.ensures) (c.dominates.ensures c.if-dominates.true)
 
-pub stand_once-returns-then-covers : goal.stand_once-returns-then-covers
-stand_once-returns-then-covers t c =
+pub stand_once-returns-then-dominates : goal.stand_once-returns-then-dominates
+stand_once-returns-then-dominates t c =
     let settled = c.args.settled.now in
     let run = c.args.run.now in
-    explores_covered c.args.self.now c.requires.fit (standing settled run) c.alike_begun-alike.result c.args.best.now (alike_whole c.args.self.now settled (Some run) c.alike_begun-alike.result c.marks_all_borders.ensures c.alike_begun-alike.ensures) (low_alike c.args.self.now c.requires.fit c.requires.ready settled (Some run) c.alike_begun-alike.result c.marks_all_borders.ensures c.alike_begun-alike.ensures) (c.covers.ensures c.if-covers.true)
+    explores_covered c.args.self.now c.requires.fit (partial settled run) c.canonical_begun-canonical.result c.args.best.now (canonical_whole c.args.self.now settled (Some run) c.canonical_begun-canonical.result c.marks_all_borders.ensures c.canonical_begun-canonical.ensures) (low_canonical c.args.self.now c.requires.fit c.requires.ready settled (Some run) c.canonical_begun-canonical.result c.marks_all_borders.ensures c.canonical_begun-canonical.ensures) (c.dominates.ensures c.if-dominates.true)
 
 pub stand_once-returns : goal.stand_once-returns
 stand_once-returns t c =
     let settled = c.args.settled.now in
     let run = c.args.run.now in
-    explores_kept c.args.self.now (standing settled run) c.alike_begun-alike.result c.args.best.now c.stand_anew.new.best c.keep.new.self (low_back c.args.self.now c.requires.fit settled (Some run) c.alike_begun-alike.result c.marks_all_borders.ensures c.alike_begun-alike.ensures) c.stand_anew.ensures c.keep.ensures.kept
+    explores_kept c.args.self.now (partial settled run) c.canonical_begun-canonical.result c.args.best.now c.stand_again.new.best c.keep.new.self (low_back c.args.self.now c.requires.fit settled (Some run) c.canonical_begun-canonical.result c.marks_all_borders.ensures c.canonical_begun-canonical.ensures) c.stand_again.ensures c.keep.ensures.kept
 
-pub stand_anew-returns-then-may_settle : goal.stand_anew-returns-then-may_settle
-stand_anew-returns-then-may_settle t c =
+pub stand_again-returns-then-may_settle : goal.stand_again-returns-then-may_settle
+stand_again-returns-then-may_settle t c =
     let task = c.args.self.now in
     let settled = c.args.settled.now in
     let run = c.args.run.now in
-    explores_standing task settled run c.args.best.now c.turn_back.new.best c.trace.new.self
+    explores_partial task settled run c.args.best.now c.turn_back.new.best c.trace.new.self
     (tries_on task settled run c.args.best.now c.go_on.new.best c.turn_back.new.best c.go_on.ensures c.turn_back.ensures)
-    (explores_from task (standing settled run) (between (settling settled run)) (Settle ∷ []) c.turn_back.new.best c.settle_next.new.best c.trace.new.self
+    (explores_from task (partial settled run) (between (with_run_settled settled run)) (Settle ∷ []) c.turn_back.new.best c.settle_next.new.best c.trace.new.self
     (leads_settle task settled run (sym c.may_settle.ensures ∙ c.if-may_settle.true))
-    (subst (λ (s : Settled). Explores task (between s) c.turn_back.new.best c.settle_next.new.best) c.settling-settling.ensures c.settle_next.ensures)
+    (subst (λ (s : Settled). Explores task (between s) c.turn_back.new.best c.settle_next.new.best) c.with_run_settled-with_run_settled.ensures c.settle_next.ensures)
     c.trace.ensures)
 
-pub stand_anew-returns-else-may_settle : goal.stand_anew-returns-else-may_settle
-stand_anew-returns-else-may_settle t c =
+pub stand_again-returns-else-may_settle : goal.stand_again-returns-else-may_settle
+stand_again-returns-else-may_settle t c =
     let task = c.args.self.now in
     let settled = c.args.settled.now in
     let run = c.args.run.now in
@@ -164,12 +164,12 @@ take-stand-requires t c =
     let task = c.args.self.now in
     let settled = c.args.settled.now in
     let run = c.args.run.now in
-    let piece = c.args.piece.now in
-    let to = stop_in (node_at task piece.to) in
-    let taken : can_take task run settled.used piece ≡ true = sym c.can_take.ensures ∙ c.if-can_take.true in
+    let segment = c.args.segment.now in
+    let to = stop_in (node_at task segment.to) in
+    let taken : can_take task run settled.used segment ≡ true = sym c.can_take.ensures ∙ c.if-can_take.true in
     let whole : length settled.used ≡ 279 = c.using-using.ensures.whole in
-    let free = take_free task run settled.used piece taken in
-    let less = less_by task settled piece whole free false to refl c.requires.piece in
+    let free = take_free task run settled.used segment taken in
+    let less = less_by task settled segment whole free false to refl c.requires.segment in
     let none = one_at_side in
     rw (c.using-using.ensures.using, c.along-next.ensures) (
       omega arith,
@@ -182,12 +182,12 @@ take-stand-requires t c =
             (
               c.requires.next,
               (
-                c.requires.piece.to,
+                c.requires.segment.to,
                 (
                   c.requires.to,
                   (
                     c.requires.home,
-                    (c.requires.begun, room_by task settled run piece c.requires.fit whole free false to refl c.requires.piece c.requires.room),
+                    (c.requires.begun, room_by task settled run segment c.requires.fit whole free false to refl c.requires.segment c.requires.room),
                   ),
                 ),
               ),
@@ -203,11 +203,11 @@ begin_at-take-requires t c =
     let stop = c.args.stop in
     let index = c.loop-index.index in
     let from = c.index-from.result.now in
-    let way = c.index-way.result.now in
-    let ways = from.ways.items in
-    let are : AreWaysOf task stop ways = departs_from task c.requires.ready stop from c.requires.stop c.index-from.ensures c.requires.begins in
-    let at : slice_get ways index ≡ Some way = slice_get_read ways (length ways) index way refl (omega arith) c.index-way.ensures in
-    let fits = way_fits task c.requires.fit stop ways are c.requires.begins way (among_place ways index way at) in
+    let leg = c.index-leg.result.now in
+    let legs = from.legs.items in
+    let are : AreLegsOf task stop legs = departs_from task c.requires.ready stop from c.requires.stop c.index-from.ensures c.requires.begins in
+    let at : slice_get legs index ≡ Some leg = slice_get_read legs (length legs) index leg refl (omega arith) c.index-leg.ensures in
+    let fits = leg_fits task c.requires.fit stop legs are c.requires.begins leg (among_place legs index leg at) in
     let one = one_low (stop_in (node_at task stop)) in
     let value = value_low task c.requires.fit stop in
     rw (c.by-run.ensures, c.begun-begun.ensures)
@@ -219,11 +219,11 @@ go_on-take-requires t c =
     let run = c.args.run.now in
     let index = c.loop-index.index in
     let from = c.index-from.result.now in
-    let way = c.index-way.result.now in
-    let ways = from.ways.items in
-    let are : AreWaysOf task run.head ways = departs_from task c.requires.ready run.head from c.requires.head c.index-from.ensures c.requires.stands in
-    let at : slice_get ways index ≡ Some way = slice_get_read ways (length ways) index way refl (omega arith) c.index-way.ensures in
-    let fits = way_fits task c.requires.fit run.head ways are c.requires.stands way (among_place ways index way at) in
+    let leg = c.index-leg.result.now in
+    let legs = from.legs.items in
+    let are : AreLegsOf task run.head legs = departs_from task c.requires.ready run.head from c.requires.head c.index-from.ensures c.requires.stands in
+    let at : slice_get legs index ≡ Some leg = slice_get_read legs (length legs) index leg refl (omega arith) c.index-leg.ensures in
+    let fits = leg_fits task c.requires.fit run.head legs are c.requires.stands leg (among_place legs index leg at) in
     (omega arith, (c.requires.fit, (c.requires.ready, (c.requires.bounds, (c.requires.next, (fits.0, (fits.1, (c.requires.home, (c.requires.begun, omega arith)))))))))
 
 pub begin_runs-loop-place-init : goal.begin_runs-loop-place-init
@@ -288,11 +288,11 @@ turn_back-take-requires t c =
     let run = c.args.run.now in
     let index = c.loop-index.index in
     let from = c.index-from.result.now in
-    let way = c.index-way.result.now in
-    let ways = from.ways.items in
-    let are : AreWaysOf task run.home ways = departs_from task c.requires.ready run.home from c.requires.home c.index-from.ensures c.requires.begun in
-    let at : slice_get ways index ≡ Some way = slice_get_read ways (length ways) index way refl (omega arith) c.index-way.ensures in
-    let fits = way_fits task c.requires.fit run.home ways are c.requires.begun way (among_place ways index way at) in
+    let leg = c.index-leg.result.now in
+    let legs = from.legs.items in
+    let are : AreLegsOf task run.home legs = departs_from task c.requires.ready run.home from c.requires.home c.index-from.ensures c.requires.begun in
+    let at : slice_get legs index ≡ Some leg = slice_get_read legs (length legs) index leg refl (omega arith) c.index-leg.ensures in
+    let fits = leg_fits task c.requires.fit run.home legs are c.requires.begun leg (among_place legs index leg at) in
     let one = one_of (stop_in (node_at task run.head)) c.requires.stands in
     let home = one_of (stop_in (node_at task run.home)) c.requires.begun in
     rw c.turned_back-back.ensures
@@ -302,8 +302,8 @@ pub turn_back-loop-index-init : goal.turn_back-loop-index-init
 turn_back-loop-index-init t c =
     let run = c.args.run.now in
     let from = c.index-from.result.now in
-    let are : AreWaysOf c.args.self.now run.home from.ways.items = departs_from c.args.self.now c.requires.ready run.home from c.requires.home c.index-from.ensures c.requires.begun in
-    ways_none c.args.self.now c.requires.fit run.home c.requires.begun from.ways.items are (standing c.args.settled.now run) c.args.settled.now (λ way. turned_back run) (IsLater run) c.args.best.now
+    let are : AreLegsOf c.args.self.now run.home from.legs.items = departs_from c.args.self.now c.requires.ready run.home from c.requires.home c.index-from.ensures c.requires.begun in
+    legs_none c.args.self.now c.requires.fit run.home c.requires.begun from.legs.items are (partial c.args.settled.now run) c.args.settled.now (λ leg. turned_back run) (IsLater run) c.args.best.now
 
 pub turn_back-loop-index-preserved : goal.turn_back-loop-index-preserved
 turn_back-loop-index-preserved t c =
@@ -313,25 +313,25 @@ turn_back-loop-index-preserved t c =
     let node = c.index.result.now in
     let index = c.loop-index.index in
     let from = c.index-from.result.now in
-    let way = c.index-way.result.now in
-    let ways = from.ways.items in
+    let leg = c.index-leg.result.now in
+    let legs = from.legs.items in
     let there : node_at task run.home ≡ Some node = node_is task c.requires.fit run.home node c.requires.home c.index.ensures in
-    let are : AreWaysOf task run.home ways = departs_from task c.requires.ready run.home from c.requires.home c.index-from.ensures c.requires.begun in
-    let at : slice_get ways index ≡ Some way = slice_get_read ways (length ways) index way refl (omega arith) c.index-way.ensures in
-    let Tried : Found → Type 0 = λ b. TriesWays task (standing settled run) settled (λ w. turned_back run) (λ w. StandsBefore ways (index + 1) w × IsLater run w) c.args.best.now b in
-    elim c.if-run-way.branch [
-      | turn_back-then-run-way w ↦
+    let are : AreLegsOf task run.home legs = departs_from task c.requires.ready run.home from c.requires.home c.index-from.ensures c.requires.begun in
+    let at : slice_get legs index ≡ Some leg = slice_get_read legs (length legs) index leg refl (omega arith) c.index-leg.ensures in
+    let Tried : Found → Type 0 = λ b. TriesLegs task (partial settled run) settled (λ w. turned_back run) (λ w. StandsBefore legs (index + 1) w × IsLater run w) c.args.best.now b in
+    elim c.if-run-leg.branch [
+      | turn_back-then-run-leg w ↦
           subst Tried (sym w.best-is)
-          (ways_more task c.requires.fit run.home c.requires.begun ways are (standing settled run) settled (λ v. turned_back run) (IsLater run) index way _ _ _ at c.loop-index.invariant
-          (takes_from task (standing settled run) settled (turned_back run) way (Turn ∷ go_along way.steps.items) c.loop-index.best w.take.new.best w.trace.new.self
-          (leads_turn task c.requires.fit settled c.marks_all_borders.ensures run c.requires.begun c.if-run.false c.requires.stands (ap ends_in there ∙ c.if-index.false) ways are index way at (omega arith))
-          (subst (λ (r : Standing). Takes task settled r way.piece c.loop-index.best w.take.new.best) c.turned_back-back.ensures w.take.ensures)
-          (traces_both c.loop-index.best.amount (go_along way.steps.items) (Turn ∷ []) w.take.new.best w.trace_steps.new.self w.trace.new.self
+          (legs_more task c.requires.fit run.home c.requires.begun legs are (partial settled run) settled (λ v. turned_back run) (IsLater run) index leg _ _ _ at c.loop-index.invariant
+          (takes_from task (partial settled run) settled (turned_back run) leg (Turn ∷ go_along leg.steps.items) c.loop-index.best w.take.new.best w.trace.new.self
+          (leads_turn task c.requires.fit settled c.marks_all_borders.ensures run c.requires.begun c.if-run.false c.requires.stands (ap ends_in there ∙ c.if-index.false) legs are index leg at (omega arith))
+          (subst (λ (r : PartialRun). Takes task settled r leg.segment c.loop-index.best w.take.new.best) c.turned_back-back.ensures w.take.ensures)
+          (traces_both c.loop-index.best.amount (go_along leg.steps.items) (Turn ∷ []) w.take.new.best w.trace_steps.new.self w.trace.new.self
           w.trace_steps.ensures
           w.trace.ensures)))
-      | turn_back-else-run-way w ↦
+      | turn_back-else-run-leg w ↦
           subst Tried (sym w.best-is)
-          (ways_skip task c.requires.fit run.home c.requires.begun ways are (standing settled run) settled (λ v. turned_back run) (IsLater run) index way _ _ at (λ later. omega (arith, w.if-run-way.false, later)) c.loop-index.invariant)
+          (legs_skip task c.requires.fit run.home c.requires.begun legs are (partial settled run) settled (λ v. turned_back run) (IsLater run) index leg _ _ at (λ later. omega (arith, w.if-run-leg.false, later)) c.loop-index.invariant)
     ]
 
 pub turn_back-returns : goal.turn_back-returns
@@ -339,5 +339,5 @@ turn_back-returns t c =
     let task = c.args.self.now in
     let run = c.args.run.now in
     let from = c.index-from.result.now in
-    let are : AreWaysOf task run.home from.ways.items = departs_from task c.requires.ready run.home from c.requires.home c.index-from.ensures c.requires.begun in
-    turn_by_ways task c.requires.fit c.args.settled.now c.marks_all_borders.ensures run c.requires.begun from.ways.items are c.loop-index.index _ _ (omega arith) c.loop-index.invariant
+    let are : AreLegsOf task run.home from.legs.items = departs_from task c.requires.ready run.home from c.requires.home c.index-from.ensures c.requires.begun in
+    turn_by_legs task c.requires.fit c.args.settled.now c.marks_all_borders.ensures run c.requires.begun from.legs.items are c.loop-index.index _ _ (omega arith) c.loop-index.invariant

@@ -1,9 +1,9 @@
 -- The search ends: each call has fewer trains left, or fewer stops for the run begun. What has been tried grows with
 -- each token and each way.
 use Rattle.std.proofs.Common.{◌+◌, ◌-◌, ◌*◌, drop, length}
-use Rattle.best_run.specs.Moves.{begun, between, node_at, standing, stop_in, turned_back}
-use Rattle.best_run.specs.Ways.{StandsBefore, TriesWays}
-use Rattle.best_run.proofs.Along.{AnyWay, IsLater}
+use Rattle.best_run.specs.Moves.{begun, between, node_at, partial, stop_in, turned_back}
+use Rattle.best_run.specs.Legs.{StandsBefore, TriesLegs}
+use Rattle.best_run.proofs.Along.{AnyLeg, IsLater}
 use Rattle.best_run.specs.Fit.{unused}
 use Rattle.best_run.proofs.Homes.{TriesHomes}
 use Rattle.best_run.proofs.Places.{one_if}
@@ -27,8 +27,8 @@ decreases-stand l = 6000 * (length l.self.now.trains.items - l.settled.now.next 
 abbrev pub decreases-stand_once : goal.decreases-stand_once
 decreases-stand_once l = 6000 * (length l.self.now.trains.items - l.settled.now.next - 1) + 6 * (3 * unused l.settled.now.used + one_if (stop_in (node_at l.self.now l.run.now.head))) + 4
 
-abbrev pub decreases-stand_anew : goal.decreases-stand_anew
-decreases-stand_anew l = 6000 * (length l.self.now.trains.items - l.settled.now.next - 1) + 6 * (3 * unused l.settled.now.used + one_if (stop_in (node_at l.self.now l.run.now.head))) + 3
+abbrev pub decreases-stand_again : goal.decreases-stand_again
+decreases-stand_again l = 6000 * (length l.self.now.trains.items - l.settled.now.next - 1) + 6 * (3 * unused l.settled.now.used + one_if (stop_in (node_at l.self.now l.run.now.head))) + 3
 
 abbrev pub decreases-go_on : goal.decreases-go_on
 decreases-go_on l = 6000 * (length l.self.now.trains.items - l.settled.now.next - 1) + 6 * (3 * unused l.settled.now.used + one_if (stop_in (node_at l.self.now l.run.now.head))) + 2
@@ -39,15 +39,15 @@ invariant-begin_runs-loop-place l =
 
 abbrev pub invariant-begin_at-loop-index : goal.invariant-begin_at-loop-index
 invariant-begin_at-loop-index l =
-    TriesWays l.self (between l.settled) l.settled (λ way. begun l.self l.settled l.stop way.first) (λ way. StandsBefore l.from.ways.items l.index way × AnyWay way) l.initial.best l.best
+    TriesLegs l.self (between l.settled) l.settled (λ leg. begun l.self l.settled l.stop leg.first) (λ leg. StandsBefore l.from.legs.items l.index leg × AnyLeg leg) l.initial.best l.best
 
 abbrev pub invariant-go_on-loop-index : goal.invariant-go_on-loop-index
 invariant-go_on-loop-index l =
-    TriesWays l.self (standing l.settled l.run) l.settled (λ way. l.run) (λ way. StandsBefore l.from.ways.items l.index way × AnyWay way) l.initial.best l.best
+    TriesLegs l.self (partial l.settled l.run) l.settled (λ leg. l.run) (λ leg. StandsBefore l.from.legs.items l.index leg × AnyLeg leg) l.initial.best l.best
 
 abbrev pub decreases-turn_back : goal.decreases-turn_back
 decreases-turn_back l = 6000 * (length l.self.now.trains.items - l.settled.now.next - 1) + 6 * (3 * unused l.settled.now.used + one_if (stop_in (node_at l.self.now l.run.now.head))) + 2
 
 abbrev pub invariant-turn_back-loop-index : goal.invariant-turn_back-loop-index
 invariant-turn_back-loop-index l =
-    TriesWays l.self (standing l.settled l.run) l.settled (λ way. turned_back l.run) (λ way. StandsBefore l.from.ways.items l.index way × IsLater l.run way) l.initial.best l.best
+    TriesLegs l.self (partial l.settled l.run) l.settled (λ leg. turned_back l.run) (λ leg. StandsBefore l.from.legs.items l.index leg × IsLater l.run leg) l.initial.best l.best

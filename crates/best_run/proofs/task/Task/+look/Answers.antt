@@ -6,9 +6,9 @@ use Rattle.best_run.specs.Ahead.{WidensBelow, WidensFrom}
 use Rattle.best_run.specs.Fit.{unused}
 use Rattle.best_run.specs.Last.{CountsAsPassed, HasWorth}
 use Rattle.best_run.specs.Moves.{ends_in}
-use Rattle.best_run.specs.Ways.{AreWaysOf, ways_at, ways_in}
+use Rattle.best_run.specs.Legs.{AreLegsOf, legs_at, legs_in}
 use Rattle.best_run.proofs.Ahead.{along_not, along_past, below_more, below_none, falsely, from_all, from_end, leads_free, past_from}
-use Rattle.best_run.proofs.Along.{way_fits}
+use Rattle.best_run.proofs.Along.{leg_fits}
 use Rattle.best_run.proofs.Departing.{departs_at, departs_from}
 use Rattle.best_run.proofs.Described.{among_place}
 use Rattle.best_run.proofs.Marks.{set_fewer}
@@ -70,22 +70,22 @@ pub look_from-leads_on-requires : goal.look_from-leads_on-requires
 look_from-leads_on-requires t c =
     let task = c.args.self.now in
     let from = c.index-from.result.now in
-    let ways = from.ways.items in
-    let way = c.index-way.result.now in
-    let are : AreWaysOf task c.args.spot ways = departs_from task c.requires.ready c.args.spot from c.requires.spot c.index-from.ensures c.requires.stop in
-    let at : slice_get ways c.loop-index.index ≡ Some way = slice_get_read ways (length ways) c.loop-index.index way refl (omega arith) c.index-way.ensures in
-    let fits = way_fits task c.requires.fit c.args.spot ways are c.requires.stop way (among_place ways c.loop-index.index way at) in
+    let legs = from.legs.items in
+    let leg = c.index-leg.result.now in
+    let are : AreLegsOf task c.args.spot legs = departs_from task c.requires.ready c.args.spot from c.requires.spot c.index-from.ensures c.requires.stop in
+    let at : slice_get legs c.loop-index.index ≡ Some leg = slice_get_read legs (length legs) c.loop-index.index leg refl (omega arith) c.index-leg.ensures in
+    let fits = leg_fits task c.requires.fit c.args.spot legs are c.requires.stop leg (among_place legs c.loop-index.index leg at) in
     record { fit = c.requires.fit; to = fits.0.to; stop = fits.1 }
 
 pub look_from-look_past-requires : goal.look_from-look_past-requires
 look_from-look_past-requires t c =
     let task = c.args.self.now in
     let from = c.index-from.result.now in
-    let ways = from.ways.items in
-    let way = c.index-way.result.now in
-    let are : AreWaysOf task c.args.spot ways = departs_from task c.requires.ready c.args.spot from c.requires.spot c.index-from.ensures c.requires.stop in
-    let at : slice_get ways c.loop-index.index ≡ Some way = slice_get_read ways (length ways) c.loop-index.index way refl (omega arith) c.index-way.ensures in
-    let fits = way_fits task c.requires.fit c.args.spot ways are c.requires.stop way (among_place ways c.loop-index.index way at) in
+    let legs = from.legs.items in
+    let leg = c.index-leg.result.now in
+    let are : AreLegsOf task c.args.spot legs = departs_from task c.requires.ready c.args.spot from c.requires.spot c.index-from.ensures c.requires.stop in
+    let at : slice_get legs c.loop-index.index ≡ Some leg = slice_get_read legs (length legs) c.loop-index.index leg refl (omega arith) c.index-leg.ensures in
+    let fits = leg_fits task c.requires.fit c.args.spot legs are c.requires.stop leg (among_place legs c.loop-index.index leg at) in
     let fewer = c.loop-index.invariant.0.widens.fewer in
     let free = leads_free _ _ (sym c.leads_on.ensures ∙ c.if-leads_on.true) in
     (omega arith, (c.requires.fit, (c.requires.ready, (fits.0.to, (fits.1, (free, c.loop-index.invariant.1.0))))))
@@ -96,24 +96,24 @@ look_from-loop-index-preserved t c =
     let settled = c.args.settled.now in
     let run = c.args.run.now in
     let from = c.index-from.result.now in
-    let ways = from.ways.items in
-    let way = c.index-way.result.now in
+    let legs = from.legs.items in
+    let leg = c.index-leg.result.now in
     let index = c.loop-index.index in
-    let at : slice_get ways index ≡ Some way = slice_get_read ways (length ways) index way refl (omega arith) c.index-way.ensures in
-    let there : ways_at task c.args.spot ≡ ways = ap ways_in (departs_at task c.requires.ready c.args.spot from c.requires.spot c.index-from.ensures) in
+    let at : slice_get legs index ≡ Some leg = slice_get_read legs (length legs) index leg refl (omega arith) c.index-leg.ensures in
+    let there : legs_at task c.args.spot ≡ legs = ap legs_in (departs_at task c.requires.ready c.args.spot from c.requires.spot c.index-from.ensures) in
     let here = ap (λ ws. slice_get ws index) there ∙ at in
     let Looked : Outlook → Type 0 = λ o. WidensBelow task settled run c.args.spot (index + 1) c.args.outlook.now.ahead o.ahead × HasWorth task settled run o.ahead o.worth in
     elim c.if-leads_on.branch [
       | look_from-then-leads_on w ↦
           let both = subst Looked (sym w.outlook-is) (
-            below_more task settled run c.args.spot index way _ _ _ here c.loop-index.invariant.0
-                (along_past task settled run way.piece _ _ w.look_past.ensures.widens),
+            below_more task settled run c.args.spot index leg _ _ _ here c.loop-index.invariant.0
+                (along_past task settled run leg.segment _ _ w.look_past.ensures.widens),
             w.look_past.ensures.known,
           ) in (both.0, (both.1, λ none. absurd (falsely _ w.leads-is none)))
       | look_from-else-leads_on w ↦
           let both = subst Looked (sym w.outlook-is) (
-            below_more task settled run c.args.spot index way _ _ _ here c.loop-index.invariant.0
-                (along_not task settled run way.piece c.loop-index.outlook.ahead (sym c.leads_on.ensures ∙ w.if-leads_on.false)),
+            below_more task settled run c.args.spot index leg _ _ _ here c.loop-index.invariant.0
+                (along_not task settled run leg.segment c.loop-index.outlook.ahead (sym c.leads_on.ensures ∙ w.if-leads_on.false)),
             c.loop-index.invariant.1.0,
           ) in (both.0, (both.1, λ none. w.outlook-is ∙ c.loop-index.invariant.1.1 (sym w.leads-is ∙ none)))
     ]
@@ -122,5 +122,5 @@ pub look_from-returns-clause-widens : goal.look_from-returns-clause-widens
 look_from-returns-clause-widens t c =
     let task = c.args.self.now in
     let from = c.index-from.result.now in
-    from_all task c.args.settled.now c.args.run.now c.args.spot from.ways.items c.loop-index.index _ _
-    (ap ways_in (departs_at task c.requires.ready c.args.spot from c.requires.spot c.index-from.ensures)) (omega arith) c.loop-index.invariant.0
+    from_all task c.args.settled.now c.args.run.now c.args.spot from.legs.items c.loop-index.index _ _
+    (ap legs_in (departs_at task c.requires.ready c.args.spot from c.requires.spot c.index-from.ensures)) (omega arith) c.loop-index.invariant.0

@@ -2,7 +2,7 @@
 use Rattle.std.proofs.Common.{◌+◌, ◌-◌, slice_index_or, arith}
 use Rattle.std.proofs.lemmas.Option.{slice_get-get_or}
 use Rattle.best_run.specs.Suffix.{EarnAtMost}
-use Rattle.best_run.proofs.Hopeless.{ends_alike, ends_low}
+use Rattle.best_run.proofs.Hopeless.{ends_canonical, ends_low}
 use Rattle.best_run.proofs.task.Task.earns_too_little.Goals as goal
 
 pub returns-then-bounds-later : goal.returns-then-bounds-later
@@ -17,5 +17,5 @@ returns-then-bounds-later c told =
 
 pub returns : goal.returns
 returns c told =
-    ends_alike c.args.self.now c.requires.fit c.requires.ready c.args.settled.now c.args.run.now c.args.outlook.now.ahead c.requires.ahead c.most_ahead.ensures.most.nodes c.most_ahead.ensures.most.counts c.requires.stands c.requires.begun c.most_ahead.ensures.most.level _ c.args.best (c.are_capped.ensures told) c.requires.borders c.requires.spots
+    ends_canonical c.args.self.now c.requires.fit c.requires.ready c.args.settled.now c.args.run.now c.args.outlook.now.ahead c.requires.ahead c.most_ahead.ensures.most.nodes c.most_ahead.ensures.most.counts c.requires.stands c.requires.begun c.most_ahead.ensures.most.level _ c.args.best (c.are_pruned_by_cap.ensures told) c.requires.borders c.requires.spots
     (omega (arith, c.most_ahead.ensures.most.low))

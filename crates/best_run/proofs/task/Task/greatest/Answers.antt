@@ -1,6 +1,6 @@
 -- All trains are solved for in the end.
 use Rattle.std.proofs.Common.{◌≡◌, None, sym, subst, arith}
-use Rattle.best_run.specs.declared.explored.Found.{Found}
+use Rattle.best_run.specs.declared.memo.Found.{Found}
 use Rattle.best_run.specs.Suffix.{AreBounds, IsTop}
 use Rattle.best_run.proofs.Eased.{solved_all}
 use Rattle.best_run.proofs.Kept.{granted}
@@ -14,6 +14,6 @@ returns c =
     let best : Found = c.settle_last.new.best in
     let found : Found = c.in_ok-found.found in
     let same : found ≡ best = (granted best found (sym c.in_ok-found.ensures)).0 in
-    let none : best.trail.refused ≡ None = (granted best found (sym c.in_ok-found.ensures)).1 in
+    let none : best.move_path.refused ≡ None = (granted best found (sym c.in_ok-found.ensures)).1 in
     subst (IsTop c.args.self.now) (sym same)
     (solved_all c.args.self.now c.len.result _ _ best (omega arith) c.in_ok-bounds.ensures c.settle_last.ensures none)

@@ -1,7 +1,7 @@
 -- The stop lay in reach before, or is added.
 use Rattle.std.proofs.Common.{Bool, List, ◌<◌, length, ap, sym, subst, arith, ◌∙◌}
-use Rattle.best_run.specs.Alike.{Holds}
-use Rattle.best_run.specs.declared.state.Standing.{Standing}
+use Rattle.best_run.specs.Canonical.{Holds}
+use Rattle.best_run.specs.declared.state.PartialRun.{PartialRun}
 use Rattle.best_run.proofs.Lasting.{has_plain, plain_has}
 use Rattle.best_run.proofs.Likened.{holds_known, holds_more}
 use Rattle.best_run.proofs.task.Task.hold.Goals as goal
@@ -21,4 +21,4 @@ count-requires-clause-known c =
 
 pub returns-then-not-has-clause-known : goal.returns-then-not-has-clause-known
 returns-then-not-has-clause-known c =
-    plain_has c.args.self.now c.args.settled.now c.anywhere.result _ _ (ap (λ (r : Standing). r.most) c.anywhere.ensures) c.count.ensures.known
+    plain_has c.args.self.now c.args.settled.now c.anywhere.result _ _ (ap (λ (r : PartialRun). r.most) c.anywhere.ensures) c.count.ensures.known

@@ -1,6 +1,6 @@
 -- A way leads back.
 use Rattle.std.proofs.Common.{arith}
-use Rattle.best_run.proofs.Mirrored.{way_at}
+use Rattle.best_run.proofs.Mirrored.{leg_at}
 use Rattle.best_run.proofs.task.Task.leads_back.Goals as goal
 
 pub returns-then-is_within : goal.returns-then-is_within
@@ -8,6 +8,6 @@ returns-then-is_within c told =
     record {
       place = c.loop-index.index;
       back = c.index-back.result.now;
-      stands = way_at c.args.self.now c.args.way.now.piece.to c.index-from.result.now c.loop-index.index c.index-back.result.now (omega arith) c.index-from.ensures (omega arith) c.index-back.ensures;
+      stands = leg_at c.args.self.now c.args.leg.now.segment.to c.index-from.result.now c.loop-index.index c.index-back.result.now (omega arith) c.index-from.ensures (omega arith) c.index-back.ensures;
       within = c.is_within.ensures c.if-is_within.true;
     }

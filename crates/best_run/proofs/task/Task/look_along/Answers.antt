@@ -8,8 +8,8 @@ look_past-requires-clause-free c = leads_free _ _ (sym c.leads_on.ensures ∙ c.
 
 pub returns-then-leads_on-clause-widens : goal.returns-then-leads_on-clause-widens
 returns-then-leads_on-clause-widens c =
-    along_past c.args.self.now c.args.settled.now c.args.run.now c.args.piece.now _ _ c.look_past.ensures.widens
+    along_past c.args.self.now c.args.settled.now c.args.run.now c.args.segment.now _ _ c.look_past.ensures.widens
 
 pub returns-else-leads_on-clause-widens : goal.returns-else-leads_on-clause-widens
 returns-else-leads_on-clause-widens c =
-    along_not c.args.self.now c.args.settled.now c.args.run.now c.args.piece.now _ (sym c.leads_on.ensures ∙ c.if-leads_on.false)
+    along_not c.args.self.now c.args.settled.now c.args.run.now c.args.segment.now _ (sym c.leads_on.ensures ∙ c.if-leads_on.false)

@@ -5,14 +5,14 @@ use Rattle.best_run.specs.declared.outlook.Outlook.{Outlook}
 use Rattle.best_run.specs.Ahead.{WidensBackBelow}
 use Rattle.best_run.specs.Last.{HasWorth}
 use Rattle.best_run.specs.Moves.{ends_in}
-use Rattle.best_run.specs.Ways.{AreWaysOf, ways_at, ways_in}
+use Rattle.best_run.specs.Legs.{AreLegsOf, legs_at, legs_in}
 use Rattle.best_run.proofs.Ahead.{back_all, back_end, back_more, back_none, back_skip}
-use Rattle.best_run.proofs.Along.{way_fits}
+use Rattle.best_run.proofs.Along.{leg_fits}
 use Rattle.best_run.proofs.Departing.{departs_at, departs_from}
 use Rattle.best_run.proofs.Described.{among_place}
 use Rattle.best_run.proofs.Places.{node_is}
 use Rattle.best_run.proofs.task.Task.look_back.Goals as goal
-use Rattle.best_run.proofs.task.Task.look_back.Goals.{then-run-way, else-run-way}
+use Rattle.best_run.proofs.task.Task.look_back.Goals.{then-run-leg, else-run-leg}
 
 pub loop-index-init : goal.loop-index-init
 loop-index-init c = (back_none c.args.self.now c.args.settled.now c.args.run.now c.args.outlook.now.ahead, c.requires.known)
@@ -22,11 +22,11 @@ look_along-requires-clause-to c =
     let task = c.args.self.now in
     let home = c.args.run.now.home in
     let from = c.index-from.result.now in
-    let ways = from.ways.items in
-    let way = c.index-way.result.now in
-    let are : AreWaysOf task home ways = departs_from task c.requires.ready home from c.requires.home c.index-from.ensures c.requires.begun in
-    let at : slice_get ways c.loop-index.index ≡ Some way = slice_get_read ways (length ways) c.loop-index.index way refl (omega arith) c.index-way.ensures in
-    let fits = way_fits task c.requires.fit home ways are c.requires.begun way (among_place ways c.loop-index.index way at) in
+    let legs = from.legs.items in
+    let leg = c.index-leg.result.now in
+    let are : AreLegsOf task home legs = departs_from task c.requires.ready home from c.requires.home c.index-from.ensures c.requires.begun in
+    let at : slice_get legs c.loop-index.index ≡ Some leg = slice_get_read legs (length legs) c.loop-index.index leg refl (omega arith) c.index-leg.ensures in
+    let fits = leg_fits task c.requires.fit home legs are c.requires.begun leg (among_place legs c.loop-index.index leg at) in
     fits.0.to
 
 pub look_along-requires-clause-stop : goal.look_along-requires-clause-stop
@@ -34,11 +34,11 @@ look_along-requires-clause-stop c =
     let task = c.args.self.now in
     let home = c.args.run.now.home in
     let from = c.index-from.result.now in
-    let ways = from.ways.items in
-    let way = c.index-way.result.now in
-    let are : AreWaysOf task home ways = departs_from task c.requires.ready home from c.requires.home c.index-from.ensures c.requires.begun in
-    let at : slice_get ways c.loop-index.index ≡ Some way = slice_get_read ways (length ways) c.loop-index.index way refl (omega arith) c.index-way.ensures in
-    let fits = way_fits task c.requires.fit home ways are c.requires.begun way (among_place ways c.loop-index.index way at) in
+    let legs = from.legs.items in
+    let leg = c.index-leg.result.now in
+    let are : AreLegsOf task home legs = departs_from task c.requires.ready home from c.requires.home c.index-from.ensures c.requires.begun in
+    let at : slice_get legs c.loop-index.index ≡ Some leg = slice_get_read legs (length legs) c.loop-index.index leg refl (omega arith) c.index-leg.ensures in
+    let fits = leg_fits task c.requires.fit home legs are c.requires.begun leg (among_place legs c.loop-index.index leg at) in
     fits.1
 
 pub loop-index-preserved : goal.loop-index-preserved
@@ -47,18 +47,18 @@ loop-index-preserved c =
     let settled = c.args.settled.now in
     let run = c.args.run.now in
     let from = c.index-from.result.now in
-    let ways = from.ways.items in
-    let way = c.index-way.result.now in
+    let legs = from.legs.items in
+    let leg = c.index-leg.result.now in
     let index = c.loop-index.index in
-    let at : slice_get ways index ≡ Some way = slice_get_read ways (length ways) index way refl (omega arith) c.index-way.ensures in
-    let there : ways_at task run.home ≡ ways = ap ways_in (departs_at task c.requires.ready run.home from c.requires.home c.index-from.ensures) in
+    let at : slice_get legs index ≡ Some leg = slice_get_read legs (length legs) index leg refl (omega arith) c.index-leg.ensures in
+    let there : legs_at task run.home ≡ legs = ap legs_in (departs_at task c.requires.ready run.home from c.requires.home c.index-from.ensures) in
     let here = ap (λ ws. slice_get ws index) there ∙ at in
     let Looked : Outlook → Type 0 = λ o. WidensBackBelow task settled run (index + 1) c.args.outlook.now.ahead o.ahead × HasWorth task settled run o.ahead o.worth in
-    elim c.if-run-way.branch [
-      | then-run-way w ↦
-          subst Looked (sym w.outlook-is) (back_more task settled run index way _ _ _ here c.loop-index.invariant.0 w.look_along.ensures.widens, w.look_along.ensures.known)
-      | else-run-way w ↦
-          subst Looked (sym w.outlook-is) (back_skip task settled run index way _ _ here (λ later. omega (arith, w.if-run-way.false, later)) c.loop-index.invariant.0, c.loop-index.invariant.1)
+    elim c.if-run-leg.branch [
+      | then-run-leg w ↦
+          subst Looked (sym w.outlook-is) (back_more task settled run index leg _ _ _ here c.loop-index.invariant.0 w.look_along.ensures.widens, w.look_along.ensures.known)
+      | else-run-leg w ↦
+          subst Looked (sym w.outlook-is) (back_skip task settled run index leg _ _ here (λ later. omega (arith, w.if-run-leg.false, later)) c.loop-index.invariant.0, c.loop-index.invariant.1)
     ]
 
 pub returns-clause-widens : goal.returns-clause-widens
@@ -66,8 +66,8 @@ returns-clause-widens c =
     let task = c.args.self.now in
     let run = c.args.run.now in
     let from = c.index-from.result.now in
-    back_all task c.args.settled.now run from.ways.items c.loop-index.index _ _
-    (ap ways_in (departs_at task c.requires.ready run.home from c.requires.home c.index-from.ensures)) (omega arith) c.loop-index.invariant.0
+    back_all task c.args.settled.now run from.legs.items c.loop-index.index _ _
+    (ap legs_in (departs_at task c.requires.ready run.home from c.requires.home c.index-from.ensures)) (omega arith) c.loop-index.invariant.0
 
 pub returns-then-index-clause-widens : goal.returns-then-index-clause-widens
 returns-then-index-clause-widens c =

@@ -1,5 +1,5 @@
 -- The ways before the next one are open.
-use Rattle.best_run.specs.Alike.{AreOpenBelow, Opens}
+use Rattle.best_run.specs.Canonical.{AreOpenBelow, Opens}
 use Rattle.best_run.proofs.task.Task.open_from.Given as goal
 
 abbrev pub invariant-loop-index : goal.invariant-loop-index

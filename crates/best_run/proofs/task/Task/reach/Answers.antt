@@ -3,9 +3,9 @@ use Rattle.std.proofs.Common.{◌≡◌, ◌+◌, Some, length, slice_get, refl,
 use Rattle.std.proofs.lemmas.Option.{slice_get_read}
 use Rattle.best_run.specs.declared.outlook.Outlook.{Outlook}
 use Rattle.best_run.specs.Ahead.{IsWorth}
-use Rattle.best_run.specs.Alike.{ReachesBelow}
+use Rattle.best_run.specs.Canonical.{ReachesBelow}
 use Rattle.best_run.specs.Moves.{own_in}
-use Rattle.best_run.specs.Ways.{IsStop}
+use Rattle.best_run.specs.Legs.{IsStop}
 use Rattle.best_run.proofs.Likened.{held_all, reach_all, reach_more, reach_none, reach_same}
 use Rattle.best_run.proofs.Places.{node_is}
 use Rattle.best_run.proofs.task.Task.reach.Goals as goal

@@ -1,6 +1,6 @@
 -- The tokens at listed stops before the next one are gone over.
 use Rattle.best_run.specs.Ahead.{IsWorth}
-use Rattle.best_run.specs.Alike.{ReachesBelow}
+use Rattle.best_run.specs.Canonical.{ReachesBelow}
 use Rattle.best_run.proofs.task.Task.reach.Given as goal
 
 abbrev pub invariant-loop-place : goal.invariant-loop-place

@@ -1,6 +1,6 @@
 -- The ways before the next one are gone over.
 use Rattle.best_run.specs.Ahead.{IsWorth, WidensBelow}
-use Rattle.best_run.specs.Alike.{anywhere}
+use Rattle.best_run.specs.Canonical.{anywhere}
 use Rattle.best_run.proofs.task.Task.reach_from.Given as goal
 
 abbrev pub invariant-loop-index : goal.invariant-loop-index

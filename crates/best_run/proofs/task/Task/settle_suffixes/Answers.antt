@@ -2,13 +2,13 @@
 use Rattle.std.proofs.Common.{sym, subst, arith}
 use Rattle.best_run.specs.Suffix.{AreBounds}
 use Rattle.best_run.proofs.Eased.{solved_more, solved_none}
-use Rattle.best_run.proofs.Kept.{nothing_explored}
+use Rattle.best_run.proofs.Kept.{empty_memo}
 use Rattle.best_run.proofs.task.Task.settle_suffixes.Goals as goal
 
 pub loop-count-init : goal.loop-count-init
 loop-count-init c =
     rw c.in_ok-bounds.ensures.items
-    (solved_none c.args.self.now c.args.best.now c.requires.nothing.amount c.requires.nothing.marks (nothing_explored c.args.self.now c.args.best.now c.requires.nothing))
+    (solved_none c.args.self.now c.args.best.now c.requires.nothing.amount c.requires.nothing.marks (empty_memo c.args.self.now c.args.best.now c.requires.nothing))
 
 pub settle_last-requires-clause-bounds : goal.settle_last-requires-clause-bounds
 settle_last-requires-clause-bounds c = subst (AreBounds c.args.self.now) (sym c.deref.ensures.value) c.loop-count.invariant.true_bounds

@@ -1,8 +1,8 @@
 -- The ways from each listed stop from which a run may set out are opened.
 use Rattle.std.proofs.Common.{◌≡◌, ◌+◌, Bool, Some, List, length, slice_get, refl, sym, subst, ◌∙◌, arith}
 use Rattle.std.proofs.lemmas.Option.{slice_get_read}
-use Rattle.best_run.specs.Alike.{IsShutBelow}
-use Rattle.best_run.specs.Ways.{IsStop}
+use Rattle.best_run.specs.Canonical.{IsShutBelow}
+use Rattle.best_run.specs.Legs.{IsStop}
 use Rattle.best_run.proofs.Likened.{shut_all, shut_more, shut_none, shut_same}
 use Rattle.best_run.proofs.task.Task.shut.Goals as goal
 use Rattle.best_run.proofs.task.Task.shut.Goals.{then-sets_out, else-sets_out}

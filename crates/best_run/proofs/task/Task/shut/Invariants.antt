@@ -1,5 +1,5 @@
 -- The ways from the listed stops before the next one are open.
-use Rattle.best_run.specs.Alike.{IsShutBelow}
+use Rattle.best_run.specs.Canonical.{IsShutBelow}
 use Rattle.best_run.proofs.task.Task.shut.Given as goal
 
 abbrev pub invariant-loop-place : goal.invariant-loop-place

@@ -3,7 +3,7 @@ use Rattle.std.proofs.lemmas.List.Elements.{All-push}
 use Rattle.events.specs.Event.{sum_of, tile_laid, token_placed}
 use Rattle.events.specs.declared.event.Event.{Event}
 use Rattle.history.proofs.InOrder.{all_kept}
-use Rattle.history.proofs.Noted.{offers_noted}
+use Rattle.history.proofs.Noted.{offers_applied}
 use Rattle.history.specs.Offers.{AreOffersOf}
 use Rattle.history.proofs.list.History.append.Goals as goal
 
@@ -13,8 +13,8 @@ invariant_of-self-2 c =
     let sums = All-push (λ (e : Event). sum_of e ≤ 1000000) _ _ c.self.invariant.0 c.requires in
     rw (c.in_ok-push.ensures.items, c.reserve.ensures.items) (
       sums,
-      c.note.ensures _ (omega (arith, c.push.ensures, c.reserve.ensures)) (c.reserve-4.ensures.kept _ c.self.invariant.1),
+      c.apply.ensures _ (omega (arith, c.push.ensures, c.reserve.ensures)) (c.reserve-4.ensures.kept _ c.self.invariant.1),
       all_kept tile_laid events c.args.event _ _ _ (c.reserve-2.ensures.items ∙ c.self.invariant.2) c.lay.ensures c.push_any.ensures.kept,
       all_kept token_placed events c.args.event _ _ _ (c.reserve-5.ensures.items ∙ c.self.invariant.3) c.token.ensures c.push_any-2.ensures.kept,
-      offers_noted events c.args.event _ _ c.note_offer.ensures.noted (subst (λ offers. AreOffersOf offers events) (sym c.reserve-3.ensures.items) c.self.invariant.4),
+      offers_applied events c.args.event _ _ c.apply_offer.ensures.noted (subst (λ offers. AreOffersOf offers events) (sym c.reserve-3.ensures.items) c.self.invariant.4),
     )

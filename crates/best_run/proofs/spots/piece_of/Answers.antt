@@ -1,9 +1,0 @@
--- The border is one of the map.
-use Rattle.std.proofs.Common.{sym, subst}
-use Rattle.reach.specs.Walk.{entered_at}
-use Rattle.best_run.specs.Fit.{BordersFit}
-use Rattle.best_run.proofs.Advance.{border_fits}
-use Rattle.best_run.proofs.spots.piece_of.Goals as goal
-
-pub of-requires : goal.of-requires
-of-requires c = subst BordersFit (sym c.requires) (border_fits (entered_at c.args.step).hex (entered_at c.args.step).end)

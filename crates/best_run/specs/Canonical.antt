@@ -1,0 +1,120 @@
+-- What the trains that are left can come to: the borders that no way from there crosses make no difference to them, so two
+-- states that differ in such borders alone are alike: between runs, or with the same run begun.
+use Rattle.std.specs.Prelude.{◌≡◌, ℕ, ◌<◌, Bool, true, false, not, ◌&&◌, ◌||◌, ◌⊎◌, Option, Some, None, List, [], ◌∷◌, length, get_or, replicate, set, slice_get}
+use Rattle.best_run.specs.declared.search_state.SearchState.{SearchState}
+use Rattle.best_run.specs.declared.state.Settled.{Settled}
+use Rattle.best_run.specs.declared.state.PartialRun.{PartialRun}
+use Rattle.best_run.specs.declared.task.Task.{Task}
+use Rattle.best_run.specs.declared.task.Leg.{Leg}
+use Rattle.best_run.specs.Ahead.{LiesAhead, Widens}
+use Rattle.best_run.specs.Kept.{Freer, IsBarred}
+use Rattle.best_run.specs.Moves.{ends_in, misses, node_at, own_in, stop_in}
+use Rattle.best_run.specs.Legs.{IsListed, IsStop, legs_at}
+
+-- each way from a stop that crosses no used border leads to a stop in reach
+abbrev pub AllLead : Task → List Bool → List Bool → ℕ → Type 0
+AllLead task used reach spot =
+    (place : ℕ) (leg : Leg) → slice_get (legs_at task spot) place ≡ Some leg → misses used leg.segment.borders.items ≡ true → LiesAhead reach leg.segment.to
+
+-- a run may set out from a token of the company, and go on from a stop in reach that it may pass
+abbrev pub SetsOut : Task → List Bool → ℕ → Type 0
+SetsOut task reach spot = (own_in (node_at task spot) ≡ true) ⊎ (LiesAhead reach spot × (ends_in (node_at task spot) ≡ false))
+
+abbrev pub sets_out : Task → List Bool → ℕ → Bool
+sets_out task reach spot =
+    stop_in (node_at task spot) && (own_in (node_at task spot) || (get_or reach spot false && not (ends_in (node_at task spot))))
+
+-- all stops to which a run may come lie in reach
+abbrev pub IsInReach : Task → List Bool → List Bool → Type 0
+IsInReach task used reach = (spot : ℕ) → IsStop task spot → SetsOut task reach spot → AllLead task used reach spot
+
+-- a stop lies in reach, and nothing else that did not before
+pub record Holds (stop : ℕ) (old new : List Bool) : Type 0 where
+  pub kept : (spot : ℕ) → LiesAhead old spot → LiesAhead new spot
+  pub over : (spot : ℕ) → LiesAhead new spot → LiesAhead old spot ⊎ (stop ≡ spot)
+  pub lies : LiesAhead new stop
+
+-- the tokens from which ways lead lie in reach, and all stops to which a run may come from a stop that does
+pub record AreHeld (task : Task) (used reach : List Bool) : Type 0 where
+  pub held : (spot : ℕ) → IsStop task spot → own_in (node_at task spot) ≡ true → (legs_at task spot ≡ []) ⊎ LiesAhead reach spot
+  pub all : (spot : ℕ) → LiesAhead reach spot → ends_in (node_at task spot) ≡ false → AllLead task used reach spot
+
+-- the same for tokens at listed stops before one, and for the stops that lie in reach so far
+pub record ReachesBelow (task : Task) (used : List Bool) (most : ℕ) (reach : List Bool) : Type 0 where
+  pub own : (spot : ℕ) → IsListed task.stops.items most spot → own_in (node_at task spot) ≡ true → AllLead task used reach spot
+  pub held : (spot : ℕ) → IsListed task.stops.items most spot → own_in (node_at task spot) ≡ true → LiesAhead reach spot
+  pub all : (spot : ℕ) → LiesAhead reach spot → ends_in (node_at task spot) ≡ false → AllLead task used reach spot
+
+-- a run that has visited nothing
+abbrev pub anywhere : PartialRun
+anywhere =
+    record { home = 0; first = 0; turned = false; head = 0; most = 0; left = 1; value = 0; visited = replicate 744 false }
+
+-- more stops lie in reach, and all to which a way from a stop leads
+pub record WidensTo (task : Task) (settled : Settled) (spot : ℕ) (old new : List Bool) : Type 0 where
+  pub widens : Widens task settled anywhere old new
+  pub here : AllLead task settled.used new spot
+
+-- the marks of some borders are taken away
+abbrev pub cleared_all : List Bool → List ℕ → List Bool
+cleared_all marks [] = marks
+cleared_all marks (border ∷ borders) = cleared_all (set marks border false) borders
+
+-- each way from a stop before a place that crosses no used border crosses none of the shut ones
+abbrev pub AreOpenBelow : Task → List Bool → ℕ → ℕ → List Bool → Type 0
+AreOpenBelow task used spot most shut =
+    (place : ℕ) (leg : Leg) → place < most → slice_get (legs_at task spot) place ≡ Some leg → misses used leg.segment.borders.items ≡ true → misses shut leg.segment.borders.items ≡ true
+
+abbrev pub AreOpen : Task → List Bool → ℕ → List Bool → Type 0
+AreOpen task used spot shut =
+    (place : ℕ) (leg : Leg) → slice_get (legs_at task spot) place ≡ Some leg → misses used leg.segment.borders.items ≡ true → misses shut leg.segment.borders.items ≡ true
+
+-- fewer borders are shut, and among them are still the used ones, if they were before
+pub record Opens (used old new : List Bool) : Type 0 where
+  pub fewer : (borders : List ℕ) → misses old borders ≡ true → misses new borders ≡ true
+  pub kept : Freer old used → Freer new used
+
+-- each way from the listed stops before one from which a run may go on is open, and the used borders are shut
+pub record IsShutBelow (task : Task) (used reach : List Bool) (most : ℕ) (shut : List Bool) : Type 0 where
+  pub kept : Freer shut used
+  pub open_legs : (spot : ℕ) → IsListed task.stops.items most spot → SetsOut task reach spot → AreOpen task used spot shut
+
+-- the same for all stops
+pub record IsShut (task : Task) (used reach shut : List Bool) : Type 0 where
+  pub kept : Freer shut used
+  pub open_legs : (spot : ℕ) → IsStop task spot → SetsOut task reach spot → AreOpen task used spot shut
+
+-- more stops lie in reach, a stop among them, and so do all to which a run may come from there
+pub record ReachesPast (task : Task) (used : List Bool) (spot : ℕ) (old new : List Bool) : Type 0 where
+  pub kept : (other : ℕ) → LiesAhead old other → LiesAhead new other
+  pub lies : LiesAhead new spot
+  pub reaches : IsInReach task used old → IsInReach task used new
+
+-- only the borders used are others: those that are shut
+pub record IsShutOff (task : Task) (settled : Settled) (reach : List Bool) (like : Settled) : Type 0 where
+  pub same : like ≡ record settled { used = like.used }
+  pub shut : IsShut task settled.used reach like.used
+
+-- a run may set out from where it stands, and from where it began, if it may pass these stops
+abbrev pub PassesFrom : Task → List Bool → ℕ → Type 0
+PassesFrom task reach spot = IsStop task spot × (ends_in (node_at task spot) ≡ false → SetsOut task reach spot)
+
+pub record MayGoOn (task : Task) (reach : List Bool) (run : PartialRun) : Type 0 where
+  pub head : PassesFrom task reach run.head
+  pub home : PassesFrom task reach run.home
+  pub spots : length run.visited ≡ 744
+
+-- the run begun, if any, is the same, but that all stops are as visited that are not in reach
+abbrev pub IsRunCanonical : Task → List Bool → Option PartialRun → Option PartialRun → Type 0
+IsRunCanonical task reach None None = Unit {0}
+IsRunCanonical task reach None (Some like) = ⊥
+IsRunCanonical task reach (Some run) None = ⊥
+IsRunCanonical task reach (Some run) (Some like) = MayGoOn task reach run × IsBarred reach run like
+
+-- a state differs from another only in borders that neither the run begun, if any, nor one to come can cross, and in stops
+-- to which they cannot come
+pub record IsCanonical (task : Task) (settled : Settled) (run : Option PartialRun) (like : SearchState) : Type 0 where
+  pub reach : List Bool
+  pub reaches : IsInReach task settled.used reach
+  pub off : IsShutOff task settled reach like.settled
+  pub begun : IsRunCanonical task reach run like.run

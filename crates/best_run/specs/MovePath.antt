@@ -1,0 +1,92 @@
+-- The trail: the marks of the moves that earn the best found, and the runs that they tell. Train by train, greatest
+-- first, a train passes or has a run: steps, one behind the other, that may be turned about once, and are settled.
+use Rattle.std.specs.Prelude.{◌≡◌, ◌≤◌, not, Option, Some, None, Vec, option_map, List, [], ◌∷◌, ◌++◌, length, map, reverse}
+use Rattle.std.specs.Global.{Global}
+use Rattle.std.specs.List.{AllByRecursion}
+use Rattle.reach.specs.declared.walk.Step.{Step}
+use Rattle.tables.specs.declared.rolling_stock.Kind.{Kind}
+use Rattle.certificate.specs.Set.{TrainRun}
+use Rattle.certificate.specs.Written.{places_of}
+use Rattle.certificate.specs.declared.claim.ClaimedRun.{ClaimedRun}
+use Rattle.best_run.specs.declared.move_path.Mark.{Mark}
+use Rattle.best_run.specs.declared.move_path.Mark.TheVariants.{Pass, Go, Turn, Settle}
+use Rattle.best_run.specs.declared.move_path.MovePath.{MovePath}
+
+-- the marks of a trail, from the first to the last
+abbrev pub marks_in : MovePath → List Mark
+marks_in move_path = reverse move_path.marks.items
+
+-- the marks of some steps
+abbrev pub go_along : List Step → List Mark
+go_along steps = map (λ step. Go step) steps
+
+-- where no memory has been refused, some marks have come in front of the others
+pub record IsWritten (marks : List Mark) (old new : MovePath) : Type 0 where
+  pub refused : new.refused ≡ None → old.refused ≡ None
+  pub marks_are : new.refused ≡ None → marks_in new ≡ marks ++ marks_in old
+
+-- a walk from its other end: each step is taken the other way over its link, the last one first
+abbrev pub turned_step : Step → Step
+turned_step step = record { link = step.link; turned = not step.turned }
+
+abbrev pub turned_about : List Step → List Step
+turned_about steps = map turned_step (reverse steps)
+
+-- the walk of the next train that some marks tell, whose steps so far are known, the latest in front; none where the
+-- train does not run
+abbrev pub walk_told : List Step → List Mark → Option (List Step)
+walk_told walk [] = None
+walk_told walk (Pass ∷ marks) = None
+walk_told walk (Go step ∷ marks) = walk_told (step ∷ walk) marks
+walk_told walk (Turn ∷ marks) = walk_told (turned_about walk) marks
+walk_told walk (Settle ∷ marks) = Some walk
+
+-- the marks after those of the next train
+abbrev pub after_walk : List Mark → List Mark
+after_walk [] = []
+after_walk (Pass ∷ marks) = marks
+after_walk (Go step ∷ marks) = after_walk marks
+after_walk (Turn ∷ marks) = after_walk marks
+after_walk (Settle ∷ marks) = marks
+
+-- a train's run, if it runs, before those of others
+abbrev pub with_run : Kind → Option (List Step) → List TrainRun → List TrainRun
+with_run kind None runs = runs
+with_run kind (Some steps) runs = record { kind = kind; steps = steps } ∷ runs
+
+-- the runs of some trains that some marks tell, where the steps so far of the first one's are known
+abbrev pub runs_told : List Kind → List Step → List Mark → List TrainRun
+runs_told [] walk marks = []
+runs_told (kind ∷ kinds) walk marks =
+    with_run kind (walk_told walk marks) (runs_told kinds [] (after_walk marks))
+
+-- some runs, written out by their places
+abbrev pub written : List TrainRun → List ClaimedRun
+written [] = []
+written (run ∷ runs) = record { kind = run.kind; run = places_of run.steps } ∷ written runs
+
+-- a run that can be written out
+pub record CanBeClaimed (run : TrainRun) : Type 0 where
+  pub least : 2 ≤ length (places_of run.steps)
+  pub most : length (places_of run.steps) ≤ 280
+
+-- the runs that a trail tells of some trains
+abbrev pub runs_in : List Kind → MovePath → List TrainRun
+runs_in kinds move_path = runs_told kinds [] (marks_in move_path)
+
+-- all of them can be written out
+abbrev pub CanBeRead : List Kind → MovePath → Type 0
+CanBeRead kinds move_path = AllByRecursion CanBeClaimed (runs_in kinds move_path)
+
+-- they are written out
+abbrev pub IsRead : List Kind → MovePath → List ClaimedRun → Type 0
+IsRead kinds move_path runs = runs ≡ written (runs_in kinds move_path)
+
+-- the steps of a walk, if there is one
+abbrev pub steps_of : Option (Vec Step Global) → Option (List Step)
+steps_of walk = option_map (λ (steps : Vec Step Global). steps.items) walk
+
+-- the marks of the next train are read and taken away; both lists of marks are from the last to the first
+pub record IsWalkRead (old new : List Mark) (walk : Option (Vec Step Global)) : Type 0 where
+  pub walk_is : steps_of walk ≡ walk_told [] (reverse old)
+  pub after : reverse new ≡ after_walk (reverse old)

@@ -1,0 +1,68 @@
+//! How far the search has come: states, as they are kept once they have been explored.
+ghost use Rattle.std.specs.Prelude.{◌≡◌, IsTrue};
+ghost use Rattle.best_run.specs.Kept.{DominatesAny, DominatesStage};
+
+use crate::bits::mixed_with;
+use crate::state::{PartialRun, Settled};
+
+/// A state of the search: between runs, or with a run begun.
+#[derive(Drop)]
+pub(crate) struct SearchState {
+    /// The trains settled so far.
+    pub(crate) settled: Settled,
+    /// The run that has begun; `None` between runs.
+    pub(crate) run: Option<PartialRun>,
+}
+
+/// Whether a run covers another, or there is none in either state. Where a train ran before, it is not told: its run may not
+/// earn more than that one did.
+fn dominates_run(kind: usize, run: &Option<PartialRun>, other: &Option<PartialRun>) -> bool
+    ensures { IsTrue result → DominatesAny kind run.now other.now }
+{
+    match run {
+        None => other.is_none(),
+        Some(run) => match other {
+            None => false,
+            Some(other) => kind == 0 && run.dominates(other),
+        },
+    }
+}
+
+impl SearchState {
+    /// The same state.
+    pub(crate) fn copy(&self) -> SearchState
+        ensures { result ≡ self.now }
+    {
+        let run = match &self.run {
+            None => None,
+            Some(run) => Some(run.copy()),
+        };
+        SearchState {
+            settled: self.settled.copy(),
+            run,
+        }
+    }
+
+    /// Whether whatever may come after another state may come after this one as well, and as much is
+    /// earned. It is not told of all such states.
+    pub(crate) fn dominates(&self, other: &SearchState) -> bool
+        ensures { IsTrue result → DominatesStage self.now other.now }
+    {
+        self.settled.dominates(&other.settled)
+            && dominates_run(self.settled.kind, &self.run, &other.run)
+    }
+
+    /// The place at which the state is kept. Any place would do: states that use the same borders and have visited the
+    /// same stops share one.
+    pub(crate) fn place(&self) -> usize {
+        let mut sum = self
+            .settled
+            .used
+            .mixed()
+            .wrapping_add(self.settled.next as u64);
+        if let Some(run) = &self.run {
+            sum = run.visited.mixed(sum).wrapping_add(run.head as u64);
+        }
+        (mixed_with(sum, 0) >> 40) as usize
+    }
+}

@@ -1,6 +1,0 @@
-use Rattle.std.proofs.Common.{◌≡◌, ◌++◌, replicate}
-use Rattle.desk.proofs.ground.push_trains.Given as goal
-
--- so many trains of the kind stand behind those that were there
-abbrev pub invariant-loop : goal.invariant-loop
-invariant-loop l = l.trains.items ≡ l.fn.trains.items ++ replicate l.counter l.kind

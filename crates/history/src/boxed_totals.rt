@@ -1,0 +1,70 @@
+//! The books of a game as the game keeps them: behind a box, so that few bytes are handed on with
+//! the game.
+ghost use Rattle.std.specs.Prelude.{◌++◌, ◌∷◌, ◌<◌, ◌^◌, [], ◌≡◌, IfOk, List, MatchOption, OnOk, length};
+ghost use Rattle.events.specs.declared.event.Event.{Event as TheEvent};
+ghost use Rattle.history.specs.Totals.{AreTotalsOf};
+ghost use Rattle.history.specs.BoxedTotals.{HasBox, KeepsTotalsOf};
+
+use crate::totals::Totals;
+use events::Event;
+use std::alloc::{AllocError, Global};
+
+/// The books of a list of events. There is no box before the first event is to come.
+#[derive(Debug, Drop)]
+pub(crate) struct BoxedTotals {
+    kept: Option<Box<Totals>>,
+}
+
+impl BoxedTotals {
+    /// The books of no events, which take no memory.
+    pub(crate) fn start() -> BoxedTotals
+        ensures { KeepsTotalsOf result [] }
+    {
+        BoxedTotals { kept: None }
+    }
+
+    /// The books; none where nothing has happened.
+    pub(crate) fn totals(&self) -> Option<&Totals>
+        ensures { (events : List TheEvent) → KeepsTotalsOf self.now events →
+            MatchOption result (events ≡ []) (λ totals. AreTotalsOf totals.now events) }
+    {
+        match &self.kept {
+            Some(totals) => Some(&**totals),
+            None => None,
+        }
+    }
+
+    /// Makes the box, where there is none, so that an event can be noted. The books stay those of
+    /// the same events, also where the box gets no memory.
+    pub(crate) fn reserve(&mut self, alloc: Global) -> Result<(), AllocError>
+        ensures kept { (events : List TheEvent) →
+            KeepsTotalsOf self.old events → KeepsTotalsOf self.new events }
+        ensures room { OnOk result (HasBox self.new) }
+    {
+        if self.kept.is_none() {
+            self.kept = Some(boxed(alloc)?);
+        }
+        Ok(())
+    }
+
+    /// Notes one more event.
+    pub(crate) fn apply(&mut self, event: &Event)
+        requires { HasBox self.old }
+        ensures { (events : List TheEvent) →
+            length events < 2 ^ 63 → KeepsTotalsOf self.old events →
+            KeepsTotalsOf self.new (events ++ event.now ∷ []) }
+    {
+        if let Some(totals) = &mut self.kept {
+            totals.apply(event);
+        }
+    }
+}
+
+/// The books of no events in a box. No other function has books among its locals that a game
+/// keeps, since it would pay for them whenever it is called.
+#[inline(never)]
+fn boxed(alloc: Global) -> Result<Box<Totals>, AllocError>
+    ensures { IfOk result (λ totals. AreTotalsOf totals.value []) }
+{
+    Ok(Box::new(alloc, Totals::start())?)
+}

@@ -1,0 +1,46 @@
+//! What lies on the map, as a board that is kept through a turn: before a line asks it, it is told
+//! what was laid since it was last asked.
+ghost use Rattle.std.specs.Prelude.{◌≡◌, OnOk};
+ghost use Rattle.history.specs.Operating.{lays_of, tokens_of};
+ghost use Rattle.operating.specs.MapState.{IsFront, BeginsWith, map_state_now};
+
+use board::Board;
+use history::History;
+use std::alloc::AllocError;
+
+/// Tells a board, which has the first of the tiles and tokens that were laid, the others and the
+/// phase. It is what lies on the map then. The only error is want of memory.
+pub(crate) fn update_map_state(board: &mut Board, history: &History) -> Result<(), AllocError>
+    requires { IsFront board.old history.now.events }
+    ensures map_state { OnOk result (board.new ≡ map_state_now history.now.events) }
+    ensures front { OnOk result (IsFront board.new history.now.events) }
+{
+    put_lays(board, history)?;
+    put_tokens(board, history)?;
+    board.put_phase(history.phase());
+    Ok(())
+}
+
+/// Lays the tiles that a board has not been told.
+fn put_lays(board: &mut Board, history: &History) -> Result<(), AllocError>
+    requires { BeginsWith board.old.lays (lays_of history.now.events) }
+    ensures lays { OnOk result (board.new.lays ≡ lays_of history.now.events) }
+    ensures tokens { OnOk result (board.new.tokens ≡ board.old.tokens) }
+{
+    while let Some(lay) = history.laid(board.tiles_laid()) {
+        board.put_lay(lay)?;
+    }
+    Ok(())
+}
+
+/// Places the tokens that it has not been told.
+fn put_tokens(board: &mut Board, history: &History) -> Result<(), AllocError>
+    requires { BeginsWith board.old.tokens (tokens_of history.now.events) }
+    ensures tokens { OnOk result (board.new.tokens ≡ tokens_of history.now.events) }
+    ensures lays { OnOk result (board.new.lays ≡ board.old.lays) }
+{
+    while let Some((place, company)) = history.token(board.tokens_placed()) {
+        board.put_token(place, company)?;
+    }
+    Ok(())
+}

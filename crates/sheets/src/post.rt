@@ -1,8 +1,0 @@
-use tables::{Round, Seat};
-
-/// Whose sheet for which round.
-#[derive(Clone, Copy, Debug, PartialEq, Eq, Hash)]
-pub(crate) struct Post {
-    pub(crate) seat: Seat,
-    pub(crate) round: Round,
-}

@@ -1,0 +1,8 @@
+use tables::{Round, Seat};
+
+/// Whose sheet for which round.
+#[derive(Clone, Copy, Debug, PartialEq, Eq, Hash)]
+pub(crate) struct SheetKey {
+    pub(crate) seat: Seat,
+    pub(crate) round: Round,
+}

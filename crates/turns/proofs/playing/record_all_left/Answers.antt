@@ -1,0 +1,34 @@
+use Rattle.std.proofs.Common.{◌≡◌, ◌+◌, ◌<◌, ℕ, List, [], ◌++◌, ◌∷◌, drop, get_or, map, length, sym, ap, ◌∙◌, add-one}
+use Rattle.std.proofs.Math.Seq.{drop-cons}
+use Rattle.std.proofs.lemmas.List.Elements.{All-get_or}
+use Rattle.history.proofs.Recording.{left_first}
+use Rattle.history.specs.LookBack.{Game}
+use Rattle.history.specs.Record.{with_left}
+use Rattle.sheets.proofs.TakenLemmas.{left_goes_on}
+use Rattle.sheets.specs.Part.{Parts, groups_of, lines_in}
+use Rattle.tables.specs.declared.seat.Seat.{Seat}
+use Rattle.turns.specs.RoundOfTurns.{left_from}
+use Rattle.turns.specs.Small.{IsReady}
+use Rattle.turns.proofs.playing.record_all_left.Goals as goal
+
+-- the sheets that are left begin with the next
+next_sheet : (all : List Parts) (i : ℕ) (d : Parts) → i < length all → drop i all ≡ get_or all i d ∷ drop (i + 1) all
+next_sheet all i d within =
+    drop-cons all i d within ∙ ap (λ (k : ℕ). get_or all i d ∷ drop k all) (sym (add-one i))
+
+pub loop-seat-preserved : goal.loop-seat-preserved
+loop-seat-preserved g c =
+    let all = c.args.unruled.now in
+    let i = c.loop-seat.seat in
+    let d = c.index-unruled-seat.result in
+    let old = c.loop-seat.history.events in
+    let told = ap (λ (game : Game). game.events) c.in_ok-record_seat_left.ensures.told in
+    let ready : IsReady (get_or all i d) = All-get_or IsReady all i d c.loop-seat-test.true c.requires.ready in
+    record {
+      seats = ap (λ (game : Game). game.seats) c.in_ok-record_seat_left.ensures.told ∙ c.loop-seat.invariant.seats;
+      events =
+          left_goes_on with_left left_first old c.record_seat_left.new.history.events i c.count.result (get_or all i d) (drop (i + 1) all) (told ∙ ap (λ (s : Seat). old ++ with_left s c.count.result []) c.at.ensures) (c.count.ensures ∙ ap lines_in c.index-unruled-seat.is) ready.stands
+          ∙ ap (λ (left : List Parts). old ++ left_from i (map groups_of left)) (sym (next_sheet all i d c.loop-seat-test.true))
+          ∙ c.loop-seat.invariant.events;
+      underway = c.in_ok-record_seat_left.ensures.underway;
+    }

@@ -1,0 +1,12 @@
+use Rattle.std.proofs.Common.{◌≡◌, ◌++◌, drop, map}
+use Rattle.sheets.specs.Part.{groups_of}
+use Rattle.turns.specs.RoundOfTurns.{left_from}
+use Rattle.turns.proofs.playing.record_all_left.Given as goal
+
+-- the seats that are left bring what all bring
+abbrev pub invariant-loop-seat : goal.invariant-loop-seat
+invariant-loop-seat g l = record {
+  seats : l.history.seats ≡ l.fn.history.seats;
+  events : l.history.events ++ left_from l.seat (map groups_of (drop l.seat l.unruled)) ≡ l.fn.history.events ++ left_from 0 (map groups_of l.unruled);
+  underway : g.T.TurnRules.holds l.history;
+}
