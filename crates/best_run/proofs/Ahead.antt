@@ -19,7 +19,8 @@ falsely true is not = let wrong : true ≡ false = not in cc
 falsely false is not = let wrong : false ≡ true = is in cc
 
 -- the way at a place is one
-one_leg : (legs : List Leg) (place other : ℕ) (leg found : Leg) → slice_get legs place ≡ Some leg → slice_get legs other ≡ Some found → other ≡ place → leg ≡ found
+one_leg : (legs : List Leg) (place other : ℕ) (leg found : Leg) → slice_get legs place ≡ Some leg
+    → slice_get legs other ≡ Some found → other ≡ place → leg ≡ found
 one_leg legs place other leg found at finds same =
     let e : Some leg ≡ Some found = sym at ∙ (ap (λ i. slice_get legs i) (sym same) ∙ finds) in cc
 
@@ -28,15 +29,21 @@ module _ (task : Task) (settled : Settled) (run : PartialRun) where
   widens_none ahead = record { kept = λ spot lies. lies; over = λ spot lies. inl lies; fewer = omega arith }
 
   -- what is gone over stays so where more lies ahead
-  over_more : (old new : List Bool) → ((spot : ℕ) → LiesAhead old spot → LiesAhead new spot) → (spot : ℕ) → IsGoneOver task settled run old spot → IsGoneOver task settled run new spot
+  over_more : (old new : List Bool) → ((spot : ℕ) → LiesAhead old spot → LiesAhead new spot) → (spot : ℕ)
+      → IsGoneOver task settled run old spot → IsGoneOver task settled run new spot
   over_more old new kept spot over passes place leg at taken = kept leg.segment.to (over passes place leg at taken)
 
-  widens_both : (old middle new : List Bool) → Widens task settled run old middle → Widens task settled run middle new → Widens task settled run old new
+  widens_both : (old middle new : List Bool) → Widens task settled run old middle → Widens task settled run middle new
+      → Widens task settled run old new
   widens_both old middle new first second =
       record {
         kept = λ spot lies. second.kept spot (first.kept spot lies);
         over = λ spot lies. elim (second.over spot lies) [
-          | inl before ↦ elim (first.over spot before) [ inl old_one ↦ inl old_one | inr over ↦ inr (over_more middle new second.kept spot over) ]
+          | inl before ↦ elim (first.over spot before) [
+            | inl old_one ↦ inl old_one
+            | inr over ↦ inr
+                (over_more middle new second.kept spot over)
+          ]
           | inr over ↦ inr over
         ];
         fewer = le_trans second.fewer first.fewer;
@@ -46,7 +53,9 @@ module _ (task : Task) (settled : Settled) (run : PartialRun) where
   pub below_none : (spot : ℕ) (ahead : List Bool) → WidensBelow task settled run spot 0 ahead ahead
   below_none spot ahead = record { widens = widens_none ahead; leads = λ place leg low at taken. absurd (omega arith) }
 
-  pub below_more : (spot place : ℕ) (leg : Leg) (old middle new : List Bool) → slice_get (legs_at task spot) place ≡ Some leg → WidensBelow task settled run spot place old middle → WidensBy task settled run leg.segment middle new → WidensBelow task settled run spot (place + 1) old new
+  pub below_more : (spot place : ℕ) (leg : Leg) (old middle new : List Bool)
+      → slice_get (legs_at task spot) place ≡ Some leg → WidensBelow task settled run spot place old middle
+      → WidensBy task settled run leg.segment middle new → WidensBelow task settled run spot (place + 1) old new
   below_more spot place leg old middle new here before by =
       record {
         widens = widens_both old middle new before.widens by.widens;
@@ -54,16 +63,19 @@ module _ (task : Task) (settled : Settled) (run : PartialRun) where
           | inl less ↦ by.widens.kept found.segment.to (before.leads other found less at taken)
           | inr same ↦
               let is : leg ≡ found = one_leg (legs_at task spot) place other leg found here at same in
-              subst (λ (w : Leg). can_take task run settled.used w.segment ≡ true → LiesAhead new w.segment.to) is by.leads taken
+              subst (λ (w : Leg). can_take task run settled.used w.segment ≡ true → LiesAhead new w.segment.to) is
+              by.leads taken
         ];
       }
 
-  pub from_all : (spot : ℕ) (legs : List Leg) (place : ℕ) (old new : List Bool) → legs_at task spot ≡ legs → length legs ≤ place → WidensBelow task settled run spot place old new → WidensFrom task settled run spot old new
+  pub from_all : (spot : ℕ) (legs : List Leg) (place : ℕ) (old new : List Bool) → legs_at task spot ≡ legs
+      → length legs ≤ place → WidensBelow task settled run spot place old new → WidensFrom task settled run spot old new
   from_all spot legs place old new there all below =
       record {
         widens = below.widens;
         here = λ passes other leg at taken.
-            let low : other < length legs = slice_get_within legs other leg (ap (λ ws. slice_get ws other) (sym there) ∙ at) in
+            let low : other < length legs = slice_get_within legs other leg
+            (ap (λ ws. slice_get ws other) (sym there) ∙ at) in
             below.leads other leg (omega (arith, low, all)) at taken;
       }
 
@@ -71,7 +83,9 @@ module _ (task : Task) (settled : Settled) (run : PartialRun) where
   pub back_none : (ahead : List Bool) → WidensBackBelow task settled run 0 ahead ahead
   back_none ahead = record { widens = widens_none ahead; leads = λ place leg low at later taken. absurd (omega arith) }
 
-  pub back_more : (place : ℕ) (leg : Leg) (old middle new : List Bool) → slice_get (legs_at task run.home) place ≡ Some leg → WidensBackBelow task settled run place old middle → WidensBy task settled run leg.segment middle new → WidensBackBelow task settled run (place + 1) old new
+  pub back_more : (place : ℕ) (leg : Leg) (old middle new : List Bool)
+      → slice_get (legs_at task run.home) place ≡ Some leg → WidensBackBelow task settled run place old middle
+      → WidensBy task settled run leg.segment middle new → WidensBackBelow task settled run (place + 1) old new
   back_more place leg old middle new here before by =
       record {
         widens = widens_both old middle new before.widens by.widens;
@@ -79,11 +93,14 @@ module _ (task : Task) (settled : Settled) (run : PartialRun) where
           | inl less ↦ by.widens.kept found.segment.to (before.leads other found less at later taken)
           | inr same ↦
               let is : leg ≡ found = one_leg (legs_at task run.home) place other leg found here at same in
-              subst (λ (w : Leg). can_take task run settled.used w.segment ≡ true → LiesAhead new w.segment.to) is by.leads taken
+              subst (λ (w : Leg). can_take task run settled.used w.segment ≡ true → LiesAhead new w.segment.to) is
+              by.leads taken
         ];
       }
 
-  pub back_skip : (place : ℕ) (leg : Leg) (old new : List Bool) → slice_get (legs_at task run.home) place ≡ Some leg → (run.first ≤ leg.first → ⊥) → WidensBackBelow task settled run place old new → WidensBackBelow task settled run (place + 1) old new
+  pub back_skip : (place : ℕ) (leg : Leg) (old new : List Bool) → slice_get (legs_at task run.home) place ≡ Some leg
+      → (run.first ≤ leg.first → ⊥) → WidensBackBelow task settled run place old new
+      → WidensBackBelow task settled run (place + 1) old new
   back_skip place leg old new here sooner before =
       record {
         widens = before.widens;
@@ -95,34 +112,52 @@ module _ (task : Task) (settled : Settled) (run : PartialRun) where
         ];
       }
 
-  pub back_all : (legs : List Leg) (place : ℕ) (old new : List Bool) → legs_at task run.home ≡ legs → length legs ≤ place → WidensBackBelow task settled run place old new → WidensBack task settled run old new
+  pub back_all : (legs : List Leg) (place : ℕ) (old new : List Bool) → legs_at task run.home ≡ legs
+      → length legs ≤ place → WidensBackBelow task settled run place old new → WidensBack task settled run old new
   back_all legs place old new there all below =
       record {
         widens = below.widens;
         here = λ passes other leg at later taken.
-            let low : other < length legs = slice_get_within legs other leg (ap (λ ws. slice_get ws other) (sym there) ∙ at) in
+            let low : other < length legs = slice_get_within legs other leg
+            (ap (λ ws. slice_get ws other) (sym there) ∙ at) in
             below.leads other leg (omega (arith, low, all)) at later taken;
       }
 
   pub back_end : (ahead : List Bool) → ends_in (node_at task run.home) ≡ true → WidensBack task settled run ahead ahead
   back_end ahead ends =
-      record { widens = widens_none ahead; here = λ passes place leg at later taken. absurd (falsely (ends_in (node_at task run.home)) ends passes) }
+      record {
+        widens = widens_none ahead;
+        here = λ passes place leg at later taken. absurd
+            (falsely (ends_in (node_at task run.home)) ends passes);
+      }
 
   -- no run passes a spot
-  pub from_end : (spot : ℕ) (ahead : List Bool) → ends_in (node_at task spot) ≡ true → WidensFrom task settled run spot ahead ahead
+  pub from_end : (spot : ℕ) (ahead : List Bool) → ends_in (node_at task spot) ≡ true
+      → WidensFrom task settled run spot ahead ahead
   from_end spot ahead ends =
-      record { widens = widens_none ahead; here = λ passes place leg at taken. absurd (falsely (ends_in (node_at task spot)) ends passes) }
+      record {
+        widens = widens_none ahead;
+        here = λ passes place leg at taken. absurd
+            (falsely (ends_in (node_at task spot)) ends passes);
+      }
 
   -- a piece leads to what lies ahead, or may not be taken
-  along_known : (segment : Segment) (ahead : List Bool) → LiesAhead ahead segment.to → WidensBy task settled run segment ahead ahead
+  along_known : (segment : Segment) (ahead : List Bool) → LiesAhead ahead segment.to
+      → WidensBy task settled run segment ahead ahead
   along_known segment ahead lies = record { widens = widens_none ahead; leads = λ taken. lies }
 
-  along_none : (segment : Segment) (ahead : List Bool) → can_take task run settled.used segment ≡ false → WidensBy task settled run segment ahead ahead
+  along_none : (segment : Segment) (ahead : List Bool) → can_take task run settled.used segment ≡ false
+      → WidensBy task settled run segment ahead ahead
   along_none segment ahead none =
-      record { widens = widens_none ahead; leads = λ taken. absurd (falsely (can_take task run settled.used segment) taken none) }
+      record {
+        widens = widens_none ahead;
+        leads = λ taken. absurd
+            (falsely (can_take task run settled.used segment) taken none);
+      }
 
   -- a stop that lies ahead is gone over
-  pub past_from : (spot : ℕ) (old new : List Bool) → get_or old spot false ≡ false → spot < length old → WidensFrom task settled run spot (set old spot true) new → WidensPast task settled run spot old new
+  pub past_from : (spot : ℕ) (old new : List Bool) → get_or old spot false ≡ false → spot < length old
+      → WidensFrom task settled run spot (set old spot true) new → WidensPast task settled run spot old new
   past_from there old new free low from =
       record {
         widens = record {
@@ -139,19 +174,24 @@ module _ (task : Task) (settled : Settled) (run : PartialRun) where
         lies = from.widens.kept there (get_or-set_same old there true false low);
       }
 
-  pub along_past : (segment : Segment) (old new : List Bool) → WidensPast task settled run segment.to old new → WidensBy task settled run segment old new
+  pub along_past : (segment : Segment) (old new : List Bool) → WidensPast task settled run segment.to old new
+      → WidensBy task settled run segment old new
   along_past segment old new past = record { widens = past.widens; leads = λ taken. past.lies }
 
   -- a piece does not lead on
-  pub along_not : (segment : Segment) (ahead : List Bool) → leads_on task settled run ahead segment ≡ false → WidensBy task settled run segment ahead ahead
+  pub along_not : (segment : Segment) (ahead : List Bool) → leads_on task settled run ahead segment ≡ false
+      → WidensBy task settled run segment ahead ahead
   along_not segment ahead is = by_mark (get_or ahead segment.to false) refl is
     where
-      by_mark : (lies : Bool) → get_or ahead segment.to false ≡ lies → (not lies && can_take task run settled.used segment) ≡ false → WidensBy task settled run segment ahead ahead
+      by_mark : (lies : Bool) → get_or ahead segment.to false ≡ lies
+          → (not lies && can_take task run settled.used segment) ≡ false → WidensBy task settled run segment ahead ahead
       by_mark true there none = along_known segment ahead there
       by_mark false there none = along_none segment ahead none
 
   -- where nothing lay ahead, all has been gone over
-  all_over : (ahead : List Bool) → ((spot : ℕ) → LiesAhead ahead spot → LiesAhead (replicate 744 false) spot ⊎ IsGoneOver task settled run ahead spot) → (spot : ℕ) → LiesAhead ahead spot → IsGoneOver task settled run ahead spot
+  all_over : (ahead : List Bool) → ((spot : ℕ) → LiesAhead ahead spot
+      → LiesAhead (replicate 744 false) spot ⊎ IsGoneOver task settled run ahead spot) → (spot : ℕ)
+      → LiesAhead ahead spot → IsGoneOver task settled run ahead spot
   all_over ahead over spot lies =
       elim (over spot lies) [
         | inl none ↦ absurd (falsely (get_or (replicate 744 false) spot false) none (none_marked 744 spot))
@@ -159,7 +199,8 @@ module _ (task : Task) (settled : Settled) (run : PartialRun) where
       ]
 
   -- from where it stands alone, if it has turned back
-  pub outlook_from : (ahead : List Bool) → run.turned ≡ true → WidensFrom task settled run run.head (replicate 744 false) ahead → IsOutlook task settled run ahead
+  pub outlook_from : (ahead : List Bool) → run.turned ≡ true
+      → WidensFrom task settled run run.head (replicate 744 false) ahead → IsOutlook task settled run ahead
   outlook_from ahead turned from =
       record {
         head = from.here;
@@ -168,7 +209,8 @@ module _ (task : Task) (settled : Settled) (run : PartialRun) where
       }
 
   -- else from where it began as well
-  pub outlook_both : (middle ahead : List Bool) → WidensFrom task settled run run.head (replicate 744 false) middle → WidensBack task settled run middle ahead → IsOutlook task settled run ahead
+  pub outlook_both : (middle ahead : List Bool) → WidensFrom task settled run run.head (replicate 744 false) middle
+      → WidensBack task settled run middle ahead → IsOutlook task settled run ahead
   outlook_both middle ahead first second =
       record {
         head = over_more middle ahead second.widens.kept run.head first.here;

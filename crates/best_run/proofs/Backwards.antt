@@ -26,15 +26,23 @@ pub among_onto : {A : Type 0} (x : A) (xs ys : List A) → IsAmong x (onto xs ys
 among_onto x [] ys = (λ is. inr is, λ is. elim is [ inl none ↦ absurd none | inr old ↦ old ])
 among_onto x (y ∷ xs) ys =
     let rest = among_onto x xs (y ∷ ys) in (
-      λ is. elim (rest.0 is) [ inl later ↦ inl (inr later) | inr found ↦ elim found [ inl here ↦ inl (inl here) | inr old ↦ inr old ] ],
-      λ is. elim is [ inl found ↦ elim found [ inl here ↦ rest.1 (inr (inl here)) | inr later ↦ rest.1 (inl later) ] | inr old ↦ rest.1 (inr (inr old)) ],
+      λ is. elim (rest.0 is) [
+        | inl later ↦ inl (inr later)
+        | inr found ↦ elim found
+            [ inl here ↦ inl (inl here) | inr old ↦ inr old ]
+      ],
+      λ is. elim is [
+        | inl found ↦ elim found [ inl here ↦ rest.1 (inr (inl here)) | inr later ↦ rest.1 (inl later) ]
+        | inr old ↦ rest.1 (inr (inr old))
+      ],
     )
 
 length_onto : {A : Type 0} (xs ys : List A) → length (onto xs ys) ≡ length xs + length ys
 length_onto [] ys = omega arith
 length_onto (x ∷ xs) ys = let rest = length_onto xs (x ∷ ys) in omega arith
 
-distinct_onto : {A : Type 0} (xs ys : List A) → AreDistinct xs → AreDistinct ys → ((x : A) → IsAmong x xs → IsAmong x ys → ⊥) → AreDistinct (onto xs ys)
+distinct_onto : {A : Type 0} (xs ys : List A) → AreDistinct xs → AreDistinct ys
+    → ((x : A) → IsAmong x xs → IsAmong x ys → ⊥) → AreDistinct (onto xs ys)
 distinct_onto [] ys once others apart = others
 distinct_onto (x ∷ xs) ys once others apart =
     distinct_onto xs (x ∷ ys) once.1 (apart x (inl refl), others)
@@ -43,7 +51,8 @@ distinct_onto (x ∷ xs) ys once others apart =
       | inr old ↦ apart y (inr here) old
     ])
 
-worth_onto : (position : Position) (xs ys : List Stop) → worth position (onto xs ys) ≡ worth position xs + worth position ys
+worth_onto : (position : Position) (xs ys : List Stop)
+    → worth position (onto xs ys) ≡ worth position xs + worth position ys
 worth_onto position [] ys = omega arith
 worth_onto position (x ∷ xs) ys = let rest = worth_onto position xs (x ∷ ys) in omega arith
 
@@ -55,12 +64,20 @@ pub record AreCanonical {A : Type 0} (xs ys : List A) : Type 0 where
 pub canonical_onto : {A : Type 0} (xs : List A) → AreCanonical xs (onto xs [])
 canonical_onto xs =
     record {
-      among = λ x. let both = among_onto x xs [] in (λ is. both.1 (inl is), λ is. elim (both.0 is) [ inl found ↦ found | inr none ↦ absurd none ]);
+      among = λ x. let both = among_onto x xs [] in (
+        λ is. both.1 (inl is),
+        λ is. elim (both.0 is)
+            [ inl found ↦ found | inr none ↦ absurd none ],
+      );
       long = let long = length_onto xs [] in omega arith;
     }
 
 pub canonical_back : {A : Type 0} (xs ys : List A) → AreCanonical xs ys → AreCanonical ys xs
-canonical_back xs ys canonical = record { among = λ x. ((canonical.among x).1, (canonical.among x).0); long = sym canonical.long }
+canonical_back xs ys canonical = record {
+  among = λ x. ((canonical.among x).1, (canonical.among x).0);
+  long =
+      sym canonical.long;
+}
 
 pub worth_back : (position : Position) (stops : List Stop) → worth position (onto stops []) ≡ worth position stops
 worth_back position stops = let both = worth_onto position stops [] in omega arith
@@ -85,7 +102,8 @@ two_onto None (Some stop) = refl
 two_onto (Some stop) None = refl
 two_onto (Some stop) (Some other) = refl
 
-onto_border : (hex : Hex) (end : End) (borders : List ℕ) → onto (border_at hex end) borders ≡ border_at hex end ++ borders
+onto_border : (hex : Hex) (end : End) (borders : List ℕ)
+    → onto (border_at hex end) borders ≡ border_at hex end ++ borders
 onto_border hex (AtSide side) borders = refl
 onto_border hex (AtStop number) borders = refl
 
@@ -113,11 +131,13 @@ abbrev MeetsBy : (Stop → Type 0) → List Step → List Step → Type 0
 MeetsBy P done [] = Unit {0}
 MeetsBy P done (step ∷ before) = PassesBy P done (flipped step)
 
-starts_back : (steps : List Step) (first : Step) (done : List Step) (at : Spot) → Starts (first ∷ done) at → Starts (onto (returning steps) (first ∷ done)) at
+starts_back : (steps : List Step) (first : Step) (done : List Step) (at : Spot) → Starts (first ∷ done) at
+    → Starts (onto (returning steps) (first ∷ done)) at
 starts_back [] first done at starts = starts
 starts_back (step ∷ before) first done at starts = starts_back before (flipped step) (first ∷ done) at starts
 
-begins_back : (steps : List Step) (first : Step) (done : List Step) → BeginsAt (λ stop. Unit {0}) (first ∷ done) → BeginsAt (λ stop. Unit {0}) (onto (returning steps) (first ∷ done))
+begins_back : (steps : List Step) (first : Step) (done : List Step) → BeginsAt (λ stop. Unit {0}) (first ∷ done)
+    → BeginsAt (λ stop. Unit {0}) (onto (returning steps) (first ∷ done))
 begins_back [] first done begins = begins
 begins_back (step ∷ before) first done begins = begins_back before (flipped step) (first ∷ done) begins
 
@@ -128,11 +148,13 @@ record Ends (walk : List Step) (at : Spot) : Type 0 where
   pub is : walk ≡ last ∷ rest
   pub stands : left_at last ≡ at
 
-ends_back : (step : Step) (before done : List Step) → Ends (onto (returning (step ∷ before)) done) (begins_at step before)
+ends_back : (step : Step) (before done : List Step)
+    → Ends (onto (returning (step ∷ before)) done) (begins_at step before)
 ends_back step [] done = record { last = flipped step; rest = done; is = refl; stands = flip_leaves step }
 ends_back step (earlier ∷ before) done = ends_back earlier before (flipped step ∷ done)
 
-crosses_back : (steps done : List Step) → crossed (onto (returning steps) done) ≡ onto (borders_left steps) (crossed done)
+crosses_back : (steps done : List Step) → crossed (onto (returning steps) done)
+    ≡ onto (borders_left steps) (crossed done)
 crosses_back [] done = refl
 crosses_back (step ∷ before) done =
     let at = left_at step in
@@ -155,7 +177,8 @@ module _ (position : Position) (lawful : IsLawful position) where
   border_joined at next (inl one) = no_border at.hex at.end one.0 one.1 ∙ sym (no_border next.hex next.end one.0 one.2)
   border_joined at next (inr over) = one_border lawful.borders_pair at next over
 
-  walks_back : (steps done : List Step) → IsWalk position steps → IsWalk position done → Meets done steps → IsWalk position (onto (returning steps) done)
+  walks_back : (steps done : List Step) → IsWalk position steps → IsWalk position done → Meets done steps
+      → IsWalk position (onto (returning steps) done)
   walks_back [] done walk before meets = before
   walks_back (step ∷ before) done walk after meets =
       walks_back before (flipped step ∷ done) walk.2 (walk.0, meets, after) (meets_next before walk.1)
@@ -164,20 +187,25 @@ module _ (position : Position) (lawful : IsLawful position) where
       meets_next [] goes = tt
       meets_next (earlier ∷ before) goes =
           subst (λ (s : Spot). AreJoined (left_at (flipped step)) s) (sym (flip_enters earlier))
-          (subst (λ (s : Spot). AreJoined s (left_at earlier)) (sym (flip_leaves step)) (joined_back (left_at earlier) (entered_at step) goes))
+          (subst (λ (s : Spot). AreJoined s (left_at earlier)) (sym (flip_leaves step))
+          (joined_back (left_at earlier) (entered_at step) goes))
 
-  passes_back : (P : Stop → Type 0) (steps done : List Step) → IsWalk position steps → PassesOnly P steps → PassesOnly P done → MeetsBy P done steps → PassesOnly P (onto (returning steps) done)
+  passes_back : (P : Stop → Type 0) (steps done : List Step) → IsWalk position steps → PassesOnly P steps
+      → PassesOnly P done → MeetsBy P done steps → PassesOnly P (onto (returning steps) done)
   passes_back P [] done walk passes after meets = after
   passes_back P (step ∷ before) done walk passes after meets =
       passes_back P before (flipped step ∷ done) walk.2 passes.1 (meets, after) (meets_next before walk.1 passes.0)
     where
-      meets_next : (before : List Step) → GoesOn before step → PassesBy P before step → MeetsBy P (flipped step ∷ done) before
+      meets_next : (before : List Step) → GoesOn before step → PassesBy P before step
+          → MeetsBy P (flipped step ∷ done) before
       meets_next [] goes by = tt
       meets_next (earlier ∷ before) goes by =
           subst (λ (s : Spot). IfSome (stop_of s) P) (sym (flip_enters earlier))
           (subst (λ o. IfSome o P) (sym (one_stop (left_at earlier) (entered_at step) goes)) by)
 
-  visits_back : (before : List Step) (step first : Step) (done : List Step) → IsWalk position (step ∷ before) → visited (onto (returning (step ∷ before)) (first ∷ done)) ≡ onto (first_stop before step ++ visited before) (visited (first ∷ done))
+  visits_back : (before : List Step) (step first : Step) (done : List Step) → IsWalk position (step ∷ before)
+      → visited (onto (returning (step ∷ before)) (first ∷ done))
+      ≡ onto (first_stop before step ++ visited before) (visited (first ∷ done))
   visits_back [] step first done walk =
       ap (λ (s : Spot). listed (stop_of s) ++ visited (first ∷ done)) (flip_leaves step)
       ∙ listed_onto (stop_of (entered_at step)) (visited (first ∷ done))
@@ -190,7 +218,8 @@ module _ (position : Position) (lawful : IsLawful position) where
       ∙ ap (λ (stops : List Stop). onto rest stops) (sym (onto_listed (stop_of (left_at earlier)) seen))
       ∙ sym (onto_append (listed (stop_of (left_at earlier))) rest seen)
 
-  visited_back : (step : Step) (before : List Step) → IsWalk position (step ∷ before) → visited (onto (returning (step ∷ before)) []) ≡ onto (visited (step ∷ before)) []
+  visited_back : (step : Step) (before : List Step) → IsWalk position (step ∷ before)
+      → visited (onto (returning (step ∷ before)) []) ≡ onto (visited (step ∷ before)) []
   visited_back step [] walk =
       ap (λ (s : Spot). listed (stop_of s) ++ (listed (stop_of (entered_at (flipped step))) ++ [])) (flip_leaves step)
       ∙ ap (λ (s : Spot). listed (stop_of (entered_at step)) ++ (listed (stop_of s) ++ [])) (flip_enters step)
@@ -200,27 +229,37 @@ module _ (position : Position) (lawful : IsLawful position) where
       let here = stop_of (left_at step) in
       let there = stop_of (left_at earlier) in
       visits_back before earlier (flipped step) [] walk.2
-      ∙ ap (λ (s : Spot). onto rest (listed (stop_of s) ++ (listed (stop_of (entered_at (flipped step))) ++ []))) (flip_leaves step)
-      ∙ ap (λ (s : Spot). onto rest (listed (stop_of (entered_at step)) ++ (listed (stop_of s) ++ []))) (flip_enters step)
-      ∙ ap (λ o. onto rest (listed o ++ (listed here ++ []))) (sym (one_stop (left_at earlier) (entered_at step) walk.1))
+      ∙ ap (λ (s : Spot). onto rest (listed (stop_of s) ++ (listed (stop_of (entered_at (flipped step))) ++ [])))
+      (flip_leaves step)
+      ∙ ap (λ (s : Spot). onto rest (listed (stop_of (entered_at step)) ++ (listed (stop_of s) ++ [])))
+      (flip_enters step)
+      ∙ ap (λ o. onto rest (listed o ++ (listed here ++ [])))
+      (sym (one_stop (left_at earlier) (entered_at step) walk.1))
       ∙ ap (λ (stops : List Stop). onto rest stops) (two_onto here there)
       ∙ sym (onto_append (listed there) rest (onto (listed here) []))
       ∙ sym (onto_append (listed here) (listed there ++ rest) [])
 
-  left_same : (step : Step) (before : List Step) → IsWalk position (step ∷ before) → BeginsAt (λ stop. Unit {0}) (step ∷ before) → borders_left (step ∷ before) ≡ border_at (left_at step).hex (left_at step).end ++ crossed (step ∷ before)
+  left_same : (step : Step) (before : List Step) → IsWalk position (step ∷ before)
+      → BeginsAt (λ stop. Unit {0}) (step ∷ before) → borders_left (step ∷ before)
+      ≡ border_at (left_at step).hex (left_at step).end ++ crossed (step ∷ before)
   left_same step [] walk begins =
       let at = entered_at step in
-      ap (λ (bs : List ℕ). border_at (left_at step).hex (left_at step).end ++ (bs ++ [])) (sym (no_border at.hex at.end begins.0 begins.1))
+      ap (λ (bs : List ℕ). border_at (left_at step).hex (left_at step).end ++ (bs ++ []))
+      (sym (no_border at.hex at.end begins.0 begins.1))
   left_same step (earlier ∷ before) walk begins =
       ap (λ (bs : List ℕ). border_at (left_at step).hex (left_at step).end ++ bs)
       (left_same earlier before walk.2 begins
-      ∙ ap (λ (bs : List ℕ). bs ++ crossed (earlier ∷ before)) (border_joined (left_at earlier) (entered_at step) walk.1))
+      ∙ ap (λ (bs : List ℕ). bs ++ crossed (earlier ∷ before))
+      (border_joined (left_at earlier) (entered_at step) walk.1))
 
-  crossed_back : (step : Step) (before : List Step) → IsWalk position (step ∷ before) → BeginsAt (λ stop. Unit {0}) (step ∷ before) → EndsAtStop (step ∷ before) → crossed (onto (returning (step ∷ before)) []) ≡ onto (crossed (step ∷ before)) []
+  crossed_back : (step : Step) (before : List Step) → IsWalk position (step ∷ before)
+      → BeginsAt (λ stop. Unit {0}) (step ∷ before) → EndsAtStop (step ∷ before)
+      → crossed (onto (returning (step ∷ before)) []) ≡ onto (crossed (step ∷ before)) []
   crossed_back step before walk begins ends =
       let at = left_at step in
       crosses_back (step ∷ before) []
-      ∙ ap (λ (bs : List ℕ). onto bs []) (left_same step before walk begins ∙ ap (λ (bs : List ℕ). bs ++ crossed (step ∷ before)) (no_border at.hex at.end ends.0 ends.1))
+      ∙ ap (λ (bs : List ℕ). onto bs []) (left_same step before walk begins
+      ∙ ap (λ (bs : List ℕ). bs ++ crossed (step ∷ before)) (no_border at.hex at.end ends.0 ends.1))
 
   -- a walk from stop to stop, turned about
   pub record Turned (company : Company) (most : ℕ) (others : List ℕ) (step : Step) (before : List Step) : Type 0 where
@@ -234,29 +273,39 @@ module _ (position : Position) (lawful : IsLawful position) where
     pub holds : Holds position company most others (last ∷ rest)
 
   pub walk_turned :
-      (company : Company) (most : ℕ) (others : List ℕ) (step : Step) (before : List Step) → Holds position company most others (step ∷ before) →
+      (company : Company) (most : ℕ) (others : List ℕ) (step : Step) (before : List Step)
+      → Holds position company most others (step ∷ before) →
       EndsAtStop (step ∷ before) → Turned company most others step before
   walk_turned company most others step before holds ends =
       let all = step ∷ before in
       let end : Ends (onto (returning all) []) (begins_at step before) = ends_back step before [] in
-      let visits : visited (end.last ∷ end.rest) ≡ onto (visited all) [] = subst (λ w. visited w ≡ onto (visited all) []) end.is (visited_back step before holds.walk) in
-      let crosses : crossed (end.last ∷ end.rest) ≡ onto (crossed all) [] = subst (λ w. crossed w ≡ onto (crossed all) []) end.is (crossed_back step before holds.walk holds.begins ends) in
+      let visits : visited (end.last ∷ end.rest) ≡ onto (visited all) [] =
+      subst (λ w. visited w ≡ onto (visited all) []) end.is (visited_back step before holds.walk) in
+      let crosses : crossed (end.last ∷ end.rest) ≡ onto (crossed all) [] =
+      subst (λ w. crossed w ≡ onto (crossed all) []) end.is
+      (crossed_back step before holds.walk holds.begins ends) in
       record {
         last = end.last;
         rest = end.rest;
         is = end.is;
         stands = end.stands;
-        starts = subst (λ w. Starts w (left_at step)) end.is (starts_back before (flipped step) [] (left_at step) (flip_enters step));
+        starts = subst (λ w. Starts w (left_at step)) end.is
+            (starts_back before (flipped step) [] (left_at step) (flip_enters step));
         visits = visits;
         crosses = crosses;
         holds = record {
           walk = subst (IsWalk position) end.is (walks_back all [] holds.walk tt tt);
-          begins = subst (BeginsAt (λ stop. Unit {0})) end.is (begins_back before (flipped step) [] (ends.0, (ap stop_of (flip_enters step) ∙ ends.1), tt));
+          begins = subst (BeginsAt (λ stop. Unit {0})) end.is
+              (begins_back before (flipped step) [] (ends.0, (ap stop_of (flip_enters step) ∙ ends.1), tt));
           few = let long = (canonical_onto (visited all)).long in omega (arith, ap length visits, holds.few);
           stops = subst AreDistinct (sym visits) (distinct_onto (visited all) [] holds.stops tt (λ x here none. none));
-          borders = subst AreDistinct (sym crosses) (distinct_onto (crossed all) [] holds.borders tt (λ x here none. none));
-          free = λ border among. holds.free border (((canonical_onto (crossed all)).among border).1 (subst (IsAmong border) crosses among));
-          red = subst (PassesOnly (λ stop. ¬ (is_red position stop ≡ true))) end.is (passes_back (λ stop. ¬ (is_red position stop ≡ true)) all [] holds.walk holds.red tt tt);
-          full = subst (PassesOnly (λ stop. ¬ IsFull position stop company)) end.is (passes_back (λ stop. ¬ IsFull position stop company) all [] holds.walk holds.full tt tt);
+          borders = subst AreDistinct (sym crosses) (distinct_onto (crossed all) [] holds.borders tt
+              (λ x here none. none));
+          free = λ border among. holds.free border (((canonical_onto (crossed all)).among border).1
+              (subst (IsAmong border) crosses among));
+          red = subst (PassesOnly (λ stop. ¬ (is_red position stop ≡ true))) end.is
+              (passes_back (λ stop. ¬ (is_red position stop ≡ true)) all [] holds.walk holds.red tt tt);
+          full = subst (PassesOnly (λ stop. ¬ IsFull position stop company)) end.is
+              (passes_back (λ stop. ¬ IsFull position stop company) all [] holds.walk holds.full tt tt);
         };
       }

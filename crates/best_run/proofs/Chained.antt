@@ -18,14 +18,17 @@ pub end_at : {A : Type 0} (xs : List A) (x : A) → slice_get (xs ++ x ∷ []) (
 end_at [] x = refl
 end_at (y ∷ xs) x = end_at xs x
 
-pub at_end : {A : Type 0} (xs : List A) (x : A) (i : ℕ) (y : A) → slice_get (xs ++ x ∷ []) i ≡ Some y → (slice_get xs i ≡ Some y) ⊎ ((i ≡ length xs) × (x ≡ y))
+pub at_end : {A : Type 0} (xs : List A) (x : A) (i : ℕ) (y : A) → slice_get (xs ++ x ∷ []) i ≡ Some y
+    → (slice_get xs i ≡ Some y) ⊎ ((i ≡ length xs) × (x ≡ y))
 at_end [] x zero y at = inr (refl, let same : x ≡ y = cc in same)
 at_end [] x (suc i) y at = absurd (omega (arith, slice_get_within (x ∷ []) (suc i) y at))
 at_end (z ∷ zs) x zero y at = inl at
-at_end (z ∷ zs) x (suc i) y at = elim (at_end zs x i y at) [ inl old ↦ inl old | inr last ↦ inr (ap suc last.0, last.1) ]
+at_end (z ∷ zs) x (suc i) y at = elim (at_end zs x i y at)
+    [ inl old ↦ inl old | inr last ↦ inr (ap suc last.0, last.1) ]
 
 -- what stands in a list of which one place is changed
-pub set_at : {A : Type 0} (xs : List A) (place i : ℕ) (new found : A) → slice_get (set xs place new) i ≡ Some found → ((i ≡ place) × (new ≡ found)) ⊎ ((i ≡ place → ⊥) × (slice_get xs i ≡ Some found))
+pub set_at : {A : Type 0} (xs : List A) (place i : ℕ) (new found : A) → slice_get (set xs place new) i ≡ Some found
+    → ((i ≡ place) × (new ≡ found)) ⊎ ((i ≡ place → ⊥) × (slice_get xs i ≡ Some found))
 set_at [] place i new found at = absurd (omega (arith, slice_get_within [] i found at))
 set_at (x ∷ xs) zero zero new found at = inl (refl, let same : new ≡ found = cc in same)
 set_at (x ∷ xs) zero (suc i) new found at = inr (λ is. omega (arith, is), at)
@@ -37,13 +40,17 @@ set_at (x ∷ xs) (suc place) (suc i) new found at =
     ]
 
 -- the pieces from a spot where one more is in the table
-from_more : (spot : ℕ) (entries : List Entry) (entry : Entry) → segments_from spot (entries ++ entry ∷ []) ≡ segments_from spot entries ++ segment_if (entry.from == spot) entry.segment []
+from_more : (spot : ℕ) (entries : List Entry) (entry : Entry)
+    → segments_from spot (entries ++ entry ∷ []) ≡ segments_from spot entries
+    ++ segment_if (entry.from == spot) entry.segment []
 from_more spot [] entry = refl
 from_more spot (first ∷ entries) entry =
     ap (segment_if (first.from == spot) first.segment) (from_more spot entries entry)
     ∙ by_test (first.from == spot) first.segment (segments_from spot entries)
   where
-    by_test : (test : Bool) (segment : Segment) (segments : List Segment) → segment_if test segment (segments ++ segment_if (entry.from == spot) entry.segment []) ≡ segment_if test segment segments ++ segment_if (entry.from == spot) entry.segment []
+    by_test : (test : Bool) (segment : Segment) (segments : List Segment)
+        → segment_if test segment (segments ++ segment_if (entry.from == spot) entry.segment [])
+        ≡ segment_if test segment segments ++ segment_if (entry.from == spot) entry.segment []
     by_test true segment segments = refl
     by_test false segment segments = refl
 
@@ -58,17 +65,22 @@ not_same a b other = by_test (a == b) refl
     by_test false is = refl
     by_test true is = absurd (other (eqb-true a b is))
 
-pub from_here : (spot : ℕ) (entries : List Entry) (entry : Entry) → entry.from ≡ spot → segments_from spot (entries ++ entry ∷ []) ≡ segments_from spot entries ++ entry.segment ∷ []
+pub from_here : (spot : ℕ) (entries : List Entry) (entry : Entry) → entry.from ≡ spot
+    → segments_from spot (entries ++ entry ∷ []) ≡ segments_from spot entries ++ entry.segment ∷ []
 from_here spot entries entry is =
-    from_more spot entries entry ∙ ap (λ test. segments_from spot entries ++ segment_if test entry.segment []) (eq-eqb entry.from spot is)
+    from_more spot entries entry ∙ ap (λ test. segments_from spot entries ++ segment_if test entry.segment [])
+    (eq-eqb entry.from spot is)
 
-pub from_other : (spot : ℕ) (entries : List Entry) (entry : Entry) → (entry.from ≡ spot → ⊥) → segments_from spot (entries ++ entry ∷ []) ≡ segments_from spot entries
+pub from_other : (spot : ℕ) (entries : List Entry) (entry : Entry) → (entry.from ≡ spot → ⊥)
+    → segments_from spot (entries ++ entry ∷ []) ≡ segments_from spot entries
 from_other spot entries entry other =
     from_more spot entries entry
-    ∙ (ap (λ test. segments_from spot entries ++ segment_if test entry.segment []) (not_same entry.from spot other) ∙ none_behind (segments_from spot entries))
+    ∙ (ap (λ test. segments_from spot entries ++ segment_if test entry.segment []) (not_same entry.from spot other)
+    ∙ none_behind (segments_from spot entries))
 
 -- there are no more of them than in the table
-one_few : (test : Bool) (segment : Segment) (segments : List Segment) (most : ℕ) → length segments ≤ most → length (segment_if test segment segments) ≤ suc most
+one_few : (test : Bool) (segment : Segment) (segments : List Segment) (most : ℕ) → length segments ≤ most
+    → length (segment_if test segment segments) ≤ suc most
 one_few true segment segments most few = omega (arith, few)
 one_few false segment segments most few = omega (arith, few)
 
@@ -98,12 +110,21 @@ chained_none tails tail none is =
     all_same (suc n) zero found at = let same : tail ≡ found = cc in same
     all_same (suc n) (suc i) found at = all_same n i found at
 
-stands_more : (entries : List Entry) (more : Entry) (there spot place : ℕ) → StandsThere entries there spot place → StandsThere (entries ++ more ∷ []) there spot place
+stands_more : (entries : List Entry) (more : Entry) (there spot place : ℕ) → StandsThere entries there spot place
+    → StandsThere (entries ++ more ∷ []) there spot place
 stands_more entries more there spot place is =
-    record { entry = is.entry; there_is = more_at entries (more ∷ []) there is.entry is.there_is; from_is = is.from_is; place_is = is.place_is }
+    record {
+      entry = is.entry;
+      there_is = more_at entries (more ∷ []) there is.entry is.there_is;
+      from_is =
+          is.from_is;
+      place_is = is.place_is;
+    }
 
 -- one more piece: it comes behind those from its spot
-module _ (entries : List Entry) (tails : List Tail) (are : AreChained entries tails) (entry : Entry) (old : Tail) (at_old : slice_get tails entry.from ≡ Some old) (place_is : entry.place ≡ old.count) (before_is : entry.before ≡ old.last) where
+module _ (entries : List Entry) (tails : List Tail) (are : AreChained entries tails) (entry : Entry) (old : Tail)
+    (at_old : slice_get tails entry.from ≡ Some old) (place_is : entry.place ≡ old.count)
+    (before_is : entry.before ≡ old.last) where
   old_is : IsTail entries entry.from old
   old_is = are.tails_are entry.from old at_old
 
@@ -112,10 +133,12 @@ module _ (entries : List Entry) (tails : List Tail) (are : AreChained entries ta
       record {
         segment_is = elim (cases_eq entry.from other.from) [
           | inl same ↦
-              subst (λ (ps : List Segment). slice_get ps other.place ≡ Some other.segment) (sym (from_here other.from entries entry same))
+              subst (λ (ps : List Segment). slice_get ps other.place ≡ Some other.segment)
+              (sym (from_here other.from entries entry same))
               (more_at (segments_from other.from entries) (entry.segment ∷ []) other.place other.segment has.segment_is)
           | inr apart ↦
-              subst (λ (ps : List Segment). slice_get ps other.place ≡ Some other.segment) (sym (from_other other.from entries entry apart)) has.segment_is
+              subst (λ (ps : List Segment). slice_get ps other.place ≡ Some other.segment)
+              (sym (from_other other.from entries entry apart)) has.segment_is
         ];
         before = λ place one. stands_more entries entry other.before other.from place (has.before place one);
       }
@@ -125,15 +148,18 @@ module _ (entries : List Entry) (tails : List Tail) (are : AreChained entries ta
       record {
         segment_is =
             let at : entry.place ≡ length (segments_from entry.from entries) = place_is ∙ old_is.count in
-            subst (λ (n : ℕ). slice_get (segments_from entry.from (entries ++ entry ∷ [])) n ≡ Some entry.segment) (sym at)
-            (subst (λ (ps : List Segment). slice_get ps (length (segments_from entry.from entries)) ≡ Some entry.segment) (sym (from_here entry.from entries entry refl))
+            subst (λ (n : ℕ). slice_get (segments_from entry.from (entries ++ entry ∷ [])) n ≡ Some entry.segment)
+            (sym at)
+            (subst (λ (ps : List Segment). slice_get ps (length (segments_from entry.from entries))
+            ≡ Some entry.segment) (sym (from_here entry.from entries entry refl))
             (end_at (segments_from entry.from entries) entry.segment));
         before = λ place one.
             subst (λ (n : ℕ). StandsThere (entries ++ entry ∷ []) n entry.from place) (sym before_is)
             (stands_more entries entry old.last entry.from place (old_is.last place (one ∙ place_is)));
       }
 
-  pub chained_more : (new : Tail) → new.count ≡ old.count + 1 → new.last ≡ length entries → AreChained (entries ++ entry ∷ []) (set tails entry.from new)
+  pub chained_more : (new : Tail) → new.count ≡ old.count + 1 → new.last ≡ length entries
+      → AreChained (entries ++ entry ∷ []) (set tails entry.from new)
   chained_more new count last =
       record {
         long = length-set tails entry.from new ∙ are.long;
@@ -151,7 +177,13 @@ module _ (entries : List Entry) (tails : List Tail) (are : AreChained entries ta
       tail_here spot same =
           subst (λ (n : ℕ). IsTail (entries ++ entry ∷ []) n new) (sym same)
           (record {
-            count = omega (arith, count, old_is.count, ap length (from_here entry.from entries entry refl), length-append (segments_from entry.from entries) (entry.segment ∷ []));
+            count = omega (
+              arith,
+              count,
+              old_is.count,
+              ap length (from_here entry.from entries entry refl),
+              length-append (segments_from entry.from entries) (entry.segment ∷ []),
+            );
             last = λ place one.
                 record {
                   entry = entry;
@@ -161,7 +193,8 @@ module _ (entries : List Entry) (tails : List Tail) (are : AreChained entries ta
                 };
           })
 
-      tail_other : (spot : ℕ) (tail : Tail) → (spot ≡ entry.from → ⊥) → IsTail entries spot tail → IsTail (entries ++ entry ∷ []) spot tail
+      tail_other : (spot : ℕ) (tail : Tail) → (spot ≡ entry.from → ⊥) → IsTail entries spot tail
+          → IsTail (entries ++ entry ∷ []) spot tail
       tail_other spot tail apart is =
           record {
             count = is.count ∙ sym (ap length (from_other spot entries entry (λ same. apart (sym same))));
@@ -174,31 +207,43 @@ pub record IsAbove (entries : List Entry) (there spot place left : ℕ) : Type 0
   pub stands : StandsThere entries there spot here
   pub is : here ≡ place + left
 
-pub above_last : (entries : List Entry) (tails : List Tail) → AreChained entries tails → (spot : ℕ) (tail : Tail) → slice_get tails spot ≡ Some tail → (place : ℕ) → place < length (segments_from spot entries) → IsAbove entries tail.last spot place (tail.count - (place + 1))
+pub above_last : (entries : List Entry) (tails : List Tail) → AreChained entries tails → (spot : ℕ) (tail : Tail)
+    → slice_get tails spot ≡ Some tail → (place : ℕ) → place < length (segments_from spot entries)
+    → IsAbove entries tail.last spot place (tail.count - (place + 1))
 above_last entries tails are spot tail at place low =
     let is : IsTail entries spot tail = are.tails_are spot tail at in
     let some : tail.count - 1 + 1 ≡ tail.count = omega (arith, is.count, low) in
     record { here = tail.count - 1; stands = is.last (tail.count - 1) some; is = omega (arith, is.count, low) }
 
-pub above_before : (entries : List Entry) (tails : List Tail) → AreChained entries tails → (there spot place left : ℕ) (entry : Entry) → slice_get entries there ≡ Some entry → 0 < left → IsAbove entries there spot place left → IsAbove entries entry.before spot place (left - 1)
+pub above_before : (entries : List Entry) (tails : List Tail) → AreChained entries tails
+    → (there spot place left : ℕ) (entry : Entry) → slice_get entries there ≡ Some entry → 0 < left
+    → IsAbove entries there spot place left → IsAbove entries entry.before spot place (left - 1)
 above_before entries tails are there spot place left entry at some above =
-    let same : above.stands.entry ≡ entry = let e : Some above.stands.entry ≡ Some entry = sym above.stands.there_is ∙ at in cc in
+    let same : above.stands.entry ≡ entry = let e : Some above.stands.entry ≡ Some entry =
+    sym above.stands.there_is ∙ at in cc in
     let place_is : entry.place ≡ above.here = ap (λ (e : Entry). e.place) (sym same) ∙ above.stands.place_is in
     let from_is : entry.from ≡ spot = ap (λ (e : Entry). e.from) (sym same) ∙ above.stands.from_is in
     let one : above.here - 1 + 1 ≡ entry.place = omega (arith, place_is, above.is, some) in
     record {
       here = above.here - 1;
-      stands = subst (λ (n : ℕ). StandsThere entries entry.before n (above.here - 1)) from_is ((are.places there entry at).before (above.here - 1) one);
+      stands = subst (λ (n : ℕ). StandsThere entries entry.before n (above.here - 1)) from_is
+          ((are.places there entry at).before (above.here - 1) one);
       is = omega (arith, above.is, some);
     }
 
-pub above_it : (entries : List Entry) (tails : List Tail) → AreChained entries tails → (there spot place left : ℕ) (entry : Entry) → slice_get entries there ≡ Some entry → left ≡ 0 → IsAbove entries there spot place left → slice_get (segments_from spot entries) place ≡ Some entry.segment
+pub above_it : (entries : List Entry) (tails : List Tail) → AreChained entries tails
+    → (there spot place left : ℕ) (entry : Entry) → slice_get entries there ≡ Some entry → left ≡ 0
+    → IsAbove entries there spot place left → slice_get (segments_from spot entries) place ≡ Some entry.segment
 above_it entries tails are there spot place left entry at none above =
-    let same : above.stands.entry ≡ entry = let e : Some above.stands.entry ≡ Some entry = sym above.stands.there_is ∙ at in cc in
-    let place_is : entry.place ≡ place = ap (λ (e : Entry). e.place) (sym same) ∙ (above.stands.place_is ∙ omega (arith, above.is, none)) in
+    let same : above.stands.entry ≡ entry = let e : Some above.stands.entry ≡ Some entry =
+    sym above.stands.there_is ∙ at in cc in
+    let place_is : entry.place ≡ place = ap (λ (e : Entry). e.place) (sym same)
+    ∙ (above.stands.place_is ∙ omega (arith, above.is, none)) in
     let from_is : entry.from ≡ spot = ap (λ (e : Entry). e.from) (sym same) ∙ above.stands.from_is in
     subst (λ (n : ℕ). slice_get (segments_from n entries) place ≡ Some entry.segment) from_is
-    (subst (λ (n : ℕ). slice_get (segments_from entry.from entries) n ≡ Some entry.segment) place_is (are.places there entry at).segment_is)
+    (subst (λ (n : ℕ). slice_get (segments_from entry.from entries) n ≡ Some entry.segment) place_is
+    (are.places there entry at).segment_is)
 
-pub above_low : (entries : List Entry) (there spot place left : ℕ) → IsAbove entries there spot place left → there < length entries
+pub above_low : (entries : List Entry) (there spot place left : ℕ) → IsAbove entries there spot place left
+    → there < length entries
 above_low entries there spot place left above = slice_get_within entries there above.stands.entry above.stands.there_is

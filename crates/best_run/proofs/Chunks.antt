@@ -29,7 +29,8 @@ both_are : (a b : Bool) → a ≡ true → b ≡ true → (a && b) ≡ true
 both_are true b first second = second
 both_are false b first second = absurd cc
 
-pub marked_append : (used : List Bool) (xs ys : List ℕ) → marked_all (marked_all used xs) ys ≡ marked_all used (xs ++ ys)
+pub marked_append : (used : List Bool) (xs ys : List ℕ)
+    → marked_all (marked_all used xs) ys ≡ marked_all used (xs ++ ys)
 marked_append used [] ys = refl
 marked_append used (x ∷ xs) ys = marked_append (set used x true) xs ys
 
@@ -41,40 +42,54 @@ set_stays (mark ∷ marks) zero (suc m) is = is
 set_stays (mark ∷ marks) (suc n) zero is = is
 set_stays (mark ∷ marks) (suc n) (suc m) is = set_stays marks n m is
 
-pub marked_stays : (marks : List Bool) (borders : List ℕ) (m : ℕ) → IsMarked marks m → IsMarked (marked_all marks borders) m
+pub marked_stays : (marks : List Bool) (borders : List ℕ) (m : ℕ) → IsMarked marks m
+    → IsMarked (marked_all marks borders) m
 marked_stays marks [] m is = is
-marked_stays marks (border ∷ borders) m is = marked_stays (set marks border true) borders m (set_stays marks border m is)
+marked_stays marks (border ∷ borders) m is = marked_stays (set marks border true) borders m
+    (set_stays marks border m is)
 
 -- what some pieces cross is free where they are
-pub free_all : (segment : Segment) (hops : List Hop) (used : List Bool) → AreFree used segment hops → misses used (borders_by segment hops) ≡ true
+pub free_all : (segment : Segment) (hops : List Hop) (used : List Bool) → AreFree used segment hops
+    → misses used (borders_by segment hops) ≡ true
 free_all segment [] used free = free
 free_all segment (hop ∷ hops) used free =
     let here = segment.borders.items in
-    let rest : misses (marked_all used here) (borders_by hop.segment hops) ≡ true = free_all hop.segment hops (marked_all used here) free.1 in
+    let rest : misses (marked_all used here) (borders_by hop.segment hops) ≡ true =
+    free_all hop.segment hops (marked_all used here) free.1 in
     free_misses used (here ++ borders_by hop.segment hops)
     (λ border among marked. elim ((among_both border here (borders_by hop.segment hops)).0 among) [
       | inl first ↦ misses_free used here free.0 border first marked
-      | inr later ↦ misses_free (marked_all used here) (borders_by hop.segment hops) rest border later (marked_stays used here border marked)
+      | inr later ↦ misses_free (marked_all used here) (borders_by hop.segment hops) rest border later
+          (marked_stays used here border marked)
     ])
 
 -- they are free where fewer borders are used
-pub free_freer : (segment : Segment) (hops : List Hop) (used others : List Bool) → Freer used others → AreFree used segment hops → AreFree others segment hops
+pub free_freer : (segment : Segment) (hops : List Hop) (used others : List Bool) → Freer used others
+    → AreFree used segment hops → AreFree others segment hops
 free_freer segment [] used others freer free =
-    free_misses others segment.borders.items (λ border among marked. misses_free used segment.borders.items free border among (freer_marked used others border freer marked))
+    free_misses others segment.borders.items (λ border among marked. misses_free used segment.borders.items free
+    border among (freer_marked used others border freer marked))
 free_freer segment (hop ∷ hops) used others freer free = (
-  free_misses others segment.borders.items (λ border among marked. misses_free used segment.borders.items free.0 border among (freer_marked used others border freer marked)),
-  free_freer hop.segment hops (marked_all used segment.borders.items) (marked_all others segment.borders.items) (freer_all segment.borders.items used others freer) free.1,
+  free_misses others segment.borders.items (λ border among marked. misses_free used segment.borders.items free.0
+      border among (freer_marked used others border freer marked)),
+  free_freer hop.segment hops (marked_all used segment.borders.items) (marked_all others segment.borders.items)
+      (freer_all segment.borders.items used others freer) free.1,
 )
 
 -- what is marked is marked in one of two others
 abbrev IsOfBoth : List Bool → List Bool → List Bool → Type 0
 IsOfBoth used others first = (border : ℕ) → IsMarked used border → IsMarked others border ⊎ IsMarked first border
 
-set_both : (used others first : List Bool) (n : ℕ) → n < length others → IsOfBoth used others first → IsOfBoth (set used n true) (set others n true) first
+set_both : (used others first : List Bool) (n : ℕ) → n < length others → IsOfBoth used others first
+    → IsOfBoth (set used n true) (set others n true) first
 set_both used others first n low both border marked =
     elim (set_cases used n border marked) [
       | inl same ↦ inl (subst (IsMarked (set others n true)) same (set_here others n low))
-      | inr before ↦ elim (both border before) [ inl other ↦ inl (set_stays others n border other) | inr known ↦ inr known ]
+      | inr before ↦ elim (both border before) [
+        | inl other ↦ inl (set_stays others n border other)
+        | inr known ↦ inr
+            known
+      ]
     ]
   where
     set_here : (marks : List Bool) (n : ℕ) → n < length marks → IsMarked (set marks n true) n
@@ -82,10 +97,12 @@ set_both used others first n low both border marked =
     set_here (mark ∷ marks) zero low = refl
     set_here (mark ∷ marks) (suc n) low = set_here marks n (omega (arith, low))
 
-all_of_both : (borders : List ℕ) (used others first : List Bool) → BordersFit borders → length others ≡ 279 → IsOfBoth used others first → IsOfBoth (marked_all used borders) (marked_all others borders) first
+all_of_both : (borders : List ℕ) (used others first : List Bool) → BordersFit borders → length others ≡ 279
+    → IsOfBoth used others first → IsOfBoth (marked_all used borders) (marked_all others borders) first
 all_of_both [] used others first fit whole both = both
 all_of_both (border ∷ borders) used others first fit whole both =
-    all_of_both borders (set used border true) (set others border true) first fit.1 (length-set others border true ∙ whole)
+    all_of_both borders (set used border true) (set others border true) first fit.1
+    (length-set others border true ∙ whole)
     (set_both used others first border (omega (arith, fit.0, whole)) both)
 
 fits_left : (xs ys : List ℕ) → BordersFit (xs ++ ys) → BordersFit xs
@@ -102,10 +119,13 @@ fits_both (x ∷ xs) ys first second = (first.0, fits_both xs ys first.1 second)
 
 misses_right : (first : List Bool) (xs ys : List ℕ) → misses first (xs ++ ys) ≡ true → misses first ys ≡ true
 misses_right first xs ys free =
-    free_misses first ys (λ border among marked. misses_free first (xs ++ ys) free border ((among_both border xs ys).1 (inr among)) marked)
+    free_misses first ys (λ border among marked. misses_free first (xs ++ ys) free border
+    ((among_both border xs ys).1 (inr among)) marked)
 
 -- pieces that are free by themselves are free where none of their borders is used
-free_in : (segment : Segment) (hops : List Hop) (used others first : List Bool) → length others ≡ 279 → IsOfBoth used others first → BordersFit (borders_by segment hops) → AreFree others segment hops → misses first (borders_by segment hops) ≡ true → AreFree used segment hops
+free_in : (segment : Segment) (hops : List Hop) (used others first : List Bool) → length others ≡ 279
+    → IsOfBoth used others first → BordersFit (borders_by segment hops) → AreFree others segment hops
+    → misses first (borders_by segment hops) ≡ true → AreFree used segment hops
 free_in segment [] used others first whole both fit free misses_it =
     free_misses used segment.borders.items (λ border among marked. elim (both border marked) [
       | inl other ↦ misses_free others segment.borders.items free border among other
@@ -116,22 +136,28 @@ free_in segment (hop ∷ hops) used others first whole both fit free misses_it =
     let rest = borders_by hop.segment hops in (
       free_misses used here (λ border among marked. elim (both border marked) [
         | inl other ↦ misses_free others here free.0 border among other
-        | inr known ↦ misses_free first (here ++ rest) misses_it border ((among_both border here rest).1 (inl among)) known
+        | inr known ↦ misses_free first (here ++ rest) misses_it border ((among_both border here rest).1 (inl among))
+            known
       ]),
       free_in hop.segment hops (marked_all used here) (marked_all others here) first (length_marked others here ∙ whole)
-          (all_of_both here used others first (fits_left here rest fit) whole both) (fits_right here rest fit) free.1 (misses_right first here rest misses_it),
+          (all_of_both here used others first (fits_left here rest fit) whole both) (fits_right here rest fit) free.1
+          (misses_right first here rest misses_it),
     )
 
-pub free_used : (segment : Segment) (hops : List Hop) (used : List Bool) → BordersFit (borders_by segment hops) → AreFree none_used segment hops → misses used (borders_by segment hops) ≡ true → AreFree used segment hops
+pub free_used : (segment : Segment) (hops : List Hop) (used : List Bool) → BordersFit (borders_by segment hops)
+    → AreFree none_used segment hops → misses used (borders_by segment hops) ≡ true → AreFree used segment hops
 free_used segment hops used fit free misses_it =
-    free_in segment hops used none_used used (length_replicate 279 false) (λ border marked. inr marked) fit free misses_it
+    free_in segment hops used none_used used (length_replicate 279 false) (λ border marked. inr marked) fit free
+    misses_it
 
 -- the borders of some pieces have numbers
-pub fits_by : (task : Task) → IsFit task → (segment : Segment) (hops : List Hop) (to : ℕ) → BordersFit segment.borders.items → LeadsTo task segment hops to → BordersFit (borders_by segment hops)
+pub fits_by : (task : Task) → IsFit task → (segment : Segment) (hops : List Hop) (to : ℕ)
+    → BordersFit segment.borders.items → LeadsTo task segment hops to → BordersFit (borders_by segment hops)
 fits_by task fit segment [] to fits leads = fits
 fits_by task fit segment (hop ∷ hops) to fits leads =
     let next = leading_fits task fit segment.to hop.place hop.segment leads.1 in
-    fits_both segment.borders.items (borders_by hop.segment hops) fits (fits_by task fit hop.segment hops to next.1.borders leads.2)
+    fits_both segment.borders.items (borders_by hop.segment hops) fits
+    (fits_by task fit hop.segment hops to next.1.borders leads.2)
 
 -- some borders are used, and a run has come to a stop
 abbrev pub over : Settled → List ℕ → Settled
@@ -148,7 +174,8 @@ arrived task run to =
 
 module _ (task : Task) (fit : IsFit task) where
   -- a side on the way changes nothing
-  arrived_by : (run : PartialRun) (segment : Segment) (to : ℕ) → stop_in (node_at task segment.to) ≡ false → arrived task (along task run segment) to ≡ arrived task run to
+  arrived_by : (run : PartialRun) (segment : Segment) (to : ℕ) → stop_in (node_at task segment.to) ≡ false
+      → arrived task (along task run segment) to ≡ arrived task run to
   arrived_by run segment to side =
       let At : ℕ → ℕ → List Bool → PartialRun = λ left value visited. record run {
         head = to;
@@ -156,18 +183,26 @@ module _ (task : Task) (fit : IsFit task) where
         value = value + value_in (node_at task to);
         visited = marked_if (stop_in (node_at task to)) visited to;
       } in
-      let one : left_after (stop_in (node_at task segment.to)) run.left ≡ run.left = ap (λ b. left_after b run.left) side in
-      let two : run.value + value_in (node_at task segment.to) ≡ run.value = omega (arith, side_value task fit segment.to side) in
-      let three : marked_if (stop_in (node_at task segment.to)) run.visited segment.to ≡ run.visited = ap (λ b. marked_if b run.visited segment.to) side in
-      ap (λ (l : ℕ). At l (run.value + value_in (node_at task segment.to)) (marked_if (stop_in (node_at task segment.to)) run.visited segment.to)) one
+      let one : left_after (stop_in (node_at task segment.to)) run.left ≡ run.left =
+      ap (λ b. left_after b run.left) side in
+      let two : run.value + value_in (node_at task segment.to) ≡ run.value =
+      omega (arith, side_value task fit segment.to side) in
+      let three : marked_if (stop_in (node_at task segment.to)) run.visited segment.to ≡ run.visited =
+      ap (λ b. marked_if b run.visited segment.to) side in
+      ap (λ (l : ℕ). At l (run.value + value_in (node_at task segment.to))
+      (marked_if (stop_in (node_at task segment.to)) run.visited segment.to)) one
       ∙ ap (λ (v : ℕ). At run.left v (marked_if (stop_in (node_at task segment.to)) run.visited segment.to)) two
       ∙ ap (λ (m : List Bool). At run.left run.value m) three
 
-  come_by : (run : PartialRun) (segment : Segment) (to : ℕ) → stop_in (node_at task segment.to) ≡ false → may_come true (along task run segment) to ≡ may_come true run to
+  come_by : (run : PartialRun) (segment : Segment) (to : ℕ) → stop_in (node_at task segment.to) ≡ false
+      → may_come true (along task run segment) to ≡ may_come true run to
   come_by run segment to side =
-      let one : left_after (stop_in (node_at task segment.to)) run.left ≡ run.left = ap (λ b. left_after b run.left) side in
-      let three : marked_if (stop_in (node_at task segment.to)) run.visited segment.to ≡ run.visited = ap (λ b. marked_if b run.visited segment.to) side in
-      ap (λ (l : ℕ). nat_lt 0 l && not (get_or (marked_if (stop_in (node_at task segment.to)) run.visited segment.to) to false)) one
+      let one : left_after (stop_in (node_at task segment.to)) run.left ≡ run.left =
+      ap (λ b. left_after b run.left) side in
+      let three : marked_if (stop_in (node_at task segment.to)) run.visited segment.to ≡ run.visited =
+      ap (λ b. marked_if b run.visited segment.to) side in
+      ap (λ (l : ℕ). nat_lt 0 l && not (get_or (marked_if (stop_in (node_at task segment.to)) run.visited segment.to)
+      to false)) one
       ∙ ap (λ (m : List Bool). nat_lt 0 run.left && not (get_or m to false)) three
 
   -- what comes after a piece begins with a way
@@ -180,13 +215,22 @@ module _ (task : Task) (fit : IsFit task) where
     pub free : AreFree settled.used segment hops
     pub come : may_come true run to ≡ true
     pub completes : Completes task (partial (over settled (borders_by segment hops)) (arrived task run to)) later
-    pub total : total_after task (partial (using settled segment) (along task run segment)) moves ≡ total_after task (partial (over settled (borders_by segment hops)) (arrived task run to)) later
+    pub total : total_after task (partial (using settled segment) (along task run segment)) moves
+        ≡ total_after task (partial (over settled (borders_by segment hops)) (arrived task run to)) later
 
-  chunk_more : (settled : Settled) (run : PartialRun) (segment next : Segment) (place : ℕ) (moves : List Move) → stop_in (node_at task segment.to) ≡ false → ends_in (node_at task segment.to) ≡ false → LeadsFrom task segment.to place next → misses settled.used segment.borders.items ≡ true → Chunk (using settled segment) (along task run segment) next moves → Chunk settled run segment (go place next ∷ moves)
+  chunk_more : (settled : Settled) (run : PartialRun) (segment next : Segment) (place : ℕ) (moves : List Move)
+      → stop_in (node_at task segment.to) ≡ false → ends_in (node_at task segment.to) ≡ false
+      → LeadsFrom task segment.to place next → misses settled.used segment.borders.items ≡ true
+      → Chunk (using settled segment) (along task run segment) next moves
+      → Chunk settled run segment (go place next ∷ moves)
   chunk_more settled run segment next place moves side passes leads free rest =
-      let same : partial (over (using settled segment) (borders_by next rest.hops)) (arrived task (along task run segment) rest.to) ≡ partial (over settled (segment.borders.items ++ borders_by next rest.hops)) (arrived task run rest.to) =
-      ap (λ (u : List Bool). partial (record settled { used = u }) (arrived task (along task run segment) rest.to)) (marked_append settled.used segment.borders.items (borders_by next rest.hops))
-      ∙ ap (λ (r : PartialRun). partial (over settled (segment.borders.items ++ borders_by next rest.hops)) r) (arrived_by run segment rest.to side)
+      let same : partial (over (using settled segment) (borders_by next rest.hops))
+      (arrived task (along task run segment) rest.to)
+      ≡ partial (over settled (segment.borders.items ++ borders_by next rest.hops)) (arrived task run rest.to) =
+      ap (λ (u : List Bool). partial (record settled { used = u }) (arrived task (along task run segment) rest.to))
+      (marked_append settled.used segment.borders.items (borders_by next rest.hops))
+      ∙ ap (λ (r : PartialRun). partial (over settled (segment.borders.items ++ borders_by next rest.hops)) r)
+      (arrived_by run segment rest.to side)
       in
       record {
         hops = record { place = place; segment = next } ∷ rest.hops;
@@ -200,7 +244,10 @@ module _ (task : Task) (fit : IsFit task) where
         total = rest.total ∙ ap (λ s. total_after task s rest.later) same;
       }
 
-  pub chunk_of : (moves : List Move) (settled : Settled) (run : PartialRun) (segment : Segment) (stop : Bool) → stop_in (node_at task segment.to) ≡ stop → can_take task run settled.used segment ≡ true → Completes task (partial (using settled segment) (along task run segment)) moves → Chunk settled run segment moves
+  pub chunk_of : (moves : List Move) (settled : Settled) (run : PartialRun) (segment : Segment) (stop : Bool)
+      → stop_in (node_at task segment.to) ≡ stop → can_take task run settled.used segment ≡ true
+      → Completes task (partial (using settled segment) (along task run segment)) moves
+      → Chunk settled run segment moves
   chunk_of moves settled run segment true is can completes =
       record {
         hops = [];
@@ -209,7 +256,9 @@ module _ (task : Task) (fit : IsFit task) where
         shorter = omega arith;
         leads = (is, refl);
         free = take_free task run settled.used segment can;
-        come = sym (ap (λ b. may_come b run segment.to) is) ∙ both_first (may_come (stop_in (node_at task segment.to)) run segment.to) (misses settled.used segment.borders.items) can;
+        come = sym (ap (λ b. may_come b run segment.to) is)
+            ∙ both_first (may_come (stop_in (node_at task segment.to)) run segment.to)
+            (misses settled.used segment.borders.items) can;
         completes = completes;
         total = refl;
       }
@@ -218,41 +267,60 @@ module _ (task : Task) (fit : IsFit task) where
   chunk_of (begin stop place next ∷ moves) settled run segment false is can completes = absurd completes.0
   chunk_of (go place next ∷ moves) settled run segment false is can completes =
       let may = completes.0 in
-      chunk_more settled run segment next place moves is may.passes may.leads (take_free task run settled.used segment can)
-      (chunk_of moves (using settled segment) (along task run segment) next (stop_in (node_at task next.to)) refl may.taken completes.1)
+      chunk_more settled run segment next place moves is may.passes may.leads
+      (take_free task run settled.used segment can)
+      (chunk_of moves (using settled segment) (along task run segment) next (stop_in (node_at task next.to)) refl
+      may.taken completes.1)
   chunk_of (turn place next ∷ moves) settled run segment false is can completes =
       absurd (let wrong : false ≡ true = sym is ∙ completes.0.stands in cc)
   chunk_of (settle ∷ moves) settled run segment false is can completes =
-      absurd (let wrong : false ≡ true = sym is ∙ both_first (stop_in (node_at task segment.to)) (may_earn settled.kind settled.cap (along task run segment).most (along task run segment).value) completes.0 in cc)
+      absurd (let wrong : false ≡ true = sym is ∙ both_first (stop_in (node_at task segment.to))
+      (may_earn settled.kind settled.cap (along task run segment).most (along task run segment).value)
+      completes.0 in cc)
 
   -- whatever comes after a way comes after its pieces
-  pub record Back (settled : Settled) (run : PartialRun) (segment : Segment) (hops : List Hop) (to : ℕ) (later : List Move) : Type 0 where
+  pub record Back (settled : Settled) (run : PartialRun) (segment : Segment) (hops : List Hop) (to : ℕ)
+      (later : List Move) : Type 0 where
     pub can : can_take task run settled.used segment ≡ true
     pub moves : List Move
     pub completes : Completes task (partial (using settled segment) (along task run segment)) moves
-    pub total : total_after task (partial (using settled segment) (along task run segment)) moves ≡ total_after task (partial (over settled (borders_by segment hops)) (arrived task run to)) later
+    pub total : total_after task (partial (using settled segment) (along task run segment)) moves
+        ≡ total_after task (partial (over settled (borders_by segment hops)) (arrived task run to)) later
     pub marks_are : Go segment.step ∷ marks_of moves ≡ go_along (steps_by segment hops) ++ marks_of later
 
-  pub chunk_back : (hops : List Hop) (settled : Settled) (run : PartialRun) (segment : Segment) (to : ℕ) (later : List Move) → LeadsTo task segment hops to → AreFree settled.used segment hops → may_come true run to ≡ true → Completes task (partial (over settled (borders_by segment hops)) (arrived task run to)) later → Back settled run segment hops to later
+  pub chunk_back : (hops : List Hop) (settled : Settled) (run : PartialRun) (segment : Segment) (to : ℕ)
+      (later : List Move) → LeadsTo task segment hops to → AreFree settled.used segment hops
+      → may_come true run to ≡ true → Completes task
+      (partial (over settled (borders_by segment hops)) (arrived task run to)) later
+      → Back settled run segment hops to later
   chunk_back [] settled run segment to later leads free come completes =
       let same : to ≡ segment.to = sym leads.1 in
       record {
-        can = both_are (may_come (stop_in (node_at task segment.to)) run segment.to) (misses settled.used segment.borders.items)
+        can = both_are (may_come (stop_in (node_at task segment.to)) run segment.to)
+            (misses settled.used segment.borders.items)
             (ap (λ b. may_come b run segment.to) leads.0 ∙ (ap (λ (n : ℕ). may_come true run n) leads.1 ∙ come)) free;
         moves = later;
-        completes = subst (λ (n : ℕ). Completes task (partial (using settled segment) (arrived task run n)) later) same completes;
+        completes = subst (λ (n : ℕ). Completes task (partial (using settled segment) (arrived task run n)) later)
+            same completes;
         total = ap (λ (n : ℕ). total_after task (partial (using settled segment) (arrived task run n)) later) leads.1;
         marks_are = refl;
       }
   chunk_back (hop ∷ hops) settled run segment to later leads free come completes =
       let side = leads.0.0 in
-      let same : partial (over (using settled segment) (borders_by hop.segment hops)) (arrived task (along task run segment) to) ≡ partial (over settled (segment.borders.items ++ borders_by hop.segment hops)) (arrived task run to) =
-      ap (λ (u : List Bool). partial (record settled { used = u }) (arrived task (along task run segment) to)) (marked_append settled.used segment.borders.items (borders_by hop.segment hops))
-      ∙ ap (λ (r : PartialRun). partial (over settled (segment.borders.items ++ borders_by hop.segment hops)) r) (arrived_by run segment to side)
+      let same : partial (over (using settled segment) (borders_by hop.segment hops))
+      (arrived task (along task run segment) to) ≡ partial
+      (over settled (segment.borders.items ++ borders_by hop.segment hops)) (arrived task run to) =
+      ap (λ (u : List Bool). partial (record settled { used = u }) (arrived task (along task run segment) to))
+      (marked_append settled.used segment.borders.items (borders_by hop.segment hops))
+      ∙ ap (λ (r : PartialRun). partial (over settled (segment.borders.items ++ borders_by hop.segment hops)) r)
+      (arrived_by run segment to side)
       in
-      let rest : Back (using settled segment) (along task run segment) hop.segment hops to later = chunk_back hops (using settled segment) (along task run segment) hop.segment to later leads.2 free.1 (come_by run segment to side ∙ come) (subst (λ s. Completes task s later) (sym same) completes) in
+      let rest : Back (using settled segment) (along task run segment) hop.segment hops to later =
+      chunk_back hops (using settled segment) (along task run segment) hop.segment to later leads.2 free.1
+      (come_by run segment to side ∙ come) (subst (λ s. Completes task s later) (sym same) completes) in
       record {
-        can = both_are (may_come (stop_in (node_at task segment.to)) run segment.to) (misses settled.used segment.borders.items) (ap (λ b. may_come b run segment.to) side) free.0;
+        can = both_are (may_come (stop_in (node_at task segment.to)) run segment.to)
+            (misses settled.used segment.borders.items) (ap (λ b. may_come b run segment.to) side) free.0;
         moves = go hop.place hop.segment ∷ rest.moves;
         completes = (record { passes = leads.0.1; leads = leads.1; taken = rest.can }, rest.completes);
         total = rest.total ∙ ap (λ s. total_after task s later) same;

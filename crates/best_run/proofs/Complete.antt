@@ -44,7 +44,8 @@ next_stop at next stop there joined =
       | inr over ↦ absurd (no_stop at.hex at.end stop next there over)
     ]
   where
-    no_stop : (hex : Hex) (end : End) (stop : Stop) (next : Spot) → stop_at_end hex end ≡ Some stop → across_end hex end ≡ Some next → ⊥
+    no_stop : (hex : Hex) (end : End) (stop : Stop) (next : Spot) → stop_at_end hex end ≡ Some stop
+        → across_end hex end ≡ Some next → ⊥
     no_stop hex (AtSide side) stop next is over = cc
     no_stop hex (AtStop number) stop next is over = cc
 
@@ -54,15 +55,18 @@ Stands [] at = ⊥
 Stands (step ∷ before) at = left_at step ≡ at
 
 -- what is visited at the beginning of a walk is visited by it
-pub visited_first : (later : List Step) (step : Step) (before : List Step) (stop : Stop) → IsAmong stop (visited (step ∷ before)) → IsAmong stop (visited (onto later (step ∷ before)))
+pub visited_first : (later : List Step) (step : Step) (before : List Step) (stop : Stop)
+    → IsAmong stop (visited (step ∷ before)) → IsAmong stop (visited (onto later (step ∷ before)))
 visited_first [] step before stop among = among
 visited_first (next ∷ later) step before stop among =
-    visited_first later next (step ∷ before) stop ((among_both stop (listed (stop_of (left_at next))) (visited (step ∷ before))).1 (inr among))
+    visited_first later next (step ∷ before) stop ((among_both stop (listed (stop_of (left_at next)))
+    (visited (step ∷ before))).1 (inr among))
 
 -- none of these stops is passed over by a run that begins at a number
 abbrev pub AreAhead : Task → ℕ → List Stop → Type 0
 AreAhead task home stops =
-    (spot : Spot) (stop : Stop) → stop_of spot ≡ Some stop → IsAmong stop stops → ¬ IsMarked (own_before task home) (spot_number spot)
+    (spot : Spot) (stop : Stop) → stop_of spot ≡ Some stop → IsAmong stop stops
+    → ¬ IsMarked (own_before task home) (spot_number spot)
 
 -- what a run keeps as it goes on
 pub record StaysSo (settled after : Settled) (run done : PartialRun) : Type 0 where
@@ -75,18 +79,26 @@ pub record StaysSo (settled after : Settled) (run done : PartialRun) : Type 0 wh
   pub first : done.first ≡ run.first
   pub turned : done.turned ≡ run.turned
 
-module _ (position : Position) (company : Company) (kinds : List Kind) (task : Task) (describes : Describes position company kinds task) (most : ℕ) (others : List ℕ) where
+module _ (position : Position) (company : Company) (kinds : List Kind) (task : Task)
+    (describes : Describes position company kinds task) (most : ℕ) (others : List ℕ) where
   -- what some moves tell of a run
   abbrev pub Told : Spot → List Stop → List ℕ → Settled → PartialRun → Type 0
   Told at stops borders settled run = Tells task position company most others at stops borders settled run
 
   -- the next step of a walk that holds, by its piece
-  pub record CanGo (at : Spot) (stops : List Stop) (borders : List ℕ) (settled : Settled) (run : PartialRun) (step : Step) (segment : Segment) : Type 0 where
+  pub record CanGo (at : Spot) (stops : List Stop) (borders : List ℕ) (settled : Settled) (run : PartialRun)
+      (step : Step) (segment : Segment) : Type 0 where
     pub taken : can_take task run settled.used segment ≡ true
-    pub told : Told (left_at step) (listed (stop_of (left_at step)) ++ stops) (border_at (entered_at step).hex (entered_at step).end ++ borders) (using settled segment) (along task run segment)
+    pub told : Told (left_at step) (listed (stop_of (left_at step)) ++ stops)
+        (border_at (entered_at step).hex (entered_at step).end ++ borders) (using settled segment)
+        (along task run segment)
 
   -- the borders of a step are free
-  step_free : (at : Spot) (stops : List Stop) (borders : List ℕ) (settled : Settled) (run : PartialRun) → Told at stops borders settled run → (step : Step) (segment : Segment) → IsSegmentOf step segment → AreDistinct (border_at (entered_at step).hex (entered_at step).end ++ borders) → ((border : ℕ) → IsAmong border (border_at (entered_at step).hex (entered_at step).end ++ borders) → ¬ IsAmong border others) → misses settled.used segment.borders.items ≡ true
+  step_free : (at : Spot) (stops : List Stop) (borders : List ℕ) (settled : Settled) (run : PartialRun)
+      → Told at stops borders settled run → (step : Step) (segment : Segment) → IsSegmentOf step segment
+      → AreDistinct (border_at (entered_at step).hex (entered_at step).end ++ borders)
+      → ((border : ℕ) → IsAmong border (border_at (entered_at step).hex (entered_at step).end ++ borders)
+      → ¬ IsAmong border others) → misses settled.used segment.borders.items ≡ true
   step_free at stops borders settled run tells step segment is distinct free =
       let new = border_at (entered_at step).hex (entered_at step).end in
       free_misses settled.used segment.borders.items
@@ -98,73 +110,168 @@ module _ (position : Position) (company : Company) (kinds : List Kind) (task : T
       ])
 
   -- so the step can be taken
-  by_left : (at : Spot) (stops : List Stop) (borders : List ℕ) (settled : Settled) (run : PartialRun) → Told at stops borders settled run → (step : Step) (segment : Segment) → IsSegmentOf step segment → misses settled.used segment.borders.items ≡ true → (found : Option Stop) → stop_of (left_at step) ≡ found → AreDistinct (listed found ++ stops) → length (listed found ++ stops) ≤ most → AreAhead task run.home (listed found) → CanGo at stops borders settled run step segment
+  by_left : (at : Spot) (stops : List Stop) (borders : List ℕ) (settled : Settled) (run : PartialRun)
+      → Told at stops borders settled run → (step : Step) (segment : Segment) → IsSegmentOf step segment
+      → misses settled.used segment.borders.items ≡ true → (found : Option Stop) → stop_of (left_at step) ≡ found
+      → AreDistinct (listed found ++ stops) → length (listed found ++ stops) ≤ most
+      → AreAhead task run.home (listed found) → CanGo at stops borders settled run step segment
   by_left at stops borders settled run tells step segment is free None side distinct few ahead =
-      let node : IsSideNode (node_at task segment.to) = subst (λ (n : ℕ). IsSideNode (node_at task n)) (sym is.to) (node_left position company kinds task describes (left_at step) None side) in
+      let node : IsSideNode (node_at task segment.to) =
+      subst (λ (n : ℕ). IsSideNode (node_at task n)) (sym is.to)
+      (node_left position company kinds task describes (left_at step) None side) in
       record {
-        taken = both (may_come (stop_in (node_at task segment.to)) run segment.to) (misses settled.used segment.borders.items) (ap (λ b. may_come b run segment.to) node.stops) free;
-        told = subst (λ o. Told (left_at step) (listed o ++ stops) (border_at (entered_at step).hex (entered_at step).end ++ borders) (using settled segment) (along task run segment)) (sym side)
-            (to_side position company kinds task describes most others at stops borders settled run tells step segment is side);
+        taken = both (may_come (stop_in (node_at task segment.to)) run segment.to)
+            (misses settled.used segment.borders.items) (ap (λ b. may_come b run segment.to) node.stops) free;
+        told = subst (λ o. Told (left_at step) (listed o ++ stops)
+            (border_at (entered_at step).hex (entered_at step).end ++ borders) (using settled segment)
+            (along task run segment)) (sym side)
+            (to_side position company kinds task describes most others at stops borders settled run tells step segment
+            is side);
       }
   by_left at stops borders settled run tells step segment is free (Some stop) there distinct few ahead =
-      let node : IsStopNode position company stop (node_at task segment.to) = subst (λ (n : ℕ). IsStopNode position company stop (node_at task n)) (sym is.to) (node_left position company kinds task describes (left_at step) (Some stop) there) in
+      let node : IsStopNode position company stop (node_at task segment.to) =
+      subst (λ (n : ℕ). IsStopNode position company stop (node_at task n)) (sym is.to)
+      (node_left position company kinds task describes (left_at step) (Some stop) there) in
       let left : 0 < run.left = omega (arith, tells.left) in
-      let new : IsMarked run.visited segment.to → ⊥ = λ marked. elim ((tells.visited (left_at step) stop there).0 (subst (IsMarked run.visited) is.to marked)) [
+      let new : IsMarked run.visited segment.to → ⊥ =
+      λ marked. elim ((tells.visited (left_at step) stop there).0 (subst (IsMarked run.visited) is.to marked)) [
         | inl here ↦ distinct.0 here
         | inr passed ↦ ahead (left_at step) stop there (inl refl) passed
       ] in
       record {
-        taken = both (may_come (stop_in (node_at task segment.to)) run segment.to) (misses settled.used segment.borders.items)
-            (ap (λ b. may_come b run segment.to) node.stops ∙ both (ltb 0 run.left) (not (get_or run.visited segment.to false)) (lt-ltb 0 run.left left) (not_marked (get_or run.visited segment.to false) new)) free;
-        told = subst (λ o. Told (left_at step) (listed o ++ stops) (border_at (entered_at step).hex (entered_at step).end ++ borders) (using settled segment) (along task run segment)) (sym there)
-            (to_stop position company kinds task describes most others at stops borders settled run tells step segment is stop there left);
+        taken = both (may_come (stop_in (node_at task segment.to)) run segment.to)
+            (misses settled.used segment.borders.items)
+            (ap (λ b. may_come b run segment.to) node.stops
+            ∙ both (ltb 0 run.left) (not (get_or run.visited segment.to false)) (lt-ltb 0 run.left left)
+            (not_marked (get_or run.visited segment.to false) new)) free;
+        told = subst (λ o. Told (left_at step) (listed o ++ stops)
+            (border_at (entered_at step).hex (entered_at step).end ++ borders) (using settled segment)
+            (along task run segment)) (sym there)
+            (to_stop position company kinds task describes most others at stops borders settled run tells step segment
+            is stop there left);
       }
 
-  pub can_go : (at : Spot) (stops : List Stop) (borders : List ℕ) (settled : Settled) (run : PartialRun) → Told at stops borders settled run → (step : Step) (segment : Segment) → IsSegmentOf step segment → AreDistinct (listed (stop_of (left_at step)) ++ stops) → length (listed (stop_of (left_at step)) ++ stops) ≤ most → AreDistinct (border_at (entered_at step).hex (entered_at step).end ++ borders) → ((border : ℕ) → IsAmong border (border_at (entered_at step).hex (entered_at step).end ++ borders) → ¬ IsAmong border others) → AreAhead task run.home (listed (stop_of (left_at step))) → CanGo at stops borders settled run step segment
+  pub can_go : (at : Spot) (stops : List Stop) (borders : List ℕ) (settled : Settled) (run : PartialRun)
+      → Told at stops borders settled run → (step : Step) (segment : Segment) → IsSegmentOf step segment
+      → AreDistinct (listed (stop_of (left_at step)) ++ stops)
+      → length (listed (stop_of (left_at step)) ++ stops) ≤ most
+      → AreDistinct (border_at (entered_at step).hex (entered_at step).end ++ borders)
+      → ((border : ℕ) → IsAmong border (border_at (entered_at step).hex (entered_at step).end ++ borders)
+      → ¬ IsAmong border others) → AreAhead task run.home (listed (stop_of (left_at step)))
+      → CanGo at stops borders settled run step segment
   can_go at stops borders settled run tells step segment is stops_once few borders_once free ahead =
       by_left at stops borders settled run tells step segment is
       (step_free at stops borders settled run tells step segment is borders_once free)
       (stop_of (left_at step)) refl stops_once few ahead
 
   -- a run may go on from a spot with this number
-  pub passes_by : (at : Spot) (found : Option Stop) → stop_of at ≡ found → (number : ℕ) → number ≡ spot_number at → (next : Spot) → AreJoined at next → IfSome (stop_of next) (λ stop. ¬ (is_red position stop ≡ true)) → IfSome (stop_of next) (λ stop. ¬ IsFull position stop company) → ends_in (node_at task number) ≡ false
+  pub passes_by : (at : Spot) (found : Option Stop) → stop_of at ≡ found → (number : ℕ) → number ≡ spot_number at
+      → (next : Spot) → AreJoined at next → IfSome (stop_of next) (λ stop. ¬ (is_red position stop ≡ true))
+      → IfSome (stop_of next) (λ stop. ¬ IsFull position stop company) → ends_in (node_at task number) ≡ false
   passes_by at None side number is next joined red full =
-      let node : IsSideNode (node_at task number) = subst (λ (n : ℕ). IsSideNode (node_at task n)) (sym is) (node_left position company kinds task describes at None side) in
+      let node : IsSideNode (node_at task number) = subst (λ (n : ℕ). IsSideNode (node_at task n)) (sym is)
+      (node_left position company kinds task describes at None side) in
       node.passes
   passes_by at (Some stop) there number is next joined red full =
-      let node : IsStopNode position company stop (node_at task number) = subst (λ (n : ℕ). IsStopNode position company stop (node_at task n)) (sym is) (node_left position company kinds task describes at (Some stop) there) in
+      let node : IsStopNode position company stop (node_at task number) =
+      subst (λ (n : ℕ). IsStopNode position company stop (node_at task n)) (sym is)
+      (node_left position company kinds task describes at (Some stop) there) in
       let same : stop_of next ≡ Some stop = next_stop at next stop there joined in
-      node.passes.1
-      (subst (λ o. IfSome o (λ s. ¬ (is_red position s ≡ true))) same red, subst (λ o. IfSome o (λ s. ¬ IsFull position s company)) same full)
+      node.passes.1 (
+        subst (λ o. IfSome o (λ s. ¬ (is_red position s ≡ true))) same red,
+        subst
+            (λ o. IfSome o (λ s. ¬ IsFull position s company)) same full,
+      )
 
   -- where a walk that ends at a stop stands, there is one
-  pub stands_at_stop : (walk : List Step) (at : Spot) → Stands walk at → EndsAtStop walk → (number : ℕ) → number ≡ spot_number at → stop_in (node_at task number) ≡ true
+  pub stands_at_stop : (walk : List Step) (at : Spot) → Stands walk at → EndsAtStop walk → (number : ℕ)
+      → number ≡ spot_number at → stop_in (node_at task number) ≡ true
   stands_at_stop [] at stands ends number is = absurd stands
   stands_at_stop (step ∷ before) at stands ends number is =
       let there : stop_of at ≡ Some ends.0 = ap stop_of (sym stands) ∙ ends.1 in
-      let node : IsStopNode position company ends.0 (node_at task (spot_number at)) = node_left position company kinds task describes at (Some ends.0) there in
+      let node : IsStopNode position company ends.0 (node_at task (spot_number at)) =
+      node_left position company kinds task describes at (Some ends.0) there in
       subst (λ (n : ℕ). stop_in (node_at task n) ≡ true) (sym is) node.stops
 
   -- a run that has been gone over is settled, if what comes after it can be finished
-  pub settle_here : (walk : List Step) (at : Spot) (settled : Settled) (run : PartialRun) (total : ℕ) → Told at (visited walk) (crossed walk) settled run → Stands walk at → EndsAtStop walk → may_earn settled.kind settled.cap run.most (earned position walk) ≡ true → CanFinish task (between (with_run_settled settled run)) total → CanFinish task (partial settled run) total
+  pub settle_here : (walk : List Step) (at : Spot) (settled : Settled) (run : PartialRun) (total : ℕ)
+      → Told at (visited walk) (crossed walk) settled run → Stands walk at → EndsAtStop walk
+      → may_earn settled.kind settled.cap run.most (earned position walk) ≡ true
+      → CanFinish task (between (with_run_settled settled run)) total → CanFinish task (partial settled run) total
   settle_here walk at settled run total tells stands ends may rest =
       let stops : stop_in (node_at task run.head) ≡ true = stands_at_stop walk at stands ends run.head tells.head in
-      let earns : may_earn settled.kind settled.cap run.most run.value ≡ true = subst (λ (v : ℕ). may_earn settled.kind settled.cap run.most v ≡ true) (sym tells.value) may in
-      (settle ∷ rest.0, (both (stop_in (node_at task run.head)) (may_earn settled.kind settled.cap run.most run.value) stops earns, rest.1), rest.2)
+      let earns : may_earn settled.kind settled.cap run.most run.value ≡ true =
+      subst (λ (v : ℕ). may_earn settled.kind settled.cap run.most v ≡ true) (sym tells.value) may in (
+        settle ∷ rest.0,
+        (
+          both (stop_in (node_at task run.head)) (may_earn settled.kind settled.cap run.most run.value)
+              stops earns,
+          rest.1,
+        ),
+        rest.2,
+      )
 
   -- the steps to the end of a walk, if what comes after them can be finished
-  pub walk_on : (later : List Step) (step : Step) (before : List Step) (settled : Settled) (run : PartialRun) (total : ℕ) → Told (left_at step) (visited (step ∷ before)) (crossed (step ∷ before)) settled run → Holds position company most others (onto later (step ∷ before)) → AreAhead task run.home (visited (onto later (step ∷ before))) → ((last : Spot) (after : Settled) (done : PartialRun) → StaysSo settled after run done → Stands (onto later (step ∷ before)) last → Told last (visited (onto later (step ∷ before))) (crossed (onto later (step ∷ before))) after done → CanFinish task (partial after done) total) → CanFinish task (partial settled run) total
+  pub walk_on : (later : List Step) (step : Step) (before : List Step) (settled : Settled) (run : PartialRun)
+      (total : ℕ) → Told (left_at step) (visited (step ∷ before)) (crossed (step ∷ before)) settled run
+      → Holds position company most others (onto later (step ∷ before))
+      → AreAhead task run.home (visited (onto later (step ∷ before)))
+      → ((last : Spot) (after : Settled) (done : PartialRun) → StaysSo settled after run done
+      → Stands (onto later (step ∷ before)) last → Told last (visited (onto later (step ∷ before)))
+      (crossed (onto later (step ∷ before))) after done → CanFinish task (partial after done) total)
+      → CanFinish task (partial settled run) total
   walk_on [] step before settled run total tells holds ahead done =
-      done (left_at step) settled run (record { next = refl; total = refl; kind = refl; cap = refl; most = refl; home = refl; first = refl; turned = refl }) refl tells
+      done (left_at step) settled run (record {
+        next = refl;
+        total = refl;
+        kind = refl;
+        cap = refl;
+        most =
+            refl;
+        home = refl;
+        first = refl;
+        turned = refl;
+      }) refl tells
   walk_on (next ∷ later) step before settled run total tells holds ahead done =
-      let first : Holds position company most others (next ∷ step ∷ before) = holds_first position company most others later next (step ∷ before) holds in
-      let goes : GoesFrom run.head next = record { spot = left_at step; number_is = sym tells.head; joined = first.walk.1 } in
+      let first : Holds position company most others (next ∷ step ∷ before) =
+      holds_first position company most others later next (step ∷ before) holds in
+      let goes : GoesFrom run.head next = record {
+        spot = left_at step;
+        number_is = sym tells.head;
+        joined =
+            first.walk.1;
+      } in
       let has : HasSegmentOf task run.head next = describes.complete run.head next first.walk.0 goes in
-      let near : AreAhead task run.home (listed (stop_of (left_at next))) = λ spot stop there among. ahead spot stop there (visited_first later next (step ∷ before) stop ((among_both stop (listed (stop_of (left_at next))) (visited (step ∷ before))).1 (inl among))) in
-      let go_next : CanGo (left_at step) (visited (step ∷ before)) (crossed (step ∷ before)) settled run next has.segment = can_go (left_at step) (visited (step ∷ before)) (crossed (step ∷ before)) settled run tells next has.segment has.segment_is first.stops first.few first.borders first.free near in
-      let passes : ends_in (node_at task run.head) ≡ false = passes_by (left_at step) (stop_of (left_at step)) refl run.head tells.head (entered_at next) first.walk.1 first.red.0 first.full.0 in
+      let near : AreAhead task run.home (listed (stop_of (left_at next))) =
+      λ spot stop there among. ahead spot stop there
+      (visited_first later next (step ∷ before) stop
+      ((among_both stop (listed (stop_of (left_at next))) (visited (step ∷ before))).1 (inl among))) in
+      let go_next : CanGo (left_at step) (visited (step ∷ before)) (crossed (step ∷ before)) settled run next
+      has.segment = can_go (left_at step) (visited (step ∷ before)) (crossed (step ∷ before)) settled run tells
+      next has.segment has.segment_is first.stops first.few first.borders first.free near in
+      let passes : ends_in (node_at task run.head) ≡ false =
+      passes_by (left_at step) (stop_of (left_at step)) refl run.head tells.head (entered_at next) first.walk.1
+      first.red.0 first.full.0 in
       let rest : CanFinish task (partial (using settled has.segment) (along task run has.segment)) total =
-      walk_on later next (step ∷ before) (using settled has.segment) (along task run has.segment) total go_next.told holds ahead
-      (λ last after run_done stays stands told. done last after run_done (record { next = stays.next; total = stays.total; kind = stays.kind; cap = stays.cap; most = stays.most; home = stays.home; first = stays.first; turned = stays.turned }) stands told)
-      in
-      (go has.index has.segment ∷ rest.0, (record { passes = passes; leads = has.leads; taken = go_next.taken }, rest.1), rest.2)
+      walk_on later next (step ∷ before) (using settled has.segment) (along task run has.segment) total go_next.told
+      holds ahead
+      (λ last after run_done stays stands told. done last after run_done
+      (record {
+        next = stays.next;
+        total = stays.total;
+        kind = stays.kind;
+        cap = stays.cap;
+        most =
+            stays.most;
+        home = stays.home;
+        first = stays.first;
+        turned = stays.turned;
+      }) stands told)
+      in (
+        go has.index has.segment ∷ rest.0,
+        (
+          record { passes = passes; leads = has.leads; taken = go_next.taken },
+          rest.1,
+        ),
+        rest.2,
+      )

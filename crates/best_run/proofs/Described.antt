@@ -39,23 +39,28 @@ place_among (y ∷ ys) x (inl is) = (0, ap (λ z. Some z) is)
 place_among (y ∷ ys) x (inr later) = let rest = place_among ys x later in (suc rest.0, rest.1)
 
 -- the spot from which a step is taken
-from_end : (hex : Hex) (end : End) (number : ℕ) → number_before hex end ≡ Some number → (position : Position) → IsLawful position → (spot : Spot) × (spot_number spot ≡ number) × AreJoined spot (spot_at hex end)
+from_end : (hex : Hex) (end : End) (number : ℕ) → number_before hex end ≡ Some number → (position : Position)
+    → IsLawful position → (spot : Spot) × (spot_number spot ≡ number) × AreJoined spot (spot_at hex end)
 from_end hex (AtStop place) number is position lawful =
     let same : spot_number (spot_at hex (AtStop place)) ≡ number = cc in
     (spot_at hex (AtStop place), same, inl (joined_stop_of (stop_at hex place), refl, refl))
 from_end hex (AtSide side) number is position lawful = by_across (across_end hex (AtSide side)) refl is
   where
-    by_across : (found : Option Spot) → across_end hex (AtSide side) ≡ found → option_map spot_number found ≡ Some number → (spot : Spot) × (spot_number spot ≡ number) × AreJoined spot (spot_at hex (AtSide side))
+    by_across : (found : Option Spot) → across_end hex (AtSide side) ≡ found
+        → option_map spot_number found ≡ Some number → (spot : Spot) × (spot_number spot ≡ number)
+        × AreJoined spot (spot_at hex (AtSide side))
     by_across None there same = absurd cc
     by_across (Some from) there same =
         let number_is : spot_number from ≡ number = cc in
         (from, number_is, inr (back position lawful (spot_at hex (AtSide side)) from there).0)
 
-to_end : (position : Position) → IsLawful position → (hex : Hex) (end : End) (spot : Spot) → AreJoined spot (spot_at hex end) → number_before hex end ≡ Some (spot_number spot)
+to_end : (position : Position) → IsLawful position → (hex : Hex) (end : End) (spot : Spot)
+    → AreJoined spot (spot_at hex end) → number_before hex end ≡ Some (spot_number spot)
 to_end position lawful hex (AtStop place) spot joined =
     elim joined [
       | inl same ↦ ap (λ n. Some n) (one_number (spot_at hex (AtStop place)) spot same.0 same.2 same.1)
-      | inr over ↦ absurd (let none : Some (joined_stop_of (stop_at hex place)) ≡ None = (back position lawful spot (spot_at hex (AtStop place)) over).1 in cc)
+      | inr over ↦ absurd (let none : Some (joined_stop_of (stop_at hex place)) ≡ None =
+          (back position lawful spot (spot_at hex (AtStop place)) over).1 in cc)
     ]
 to_end position lawful hex (AtSide side) spot joined =
     elim joined [
@@ -63,9 +68,12 @@ to_end position lawful hex (AtSide side) spot joined =
       | inr over ↦ ap (option_map spot_number) (back position lawful spot (spot_at hex (AtSide side)) over).0
     ]
 
-module _ (position : Position) (company : Company) (lawful : IsLawful position) (kinds : List Kind) (steps : List Step) (are_steps : AreSteps position steps) (task : Task) (numbered : AreNumbered position company task.spots.items) (segments : AreSegments steps task.segments) where
+module _ (position : Position) (company : Company) (lawful : IsLawful position) (kinds : List Kind)
+    (steps : List Step) (are_steps : AreSteps position steps) (task : Task)
+    (numbered : AreNumbered position company task.spots.items) (segments : AreSegments steps task.segments) where
   -- the node at a number, and what it is
-  node_there : (number : ℕ) → number < 744 → (node : Node) × (node_at task number ≡ Some node) × IsNumbered position company number node
+  node_there : (number : ℕ) → number < 744 → (node : Node) × (node_at task number ≡ Some node)
+      × IsNumbered position company number node
   node_there number low = by_found (node_at task number) refl
     where
       none_there : (nodes : List Node) (i : ℕ) → i < length nodes → slice_get nodes i ≡ None → ⊥
@@ -73,7 +81,8 @@ module _ (position : Position) (company : Company) (lawful : IsLawful position) 
       none_there (node ∷ nodes) zero less is = cc
       none_there (node ∷ nodes) (suc i) less is = none_there nodes i (omega arith) is
 
-      by_found : (found : Option Node) → node_at task number ≡ found → (node : Node) × (node_at task number ≡ Some node) × IsNumbered position company number node
+      by_found : (found : Option Node) → node_at task number ≡ found
+          → (node : Node) × (node_at task number ≡ Some node) × IsNumbered position company number node
       by_found (Some node) is = (node, is, numbered.each number node is)
       by_found None is = absurd (none_there task.spots.items number (omega (arith, numbered.all)) is)
 
@@ -83,9 +92,11 @@ module _ (position : Position) (company : Company) (lawful : IsLawful position) 
       let there = node_there (spot_number spot) (spot_low spot) in
       subst (IsNodeAt position company (stop_of spot)) (sym there.1) (there.2.spot spot refl)
 
-  sound_there : (number index : ℕ) (segment : Segment) → LeadsFrom task number index segment → IsStepFrom position number segment
+  sound_there : (number index : ℕ) (segment : Segment) → LeadsFrom task number index segment
+      → IsStepFrom position number segment
   sound_there number index segment leads =
-      let of : IsOfStep number steps segment = (segments number).sound segment (among_place (segments_at task number) index segment leads) in
+      let of : IsOfStep number steps segment = (segments number).sound segment
+      (among_place (segments_at task number) index segment leads) in
       let from = from_end (entered_at of.step).hex (entered_at of.step).end number of.comes position lawful in
       record {
         step = of.step;
@@ -94,9 +105,11 @@ module _ (position : Position) (company : Company) (lawful : IsLawful position) 
         segment_is = of.segment_is;
       }
 
-  complete_there : (number : ℕ) (step : Step) → IsTrack position step → GoesFrom number step → HasSegmentOf task number step
+  complete_there : (number : ℕ) (step : Step) → IsTrack position step → GoesFrom number step
+      → HasSegmentOf task number step
   complete_there number step track goes =
-      let comes : ComesFrom number step = to_end position lawful (entered_at step).hex (entered_at step).end goes.spot goes.joined ∙ ap (λ n. Some n) goes.number_is in
+      let comes : ComesFrom number step = to_end position lawful (entered_at step).hex (entered_at step).end goes.spot
+      goes.joined ∙ ap (λ n. Some n) goes.number_is in
       let has = (segments number).complete step ((are_steps step).1 track) comes in
       let place = place_among (segments_at task number) has.segment has.among in
       record {
@@ -110,10 +123,14 @@ module _ (position : Position) (company : Company) (lawful : IsLawful position) 
   describes_it trains = record { spots = spot_there; sound = sound_there; complete = complete_there; trains = trains }
 
   -- an end that is left is a side where a stop is entered
-  side_left : (step : Step) → IsTrack position step → (stop : Stop) → stop_of (entered_at step) ≡ Some stop → stop_of (left_at step) ≡ None
-  side_left step track stop there = by_ends (entered_at step).end (left_at step).end (λ n m enters leaves. stop_to_stop step.link step.turned n m (ordered position lawful step track) enters leaves) there
+  side_left : (step : Step) → IsTrack position step → (stop : Stop) → stop_of (entered_at step) ≡ Some stop
+      → stop_of (left_at step) ≡ None
+  side_left step track stop there = by_ends (entered_at step).end (left_at step).end
+      (λ n m enters leaves. stop_to_stop step.link step.turned n m (ordered position lawful step track) enters leaves)
+      there
     where
-      by_ends : (enters leaves : End) → ((n m : StopNumber) → enters ≡ AtStop n → leaves ≡ AtStop m → ⊥) → stop_at_end step.link.hex enters ≡ Some stop → stop_at_end step.link.hex leaves ≡ None
+      by_ends : (enters leaves : End) → ((n m : StopNumber) → enters ≡ AtStop n → leaves ≡ AtStop m → ⊥)
+          → stop_at_end step.link.hex enters ≡ Some stop → stop_at_end step.link.hex leaves ≡ None
       by_ends (AtSide side) leaves apart is = absurd cc
       by_ends (AtStop n) (AtSide side) apart is = refl
       by_ends (AtStop n) (AtStop m) apart is = absurd (apart n m refl refl)
@@ -124,21 +141,26 @@ module _ (position : Position) (company : Company) (lawful : IsLawful position) 
   over_border hex (AtStop place) none = absurd cc
 
   -- where a spot is a stop, it is one to the search too
-  stop_found : (spot : Spot) (found : Option Stop) → stop_of spot ≡ found → stop_in (node_at task (spot_number spot)) ≡ true → (stop : Stop) × (stop_of spot ≡ Some stop)
+  stop_found : (spot : Spot) (found : Option Stop) → stop_of spot ≡ found
+      → stop_in (node_at task (spot_number spot)) ≡ true → (stop : Stop) × (stop_of spot ≡ Some stop)
   stop_found spot (Some stop) is stops = (stop, is)
   stop_found spot None is stops =
-      let node : IsSideNode (node_at task (spot_number spot)) = subst (λ o. IsNodeAt position company o (node_at task (spot_number spot))) is (spot_there spot) in
+      let node : IsSideNode (node_at task (spot_number spot)) =
+      subst (λ o. IsNodeAt position company o (node_at task (spot_number spot))) is (spot_there spot) in
       absurd (let wrong : false ≡ true = sym node.stops ∙ stops in cc)
 
-  side_found : (spot : Spot) (found : Option Stop) → stop_of spot ≡ found → stop_in (node_at task (spot_number spot)) ≡ false → stop_of spot ≡ None
+  side_found : (spot : Spot) (found : Option Stop) → stop_of spot ≡ found
+      → stop_in (node_at task (spot_number spot)) ≡ false → stop_of spot ≡ None
   side_found spot None is side = is
   side_found spot (Some stop) is side =
-      let node : IsStopNode position company stop (node_at task (spot_number spot)) = subst (λ o. IsNodeAt position company o (node_at task (spot_number spot))) is (spot_there spot) in
+      let node : IsStopNode position company stop (node_at task (spot_number spot)) =
+      subst (λ o. IsNodeAt position company o (node_at task (spot_number spot))) is (spot_there spot) in
       absurd (let wrong : true ≡ false = sym node.stops ∙ side in cc)
 
   to_side_there : (spot : Spot) → stop_of spot ≡ None → stop_in (node_at task (spot_number spot)) ≡ false
   to_side_there spot is =
-      let node : IsSideNode (node_at task (spot_number spot)) = subst (λ o. IsNodeAt position company o (node_at task (spot_number spot))) is (spot_there spot) in node.stops
+      let node : IsSideNode (node_at task (spot_number spot)) =
+      subst (λ o. IsNodeAt position company o (node_at task (spot_number spot))) is (spot_there spot) in node.stops
 
   -- a spot from which a step is entered at a stop is that stop, and else a side
   enters : (spot next : Spot) → AreJoined spot next → stop_of spot ≡ stop_of next
@@ -152,21 +174,28 @@ module _ (position : Position) (company : Company) (lawful : IsLawful position) 
       across_none hex (AtSide side) to is = refl
       across_none hex (AtStop place) to is = absurd cc
 
-  segment_fits_there : (number index : ℕ) (segment : Segment) → LeadsFrom task number index segment → SegmentFits task (stop_in (node_at task number)) segment
+  segment_fits_there : (number index : ℕ) (segment : Segment) → LeadsFrom task number index segment
+      → SegmentFits task (stop_in (node_at task number)) segment
   segment_fits_there number index segment leads =
       let from : IsStepFrom position number segment = sound_there number index segment leads in
       let step = from.step in
-      let node_stop : stop_in (node_at task (spot_number from.goes.spot)) ≡ stop_in (node_at task number) = ap (λ (n : ℕ). stop_in (node_at task n)) from.goes.number_is in
-      let same : stop_of from.goes.spot ≡ stop_of (entered_at step) = enters from.goes.spot (entered_at step) from.goes.joined in
+      let node_stop : stop_in (node_at task (spot_number from.goes.spot)) ≡ stop_in (node_at task number) =
+      ap (λ (n : ℕ). stop_in (node_at task n)) from.goes.number_is in
+      let same : stop_of from.goes.spot ≡ stop_of (entered_at step) =
+      enters from.goes.spot (entered_at step) from.goes.joined in
       record {
         to = subst (λ n. n < 744) (sym from.segment_is.to) (spot_low (left_at step));
-        borders = subst BordersFit (sym from.segment_is.borders) (border_fits (entered_at step).hex (entered_at step).end);
+        borders = subst BordersFit (sym from.segment_is.borders)
+            (border_fits (entered_at step).hex (entered_at step).end);
         to_side = λ stops.
             let stop = stop_found from.goes.spot (stop_of from.goes.spot) refl (node_stop ∙ stops) in
-            ap (λ (n : ℕ). stop_in (node_at task n)) from.segment_is.to ∙ to_side_there (left_at step) (side_left step from.track stop.0 (sym same ∙ stop.1));
+            ap (λ (n : ℕ). stop_in (node_at task n)) from.segment_is.to
+            ∙ to_side_there (left_at step) (side_left step from.track stop.0 (sym same ∙ stop.1));
         over = λ side.
-            let none : stop_of (entered_at step) ≡ None = sym same ∙ side_found from.goes.spot (stop_of from.goes.spot) refl (node_stop ∙ side) in
-            subst (λ bs. 0 < length bs) (sym from.segment_is.borders) (over_border (entered_at step).hex (entered_at step).end none);
+            let none : stop_of (entered_at step) ≡ None = sym same
+            ∙ side_found from.goes.spot (stop_of from.goes.spot) refl (node_stop ∙ side) in
+            subst (λ bs. 0 < length bs) (sym from.segment_is.borders)
+            (over_border (entered_at step).hex (entered_at step).end none);
       }
 
   -- the sides by their numbers

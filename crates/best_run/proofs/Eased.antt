@@ -36,9 +36,11 @@ freer_set (mark ∷ used) [] n freer = absurd freer
 freer_set (mark ∷ used) (other ∷ others) zero freer = ((λ is. refl), freer.1)
 freer_set (mark ∷ used) (other ∷ others) (suc n) freer = (freer.0, freer_set used others n freer.1)
 
-pub freer_all : (borders : List ℕ) (used others : List Bool) → Freer used others → Freer (marked_all used borders) (marked_all others borders)
+pub freer_all : (borders : List ℕ) (used others : List Bool) → Freer used others
+    → Freer (marked_all used borders) (marked_all others borders)
 freer_all [] used others freer = freer
-freer_all (border ∷ borders) used others freer = freer_all borders (set used border true) (set others border true) (freer_set used others border freer)
+freer_all (border ∷ borders) used others freer =
+    freer_all borders (set used border true) (set others border true) (freer_set used others border freer)
 
 pub freer_marked : (used others : List Bool) (n : ℕ) → Freer used others → IsMarked others n → IsMarked used n
 freer_marked [] [] n freer marked = marked
@@ -52,10 +54,14 @@ both_true true b c makes is = makes is
 both_true false b c makes is = is
 
 -- a piece that may be taken
-freer_take : (task : Task) (run : PartialRun) (used others : List Bool) (segment : Segment) → Freer used others → can_take task run used segment ≡ true → can_take task run others segment ≡ true
+freer_take : (task : Task) (run : PartialRun) (used others : List Bool) (segment : Segment) → Freer used others
+    → can_take task run used segment ≡ true → can_take task run others segment ≡ true
 freer_take task run used others segment freer =
-    both_true (may_come (stop_in (node_at task segment.to)) run segment.to) (misses used segment.borders.items) (misses others segment.borders.items)
-    (λ free. free_misses others segment.borders.items (λ border among marked. misses_free used segment.borders.items free border among (freer_marked used others border freer marked)))
+    both_true (may_come (stop_in (node_at task segment.to)) run segment.to) (misses used segment.borders.items)
+    (misses others segment.borders.items)
+    (λ free. free_misses others segment.borders.items
+    (λ border among marked. misses_free used segment.borders.items free border among
+    (freer_marked used others border freer marked)))
 
 -- there is no cap, or one that is no lower, for trains of the same kind
 abbrev pub Looser : ℕ → ℕ → ℕ → ℕ → Type 0
@@ -74,7 +80,8 @@ either_true : (a b c : Bool) → (b ≡ true → c ≡ true) → (a || b) ≡ tr
 either_true true b c makes is = refl
 either_true false b c makes is = makes is
 
-earns_eased : (before low kind cap most value : ℕ) → Looser before low kind cap → may_earn before low most value ≡ true → may_earn kind cap most value ≡ true
+earns_eased : (before low kind cap most value : ℕ) → Looser before low kind cap
+    → may_earn before low most value ≡ true → may_earn kind cap most value ≡ true
 earns_eased before low kind cap most value (inl none) may = rw none refl
 earns_eased before low kind cap most value (inr same) may =
     either_true (kind == 0 || not (kind == most)) (nat_le value low) (nat_le value cap)
@@ -89,9 +96,11 @@ abbrev marks_of : State → List Bool
 marks_of (between settled) = settled.used
 marks_of (partial settled run) = settled.used
 
-pub record Eased (task : Task) (kind cap : ℕ) (state : State) (moves : List Move) (total : ℕ) (used : List Bool) : Type 0 where
+pub record Eased (task : Task) (kind cap : ℕ) (state : State) (moves : List Move) (total : ℕ)
+    (used : List Bool) : Type 0 where
   pub completes : Completes task (eased_state kind cap state total used) moves
-  pub earns : total_after task state moves + total ≡ total_after task (eased_state kind cap state total used) moves + total_of state
+  pub earns : total_after task state moves + total
+      ≡ total_after task (eased_state kind cap state total used) moves + total_of state
 
 -- what a run earns is earned in both
 less_both : (a b total value settled : ℕ) → a + (total + value) ≡ b + (settled + value) → a + total ≡ b + settled
@@ -100,67 +109,139 @@ less_both a b total value settled same = omega arith
 within : (a b total bound best : ℕ) → a + 0 ≡ b + total → b ≤ bound → total + bound ≤ best → a ≤ best
 within a b total bound best same low enough = omega arith
 
-pub ease : (task : Task) (moves : List Move) (kind cap : ℕ) (state : State) (total : ℕ) (used : List Bool) → cap_of (λ before low. Looser before low kind cap) state → Freer (marks_of state) used → Completes task state moves → Eased task kind cap state moves total used
-ease task [] kind cap (between settled) total used looser freer completes = record { completes = completes; earns = omega arith }
+pub ease : (task : Task) (moves : List Move) (kind cap : ℕ) (state : State) (total : ℕ) (used : List Bool)
+    → cap_of (λ before low. Looser before low kind cap) state → Freer (marks_of state) used
+    → Completes task state moves → Eased task kind cap state moves total used
+ease task [] kind cap (between settled) total used looser freer completes =
+    record { completes = completes; earns = omega arith }
 ease task [] kind cap (partial settled run) total used looser freer completes = absurd completes
 ease task (pass ∷ moves) kind cap (between settled) total used looser freer completes =
-    let rest : Eased task kind cap (between (passed settled)) moves total used = ease task moves kind cap (between (passed settled)) total used looser freer completes.1 in
+    let rest : Eased task kind cap (between (passed settled)) moves total used =
+    ease task moves kind cap (between (passed settled)) total used looser freer completes.1 in
     record { completes = (completes.0, rest.completes); earns = rest.earns }
 ease task (pass ∷ moves) kind cap (partial settled run) total used looser freer completes = absurd completes.0
 ease task (begin stop index segment ∷ moves) kind cap (between settled) total used looser freer completes =
-    let rest : Eased task kind cap (partial (using settled segment) (along task (begun task settled stop index) segment)) moves total (marked_all used segment.borders.items) = ease task moves kind cap (partial (using settled segment) (along task (begun task settled stop index) segment)) total (marked_all used segment.borders.items) looser (freer_all segment.borders.items settled.used used freer) completes.1 in
+    let rest : Eased task kind cap (partial (using settled segment)
+    (along task (begun task settled stop index) segment)) moves total (marked_all used segment.borders.items) =
+    ease task moves kind cap (partial (using settled segment)
+    (along task (begun task settled stop index) segment)) total (marked_all used segment.borders.items) looser
+    (freer_all segment.borders.items settled.used used freer) completes.1 in
     record {
-      completes = (record { train = completes.0.train; begins = completes.0.begins; token = completes.0.token; leads = completes.0.leads; taken = freer_take task (begun task settled stop index) settled.used used segment freer completes.0.taken }, rest.completes);
+      completes = (
+        record {
+          train = completes.0.train;
+          begins = completes.0.begins;
+          token = completes.0.token;
+          leads =
+              completes.0.leads;
+          taken = freer_take task (begun task settled stop index) settled.used used segment freer
+              completes.0.taken;
+        },
+        rest.completes,
+      );
       earns = rest.earns;
     }
-ease task (begin stop index segment ∷ moves) kind cap (partial settled run) total used looser freer completes = absurd completes.0
+ease task (begin stop index segment ∷ moves) kind cap (partial settled run) total used looser freer completes =
+    absurd completes.0
 ease task (go index segment ∷ moves) kind cap (between settled) total used looser freer completes = absurd completes.0
 ease task (go index segment ∷ moves) kind cap (partial settled run) total used looser freer completes =
-    let rest : Eased task kind cap (partial (using settled segment) (along task run segment)) moves total (marked_all used segment.borders.items) = ease task moves kind cap (partial (using settled segment) (along task run segment)) total (marked_all used segment.borders.items) looser (freer_all segment.borders.items settled.used used freer) completes.1 in
+    let rest : Eased task kind cap (partial (using settled segment) (along task run segment)) moves total
+    (marked_all used segment.borders.items) = ease task moves kind cap
+    (partial (using settled segment) (along task run segment)) total (marked_all used segment.borders.items)
+    looser (freer_all segment.borders.items settled.used used freer) completes.1 in
     record {
-      completes = (record { passes = completes.0.passes; leads = completes.0.leads; taken = freer_take task run settled.used used segment freer completes.0.taken }, rest.completes);
+      completes = (
+        record {
+          passes = completes.0.passes;
+          leads = completes.0.leads;
+          taken =
+              freer_take task run settled.used used segment freer completes.0.taken;
+        },
+        rest.completes,
+      );
       earns = rest.earns;
     }
 ease task (turn index segment ∷ moves) kind cap (between settled) total used looser freer completes = absurd completes.0
 ease task (turn index segment ∷ moves) kind cap (partial settled run) total used looser freer completes =
     let may = completes.0 in
-    let rest : Eased task kind cap (partial (using settled segment) (along task (turned_back run) segment)) moves total (marked_all used segment.borders.items) = ease task moves kind cap (partial (using settled segment) (along task (turned_back run) segment)) total (marked_all used segment.borders.items) looser (freer_all segment.borders.items settled.used used freer) completes.1 in
+    let rest : Eased task kind cap (partial (using settled segment) (along task (turned_back run) segment)) moves
+    total (marked_all used segment.borders.items) =
+    ease task moves kind cap (partial (using settled segment) (along task (turned_back run) segment)) total
+    (marked_all used segment.borders.items) looser (freer_all segment.borders.items settled.used used freer)
+    completes.1 in
     record {
-      completes = (record { once = may.once; stands = may.stands; later = may.later; passes = may.passes; leads = may.leads; taken = freer_take task (turned_back run) settled.used used segment freer may.taken }, rest.completes);
+      completes = (
+        record {
+          once = may.once;
+          stands = may.stands;
+          later = may.later;
+          passes = may.passes;
+          leads =
+              may.leads;
+          taken = freer_take task (turned_back run) settled.used used segment freer may.taken;
+        },
+        rest.completes,
+      );
       earns = rest.earns;
     }
 ease task (settle ∷ moves) kind cap (between settled) total used looser freer completes = absurd completes.0
 ease task (settle ∷ moves) kind cap (partial settled run) total used looser freer completes =
-    let rest : Eased task run.most run.value (between (with_run_settled settled run)) moves (total + run.value) used = ease task moves run.most run.value (between (with_run_settled settled run)) (total + run.value) used (inr (refl, omega arith)) freer completes.1 in
+    let rest : Eased task run.most run.value (between (with_run_settled settled run)) moves (total + run.value) used =
+    ease task moves run.most run.value (between (with_run_settled settled run)) (total + run.value) used
+    (inr (refl, omega arith)) freer completes.1 in
     record {
-      completes = (both_true (stop_in (node_at task run.head)) (may_earn settled.kind settled.cap run.most run.value) (may_earn kind cap run.most run.value) (earns_eased settled.kind settled.cap kind cap run.most run.value looser) completes.0, rest.completes);
-      earns = less_both (total_after task (between (with_run_settled settled run)) moves) (total_after task (between (eased run.most run.value (with_run_settled settled run) (total + run.value) used)) moves) total run.value settled.total rest.earns;
+      completes = (
+        both_true (stop_in (node_at task run.head)) (may_earn settled.kind settled.cap run.most run.value)
+            (may_earn kind cap run.most run.value) (earns_eased settled.kind settled.cap kind cap run.most run.value
+            looser) completes.0,
+        rest.completes,
+      );
+      earns = less_both (total_after task (between (with_run_settled settled run)) moves)
+          (total_after task (between (eased run.most run.value (with_run_settled settled run) (total + run.value)
+          used)) moves) total run.value settled.total rest.earns;
     }
 
 -- what is settled and what the trains that are left earn by themselves
-pub rest_low : (task : Task) (settled : Settled) (bound : ℕ) → EarnAtMost task settled.next bound → length settled.used ≡ 279 → (moves : List Move) → Completes task (between settled) moves → total_after task (between settled) moves ≤ settled.total + bound
+pub rest_low : (task : Task) (settled : Settled) (bound : ℕ) → EarnAtMost task settled.next bound
+    → length settled.used ≡ 279 → (moves : List Move) → Completes task (between settled) moves
+    → total_after task (between settled) moves ≤ settled.total + bound
 rest_low task settled bound most whole moves completes =
-    let freer : Freer settled.used (replicate 279 false) = subst (λ (n : ℕ). Freer settled.used (replicate n false)) whole (freer_none settled.used) in
-    let easy : Eased task 0 0 (between settled) moves 0 (replicate 279 false) = ease task moves 0 0 (between settled) 0 (replicate 279 false) (inl refl) freer completes in
-    within (total_after task (between settled) moves) (total_after task (between (nothing_before settled.next)) moves) settled.total bound (settled.total + bound) easy.earns (most moves easy.completes) (omega arith)
+    let freer : Freer settled.used (replicate 279 false) =
+    subst (λ (n : ℕ). Freer settled.used (replicate n false)) whole (freer_none settled.used) in
+    let easy : Eased task 0 0 (between settled) moves 0 (replicate 279 false) =
+    ease task moves 0 0 (between settled) 0 (replicate 279 false) (inl refl) freer completes in
+    within (total_after task (between settled) moves) (total_after task (between (nothing_before settled.next)) moves)
+    settled.total bound (settled.total + bound) easy.earns (most moves easy.completes) (omega arith)
 
 -- what falls short need not be tried
-pub is_pruned_by_suffix : (task : Task) (bounds : List ℕ) (settled : Settled) (best : Found) → AreBounds task bounds → length settled.used ≡ 279 → settled.next ≤ length task.trains.items → FallShort task bounds settled best.amount → Explores task (between settled) best best
+pub is_pruned_by_suffix : (task : Task) (bounds : List ℕ) (settled : Settled) (best : Found) → AreBounds task bounds
+    → length settled.used ≡ 279 → settled.next ≤ length task.trains.items → FallShort task bounds settled best.amount
+    → Explores task (between settled) best best
 is_pruned_by_suffix task bounds settled best are whole next short =
-    record { grows = omega arith; traced = traced_none task (between settled) best; known = λ known. known; most = λ known. most }
+    record {
+      grows = omega arith;
+      traced = traced_none task (between settled) best;
+      known = λ known. known;
+      most =
+          λ known. most;
+    }
   where
-    most : (moves : List Move) → Completes task (between settled) moves → total_after task (between settled) moves ≤ best.amount
+    most : (moves : List Move) → Completes task (between settled) moves
+        → total_after task (between settled) moves ≤ best.amount
     most moves completes =
-        le_trans (rest_low task settled short.0 (are (length task.trains.items - settled.next) short.0 settled.next short.1 (omega (arith, next))) whole moves completes) short.2
+        le_trans (rest_low task settled short.0 (are (length task.trains.items - settled.next) short.0 settled.next
+        short.1 (omega (arith, next))) whole moves completes) short.2
 
-slice_push : (xs : List ℕ) (x i y : ℕ) → slice_get (xs ++ x ∷ []) i ≡ Some y → (slice_get xs i ≡ Some y) ⊎ ((i ≡ length xs) × (x ≡ y))
+slice_push : (xs : List ℕ) (x i y : ℕ) → slice_get (xs ++ x ∷ []) i ≡ Some y
+    → (slice_get xs i ≡ Some y) ⊎ ((i ≡ length xs) × (x ≡ y))
 slice_push [] x zero y is = inr (refl, let e : Some x ≡ Some y = is in cc)
 slice_push [] x (suc i) y is = absurd cc
 slice_push (z ∷ xs) x zero y is = inl is
 slice_push (z ∷ xs) x (suc i) y is =
     elim (slice_push xs x i y is) [ inl old ↦ inl old | inr new ↦ inr (ap suc new.0, new.1) ]
 
-pub solved_none : (task : Task) (found : Found) → found.amount ≡ 0 → marks_in found.move_path ≡ [] → AreInMemo task found → IsSolved task 0 [] found
+pub solved_none : (task : Task) (found : Found) → found.amount ≡ 0 → marks_in found.move_path ≡ []
+    → AreInMemo task found → IsSolved task 0 [] found
 solved_none task found nothing empty known =
     record {
       all = refl;
@@ -176,20 +257,29 @@ solved_none task found nothing empty known =
 -- what is found is earned from a state on, if what was found before is
 still_earned :
     (task : Task) (state : State) (old new : Found) → IsTraced task state old new →
-    (old.move_path.refused ≡ None → Earns task state (marks_in old.move_path) old.amount) → new.move_path.refused ≡ None →
+    (old.move_path.refused ≡ None → Earns task state (marks_in old.move_path) old.amount)
+    → new.move_path.refused ≡ None →
     Earns task state (marks_in new.move_path) new.amount
 still_earned task state old new traced earns none =
     elim (traced.told none) [
       | inl same ↦
           let before = earns (traced.refused none) in
-          record { moves = before.moves; completes = before.completes; total = before.total ∙ sym same.amount; marks_are = same.marks ∙ before.marks_are }
+          record {
+            moves = before.moves;
+            completes = before.completes;
+            total =
+                before.total ∙ sym same.amount;
+            marks_are = same.marks ∙ before.marks_are;
+          }
       | inr better ↦ better.earns
     ]
 
 -- one train more is solved for; with those before it, it may pass
 pub solved_more :
-    (task : Task) (count : ℕ) (bounds : List ℕ) (old new : Found) (move_path : MovePath) → count < length task.trains.items → IsSolved task count bounds old →
-    Explores task (between (nothing_before (length task.trains.items - count))) old new → IsWritten (Pass ∷ []) new.move_path move_path →
+    (task : Task) (count : ℕ) (bounds : List ℕ) (old new : Found) (move_path : MovePath)
+    → count < length task.trains.items → IsSolved task count bounds old →
+    Explores task (between (nothing_before (length task.trains.items - count))) old new
+    → IsWritten (Pass ∷ []) new.move_path move_path →
     IsSolved task (count + 1) (bounds ++ new.amount ∷ []) (record new { move_path = move_path })
 solved_more task count bounds old new move_path low before explores written =
     record {
@@ -209,26 +299,36 @@ solved_more task count bounds old new move_path low before explores written =
           | inl known ↦ before.true_bounds many bound next known all
           | inr last ↦
               let here : next ≡ length task.trains.items - count = omega (arith, all, last.0, before.all) in
-              subst (λ (n : ℕ). EarnAtMost task n bound) (sym here) (subst (EarnAtMost task (length task.trains.items - count)) last.1 (explores.most before.known))
+              subst (λ (n : ℕ). EarnAtMost task n bound) (sym here)
+              (subst (EarnAtMost task (length task.trains.items - count)) last.1 (explores.most before.known))
         ]
 
-    by_pass : move_path.refused ≡ None → Earns task (between (nothing_before (length task.trains.items - (count + 1)))) (marks_in move_path) new.amount
+    by_pass : move_path.refused ≡ None → Earns task
+        (between (nothing_before (length task.trains.items - (count + 1)))) (marks_in move_path) new.amount
     by_pass none =
         let next = length task.trains.items - (count + 1) in
         let here : length task.trains.items - count ≡ next + 1 = omega (arith, low) in
-        let last : Earns task (between (nothing_before (length task.trains.items - count))) (marks_in new.move_path) new.amount = still_earned task (between (nothing_before (length task.trains.items - count))) old new explores.traced before.earns (written.refused none) in
-        let later : Earns task (between (passed (nothing_before next))) (marks_in new.move_path) new.amount = subst (λ (n : ℕ). Earns task (between (nothing_before n)) (marks_in new.move_path) new.amount) here last in
-        subst (λ (marks : List Mark). Earns task (between (nothing_before next)) marks new.amount) (sym (written.marks_are none))
-        (earns_by task (between (nothing_before next)) (between (passed (nothing_before next))) (Pass ∷ []) (marks_in new.move_path) new.amount (leads_pass task (nothing_before next) (omega (arith, low))) later)
+        let last : Earns task (between (nothing_before (length task.trains.items - count))) (marks_in new.move_path)
+        new.amount = still_earned task (between (nothing_before (length task.trains.items - count))) old new
+        explores.traced before.earns (written.refused none) in
+        let later : Earns task (between (passed (nothing_before next))) (marks_in new.move_path) new.amount =
+        subst (λ (n : ℕ). Earns task (between (nothing_before n)) (marks_in new.move_path) new.amount) here last in
+        subst (λ (marks : List Mark). Earns task (between (nothing_before next)) marks new.amount)
+        (sym (written.marks_are none))
+        (earns_by task (between (nothing_before next)) (between (passed (nothing_before next))) (Pass ∷ [])
+        (marks_in new.move_path) new.amount (leads_pass task (nothing_before next) (omega (arith, low))) later)
 
 -- all trains are solved for
 pub solved_all :
     (task : Task) (count : ℕ) (bounds : List ℕ) (old new : Found) → count ≡ length task.trains.items →
-    IsSolved task (length task.trains.items) bounds old → Explores task (between (nothing_before (length task.trains.items - count))) old new →
+    IsSolved task (length task.trains.items) bounds old
+    → Explores task (between (nothing_before (length task.trains.items - count))) old new →
     new.move_path.refused ≡ None → IsTop task new
 solved_all task count bounds old new all before explores granted =
     record {
-      earns = still_earned task start old new from_start.traced (subst (λ (n : ℕ). old.move_path.refused ≡ None → Earns task (between (nothing_before n)) (marks_in old.move_path) old.amount) none before.earns) granted;
+      earns = still_earned task start old new from_start.traced
+          (subst (λ (n : ℕ). old.move_path.refused ≡ None
+          → Earns task (between (nothing_before n)) (marks_in old.move_path) old.amount) none before.earns) granted;
       most = from_start.most before.known;
     }
   where

@@ -17,13 +17,15 @@ use Rattle.best_run.proofs.Advance.{mark_more}
 use Rattle.best_run.proofs.Marks.{set_fewer}
 
 -- distinct borders leave so many fewer
-marked_count : (used : List Bool) (borders : List ℕ) → length used ≡ 279 → BordersFit borders → AreDistinct borders → ((border : ℕ) → IsAmong border borders → ¬ IsMarked used border) → length borders ≤ unused used
+marked_count : (used : List Bool) (borders : List ℕ) → length used ≡ 279 → BordersFit borders → AreDistinct borders
+    → ((border : ℕ) → IsAmong border borders → ¬ IsMarked used border) → length borders ≤ unused used
 marked_count used [] whole fit distinct free = omega arith
 marked_count used (first ∷ borders) whole fit distinct free =
     let low : first < length used = omega (arith, fit.0) in
     let unset : get_or used first false ≡ false = not_true (get_or used first false) (free first (inl refl)) in
     let one : unused (set used first true) + 1 ≡ unused used = set_fewer used first low unset in
-    let rest : length borders ≤ unused (set used first true) = marked_count (set used first true) borders (length-set used first true ∙ whole) fit.1 distinct.1
+    let rest : length borders ≤ unused (set used first true) =
+    marked_count (set used first true) borders (length-set used first true ∙ whole) fit.1 distinct.1
     (λ border among marked. elim ((mark_more used first border low).0 marked) [
       | inl same ↦ distinct.0 (subst (λ (b : ℕ). IsAmong b borders) same among)
       | inr before ↦ free border (inr among) before
@@ -44,7 +46,10 @@ length_replicate (suc n) b = ap suc (length_replicate n b)
 
 few_crossed : (steps : List Step) → AreDistinct (crossed steps) → length (crossed steps) ≤ 279
 few_crossed steps distinct =
-    let count : length (crossed steps) ≤ unused (replicate 279 false) = marked_count (replicate 279 false) (crossed steps) (length_replicate 279 false) (crossed_low 279 steps (omega arith)) distinct (λ border among marked. let wrong : true ≡ false = sym marked ∙ none_marked 279 border in cc) in
+    let count : length (crossed steps) ≤ unused (replicate 279 false) =
+    marked_count (replicate 279 false) (crossed steps) (length_replicate 279 false)
+    (crossed_low 279 steps (omega arith)) distinct
+    (λ border among marked. let wrong : true ≡ false = sym marked ∙ none_marked 279 border in cc) in
     omega (arith, unused_none 279)
 
 -- at most as many as the train may
@@ -52,6 +57,9 @@ by_most : (most : Option ℕ) (count : ℕ) → AreAtMost most count → count �
 by_most (Some most) count at_most few = at_most
 by_most None count at_most few = omega (arith, few)
 
-pub few_stops : (position : Position) → IsLawful position → (kind : Kind) (steps : List Step) → IsWalk position steps → AreDistinct (crossed steps) → AreAtMost (stops_of kind) (length (visited steps)) → length (visited steps) ≤ most_of (stops_of kind)
+pub few_stops : (position : Position) → IsLawful position → (kind : Kind) (steps : List Step) → IsWalk position steps
+    → AreDistinct (crossed steps) → AreAtMost (stops_of kind) (length (visited steps))
+    → length (visited steps) ≤ most_of (stops_of kind)
 few_stops position lawful kind steps walk distinct at_most =
-    by_most (stops_of kind) (length (visited steps)) at_most (omega (arith, few_visited position lawful steps walk, few_crossed steps distinct))
+    by_most (stops_of kind) (length (visited steps)) at_most
+    (omega (arith, few_visited position lawful steps walk, few_crossed steps distinct))

@@ -30,14 +30,25 @@ both_are false b first second = absurd cc
 -- another run at the same stop
 abbrev pub freed : PartialRun → ℕ → ℕ → ℕ → ℕ → List Bool → PartialRun
 freed run home first left value visited =
-    record { home = home; first = first; turned = run.turned; head = run.head; most = run.most; left = left; value = value; visited = visited }
+    record {
+      home = home;
+      first = first;
+      turned = run.turned;
+      head = run.head;
+      most = run.most;
+      left = left;
+      value =
+          value;
+      visited = visited;
+    }
 
 -- so many stops more may be visited, or more than there are borders
 abbrev pub HasLeft : List Bool → ℕ → ℕ → Type 0
 HasLeft used left more = (left ≤ more) ⊎ (unused used ≤ more)
 
 -- one run may do what another may
-pub record Frees (settled : Settled) (run : PartialRun) (home first left value : ℕ) (visited used : List Bool) (kind cap more : ℕ) : Type 0 where
+pub record Frees (settled : Settled) (run : PartialRun) (home first left value : ℕ) (visited used : List Bool)
+    (kind cap more : ℕ) : Type 0 where
   pub back : run.turned ≡ false → (home ≡ run.home) × (first ≡ run.first)
   pub left_is : HasLeft used run.left left
   pub value_is : value ≡ run.value + more
@@ -46,15 +57,19 @@ pub record Frees (settled : Settled) (run : PartialRun) (home first left value :
   pub looser : (kind ≡ 0) ⊎ ((settled.kind ≡ kind) × (settled.cap + more ≤ cap))
   pub whole : length used ≡ 279
 
-pub record Freed (task : Task) (settled : Settled) (run other : PartialRun) (used : List Bool) (kind cap more total : ℕ) (moves : List Move) : Type 0 where
+pub record Freed (task : Task) (settled : Settled) (run other : PartialRun) (used : List Bool)
+    (kind cap more total : ℕ) (moves : List Move) : Type 0 where
   pub completes : Completes task (partial (eased kind cap settled total used) other) moves
-  pub earns : total_after task (partial settled run) moves + (total + more) ≡ total_after task (partial (eased kind cap settled total used) other) moves + settled.total
+  pub earns : total_after task (partial settled run) moves + (total + more)
+      ≡ total_after task (partial (eased kind cap settled total used) other) moves + settled.total
 
-some_left : (used : List Bool) (left more : ℕ) → HasLeft used left more → nat_lt 0 left ≡ true → (borders : List ℕ) → 0 < unused used → nat_lt 0 more ≡ true
+some_left : (used : List Bool) (left more : ℕ) → HasLeft used left more → nat_lt 0 left ≡ true → (borders : List ℕ)
+    → 0 < unused used → nat_lt 0 more ≡ true
 some_left used left more (inl most) some borders free = lt-ltb 0 more (omega (arith, most, ltb-true 0 left some))
 some_left used left more (inr most) some borders free = lt-ltb 0 more (omega (arith, most, free))
 
-not_marked : (visited others : List Bool) (n : ℕ) → Freer visited others → not (get_or visited n false) ≡ true → not (get_or others n false) ≡ true
+not_marked : (visited others : List Bool) (n : ℕ) → Freer visited others → not (get_or visited n false) ≡ true
+    → not (get_or others n false) ≡ true
 not_marked visited others n freer none = by_case (get_or others n false) refl
   where
     marked_not : (b : Bool) → b ≡ true → not b ≡ true → ⊥
@@ -65,25 +80,40 @@ not_marked visited others n freer none = by_case (get_or others n false) refl
     by_case true is = absurd (marked_not (get_or visited n false) (freer_marked visited others n freer is) none)
     by_case false is = refl
 
-freer_if : (stop : Bool) (visited others : List Bool) (n : ℕ) → Freer visited others → Freer (marked_if stop visited n) (marked_if stop others n)
+freer_if : (stop : Bool) (visited others : List Bool) (n : ℕ) → Freer visited others
+    → Freer (marked_if stop visited n) (marked_if stop others n)
 freer_if true visited others n freer = freer_set visited others n freer
 freer_if false visited others n freer = freer
 
 -- a piece that comes to a stop crosses a border
-fewer_left : (task : Task) (from to : Bool) (segment : Segment) → SegmentFits task from segment → stop_in (node_at task segment.to) ≡ true → (used : List Bool) → length used ≡ 279 → misses used segment.borders.items ≡ true → unused (marked_all used segment.borders.items) + 1 ≤ unused used
-fewer_left task true to segment fits stop used whole free = let wrong : true ≡ false = sym stop ∙ fits.to_side refl in absurd cc
-fewer_left task false to segment fits stop used whole free = marked_fewer used segment.borders.items whole fits.borders (fits.over refl) free
+fewer_left : (task : Task) (from to : Bool) (segment : Segment) → SegmentFits task from segment
+    → stop_in (node_at task segment.to) ≡ true → (used : List Bool) → length used ≡ 279
+    → misses used segment.borders.items ≡ true → unused (marked_all used segment.borders.items) + 1 ≤ unused used
+fewer_left task true to segment fits stop used whole free = let wrong : true ≡ false =
+    sym stop ∙ fits.to_side refl in absurd cc
+fewer_left task false to segment fits stop used whole free =
+    marked_fewer used segment.borders.items whole fits.borders (fits.over refl) free
 
 module _ (task : Task) (fit : IsFit task) where
-  free_of : (settled : Settled) (run : PartialRun) (used : List Bool) → Freer settled.used used → (segment : Segment) → can_take task run settled.used segment ≡ true → misses used segment.borders.items ≡ true
+  free_of : (settled : Settled) (run : PartialRun) (used : List Bool) → Freer settled.used used → (segment : Segment)
+      → can_take task run settled.used segment ≡ true → misses used segment.borders.items ≡ true
   free_of settled run used borders segment taken =
-      let free : misses settled.used segment.borders.items ≡ true = both_second (may_come (stop_in (node_at task segment.to)) run segment.to) (misses settled.used segment.borders.items) taken in
-      free_misses used segment.borders.items (λ border among marked. misses_free settled.used segment.borders.items free border among (freer_marked settled.used used border borders marked))
+      let free : misses settled.used segment.borders.items ≡ true =
+      both_second (may_come (stop_in (node_at task segment.to)) run segment.to)
+      (misses settled.used segment.borders.items) taken in
+      free_misses used segment.borders.items (λ border among marked. misses_free settled.used segment.borders.items
+      free border among (freer_marked settled.used used border borders marked))
 
   -- a piece that may be taken
-  frees_take : (settled : Settled) (run : PartialRun) (home first left value : ℕ) (visited used : List Bool) (kind cap more : ℕ) → Frees settled run home first left value visited used kind cap more → (spot index : ℕ) (segment : Segment) → LeadsFrom task spot index segment → can_take task run settled.used segment ≡ true → can_take task (freed run home first left value visited) used segment ≡ true
+  frees_take : (settled : Settled) (run : PartialRun) (home first left value : ℕ) (visited used : List Bool)
+      (kind cap more : ℕ) → Frees settled run home first left value visited used kind cap more
+      → (spot index : ℕ) (segment : Segment) → LeadsFrom task spot index segment
+      → can_take task run settled.used segment ≡ true
+      → can_take task (freed run home first left value visited) used segment ≡ true
   frees_take settled run home first left value visited used kind cap more frees spot index segment leads taken =
-      both_are (may_come stop (freed run home first left value visited) segment.to) (misses used segment.borders.items) (come stop refl (both_first (may_come stop run segment.to) (misses settled.used segment.borders.items) taken)) free
+      both_are (may_come stop (freed run home first left value visited) segment.to)
+      (misses used segment.borders.items) (come stop refl
+      (both_first (may_come stop run segment.to) (misses settled.used segment.borders.items) taken)) free
     where
       stop : Bool
       stop = stop_in (node_at task segment.to)
@@ -91,27 +121,43 @@ module _ (task : Task) (fit : IsFit task) where
       free : misses used segment.borders.items ≡ true
       free = free_of settled run used frees.borders segment taken
 
-      come : (b : Bool) → stop_in (node_at task segment.to) ≡ b → may_come b run segment.to ≡ true → may_come b (freed run home first left value visited) segment.to ≡ true
+      come : (b : Bool) → stop_in (node_at task segment.to) ≡ b → may_come b run segment.to ≡ true
+          → may_come b (freed run home first left value visited) segment.to ≡ true
       come false is came = refl
       come true is came =
           let fits = leading_fits task fit spot index segment leads in
           both_are (nat_lt 0 left) (not (get_or visited segment.to false))
-          (some_left used run.left left frees.left_is (both_first (nat_lt 0 run.left) (not (get_or run.visited segment.to false)) came) segment.borders.items (omega (arith, fewer_left task fits.0 true segment fits.1 is used frees.whole free)))
-          (not_marked run.visited visited segment.to frees.freer (both_second (nat_lt 0 run.left) (not (get_or run.visited segment.to false)) came))
+          (some_left used run.left left frees.left_is (both_first (nat_lt 0 run.left)
+          (not (get_or run.visited segment.to false)) came) segment.borders.items
+          (omega (arith, fewer_left task fits.0 true segment fits.1 is used frees.whole free)))
+          (not_marked run.visited visited segment.to frees.freer
+          (both_second (nat_lt 0 run.left) (not (get_or run.visited segment.to false)) came))
 
   -- what is left after it
-  left_next : (used : List Bool) (left more : ℕ) → HasLeft used left more → (segment : Segment) (b : Bool) → (b ≡ true → unused (marked_all used segment.borders.items) + 1 ≤ unused used) → HasLeft (marked_all used segment.borders.items) (left_after b left) (left_after b more)
+  left_next : (used : List Bool) (left more : ℕ) → HasLeft used left more → (segment : Segment) (b : Bool)
+      → (b ≡ true → unused (marked_all used segment.borders.items) + 1 ≤ unused used)
+      → HasLeft (marked_all used segment.borders.items) (left_after b left) (left_after b more)
   left_next used left more (inl most) segment true fewer = inl (omega (arith, most))
   left_next used left more (inl most) segment false fewer = inl most
   left_next used left more (inr most) segment true fewer = inr (omega (arith, most, fewer refl))
-  left_next used left more (inr most) segment false fewer = inr (omega (arith, most, marked_most used segment.borders.items))
+  left_next used left more (inr most) segment false fewer =
+      inr (omega (arith, most, marked_most used segment.borders.items))
 
-  frees_next : (settled : Settled) (run : PartialRun) (home first left value : ℕ) (visited used : List Bool) (kind cap more : ℕ) → Frees settled run home first left value visited used kind cap more → (spot index : ℕ) (segment : Segment) → LeadsFrom task spot index segment → can_take task run settled.used segment ≡ true → Frees (using settled segment) (along task run segment) home first (left_after (stop_in (node_at task segment.to)) left) (value + value_in (node_at task segment.to)) (marked_if (stop_in (node_at task segment.to)) visited segment.to) (marked_all used segment.borders.items) kind cap more
+  frees_next : (settled : Settled) (run : PartialRun) (home first left value : ℕ) (visited used : List Bool)
+      (kind cap more : ℕ) → Frees settled run home first left value visited used kind cap more
+      → (spot index : ℕ) (segment : Segment) → LeadsFrom task spot index segment
+      → can_take task run settled.used segment ≡ true
+      → Frees (using settled segment) (along task run segment) home first
+      (left_after (stop_in (node_at task segment.to)) left) (value + value_in (node_at task segment.to))
+      (marked_if (stop_in (node_at task segment.to)) visited segment.to) (marked_all used segment.borders.items) kind
+      cap more
   frees_next settled run home first left value visited used kind cap more frees spot index segment leads taken =
       let fits = leading_fits task fit spot index segment leads in
       record {
         back = frees.back;
-        left_is = left_next used run.left left frees.left_is segment (stop_in (node_at task segment.to)) (λ is. fewer_left task fits.0 true segment fits.1 is used frees.whole (free_of settled run used frees.borders segment taken));
+        left_is = left_next used run.left left frees.left_is segment (stop_in (node_at task segment.to))
+            (λ is. fewer_left task fits.0 true segment fits.1 is used frees.whole
+            (free_of settled run used frees.borders segment taken));
         value_is = omega (arith, frees.value_is);
         freer = freer_if (stop_in (node_at task segment.to)) run.visited visited segment.to frees.freer;
         borders = freer_all segment.borders.items settled.used used frees.borders;
@@ -120,7 +166,9 @@ module _ (task : Task) (fit : IsFit task) where
       }
 
   -- it has turned back
-  frees_back : (settled : Settled) (run : PartialRun) (home first left value : ℕ) (visited used : List Bool) (kind cap more : ℕ) → Frees settled run home first left value visited used kind cap more → Frees settled (turned_back run) home first left value visited used kind cap more
+  frees_back : (settled : Settled) (run : PartialRun) (home first left value : ℕ) (visited used : List Bool)
+      (kind cap more : ℕ) → Frees settled run home first left value visited used kind cap more
+      → Frees settled (turned_back run) home first left value visited used kind cap more
   frees_back settled run home first left value visited used kind cap more frees =
       record {
         back = λ wrong. absurd (let w : true ≡ false = wrong in cc);
@@ -133,7 +181,8 @@ module _ (task : Task) (fit : IsFit task) where
       }
 
   -- a run that may be settled
-  earns_freed : (before low kind cap most value more total : ℕ) → (kind ≡ 0) ⊎ ((before ≡ kind) × (low + more ≤ cap)) → total ≡ value + more → may_earn before low most value ≡ true → may_earn kind cap most total ≡ true
+  earns_freed : (before low kind cap most value more total : ℕ) → (kind ≡ 0) ⊎ ((before ≡ kind) × (low + more ≤ cap))
+      → total ≡ value + more → may_earn before low most value ≡ true → may_earn kind cap most total ≡ true
   earns_freed before low kind cap most value more total (inl none) is may = rw none refl
   earns_freed before low kind cap most value more total (inr same) is may =
       by_kind (kind == 0 || not (kind == most)) (ap (λ (k : ℕ). may_earn k low most value) (sym same.0) ∙ may)
@@ -143,19 +192,41 @@ module _ (task : Task) (fit : IsFit task) where
       by_kind false under = le-leb total cap (omega (arith, leb-true value low under, same.1, is))
 
   -- what a run earns is earned by the other, and more
-  more_both : (a b total value more settled : ℕ) → a + (total + (value + more)) ≡ b + (settled + value) → a + (total + more) ≡ b + settled
+  more_both : (a b total value more settled : ℕ) → a + (total + (value + more)) ≡ b + (settled + value)
+      → a + (total + more) ≡ b + settled
   more_both a b total value more settled same = omega (arith, same)
 
-  pub free : (moves : List Move) (settled : Settled) (run : PartialRun) (home first left value : ℕ) (visited used : List Bool) (kind cap more total : ℕ) → Frees settled run home first left value visited used kind cap more → Completes task (partial settled run) moves → Freed task settled run (freed run home first left value visited) used kind cap more total moves
+  pub free : (moves : List Move) (settled : Settled) (run : PartialRun) (home first left value : ℕ)
+      (visited used : List Bool) (kind cap more total : ℕ)
+      → Frees settled run home first left value visited used kind cap more
+      → Completes task (partial settled run) moves → Freed task settled run (freed run home first left value visited)
+      used kind cap more total moves
   free [] settled run home first left value visited used kind cap more total frees completes = absurd completes
-  free (pass ∷ moves) settled run home first left value visited used kind cap more total frees completes = absurd completes.0
-  free (begin stop index segment ∷ moves) settled run home first left value visited used kind cap more total frees completes = absurd completes.0
+  free (pass ∷ moves) settled run home first left value visited used kind cap more total frees completes =
+      absurd completes.0
+  free (begin stop index segment ∷ moves) settled run home first left value visited used kind cap more total frees
+      completes = absurd completes.0
   free (go index segment ∷ moves) settled run home first left value visited used kind cap more total frees completes =
       let may = completes.0 in
       let stop = stop_in (node_at task segment.to) in
-      let rest : Freed task (using settled segment) (along task run segment) (along task (freed run home first left value visited) segment) (marked_all used segment.borders.items) kind cap more total moves = free moves (using settled segment) (along task run segment) home first (left_after stop left) (value + value_in (node_at task segment.to)) (marked_if stop visited segment.to) (marked_all used segment.borders.items) kind cap more total (frees_next settled run home first left value visited used kind cap more frees run.head index segment may.leads may.taken) completes.1 in
+      let rest : Freed task (using settled segment) (along task run segment)
+      (along task (freed run home first left value visited) segment) (marked_all used segment.borders.items) kind
+      cap more total moves = free moves (using settled segment) (along task run segment) home first
+      (left_after stop left) (value + value_in (node_at task segment.to)) (marked_if stop visited segment.to)
+      (marked_all used segment.borders.items) kind cap more total
+      (frees_next settled run home first left value visited used kind cap more frees run.head index segment
+      may.leads may.taken) completes.1 in
       record {
-        completes = (record { passes = may.passes; leads = may.leads; taken = frees_take settled run home first left value visited used kind cap more frees run.head index segment may.leads may.taken }, rest.completes);
+        completes = (
+          record {
+            passes = may.passes;
+            leads = may.leads;
+            taken =
+                frees_take settled run home first left value visited used kind cap more frees run.head index segment
+                may.leads may.taken;
+          },
+          rest.completes,
+        );
         earns = rest.earns;
       }
   free (turn index segment ∷ moves) settled run home first left value visited used kind cap more total frees completes =
@@ -163,9 +234,18 @@ module _ (task : Task) (fit : IsFit task) where
       let stop = stop_in (node_at task segment.to) in
       let back = frees.back may.once in
       let other = freed run home first left value visited in
-      let turned : Frees settled (turned_back run) home first left value visited used kind cap more = frees_back settled run home first left value visited used kind cap more frees in
-      let rest : Freed task (using settled segment) (along task (turned_back run) segment) (along task (turned_back other) segment) (marked_all used segment.borders.items) kind cap more total moves = free moves (using settled segment) (along task (turned_back run) segment) home first (left_after stop left) (value + value_in (node_at task segment.to)) (marked_if stop visited segment.to) (marked_all used segment.borders.items) kind cap more total (frees_next settled (turned_back run) home first left value visited used kind cap more turned run.home index segment may.leads may.taken) completes.1 in
-      let taken : can_take task other used segment ≡ true = frees_take settled run home first left value visited used kind cap more frees run.home index segment may.leads (sym (take_back task run settled.used segment) ∙ may.taken) in
+      let turned : Frees settled (turned_back run) home first left value visited used kind cap more =
+      frees_back settled run home first left value visited used kind cap more frees in
+      let rest : Freed task (using settled segment) (along task (turned_back run) segment)
+      (along task (turned_back other) segment) (marked_all used segment.borders.items) kind cap more total moves =
+      free moves (using settled segment) (along task (turned_back run) segment) home first (left_after stop left)
+      (value + value_in (node_at task segment.to)) (marked_if stop visited segment.to)
+      (marked_all used segment.borders.items) kind cap more total
+      (frees_next settled (turned_back run) home first left value visited used kind cap more turned run.home index
+      segment may.leads may.taken) completes.1 in
+      let taken : can_take task other used segment ≡ true =
+      frees_take settled run home first left value visited used kind cap more frees run.home index segment
+      may.leads (sym (take_back task run settled.used segment) ∙ may.taken) in
       record {
         completes = (
           record {
@@ -181,15 +261,22 @@ module _ (task : Task) (fit : IsFit task) where
         earns = rest.earns;
       }
   free (settle ∷ moves) settled run home first left value visited used kind cap more total frees completes =
-      let looser : (run.most ≡ 0) ⊎ ((run.most ≡ run.most) × (run.value ≤ value)) = inr (refl, omega (arith, frees.value_is)) in
-      let rest : Eased task run.most value (between (with_run_settled settled run)) moves (total + value) used = ease task moves run.most value (between (with_run_settled settled run)) (total + value) used looser frees.borders completes.1 in
+      let looser : (run.most ≡ 0) ⊎ ((run.most ≡ run.most) × (run.value ≤ value)) =
+      inr (refl, omega (arith, frees.value_is)) in
+      let rest : Eased task run.most value (between (with_run_settled settled run)) moves (total + value) used =
+      ease task moves run.most value (between (with_run_settled settled run)) (total + value) used looser
+      frees.borders completes.1 in
       let is = completes.0 in
       record {
         completes = (
           both_are (stop_in (node_at task run.head)) (may_earn kind cap run.most value)
               (both_first (stop_in (node_at task run.head)) (may_earn settled.kind settled.cap run.most run.value) is)
-              (earns_freed settled.kind settled.cap kind cap run.most run.value more value frees.looser frees.value_is (both_second (stop_in (node_at task run.head)) (may_earn settled.kind settled.cap run.most run.value) is)),
+              (earns_freed settled.kind settled.cap kind cap run.most run.value more value frees.looser frees.value_is
+              (both_second (stop_in (node_at task run.head))
+              (may_earn settled.kind settled.cap run.most run.value) is)),
           rest.completes,
         );
-        earns = more_both (total_after task (between (with_run_settled settled run)) moves) (total_after task (between (eased run.most value (with_run_settled settled run) (total + value) used)) moves) total run.value more settled.total (omega (arith, rest.earns, frees.value_is));
+        earns = more_both (total_after task (between (with_run_settled settled run)) moves)
+            (total_after task (between (eased run.most value (with_run_settled settled run) (total + value) used))
+            moves) total run.value more settled.total (omega (arith, rest.earns, frees.value_is));
       }

@@ -33,7 +33,11 @@ nothing = record { next = 0; total = 0; kind = 0; cap = 0; used = replicate 279 
 none_used : Used [] nothing
 none_used =
     record {
-      used = λ border. (λ marked. let wrong : true ≡ false = sym marked ∙ none_marked 279 border in cc, λ none. absurd none);
+      used = λ border. (
+        λ marked. let wrong : true ≡ false =
+            sym marked ∙ none_marked 279 border in cc,
+        λ none. absurd none,
+      );
       whole = length_replicate 279 false;
     }
 
@@ -50,22 +54,29 @@ within_none position (run ∷ runs) =
 
 module _ (position : Position) (company : Company) (lawful : IsLawful position) where
   -- legal runs can be written out, and their places name their walks
-  pub can_claim : (runs : List TrainRun) → AllByRecursion (RunsLegally position company) runs → AllByRecursion CanBeClaimed runs
+  pub can_claim : (runs : List TrainRun) → AllByRecursion (RunsLegally position company) runs
+      → AllByRecursion CanBeClaimed runs
   can_claim [] legal = tt
   can_claim (run ∷ runs) legal =
-      let places : AreItsPlaces position run.steps (places_of run.steps) = legal_written position company run.kind [] run.steps lawful legal.0 in
+      let places : AreItsPlaces position run.steps (places_of run.steps) =
+      legal_written position company run.kind [] run.steps lawful legal.0 in
       (record { least = places.least; most = places.most }, can_claim runs legal.1)
 
-  pub names_them : (runs : List TrainRun) → AllByRecursion (RunsLegally position company) runs → NameRuns position (written runs) runs
+  pub names_them : (runs : List TrainRun) → AllByRecursion (RunsLegally position company) runs
+      → NameRuns position (written runs) runs
   names_them [] legal = tt
   names_them (run ∷ runs) legal =
       (refl, (legal_written position company run.kind [] run.steps lawful legal.0).name_it, names_them runs legal.1)
 
-module _ (position : Position) (company : Company) (lawful : IsLawful position) (kinds : List Kind) (task : Task) (describes : Describes position company kinds task) where
+module _ (position : Position) (company : Company) (lawful : IsLawful position) (kinds : List Kind) (task : Task)
+    (describes : Describes position company kinds task) where
   -- each legal set can be earned
-  can_earn : (runs : List TrainRun) → IsLegalSet position company kinds runs → CanFinish task start (0 + revenue_of position runs)
+  can_earn : (runs : List TrainRun) → IsLegalSet position company kinds runs
+      → CanFinish task start (0 + revenue_of position runs)
   can_earn runs set =
-      finish_set position company kinds task describes lawful kinds runs [] nothing none_used describes.trains (record { legal = set.legal; each_once = set.each_once; apart = set.apart; avoid = avoid_none runs }) (within_none position runs)
+      finish_set position company kinds task describes lawful kinds runs [] nothing none_used describes.trains
+      (record { legal = set.legal; each_once = set.each_once; apart = set.apart; avoid = avoid_none runs })
+      (within_none position runs)
 
   -- the marks of moves from the start to the end tell a legal set of runs
   pub record TellSet (marks : List Mark) (amount : ℕ) : Type 0 where
@@ -74,7 +85,10 @@ module _ (position : Position) (company : Company) (lawful : IsLawful position) 
 
   pub tell_set : (marks : List Mark) (amount : ℕ) → Earns task start marks amount → TellSet marks amount
   tell_set marks amount earns =
-      let told : RunsTold position company lawful kinds task describes [] kinds nothing (total_after task start earns.moves) (runs_told kinds [] (marks_of earns.moves)) = sound_from position company lawful kinds task describes earns.moves start earns.completes [] kinds none_used describes.trains in
+      let told : RunsTold position company lawful kinds task describes [] kinds nothing
+      (total_after task start earns.moves) (runs_told kinds [] (marks_of earns.moves)) =
+      sound_from position company lawful kinds task describes earns.moves start earns.completes [] kinds none_used
+      describes.trains in
       subst (λ (all : List Mark). TellSet all amount) (sym earns.marks_are)
       (record {
         set = record { legal = told.set.legal; each_once = told.set.each_once; apart = told.set.apart };
@@ -84,7 +98,8 @@ module _ (position : Position) (company : Company) (lawful : IsLawful position) 
   -- what has been explored from the start is the greatest
   pub greatest_found : (found : Found) → IsTop task found → IsGreatest position company kinds found.amount
   greatest_found found top =
-      let told : TellSet (marks_in found.move_path) found.amount = tell_set (marks_in found.move_path) found.amount top.earns in
+      let told : TellSet (marks_in found.move_path) found.amount =
+      tell_set (marks_in found.move_path) found.amount top.earns in
       record { earned = (runs_told kinds [] (marks_in found.move_path), told.set, told.earns); most = most }
     where
       most : IsMost position company kinds found.amount

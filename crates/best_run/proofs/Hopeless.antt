@@ -50,7 +50,8 @@ but_within (lies ∷ ahead) [] = tt
 but_within (lies ∷ ahead) (was ∷ visited) = (and_first lies (not was), but_within ahead visited)
 
 -- no more lies ahead than before a stop was visited
-pub but_unset : (ahead visited : List Bool) (n : ℕ) → get_or visited n false ≡ true → Within (but ahead visited) (set ahead n false)
+pub but_unset : (ahead visited : List Bool) (n : ℕ) → get_or visited n false ≡ true
+    → Within (but ahead visited) (set ahead n false)
 unfolding but
 but_unset [] visited n is = tt
 but_unset (lies ∷ ahead) [] n is = tt
@@ -63,7 +64,8 @@ but_unset (lies ∷ ahead) (was ∷ visited) zero is = (none lies was is, but_wi
 but_unset (lies ∷ ahead) (was ∷ visited) (suc n) is = (and_first lies (not was), but_unset ahead visited n is)
 
 -- one more is visited
-but_set : (ahead visited : List Bool) (n : ℕ) → n < length visited → but ahead (set visited n true) ≡ set (but ahead visited) n false
+but_set : (ahead visited : List Bool) (n : ℕ) → n < length visited
+    → but ahead (set visited n true) ≡ set (but ahead visited) n false
 unfolding but
 but_set [] visited n low = refl
 but_set (lies ∷ ahead) [] n low = absurd (omega arith)
@@ -71,7 +73,8 @@ but_set (lies ∷ ahead) (was ∷ visited) zero low = ap (λ (b : Bool). b ∷ b
 but_set (lies ∷ ahead) (was ∷ visited) (suc n) low =
     ap (λ (bs : List Bool). (lies && not was) ∷ bs) (but_set ahead visited n (omega arith))
 
-but_at : (ahead visited : List Bool) (n : ℕ) → n < length visited → get_or ahead n false ≡ true → get_or visited n false ≡ false → get_or (but ahead visited) n false ≡ true
+but_at : (ahead visited : List Bool) (n : ℕ) → n < length visited → get_or ahead n false ≡ true
+    → get_or visited n false ≡ false → get_or (but ahead visited) n false ≡ true
 unfolding but
 but_at [] visited n low lies free = absurd (falsely false lies refl)
 but_at (lies ∷ ahead) [] n low is free = absurd (omega arith)
@@ -84,7 +87,10 @@ but_at (lies ∷ ahead) (was ∷ visited) zero low is free = both_here lies was 
 but_at (lies ∷ ahead) (was ∷ visited) (suc n) low is free = but_at ahead visited n (omega arith) is free
 
 -- a stop is visited: what was left for it, and what it was worth beyond the level, is spent
-pub spend : (ending back : Bool) (value level here later passed after one first two second : ℕ) → later + level ≡ here → if_passed ending (value - level) + after ≤ passed → if_ending ending (value - level) ≤ one → if_ending ending (value - level) + first ≤ two → first ≤ one → second ≤ two → value + ((later + after) + ends_by (not ending) back first second) ≤ (here + passed) + ends_by true back one two
+pub spend : (ending back : Bool) (value level here later passed after one first two second : ℕ) → later + level ≡ here
+    → if_passed ending (value - level) + after ≤ passed → if_ending ending (value - level) ≤ one
+    → if_ending ending (value - level) + first ≤ two → first ≤ one → second ≤ two
+    → value + ((later + after) + ends_by (not ending) back first second) ≤ (here + passed) + ends_by true back one two
 spend true true value level here later passed after one first two second left less ends both fewer all = omega arith
 spend true false value level here later passed after one first two second left less ends both fewer all = omega arith
 spend false true value level here later passed after one first two second left less ends both fewer all = omega arith
@@ -126,7 +132,8 @@ one_fewer zero level is = let wrong : false ≡ true = is in absurd cc
 one_fewer (suc left) level is =
     let less : suc left - 1 ≡ left = omega arith in rw less (sym (suc-mul left level))
 
-mark_keeps : (b : Bool) (marks : List Bool) (n spot : ℕ) → n < length marks → get_or marks spot false ≡ true → get_or (marked_if b marks n) spot false ≡ true
+mark_keeps : (b : Bool) (marks : List Bool) (n spot : ℕ) → n < length marks → get_or marks spot false ≡ true
+    → get_or (marked_if b marks n) spot false ≡ true
 mark_keeps true marks n spot low was = set_keeps marks n spot low was
 mark_keeps false marks n spot low was = was
 
@@ -134,44 +141,64 @@ pub mark_length : (b : Bool) (marks : List Bool) (n : ℕ) → length (marked_if
 mark_length true marks n = length-set marks n true
 mark_length false marks n = refl
 
-come_before : (task : Task) (run : PartialRun) (segment : Segment) → segment.to < length run.visited → (stop : Bool) (spot : ℕ) → may_come stop (along task run segment) spot ≡ true → may_come stop run spot ≡ true
+come_before : (task : Task) (run : PartialRun) (segment : Segment) → segment.to < length run.visited
+    → (stop : Bool) (spot : ℕ) → may_come stop (along task run segment) spot ≡ true → may_come stop run spot ≡ true
 come_before task run segment low false spot is = refl
 come_before task run segment low true spot is =
     both_are (nat_lt 0 run.left) (not (get_or run.visited spot false))
-    (left_before (stop_in (node_at task segment.to)) run.left (both_first (nat_lt 0 (left_after (stop_in (node_at task segment.to)) run.left)) (not (get_or (marked_if (stop_in (node_at task segment.to)) run.visited segment.to) spot false)) is))
+    (left_before (stop_in (node_at task segment.to)) run.left
+    (both_first (nat_lt 0 (left_after (stop_in (node_at task segment.to)) run.left))
+    (not (get_or (marked_if (stop_in (node_at task segment.to)) run.visited segment.to) spot false)) is))
     (is_not (get_or run.visited spot false) (false_or (get_or run.visited spot false) (λ was.
-    falsely (get_or (marked_if (stop_in (node_at task segment.to)) run.visited segment.to) spot false) (mark_keeps (stop_in (node_at task segment.to)) run.visited segment.to spot low was)
-    (not_is (get_or (marked_if (stop_in (node_at task segment.to)) run.visited segment.to) spot false) (both_second (nat_lt 0 (left_after (stop_in (node_at task segment.to)) run.left)) (not (get_or (marked_if (stop_in (node_at task segment.to)) run.visited segment.to) spot false)) is)))))
+    falsely (get_or (marked_if (stop_in (node_at task segment.to)) run.visited segment.to) spot false)
+    (mark_keeps (stop_in (node_at task segment.to)) run.visited segment.to spot low was)
+    (not_is (get_or (marked_if (stop_in (node_at task segment.to)) run.visited segment.to) spot false)
+    (both_second (nat_lt 0 (left_after (stop_in (node_at task segment.to)) run.left))
+    (not (get_or (marked_if (stop_in (node_at task segment.to)) run.visited segment.to) spot false)) is)))))
 
 -- a piece that may be taken after another may be taken before it
-take_before : (task : Task) (settled : Settled) (run : PartialRun) (from : Bool) (segment : Segment) → SegmentFits task from segment → length settled.used ≡ 279 → length run.visited ≡ 744 → (other : Segment) → can_take task (along task run segment) (using settled segment).used other ≡ true → can_take task run settled.used other ≡ true
+take_before : (task : Task) (settled : Settled) (run : PartialRun) (from : Bool) (segment : Segment)
+    → SegmentFits task from segment → length settled.used ≡ 279 → length run.visited ≡ 744 → (other : Segment)
+    → can_take task (along task run segment) (using settled segment).used other ≡ true
+    → can_take task run settled.used other ≡ true
 take_before task settled run from segment fits whole spots other is =
     let stop = stop_in (node_at task other.to) in
-    let came : may_come stop (along task run segment) other.to ≡ true = both_first (may_come stop (along task run segment) other.to) (misses (marked_all settled.used segment.borders.items) other.borders.items) is in
-    let missed : misses (marked_all settled.used segment.borders.items) other.borders.items ≡ true = both_second (may_come stop (along task run segment) other.to) (misses (marked_all settled.used segment.borders.items) other.borders.items) is in
+    let came : may_come stop (along task run segment) other.to ≡ true =
+    both_first (may_come stop (along task run segment) other.to)
+    (misses (marked_all settled.used segment.borders.items) other.borders.items) is in
+    let missed : misses (marked_all settled.used segment.borders.items) other.borders.items ≡ true =
+    both_second (may_come stop (along task run segment) other.to)
+    (misses (marked_all settled.used segment.borders.items) other.borders.items) is in
     both_are (may_come stop run other.to) (misses settled.used other.borders.items)
     (come_before task run segment (omega (arith, fits.to, spots)) stop other.to came)
     (free_misses settled.used other.borders.items (λ border among marked.
-    misses_free (marked_all settled.used segment.borders.items) other.borders.items missed border among ((marks_more settled.used segment.borders.items fits.borders whole border).1 (inr marked))))
+    misses_free (marked_all settled.used segment.borders.items) other.borders.items missed border among
+    ((marks_more settled.used segment.borders.items fits.borders whole border).1 (inr marked))))
 
 -- a run that turns back may take the same pieces
-pub take_back : (task : Task) (run : PartialRun) (used : List Bool) (segment : Segment) → can_take task (turned_back run) used segment ≡ can_take task run used segment
-take_back task run used segment = ap (λ b. b && misses used segment.borders.items) (by_stop (stop_in (node_at task segment.to)))
+pub take_back : (task : Task) (run : PartialRun) (used : List Bool) (segment : Segment)
+    → can_take task (turned_back run) used segment ≡ can_take task run used segment
+take_back task run used segment = ap (λ b. b && misses used segment.borders.items)
+    (by_stop (stop_in (node_at task segment.to)))
   where
     by_stop : (stop : Bool) → may_come stop (turned_back run) segment.to ≡ may_come stop run segment.to
     by_stop true = refl
     by_stop false = refl
 
-module _ (task : Task) (fit : IsFit task) (ready : AreReady task) (first : Settled) (begun : PartialRun) (ahead : List Bool) (look : IsOutlook task first begun ahead) (nodes : List Node) (counts : Counts task first begun nodes) where
+module _ (task : Task) (fit : IsFit task) (ready : AreReady task) (first : Settled) (begun : PartialRun)
+    (ahead : List Bool) (look : IsOutlook task first begun ahead) (nodes : List Node)
+    (counts : Counts task first begun nodes) where
   -- a run goes on no more from where it stands
   abbrev pub Halts : Settled → PartialRun → Type 0
   Halts settled run =
-      (ends_in (node_at task run.head) ≡ true) ⊎ ((place : ℕ) (leg : Leg) → slice_get (legs_at task run.head) place ≡ Some leg → can_take task run settled.used leg.segment ≡ true → ⊥)
+      (ends_in (node_at task run.head) ≡ true) ⊎ ((place : ℕ) (leg : Leg)
+      → slice_get (legs_at task run.head) place ≡ Some leg → can_take task run settled.used leg.segment ≡ true → ⊥)
 
   -- a run that goes on from where the first one stands; by a mark it may go on from where it stands itself
   pub record Follows (least : ℕ) (on : Bool) (settled : Settled) (run : PartialRun) : Type 0 where
     pub halts : on ≡ false → Halts settled run
-    pub takes : (segment : Segment) → can_take task run settled.used segment ≡ true → can_take task begun first.used segment ≡ true
+    pub takes : (segment : Segment) → can_take task run settled.used segment ≡ true
+        → can_take task begun first.used segment ≡ true
     pub head : IsGoneOverFrom task first begun least ahead run.head
     pub home : run.turned ≡ false → IsGoneOverFrom task first begun run.first ahead run.home
     pub stands : IsStop task run.head
@@ -185,7 +212,8 @@ module _ (task : Task) (fit : IsFit task) (ready : AreReady task) (first : Settl
   legs_of : (stop : ℕ) → IsStop task stop → AreLegsOf task stop (legs_at task stop)
   legs_of stop is = by_from (slice_get task.departures.items stop) refl
     where
-      by_from : (found : Option Departures) → slice_get task.departures.items stop ≡ found → AreLegsOf task stop (legs_in found)
+      by_from : (found : Option Departures) → slice_get task.departures.items stop ≡ found
+          → AreLegsOf task stop (legs_in found)
       by_from None at = absurd (none_at task.departures.items stop at (omega (arith, is.0, ready.long)))
       by_from (Some from) at = ready.each stop from at is.1
 
@@ -199,13 +227,19 @@ module _ (task : Task) (fit : IsFit task) (ready : AreReady task) (first : Settl
     pub fits : SegmentFits task false leg.segment
     pub stop : IsStop task leg.segment.to
 
-  free_first : (run : PartialRun) (used : List Bool) (segment : Segment) → can_take task run used segment ≡ true → misses used segment.borders.items ≡ true
+  free_first : (run : PartialRun) (used : List Bool) (segment : Segment) → can_take task run used segment ≡ true
+      → misses used segment.borders.items ≡ true
   free_first run used segment taken =
-      both_second (may_come (stop_in (node_at task segment.to)) run segment.to) (misses used segment.borders.items) taken
+      both_second (may_come (stop_in (node_at task segment.to)) run segment.to) (misses used segment.borders.items)
+      taken
 
-  leads_by : (least : ℕ) (on : Bool) (settled : Settled) (run : PartialRun) → Follows least on settled run → ends_in (node_at task run.head) ≡ false → (place : ℕ) (leg : Leg) → slice_get (legs_at task run.head) place ≡ Some leg → least ≤ leg.first → can_take task run settled.used leg.segment ≡ true → Leads settled run leg
+  leads_by : (least : ℕ) (on : Bool) (settled : Settled) (run : PartialRun) → Follows least on settled run
+      → ends_in (node_at task run.head) ≡ false → (place : ℕ) (leg : Leg)
+      → slice_get (legs_at task run.head) place ≡ Some leg → least ≤ leg.first
+      → can_take task run settled.used leg.segment ≡ true → Leads settled run leg
   leads_by least on settled run follows passes place leg at later taken =
-      let fits = leg_fits task fit run.head (legs_at task run.head) (legs_of run.head follows.stands) follows.stands.1 leg (among_place (legs_at task run.head) place leg at) in
+      let fits = leg_fits task fit run.head (legs_at task run.head) (legs_of run.head follows.stands) follows.stands.1
+      leg (among_place (legs_at task run.head) place leg at) in
       record {
         from = run.head;
         place = place;
@@ -225,22 +259,32 @@ module _ (task : Task) (fit : IsFit task) (ready : AreReady task) (first : Settl
   was_true false is = absurd cc
 
   -- a run has come to a stop at which it ends
-  halts_go : (least : ℕ) (on : Bool) (settled : Settled) (run : PartialRun) → Follows least on settled run → (leg : Leg) → Leads settled run leg → EndsThere task first begun leg.segment.to → Halts (using settled leg.segment) (along task run leg.segment)
+  halts_go : (least : ℕ) (on : Bool) (settled : Settled) (run : PartialRun) → Follows least on settled run
+      → (leg : Leg) → Leads settled run leg → EndsThere task first begun leg.segment.to
+      → Halts (using settled leg.segment) (along task run leg.segment)
   halts_go least on settled run follows leg leads ends =
       elim ends [
         | inl ending ↦ inl ending
         | inr last ↦ inr (λ index other at taken.
-            last_stuck task first.used settled.used leads.from leads.place leg last.1 leads.stands leads.fits.borders follows.whole leads.free index other at
-            (free_first begun first.used other.segment (follows.takes other.segment (take_before task settled run false leg.segment leads.fits follows.whole follows.spots other.segment taken)))
-            (free_first (along task run leg.segment) (marked_all settled.used leg.segment.borders.items) other.segment taken))
+            last_stuck task first.used settled.used leads.from leads.place leg last.1 leads.stands leads.fits.borders
+            follows.whole leads.free index other at
+            (free_first begun first.used other.segment (follows.takes other.segment
+            (take_before task settled run false leg.segment leads.fits follows.whole follows.spots other.segment
+            taken)))
+            (free_first (along task run leg.segment) (marked_all settled.used leg.segment.borders.items) other.segment
+            taken))
       ]
 
-  pub follows_go : (least : ℕ) (on : Bool) (settled : Settled) (run : PartialRun) → Follows least on settled run → (leg : Leg) → Leads settled run leg → Follows 0 (passes leg.segment.to) (using settled leg.segment) (along task run leg.segment)
+  pub follows_go : (least : ℕ) (on : Bool) (settled : Settled) (run : PartialRun) → Follows least on settled run
+      → (leg : Leg) → Leads settled run leg → Follows 0 (passes leg.segment.to) (using settled leg.segment)
+      (along task run leg.segment)
   unfolding passes
   follows_go least on settled run follows leg leads =
       record {
-        halts = λ off. halts_go least on settled run follows leg leads (counts.ends leg.segment.to (was_true (ends_in (slice_get nodes leg.segment.to)) off));
-        takes = λ other is. follows.takes other (take_before task settled run false leg.segment leads.fits follows.whole follows.spots other is);
+        halts = λ off. halts_go least on settled run follows leg leads
+            (counts.ends leg.segment.to (was_true (ends_in (slice_get nodes leg.segment.to)) off));
+        takes = λ other is. follows.takes other (take_before task settled run false leg.segment leads.fits
+            follows.whole follows.spots other is);
         head = λ passes place other at later taken. look.all leg.segment.to leads.lies passes place other at taken;
         home = follows.home;
         stands = leads.stop;
@@ -252,7 +296,8 @@ module _ (task : Task) (fit : IsFit task) (ready : AreReady task) (first : Settl
       }
 
   -- a run that turns back goes on from where it began
-  follows_back : (on : Bool) (settled : Settled) (run : PartialRun) → Follows 0 on settled run → run.turned ≡ false → Follows run.first true settled (turned_back run)
+  follows_back : (on : Bool) (settled : Settled) (run : PartialRun) → Follows 0 on settled run → run.turned ≡ false
+      → Follows run.first true settled (turned_back run)
   follows_back on settled run follows once =
       record {
         halts = λ wrong. absurd (falsely true refl wrong);
@@ -270,28 +315,60 @@ module _ (task : Task) (fit : IsFit task) (ready : AreReady task) (first : Settl
   -- what a run may still earn, at a level
   pub still : ℕ → Bool → PartialRun → ℕ
   still level on run =
-      (run.left * level + beyond level nodes (but ahead run.visited)) + ends_by on (goes_back task run) (one_end level nodes (but ahead run.visited)) (two_ends level nodes (but ahead run.visited))
+      (run.left * level + beyond level nodes (but ahead run.visited))
+      + ends_by on (goes_back task run) (one_end level nodes (but ahead run.visited))
+      (two_ends level nodes (but ahead run.visited))
 
   -- a way leaves no more to be earned, as if the stop that it leaves might be passed
-  pub still_leg : (level least : ℕ) (on : Bool) (settled : Settled) (run : PartialRun) → Follows least on settled run → (leg : Leg) → Leads settled run leg → can_take task run settled.used leg.segment ≡ true → value_in (node_at task leg.segment.to) + still level (passes leg.segment.to) (along task run leg.segment) ≤ (run.left * level + beyond level nodes (but ahead run.visited)) + ends_by true (goes_back task run) (one_end level nodes (but ahead run.visited)) (two_ends level nodes (but ahead run.visited))
+  pub still_leg : (level least : ℕ) (on : Bool) (settled : Settled) (run : PartialRun) → Follows least on settled run
+      → (leg : Leg) → Leads settled run leg → can_take task run settled.used leg.segment ≡ true
+      → value_in (node_at task leg.segment.to) + still level (passes leg.segment.to) (along task run leg.segment)
+      ≤ (run.left * level + beyond level nodes (but ahead run.visited))
+      + ends_by true (goes_back task run) (one_end level nodes (but ahead run.visited))
+      (two_ends level nodes (but ahead run.visited))
   unfolding still passes
   still_leg level least on settled run follows leg leads taken =
-      let came : may_come true run leg.segment.to ≡ true = subst (λ (b : Bool). may_come b run leg.segment.to ≡ true) leads.stop.1 (both_first (may_come (stop_in (node_at task leg.segment.to)) run leg.segment.to) (misses settled.used leg.segment.borders.items) taken) in
+      let came : may_come true run leg.segment.to ≡ true =
+      subst (λ (b : Bool). may_come b run leg.segment.to ≡ true) leads.stop.1
+      (both_first (may_come (stop_in (node_at task leg.segment.to)) run leg.segment.to)
+      (misses settled.used leg.segment.borders.items) taken) in
       let low : leg.segment.to < length run.visited = omega (arith, follows.spots, leads.fits.to) in
-      let free : get_or run.visited leg.segment.to false ≡ false = not_is (get_or run.visited leg.segment.to false) (both_second (nat_lt 0 run.left) (not (get_or run.visited leg.segment.to false)) came) in
-      let open_here : get_or (but ahead run.visited) leg.segment.to false ≡ true = but_at ahead run.visited leg.segment.to low leads.lies free in
-      subst (λ (v : ℕ). v + still level (passes leg.segment.to) (along task run leg.segment) ≤ (run.left * level + beyond level nodes (but ahead run.visited)) + ends_by true (goes_back task run) (one_end level nodes (but ahead run.visited)) (two_ends level nodes (but ahead run.visited))) (counts.value leg.segment.to)
-      (still_by level run leg.segment.to leads.stop.1 low open_here (both_first (nat_lt 0 run.left) (not (get_or run.visited leg.segment.to false)) came))
+      let free : get_or run.visited leg.segment.to false ≡ false =
+      not_is (get_or run.visited leg.segment.to false)
+      (both_second (nat_lt 0 run.left) (not (get_or run.visited leg.segment.to false)) came) in
+      let open_here : get_or (but ahead run.visited) leg.segment.to false ≡ true =
+      but_at ahead run.visited leg.segment.to low leads.lies free in
+      subst (λ (v : ℕ). v + still level (passes leg.segment.to) (along task run leg.segment)
+      ≤ (run.left * level + beyond level nodes (but ahead run.visited))
+      + ends_by true (goes_back task run) (one_end level nodes (but ahead run.visited))
+      (two_ends level nodes (but ahead run.visited))) (counts.value leg.segment.to)
+      (still_by level run leg.segment.to leads.stop.1 low open_here
+      (both_first (nat_lt 0 run.left) (not (get_or run.visited leg.segment.to false)) came))
     where
       Still : ℕ → PartialRun → ℕ → Bool → Type 0
       Still level run to stop =
-          value_in (slice_get nodes to) + ((left_after stop run.left * level + beyond level nodes (but ahead (marked_if stop run.visited to))) + ends_by (not (ends_in (slice_get nodes to))) (goes_back task run) (one_end level nodes (but ahead (marked_if stop run.visited to))) (two_ends level nodes (but ahead (marked_if stop run.visited to)))) ≤ (run.left * level + beyond level nodes (but ahead run.visited)) + ends_by true (goes_back task run) (one_end level nodes (but ahead run.visited)) (two_ends level nodes (but ahead run.visited))
+          value_in (slice_get nodes to) + ((left_after stop run.left * level
+          + beyond level nodes (but ahead (marked_if stop run.visited to)))
+          + ends_by (not (ends_in (slice_get nodes to))) (goes_back task run)
+          (one_end level nodes (but ahead (marked_if stop run.visited to)))
+          (two_ends level nodes (but ahead (marked_if stop run.visited to))))
+          ≤ (run.left * level + beyond level nodes (but ahead run.visited))
+          + ends_by true (goes_back task run) (one_end level nodes (but ahead run.visited))
+          (two_ends level nodes (but ahead run.visited))
 
-      still_by : (level : ℕ) (run : PartialRun) (to : ℕ) → stop_in (node_at task to) ≡ true → to < length run.visited → get_or (but ahead run.visited) to false ≡ true → nat_lt 0 run.left ≡ true → Still level run to (stop_in (node_at task to))
+      still_by : (level : ℕ) (run : PartialRun) (to : ℕ) → stop_in (node_at task to) ≡ true → to < length run.visited
+          → get_or (but ahead run.visited) to false ≡ true → nat_lt 0 run.left ≡ true
+          → Still level run to (stop_in (node_at task to))
       still_by level run to stops low open_here some =
           subst (λ (b : Bool). Still level run to b) (sym stops)
-          (subst (λ (bs : List Bool). value_in (slice_get nodes to) + (((run.left - 1) * level + beyond level nodes bs) + ends_by (not (ends_in (slice_get nodes to))) (goes_back task run) (one_end level nodes bs) (two_ends level nodes bs)) ≤ (run.left * level + beyond level nodes (but ahead run.visited)) + ends_by true (goes_back task run) (one_end level nodes (but ahead run.visited)) (two_ends level nodes (but ahead run.visited))) (sym (but_set ahead run.visited to low))
-          (spend (ends_in (slice_get nodes to)) (goes_back task run) (value_in (slice_get nodes to)) level (run.left * level) ((run.left - 1) * level)
+          (subst (λ (bs : List Bool). value_in (slice_get nodes to)
+          + (((run.left - 1) * level + beyond level nodes bs)
+          + ends_by (not (ends_in (slice_get nodes to))) (goes_back task run) (one_end level nodes bs)
+          (two_ends level nodes bs)) ≤ (run.left * level + beyond level nodes (but ahead run.visited))
+          + ends_by true (goes_back task run) (one_end level nodes (but ahead run.visited))
+          (two_ends level nodes (but ahead run.visited))) (sym (but_set ahead run.visited to low))
+          (spend (ends_in (slice_get nodes to)) (goes_back task run) (value_in (slice_get nodes to)) level
+          (run.left * level) ((run.left - 1) * level)
           (beyond level nodes (but ahead run.visited)) (beyond level nodes (set (but ahead run.visited) to false))
           (one_end level nodes (but ahead run.visited)) (one_end level nodes (set (but ahead run.visited) to false))
           (two_ends level nodes (but ahead run.visited)) (two_ends level nodes (set (but ahead run.visited) to false))
@@ -299,11 +376,18 @@ module _ (task : Task) (fit : IsFit task) (ready : AreReady task) (first : Settl
           (beyond_spent level nodes (but ahead run.visited) to open_here)
           (one_spent level nodes (but ahead run.visited) to open_here)
           (two_spent level nodes (but ahead run.visited) to open_here)
-          (one_less level nodes (set (but ahead run.visited) to false) (but ahead run.visited) (unset_within (but ahead run.visited) to))
-          (two_less level nodes (set (but ahead run.visited) to false) (but ahead run.visited) (unset_within (but ahead run.visited) to))))
+          (one_less level nodes (set (but ahead run.visited) to false) (but ahead run.visited)
+          (unset_within (but ahead run.visited) to))
+          (two_less level nodes (set (but ahead run.visited) to false) (but ahead run.visited)
+          (unset_within (but ahead run.visited) to))))
 
   -- a way leaves no more to be earned
-  still_go : (level least : ℕ) (on : Bool) (settled : Settled) (run : PartialRun) → Follows least on settled run → ends_in (node_at task run.head) ≡ false → (place : ℕ) (leg : Leg) → slice_get (legs_at task run.head) place ≡ Some leg → Leads settled run leg → can_take task run settled.used leg.segment ≡ true → value_in (node_at task leg.segment.to) + still level (passes leg.segment.to) (along task run leg.segment) ≤ still level on run
+  still_go : (level least : ℕ) (on : Bool) (settled : Settled) (run : PartialRun) → Follows least on settled run
+      → ends_in (node_at task run.head) ≡ false → (place : ℕ) (leg : Leg)
+      → slice_get (legs_at task run.head) place ≡ Some leg → Leads settled run leg
+      → can_take task run settled.used leg.segment ≡ true
+      → value_in (node_at task leg.segment.to) + still level (passes leg.segment.to) (along task run leg.segment)
+      ≤ still level on run
   unfolding still
   still_go level least true settled run follows goes place leg at leads taken =
       still_leg level least true settled run follows leg leads taken
@@ -314,16 +398,23 @@ module _ (task : Task) (fit : IsFit task) (ready : AreReady task) (first : Settl
       ])
 
   -- a run that turns back has one end less
-  back_by : (on once passes : Bool) (one two : ℕ) → one ≤ two → once ≡ false → passes ≡ false → ends_by true (not true && not passes) one two ≤ ends_by on (not once && not passes) one two
+  back_by : (on once passes : Bool) (one two : ℕ) → one ≤ two → once ≡ false → passes ≡ false
+      → ends_by true (not true && not passes) one two ≤ ends_by on (not once && not passes) one two
   back_by true false false one two less once passes = less
   back_by false false false one two less once passes = omega arith
   back_by on true passes one two less once is = absurd (falsely true refl once)
   back_by on false true one two less once is = absurd (falsely true refl is)
 
-  still_back : (level : ℕ) (on : Bool) (run : PartialRun) → run.turned ≡ false → ends_in (node_at task run.home) ≡ false → still level true (turned_back run) ≤ still level on run
+  still_back : (level : ℕ) (on : Bool) (run : PartialRun) → run.turned ≡ false
+      → ends_in (node_at task run.home) ≡ false → still level true (turned_back run) ≤ still level on run
   unfolding still
   still_back level on run once passes =
-      omega (arith, back_by on run.turned (ends_in (node_at task run.home)) (one_end level nodes (but ahead run.visited)) (two_ends level nodes (but ahead run.visited)) (one_two level nodes (but ahead run.visited)) once passes)
+      omega (
+        arith,
+        back_by on run.turned (ends_in (node_at task run.home))
+            (one_end level nodes (but ahead run.visited)) (two_ends level nodes (but ahead run.visited))
+            (one_two level nodes (but ahead run.visited)) once passes,
+      )
 
   -- at first it may earn no more than by all that lies ahead
   still_first : (level : ℕ) → still level (goes_on task begun) begun ≤ most_ahead level task nodes begun ahead
@@ -333,87 +424,208 @@ module _ (task : Task) (fit : IsFit task) (ready : AreReady task) (first : Settl
       omega (
         arith,
         beyond_less level nodes (but ahead begun.visited) ahead within,
-        ends_less (goes_on task begun) (goes_back task begun) (one_end level nodes (but ahead begun.visited)) (two_ends level nodes (but ahead begun.visited)) (one_end level nodes ahead) (two_ends level nodes ahead)
-            (one_less level nodes (but ahead begun.visited) ahead within) (two_less level nodes (but ahead begun.visited) ahead within),
+        ends_less (goes_on task begun) (goes_back task begun) (one_end level nodes (but ahead begun.visited))
+            (two_ends level nodes (but ahead begun.visited)) (one_end level nodes ahead) (two_ends level nodes ahead)
+            (one_less level nodes (but ahead begun.visited) ahead within)
+            (two_less level nodes (but ahead begun.visited) ahead within),
       )
 
   -- the way with which what comes after a piece begins
-  abbrev Leg_of : (least : ℕ) (on : Bool) (settled : Settled) (run : PartialRun) → Follows least on settled run → ℕ → Segment → List Move → Type 0
+  abbrev Leg_of : (least : ℕ) (on : Bool) (settled : Settled) (run : PartialRun) → Follows least on settled run → ℕ
+      → Segment → List Move → Type 0
   Leg_of least on settled run follows place segment moves =
-      ByLeg task fit run.head follows.stands.1 (legs_at task run.head) (legs_of run.head follows.stands) settled run place segment moves
+      ByLeg task fit run.head follows.stands.1 (legs_at task run.head) (legs_of run.head follows.stands) settled run
+      place segment moves
 
-  leg_of : (least : ℕ) (on : Bool) (settled : Settled) (run : PartialRun) → (follows : Follows least on settled run) → (place : ℕ) (segment : Segment) (moves : List Move) → LeadsFrom task run.head place segment → can_take task run settled.used segment ≡ true → Completes task (partial (using settled segment) (along task run segment)) moves → Leg_of least on settled run follows place segment moves
+  leg_of : (least : ℕ) (on : Bool) (settled : Settled) (run : PartialRun) → (follows : Follows least on settled run)
+      → (place : ℕ) (segment : Segment) (moves : List Move) → LeadsFrom task run.head place segment
+      → can_take task run settled.used segment ≡ true
+      → Completes task (partial (using settled segment) (along task run segment)) moves
+      → Leg_of least on settled run follows place segment moves
   leg_of least on settled run follows place segment moves leads taken completes =
-      by_leg task fit run.head follows.stands.1 (legs_at task run.head) (legs_of run.head follows.stands) settled run follows.whole place segment moves leads taken completes
+      by_leg task fit run.head follows.stands.1 (legs_at task run.head) (legs_of run.head follows.stands) settled run
+      follows.whole place segment moves leads taken completes
 
   -- all ways on
-  low_by : (level later : ℕ) → EarnAtMost task (first.next + 1) later → (fuel : ℕ) (moves : List Move) → length moves ≤ fuel → (settled : Settled) (run : PartialRun) (on : Bool) → Follows 0 on settled run → Completes task (partial settled run) moves → total_after task (partial settled run) moves ≤ settled.total + run.value + still level on run + later
+  low_by : (level later : ℕ) → EarnAtMost task (first.next + 1) later → (fuel : ℕ) (moves : List Move)
+      → length moves ≤ fuel → (settled : Settled) (run : PartialRun) (on : Bool) → Follows 0 on settled run
+      → Completes task (partial settled run) moves → total_after task (partial settled run) moves
+      ≤ settled.total + run.value + still level on run + later
   low_by level later bound fuel [] enough settled run on follows completes = absurd completes
   low_by level later bound fuel (pass ∷ moves) enough settled run on follows completes = absurd completes.0
-  low_by level later bound fuel (begin stop index segment ∷ moves) enough settled run on follows completes = absurd completes.0
-  low_by level later bound zero (go index segment ∷ moves) enough settled run on follows completes = absurd (omega (arith, enough))
+  low_by level later bound fuel (begin stop index segment ∷ moves) enough settled run on follows completes =
+      absurd completes.0
+  low_by level later bound zero (go index segment ∷ moves) enough settled run on follows completes =
+      absurd (omega (arith, enough))
   low_by level later bound (suc fuel) (go index segment ∷ moves) enough settled run on follows completes =
       let may = completes.0 in
-      let by : Leg_of 0 on settled run follows index segment moves = leg_of 0 on settled run follows index segment moves may.leads may.taken completes.1 in
-      let leads : Leads settled run by.leg = leads_by 0 on settled run follows may.passes by.place_of by.leg by.stands (omega arith) by.can in
-      let rest : total_after task (partial (using settled by.leg.segment) (along task run by.leg.segment)) by.later ≤ settled.total + (run.value + value_in (node_at task by.leg.segment.to)) + still level (passes by.leg.segment.to) (along task run by.leg.segment) + later = low_by level later bound fuel by.later (omega (arith, by.shorter, enough)) (using settled by.leg.segment) (along task run by.leg.segment) (passes by.leg.segment.to) (follows_go 0 on settled run follows by.leg leads) by.completes in
-      omega (arith, rest, by.total, still_go level 0 on settled run follows may.passes by.place_of by.leg by.stands leads by.can)
-  low_by level later bound zero (turn index segment ∷ moves) enough settled run on follows completes = absurd (omega (arith, enough))
+      let by : Leg_of 0 on settled run follows index segment moves =
+      leg_of 0 on settled run follows index segment moves may.leads may.taken completes.1 in
+      let leads : Leads settled run by.leg = leads_by 0 on settled run follows may.passes by.place_of by.leg by.stands
+      (omega arith) by.can in
+      let rest : total_after task (partial (using settled by.leg.segment) (along task run by.leg.segment)) by.later
+      ≤ settled.total + (run.value + value_in (node_at task by.leg.segment.to))
+      + still level (passes by.leg.segment.to) (along task run by.leg.segment) + later =
+      low_by level later bound fuel by.later (omega (arith, by.shorter, enough)) (using settled by.leg.segment)
+      (along task run by.leg.segment) (passes by.leg.segment.to)
+      (follows_go 0 on settled run follows by.leg leads) by.completes in
+      omega (
+        arith,
+        rest,
+        by.total,
+        still_go level 0 on settled run follows may.passes by.place_of by.leg by.stands
+            leads by.can,
+      )
+  low_by level later bound zero (turn index segment ∷ moves) enough settled run on follows completes =
+      absurd (omega (arith, enough))
   low_by level later bound (suc fuel) (turn index segment ∷ moves) enough settled run on follows completes =
       let may = completes.0 in
       let back : Follows run.first true settled (turned_back run) = follows_back on settled run follows may.once in
-      let by : Leg_of run.first true settled (turned_back run) back index segment moves = leg_of run.first true settled (turned_back run) back index segment moves may.leads may.taken completes.1 in
-      let leads : Leads settled (turned_back run) by.leg = leads_by run.first true settled (turned_back run) back may.passes by.place_of by.leg by.stands (omega (arith, may.later, by.first)) by.can in
-      let rest : total_after task (partial (using settled by.leg.segment) (along task (turned_back run) by.leg.segment)) by.later ≤ settled.total + (run.value + value_in (node_at task by.leg.segment.to)) + still level (passes by.leg.segment.to) (along task (turned_back run) by.leg.segment) + later = low_by level later bound fuel by.later (omega (arith, by.shorter, enough)) (using settled by.leg.segment) (along task (turned_back run) by.leg.segment) (passes by.leg.segment.to) (follows_go run.first true settled (turned_back run) back by.leg leads) by.completes in
-      omega (arith, rest, by.total, still_go level run.first true settled (turned_back run) back may.passes by.place_of by.leg by.stands leads by.can, still_back level on run may.once may.passes)
+      let by : Leg_of run.first true settled (turned_back run) back index segment moves =
+      leg_of run.first true settled (turned_back run) back index segment moves may.leads may.taken completes.1 in
+      let leads : Leads settled (turned_back run) by.leg =
+      leads_by run.first true settled (turned_back run) back may.passes by.place_of by.leg by.stands
+      (omega (arith, may.later, by.first)) by.can in
+      let rest : total_after task (partial (using settled by.leg.segment)
+      (along task (turned_back run) by.leg.segment)) by.later
+      ≤ settled.total + (run.value + value_in (node_at task by.leg.segment.to))
+      + still level (passes by.leg.segment.to) (along task (turned_back run) by.leg.segment) + later =
+      low_by level later bound fuel by.later (omega (arith, by.shorter, enough)) (using settled by.leg.segment)
+      (along task (turned_back run) by.leg.segment) (passes by.leg.segment.to)
+      (follows_go run.first true settled (turned_back run) back by.leg leads) by.completes in
+      omega (
+        arith,
+        rest,
+        by.total,
+        still_go level run.first true settled (turned_back run) back may.passes
+            by.place_of by.leg by.stands leads by.can,
+        still_back level on run may.once may.passes,
+      )
   low_by level later bound fuel (settle ∷ moves) enough settled run on follows completes =
-      let here : EarnAtMost task (with_run_settled settled run).next later = subst (λ (n : ℕ). EarnAtMost task (n + 1) later) (sym follows.next) bound in
-      let rest : total_after task (between (with_run_settled settled run)) moves ≤ settled.total + run.value + later = rest_low task (with_run_settled settled run) later here follows.whole moves completes.1 in
+      let here : EarnAtMost task (with_run_settled settled run).next later =
+      subst (λ (n : ℕ). EarnAtMost task (n + 1) later) (sym follows.next) bound in
+      let rest : total_after task (between (with_run_settled settled run)) moves ≤ settled.total + run.value + later =
+      rest_low task (with_run_settled settled run) later here follows.whole moves completes.1 in
       omega arith
 
   -- all ways on, if the next trains are of the same kind
-  pub low_canonical : (level most : ℕ) → 0 < begun.most → (equal later : ℕ) → AreEqual task (first.next + 1) equal begun.most → EarnAtMost task (first.next + 1 + equal) later → (fuel : ℕ) (moves : List Move) → length moves ≤ fuel → (settled : Settled) (run : PartialRun) (on : Bool) → Follows 0 on settled run → run.value + still level on run ≤ most → Completes task (partial settled run) moves → total_after task (partial settled run) moves ≤ settled.total + most + (equal * most + later)
-  low_canonical level most some equal later canonical bound fuel [] enough settled run on follows low completes = absurd completes
-  low_canonical level most some equal later canonical bound fuel (pass ∷ moves) enough settled run on follows low completes = absurd completes.0
-  low_canonical level most some equal later canonical bound fuel (begin stop index segment ∷ moves) enough settled run on follows low completes = absurd completes.0
-  low_canonical level most some equal later canonical bound zero (go index segment ∷ moves) enough settled run on follows low completes = absurd (omega (arith, enough))
-  low_canonical level most some equal later canonical bound (suc fuel) (go index segment ∷ moves) enough settled run on follows low completes =
+  pub low_canonical : (level most : ℕ) → 0 < begun.most → (equal later : ℕ)
+      → AreEqual task (first.next + 1) equal begun.most → EarnAtMost task (first.next + 1 + equal) later
+      → (fuel : ℕ) (moves : List Move) → length moves ≤ fuel → (settled : Settled) (run : PartialRun) (on : Bool)
+      → Follows 0 on settled run → run.value + still level on run ≤ most → Completes task (partial settled run) moves
+      → total_after task (partial settled run) moves ≤ settled.total + most + (equal * most + later)
+  low_canonical level most some equal later canonical bound fuel [] enough settled run on follows low completes =
+      absurd completes
+  low_canonical level most some equal later canonical bound fuel (pass ∷ moves) enough settled run on follows low
+      completes = absurd completes.0
+  low_canonical level most some equal later canonical bound fuel (begin stop index segment ∷ moves) enough settled run
+      on follows low completes = absurd completes.0
+  low_canonical level most some equal later canonical bound zero (go index segment ∷ moves) enough settled run on
+      follows low completes = absurd (omega (arith, enough))
+  low_canonical level most some equal later canonical bound (suc fuel) (go index segment ∷ moves) enough settled run
+      on follows low completes =
       let may = completes.0 in
-      let by : Leg_of 0 on settled run follows index segment moves = leg_of 0 on settled run follows index segment moves may.leads may.taken completes.1 in
-      let leads : Leads settled run by.leg = leads_by 0 on settled run follows may.passes by.place_of by.leg by.stands (omega arith) by.can in
-      let rest = low_canonical level most some equal later canonical bound fuel by.later (omega (arith, by.shorter, enough)) (using settled by.leg.segment) (along task run by.leg.segment) (passes by.leg.segment.to) (follows_go 0 on settled run follows by.leg leads)
-      (omega (arith, low, still_go level 0 on settled run follows may.passes by.place_of by.leg by.stands leads by.can)) by.completes in
+      let by : Leg_of 0 on settled run follows index segment moves =
+      leg_of 0 on settled run follows index segment moves may.leads may.taken completes.1 in
+      let leads : Leads settled run by.leg = leads_by 0 on settled run follows may.passes by.place_of by.leg by.stands
+      (omega arith) by.can in
+      let rest = low_canonical level most some equal later canonical bound fuel by.later
+      (omega (arith, by.shorter, enough)) (using settled by.leg.segment) (along task run by.leg.segment)
+      (passes by.leg.segment.to) (follows_go 0 on settled run follows by.leg leads)
+      (omega (
+        arith,
+        low,
+        still_go level 0 on settled run follows may.passes by.place_of by.leg by.stands leads
+            by.can,
+      )) by.completes in
       omega (arith, rest, by.total)
-  low_canonical level most some equal later canonical bound zero (turn index segment ∷ moves) enough settled run on follows low completes = absurd (omega (arith, enough))
-  low_canonical level most some equal later canonical bound (suc fuel) (turn index segment ∷ moves) enough settled run on follows low completes =
+  low_canonical level most some equal later canonical bound zero (turn index segment ∷ moves) enough settled run on
+      follows low completes = absurd (omega (arith, enough))
+  low_canonical level most some equal later canonical bound (suc fuel) (turn index segment ∷ moves) enough settled run
+      on follows low completes =
       let may = completes.0 in
       let back : Follows run.first true settled (turned_back run) = follows_back on settled run follows may.once in
-      let by : Leg_of run.first true settled (turned_back run) back index segment moves = leg_of run.first true settled (turned_back run) back index segment moves may.leads may.taken completes.1 in
-      let leads : Leads settled (turned_back run) by.leg = leads_by run.first true settled (turned_back run) back may.passes by.place_of by.leg by.stands (omega (arith, may.later, by.first)) by.can in
-      let rest = low_canonical level most some equal later canonical bound fuel by.later (omega (arith, by.shorter, enough)) (using settled by.leg.segment) (along task (turned_back run) by.leg.segment) (passes by.leg.segment.to) (follows_go run.first true settled (turned_back run) back by.leg leads)
-      (omega (arith, low, still_go level run.first true settled (turned_back run) back may.passes by.place_of by.leg by.stands leads by.can, still_back level on run may.once may.passes)) by.completes in
+      let by : Leg_of run.first true settled (turned_back run) back index segment moves =
+      leg_of run.first true settled (turned_back run) back index segment moves may.leads may.taken completes.1 in
+      let leads : Leads settled (turned_back run) by.leg =
+      leads_by run.first true settled (turned_back run) back may.passes by.place_of by.leg by.stands
+      (omega (arith, may.later, by.first)) by.can in
+      let rest = low_canonical level most some equal later canonical bound fuel by.later
+      (omega (arith, by.shorter, enough)) (using settled by.leg.segment)
+      (along task (turned_back run) by.leg.segment) (passes by.leg.segment.to)
+      (follows_go run.first true settled (turned_back run) back by.leg leads)
+      (omega (
+        arith,
+        low,
+        still_go level run.first true settled (turned_back run) back may.passes by.place_of by.leg
+            by.stands leads by.can,
+        still_back level on run may.once may.passes,
+      )) by.completes in
       omega (arith, rest, by.total)
-  low_canonical level most some equal later canonical bound fuel (settle ∷ moves) enough settled run on follows low completes =
-      let here : AreEqual task (settled.next + 1) equal begun.most = subst (λ (n : ℕ). AreEqual task (n + 1) equal begun.most) (sym follows.next) canonical in
-      let there : EarnAtMost task (settled.next + 1 + equal) later = subst (λ (n : ℕ). EarnAtMost task (n + 1 + equal) later) (sym follows.next) bound in
-      let rest : total_after task (between (with_run_settled settled run)) moves ≤ settled.total + run.value + (equal * most + later) = low_settled task begun.most most later some equal (with_run_settled settled run) here follows.most (omega (arith, low)) follows.whole there moves completes.1 in
+  low_canonical level most some equal later canonical bound fuel (settle ∷ moves) enough settled run on follows low
+      completes =
+      let here : AreEqual task (settled.next + 1) equal begun.most =
+      subst (λ (n : ℕ). AreEqual task (n + 1) equal begun.most) (sym follows.next) canonical in
+      let there : EarnAtMost task (settled.next + 1 + equal) later =
+      subst (λ (n : ℕ). EarnAtMost task (n + 1 + equal) later) (sym follows.next) bound in
+      let rest : total_after task (between (with_run_settled settled run)) moves
+      ≤ settled.total + run.value + (equal * most + later) =
+      low_settled task begun.most most later some equal (with_run_settled settled run) here follows.most
+      (omega (arith, low)) follows.whole there moves completes.1 in
       omega (arith, rest, low)
 
-  pub first_follows : IsStop task begun.head → IsStop task begun.home → length first.used ≡ 279 → length begun.visited ≡ 744 → Follows 0 (goes_on task begun) first begun
+  pub first_follows : IsStop task begun.head → IsStop task begun.home → length first.used ≡ 279
+      → length begun.visited ≡ 744 → Follows 0 (goes_on task begun) first begun
   first_follows stands begins whole spots =
-      record { halts = λ off. inl (was_true (ends_in (node_at task begun.head)) off); takes = λ segment taken. taken; head = λ passes place leg at later taken. look.head passes place leg at taken; home = look.home; stands = stands; begins = begins; next = refl; most = refl; whole = whole; spots = spots }
+      record {
+        halts = λ off. inl (was_true (ends_in (node_at task begun.head)) off);
+        takes =
+            λ segment taken. taken;
+        head = λ passes place leg at later taken. look.head passes place leg at taken;
+        home = look.home;
+        stands = stands;
+        begins = begins;
+        next = refl;
+        most = refl;
+        whole = whole;
+        spots = spots;
+      }
 
   -- a run that earns too little
-  pub ends_low : IsStop task begun.head → IsStop task begun.home → (level later best : ℕ) → EarnAtMost task (first.next + 1) later → length first.used ≡ 279 → length begun.visited ≡ 744 → first.total + begun.value + most_ahead level task nodes begun ahead + later ≤ best → EndsAtMost task first begun best
+  pub ends_low : IsStop task begun.head → IsStop task begun.home → (level later best : ℕ)
+      → EarnAtMost task (first.next + 1) later → length first.used ≡ 279 → length begun.visited ≡ 744
+      → first.total + begun.value + most_ahead level task nodes begun ahead + later ≤ best
+      → EndsAtMost task first begun best
   ends_low stands begins level later best bound whole spots low moves completes =
-      omega (arith, low_by level later bound (length moves) moves (omega arith) first begun (goes_on task begun) (first_follows stands begins whole spots) completes, still_first level)
+      omega (
+        arith,
+        low_by level later bound (length moves) moves (omega arith) first begun (goes_on task begun)
+            (first_follows stands begins whole spots) completes,
+        still_first level,
+      )
 
   -- a run that earns too little with those of its kind
-  pub ends_canonical : IsStop task begun.head → IsStop task begun.home → (level most best : ℕ) → ArePrunedByCap task (first.next + 1) begun.most most (first.total + most) best → length first.used ≡ 279 → length begun.visited ≡ 744 → begun.value + most_ahead level task nodes begun ahead ≤ most → EndsAtMost task first begun best
+  pub ends_canonical : IsStop task begun.head → IsStop task begun.home → (level most best : ℕ)
+      → ArePrunedByCap task (first.next + 1) begun.most most (first.total + most) best → length first.used ≡ 279
+      → length begun.visited ≡ 744 → begun.value + most_ahead level task nodes begun ahead ≤ most
+      → EndsAtMost task first begun best
   ends_canonical stands begins level most best capped whole spots low moves completes =
-      omega (arith, capped.short, low_canonical level most capped.some capped.equal capped.bound capped.are_equal capped.rest (length moves) moves (omega arith) first begun (goes_on task begun) (first_follows stands begins whole spots) (omega (arith, low, still_first level)) completes)
+      omega (
+        arith,
+        capped.short,
+        low_canonical level most capped.some capped.equal capped.bound capped.are_equal
+            capped.rest (length moves) moves (omega arith) first begun (goes_on task begun)
+            (first_follows stands begins whole spots) (omega (arith, low, still_first level)) completes,
+      )
 
 -- what cannot earn more need not be tried
-pub explores_hopeless : (task : Task) (settled : Settled) (run : PartialRun) (best : Found) → EndsAtMost task settled run best.amount → Explores task (partial settled run) best best
+pub explores_hopeless : (task : Task) (settled : Settled) (run : PartialRun) (best : Found)
+    → EndsAtMost task settled run best.amount → Explores task (partial settled run) best best
 explores_hopeless task settled run best ends =
-    record { grows = omega arith; traced = traced_none task (partial settled run) best; known = λ known. known; most = λ known. ends }
+    record {
+      grows = omega arith;
+      traced = traced_none task (partial settled run) best;
+      known = λ known. known;
+      most =
+          λ known. ends;
+    }

@@ -18,20 +18,27 @@ use Rattle.best_run.proofs.Marks.{unused_most}
 use Rattle.best_run.proofs.Traced.{traced_both, traced_none}
 
 -- what is covered earns no more
-low_between : (task : Task) (entry settled : Settled) (most : ℕ) → Dominates entry settled → LeadsToAtMost task (between entry) most → LeadsToAtMost task (between settled) most
+low_between : (task : Task) (entry settled : Settled) (most : ℕ) → Dominates entry settled
+    → LeadsToAtMost task (between entry) most → LeadsToAtMost task (between settled) most
 low_between task entry settled most dominates low moves completes =
-    let easy : Eased task entry.kind entry.cap (between settled) moves entry.total entry.used = ease task moves entry.kind entry.cap (between settled) entry.total entry.used (inr (sym dominates.kind, dominates.cap)) dominates.used completes in
+    let easy : Eased task entry.kind entry.cap (between settled) moves entry.total entry.used =
+    ease task moves entry.kind entry.cap (between settled) entry.total entry.used
+    (inr (sym dominates.kind, dominates.cap)) dominates.used completes in
     let At : ℕ → Settled = λ next. record entry { next = next } in
-    let Ends : ℕ → Type 0 = λ next. Completes task (between (At next)) moves → total_after task (between (At next)) moves ≤ most in
+    let Ends : ℕ → Type 0 = λ next. Completes task (between (At next)) moves
+    → total_after task (between (At next)) moves ≤ most in
     let here : Ends entry.next = low moves in
     let there : Ends settled.next = subst Ends dominates.next here in
     omega (arith, easy.earns, there easy.completes, dominates.total)
 
 -- a run that is covered earns no more
-low_partial : (task : Task) → IsFit task → (entry settled : Settled) (first second : PartialRun) (most : ℕ) → length entry.used ≡ 279 → Dominates entry settled → entry.kind ≡ 0 → DominatesRun first second → LeadsToAtMost task (partial entry first) most → LeadsToAtMost task (partial settled second) most
+low_partial : (task : Task) → IsFit task → (entry settled : Settled) (first second : PartialRun) (most : ℕ)
+    → length entry.used ≡ 279 → Dominates entry settled → entry.kind ≡ 0 → DominatesRun first second
+    → LeadsToAtMost task (partial entry first) most → LeadsToAtMost task (partial settled second) most
 low_partial task fit entry settled first second most whole dominates none run low moves completes =
     let more = first.value - second.value in
-    let frees : Frees settled second first.home first.first first.left first.value first.visited entry.used entry.kind entry.cap more = record {
+    let frees : Frees settled second first.home first.first first.left first.value first.visited entry.used entry.kind
+    entry.cap more = record {
       back = run.back;
       left_is = has_left run.left;
       value_is = omega (arith, run.value);
@@ -41,10 +48,13 @@ low_partial task fit entry settled first second most whole dominates none run lo
       whole = whole;
     } in
     let other = freed second first.home first.first first.left first.value first.visited in
-    let easy : Freed task settled second other entry.used entry.kind entry.cap more entry.total moves = free task fit moves settled second first.home first.first first.left first.value first.visited entry.used entry.kind entry.cap more entry.total frees completes in
+    let easy : Freed task settled second other entry.used entry.kind entry.cap more entry.total moves =
+    free task fit moves settled second first.home first.first first.left first.value first.visited entry.used
+    entry.kind entry.cap more entry.total frees completes in
     let same : first ≡ other = same_run first second.turned second.head second.most run.turned run.head run.most in
     let At : ℕ → Settled = λ next. record entry { next = next } in
-    let Ends : ℕ → Type 0 = λ next. Completes task (partial (At next) other) moves → total_after task (partial (At next) other) moves ≤ most in
+    let Ends : ℕ → Type 0 = λ next. Completes task (partial (At next) other) moves
+    → total_after task (partial (At next) other) moves ≤ most in
     let here : Ends entry.next = subst (λ (r : PartialRun). LeadsToAtMost task (partial entry r) most) same low moves in
     let there : Ends settled.next = subst Ends dominates.next here in
     omega (arith, easy.earns, there easy.completes, dominates.total)
@@ -53,29 +63,51 @@ low_partial task fit entry settled first second most whole dominates none run lo
     has_left (inl most) = inl most
     has_left (inr most) = inr (omega (arith, most, unused_most entry.used, whole))
 
-    same_run : (r : PartialRun) (turned : Bool) (head many : ℕ) → r.turned ≡ turned → r.head ≡ head → r.most ≡ many → r ≡ record { home = r.home; first = r.first; turned = turned; head = head; most = many; left = r.left; value = r.value; visited = r.visited }
+    same_run : (r : PartialRun) (turned : Bool) (head many : ℕ) → r.turned ≡ turned → r.head ≡ head → r.most ≡ many
+        → r ≡ record {
+          home = r.home;
+          first = r.first;
+          turned = turned;
+          head = head;
+          most = many;
+          left =
+              r.left;
+          value = r.value;
+          visited = r.visited;
+        }
     same_run r turned head many is_turned is_head is_most = rw (← is_turned, ← is_head, ← is_most) refl
 
-low_covered : (task : Task) → IsFit task → (entry search_state : SearchState) (most : ℕ) → length search_state.settled.used ≡ 279 → DominatesStage entry search_state → LeadsToAtMost task (state_at entry) most → LeadsToAtMost task (state_at search_state) most
+low_covered : (task : Task) → IsFit task → (entry search_state : SearchState) (most : ℕ)
+    → length search_state.settled.used ≡ 279 → DominatesStage entry search_state
+    → LeadsToAtMost task (state_at entry) most → LeadsToAtMost task (state_at search_state) most
 low_covered task fit entry search_state most whole dominates low = by_runs entry.run search_state.run dominates.run low
   where
-    by_runs : (first second : Option PartialRun) → DominatesAny entry.settled.kind first second → LeadsToAtMost task (state_by entry.settled first) most → LeadsToAtMost task (state_by search_state.settled second) most
+    by_runs : (first second : Option PartialRun) → DominatesAny entry.settled.kind first second
+        → LeadsToAtMost task (state_by entry.settled first) most
+        → LeadsToAtMost task (state_by search_state.settled second) most
     by_runs None None run low = low_between task entry.settled search_state.settled most dominates.settled low
     by_runs None (Some second) run low = absurd run
     by_runs (Some first) None run low = absurd run
-    by_runs (Some first) (Some second) run low = low_partial task fit entry.settled search_state.settled first second most (sym (freer_length search_state.settled.used entry.settled.used dominates.settled.used) ∙ whole) dominates.settled run.0 run.1 low
+    by_runs (Some first) (Some second) run low = low_partial task fit entry.settled search_state.settled first second
+        most (sym (freer_length search_state.settled.used entry.settled.used dominates.settled.used) ∙ whole)
+        dominates.settled run.0 run.1 low
 
-pub explores_covered : (task : Task) → IsFit task → (state : State) (like : SearchState) (best : Found) → length like.settled.used ≡ 279 → ((most : ℕ) → LeadsToAtMost task (state_at like) most → LeadsToAtMost task state most) → IsCovered best like → Explores task state best best
+pub explores_covered : (task : Task) → IsFit task → (state : State) (like : SearchState) (best : Found)
+    → length like.settled.used ≡ 279 → ((most : ℕ) → LeadsToAtMost task (state_at like) most
+    → LeadsToAtMost task state most) → IsCovered best like → Explores task state best best
 explores_covered task fit state like best whole canonical is =
     record {
       grows = omega arith;
       traced = traced_none task state best;
       known = λ known. known;
-      most = λ known. canonical best.amount (low_covered task fit is.entry like best.amount whole is.dominates (known is.place is.entry is.there));
+      most = λ known. canonical best.amount (low_covered task fit is.entry like best.amount whole is.dominates
+          (known is.place is.entry is.there));
     }
 
 -- a state is kept once it has been explored
-pub explores_kept : (task : Task) (state : State) (like : SearchState) (old new kept : Found) → ((most : ℕ) → LeadsToAtMost task state most → LeadsToAtMost task (state_at like) most) → Explores task state old new → IsKept like new kept → Explores task state old kept
+pub explores_kept : (task : Task) (state : State) (like : SearchState) (old new kept : Found)
+    → ((most : ℕ) → LeadsToAtMost task state most → LeadsToAtMost task (state_at like) most)
+    → Explores task state old new → IsKept like new kept → Explores task state old kept
 explores_kept task state like old new kept canonical explores is =
     record {
       grows = omega (arith, explores.grows, is.amount);
@@ -83,10 +115,12 @@ explores_kept task state like old new kept canonical explores is =
         refused = is.refused;
         told = λ none. inl (record { amount = is.amount; marks = is.marks });
       });
-      known = λ known place entry there. subst (λ (n : ℕ). LeadsToAtMost task (state_at entry) n) (sym is.amount) (elim (is.only place entry there) [
-        | inl held ↦ explores.known known held.0 entry held.1
-        | inr same ↦ subst (λ (s : SearchState). LeadsToAtMost task (state_at s) new.amount) same (canonical new.amount (explores.most known))
-      ]);
+      known = λ known place entry there. subst (λ (n : ℕ). LeadsToAtMost task (state_at entry) n) (sym is.amount)
+          (elim (is.only place entry there) [
+            | inl held ↦ explores.known known held.0 entry held.1
+            | inr same ↦ subst (λ (s : SearchState). LeadsToAtMost task (state_at s) new.amount) same
+                (canonical new.amount (explores.most known))
+          ]);
       most = λ known. subst (λ (n : ℕ). LeadsToAtMost task state n) (sym is.amount) (explores.most known);
     }
 
@@ -108,7 +142,9 @@ empty_memo task found is place entry there =
     never (suc at) none = absurd cc
 
 -- a place is written
-pub set_only : (entries : List SearchState) (n place : ℕ) (search_state entry : SearchState) → slice_get (set entries n search_state) place ≡ Some entry → (slice_get entries place ≡ Some entry) ⊎ (search_state ≡ entry)
+pub set_only : (entries : List SearchState) (n place : ℕ) (search_state entry : SearchState)
+    → slice_get (set entries n search_state) place ≡ Some entry
+    → (slice_get entries place ≡ Some entry) ⊎ (search_state ≡ entry)
 set_only [] n place search_state entry is = inl is
 set_only (one ∷ entries) zero zero search_state entry is = inr (let e : Some search_state ≡ Some entry = is in cc)
 set_only (one ∷ entries) zero (suc place) search_state entry is = inl is
@@ -116,33 +152,39 @@ set_only (one ∷ entries) (suc n) zero search_state entry is = inl is
 set_only (one ∷ entries) (suc n) (suc place) search_state entry is = set_only entries n place search_state entry is
 
 -- one more is pushed
-pub push_only : (one : SearchState) (entries : List SearchState) (place : ℕ) (entry : SearchState) → slice_get (entries ++ one ∷ []) place ≡ Some entry → (slice_get entries place ≡ Some entry) ⊎ (one ≡ entry)
+pub push_only : (one : SearchState) (entries : List SearchState) (place : ℕ) (entry : SearchState)
+    → slice_get (entries ++ one ∷ []) place ≡ Some entry → (slice_get entries place ≡ Some entry) ⊎ (one ≡ entry)
 push_only one [] zero entry is = inr (let e : Some one ≡ Some entry = is in cc)
 push_only one [] (suc place) entry is = inl is
 push_only one (other ∷ entries) zero entry is = inl is
 push_only one (other ∷ entries) (suc place) entry is = push_only one entries place entry is
 
 -- and the state that is put there stands there
-pub set_held : (entries : List SearchState) (n : ℕ) (search_state : SearchState) → n < length entries → slice_get (set entries n search_state) n ≡ Some search_state
+pub set_held : (entries : List SearchState) (n : ℕ) (search_state : SearchState) → n < length entries
+    → slice_get (set entries n search_state) n ≡ Some search_state
 set_held [] n search_state low = absurd (omega (arith, low))
 set_held (one ∷ entries) zero search_state low = refl
 set_held (one ∷ entries) (suc n) search_state low = set_held entries n search_state (omega (arith, low))
 
 -- one that is held is held once more
-pub kept_twin : (search_state twin : SearchState) (old now new : Found) (place : ℕ) → IsKept search_state old now → slice_get now.memo.items place ≡ Some twin → new.amount ≡ now.amount → new.move_path ≡ now.move_path → new.memo.items ≡ now.memo.items ++ twin ∷ [] → IsKept search_state old new
+pub kept_twin : (search_state twin : SearchState) (old now new : Found) (place : ℕ) → IsKept search_state old now
+    → slice_get now.memo.items place ≡ Some twin → new.amount ≡ now.amount → new.move_path ≡ now.move_path
+    → new.memo.items ≡ now.memo.items ++ twin ∷ [] → IsKept search_state old new
 kept_twin search_state twin old now new place is at amount move_path items =
     record {
       amount = amount ∙ is.amount;
       marks = ap marks_in move_path ∙ is.marks;
       refused = λ none. is.refused (ap (λ (t : MovePath). t.refused) (sym move_path) ∙ none);
-      only = λ other entry there. elim (push_only twin now.memo.items other entry (subst (λ (entries : List SearchState). slice_get entries other ≡ Some entry) items there)) [
-        | inl before ↦ is.only other entry before
-        | inr same ↦ subst (λ (s : SearchState). IsHeld old s ⊎ (search_state ≡ s)) same (is.only place twin at)
-      ];
+      only = λ other entry there. elim (push_only twin now.memo.items other entry
+          (subst (λ (entries : List SearchState). slice_get entries other ≡ Some entry) items there)) [
+            | inl before ↦ is.only other entry before
+            | inr same ↦ subst (λ (s : SearchState). IsHeld old s ⊎ (search_state ≡ s)) same (is.only place twin at)
+          ];
     }
 
 -- a state is kept once more
-pub kept_again : (search_state : SearchState) (old now new : Found) → IsKept search_state old now → IsKept search_state now new → IsKept search_state old new
+pub kept_again : (search_state : SearchState) (old now new : Found) → IsKept search_state old now
+    → IsKept search_state now new → IsKept search_state old new
 kept_again search_state old now new first again =
     record {
       amount = again.amount ∙ first.amount;

@@ -17,17 +17,26 @@ use Rattle.best_run.proofs.Beyond.{level_ahead, most_of, not_free, same_node, wo
 use Rattle.best_run.proofs.Places.{value_low}
 
 -- a run that has come to a last stop by a way goes on from there by none
-pub last_stuck : (task : Task) (used now : List Bool) (stop place : ℕ) (leg : Leg) → IsLast task used leg.segment.to → slice_get (legs_at task stop) place ≡ Some leg → BordersFit leg.segment.borders.items → length now ≡ 279 → misses used leg.segment.borders.items ≡ true → (index : ℕ) (other : Leg) → slice_get (legs_at task leg.segment.to) index ≡ Some other → misses used other.segment.borders.items ≡ true → misses (marked_all now leg.segment.borders.items) other.segment.borders.items ≡ true → ⊥
+pub last_stuck : (task : Task) (used now : List Bool) (stop place : ℕ) (leg : Leg) → IsLast task used leg.segment.to
+    → slice_get (legs_at task stop) place ≡ Some leg → BordersFit leg.segment.borders.items → length now ≡ 279
+    → misses used leg.segment.borders.items ≡ true → (index : ℕ) (other : Leg)
+    → slice_get (legs_at task leg.segment.to) index ≡ Some other → misses used other.segment.borders.items ≡ true
+    → misses (marked_all now leg.segment.borders.items) other.segment.borders.items ≡ true → ⊥
 last_stuck task used now stop place leg last at fits whole missed index other stands free left =
     let mirror = last.0 stop place leg at in
     let border = last.1.0 in
-    let back : misses used mirror.back.segment.borders.items ≡ true = free_misses used mirror.back.segment.borders.items (λ b among marked. misses_free used leg.segment.borders.items missed b (mirror.within b among) marked) in
-    let came : IsAmong border leg.segment.borders.items = mirror.within border (last.1.1 mirror.place mirror.back mirror.stands back) in
+    let back : misses used mirror.back.segment.borders.items ≡ true =
+    free_misses used mirror.back.segment.borders.items
+    (λ b among marked. misses_free used leg.segment.borders.items missed b (mirror.within b among) marked) in
+    let came : IsAmong border leg.segment.borders.items =
+    mirror.within border (last.1.1 mirror.place mirror.back mirror.stands back) in
     let goes : IsAmong border other.segment.borders.items = last.1.1 index other stands free in
-    misses_free (marked_all now leg.segment.borders.items) other.segment.borders.items left border goes ((marks_more now leg.segment.borders.items fits whole border).1 (inl came))
+    misses_free (marked_all now leg.segment.borders.items) other.segment.borders.items left border goes
+    ((marks_more now leg.segment.borders.items fits whole border).1 (inl came))
 
 -- another node at a place
-set_at : (nodes : List Node) (n m : ℕ) (node : Node) → n < length nodes → ((n ≡ m) × (slice_get (set nodes n node) m ≡ Some node)) ⊎ (slice_get (set nodes n node) m ≡ slice_get nodes m)
+set_at : (nodes : List Node) (n m : ℕ) (node : Node) → n < length nodes
+    → ((n ≡ m) × (slice_get (set nodes n node) m ≡ Some node)) ⊎ (slice_get (set nodes n node) m ≡ slice_get nodes m)
 set_at [] n m node low = absurd (omega arith)
 set_at (first ∷ nodes) zero zero node low = inl (refl, refl)
 set_at (first ∷ nodes) zero (suc m) node low = inr refl
@@ -48,7 +57,8 @@ set_same (first ∷ nodes) zero node at = ap (λ (x : Node). x ∷ nodes) (sym (
 set_same (first ∷ nodes) (suc n) node at = ap (λ (xs : List Node). first ∷ xs) (set_same nodes n node at)
 
 -- as long as it does not lie ahead, nothing changes
-beyond_free : (level : ℕ) (nodes : List Node) (ahead : List Bool) (n : ℕ) (node : Node) → get_or ahead n false ≡ false → beyond level (set nodes n node) ahead ≡ beyond level nodes ahead
+beyond_free : (level : ℕ) (nodes : List Node) (ahead : List Bool) (n : ℕ) (node : Node) → get_or ahead n false ≡ false
+    → beyond level (set nodes n node) ahead ≡ beyond level nodes ahead
 beyond_free level [] ahead n node free = refl
 beyond_free level (first ∷ nodes) [] zero node free = refl
 beyond_free level (first ∷ nodes) [] (suc n) node free = refl
@@ -58,7 +68,8 @@ beyond_free level (first ∷ nodes) (true ∷ ahead) (suc n) node free =
     ap (λ (x : ℕ). if_passed first.ends (first.value - level) + x) (beyond_free level nodes ahead n node free)
 beyond_free level (first ∷ nodes) (false ∷ ahead) (suc n) node free = beyond_free level nodes ahead n node free
 
-one_free : (level : ℕ) (nodes : List Node) (ahead : List Bool) (n : ℕ) (node : Node) → get_or ahead n false ≡ false → one_end level (set nodes n node) ahead ≡ one_end level nodes ahead
+one_free : (level : ℕ) (nodes : List Node) (ahead : List Bool) (n : ℕ) (node : Node) → get_or ahead n false ≡ false
+    → one_end level (set nodes n node) ahead ≡ one_end level nodes ahead
 one_free level [] ahead n node free = refl
 one_free level (first ∷ nodes) [] zero node free = refl
 one_free level (first ∷ nodes) [] (suc n) node free = refl
@@ -68,18 +79,22 @@ one_free level (first ∷ nodes) (true ∷ ahead) (suc n) node free =
     ap (λ (x : ℕ). max x (if_ending first.ends (first.value - level))) (one_free level nodes ahead n node free)
 one_free level (first ∷ nodes) (false ∷ ahead) (suc n) node free = one_free level nodes ahead n node free
 
-two_free : (level : ℕ) (nodes : List Node) (ahead : List Bool) (n : ℕ) (node : Node) → get_or ahead n false ≡ false → two_ends level (set nodes n node) ahead ≡ two_ends level nodes ahead
+two_free : (level : ℕ) (nodes : List Node) (ahead : List Bool) (n : ℕ) (node : Node) → get_or ahead n false ≡ false
+    → two_ends level (set nodes n node) ahead ≡ two_ends level nodes ahead
 two_free level [] ahead n node free = refl
 two_free level (first ∷ nodes) [] zero node free = refl
 two_free level (first ∷ nodes) [] (suc n) node free = refl
 two_free level (first ∷ nodes) (true ∷ ahead) zero node free = absurd (not_free true refl free)
 two_free level (first ∷ nodes) (false ∷ ahead) zero node free = refl
 two_free level (first ∷ nodes) (true ∷ ahead) (suc n) node free =
-    ap (λ (x : ℕ). max x (if_ending first.ends (first.value - level) + one_end level (set nodes n node) ahead)) (two_free level nodes ahead n node free)
-    ∙ ap (λ (x : ℕ). max (two_ends level nodes ahead) (if_ending first.ends (first.value - level) + x)) (one_free level nodes ahead n node free)
+    ap (λ (x : ℕ). max x (if_ending first.ends (first.value - level) + one_end level (set nodes n node) ahead))
+    (two_free level nodes ahead n node free)
+    ∙ ap (λ (x : ℕ). max (two_ends level nodes ahead) (if_ending first.ends (first.value - level) + x))
+    (one_free level nodes ahead n node free)
 two_free level (first ∷ nodes) (false ∷ ahead) (suc n) node free = two_free level nodes ahead n node free
 
-worth_free : (nodes : List Node) (ahead : List Bool) (n : ℕ) (node : Node) (worth : Worth) → get_or ahead n false ≡ false → IsWorth nodes ahead worth → IsWorth (set nodes n node) ahead worth
+worth_free : (nodes : List Node) (ahead : List Bool) (n : ℕ) (node : Node) (worth : Worth)
+    → get_or ahead n false ≡ false → IsWorth nodes ahead worth → IsWorth (set nodes n node) ahead worth
 worth_free nodes ahead n node worth free known =
     record {
       levels = known.levels;
@@ -96,62 +111,84 @@ pub counts_plain : (task : Task) (settled : Settled) (run : PartialRun) → Coun
 counts_plain task settled run =
     record { all = refl; value = λ spot. refl; ends = λ spot ending. inl ending; plain = λ none. refl }
 
-pub has_plain : (task : Task) (settled : Settled) (run : PartialRun) (ahead : List Bool) (worth : Worth) → IsWorth task.spots.items ahead worth → HasWorth task settled run ahead worth
+pub has_plain : (task : Task) (settled : Settled) (run : PartialRun) (ahead : List Bool) (worth : Worth)
+    → IsWorth task.spots.items ahead worth → HasWorth task settled run ahead worth
 has_plain task settled run ahead worth known =
     record { nodes = task.spots.items; counts = counts_plain task settled run; known = known }
 
-pub plain_has : (task : Task) (settled : Settled) (run : PartialRun) (ahead : List Bool) (worth : Worth) → run.most ≡ 0 → HasWorth task settled run ahead worth → IsWorth task.spots.items ahead worth
+pub plain_has : (task : Task) (settled : Settled) (run : PartialRun) (ahead : List Bool) (worth : Worth)
+    → run.most ≡ 0 → HasWorth task settled run ahead worth → IsWorth task.spots.items ahead worth
 plain_has task settled run ahead worth none has =
     subst (λ (nodes : List Node). IsWorth nodes ahead worth) (has.counts.plain none) has.known
 
 -- one stop counts otherwise
-counts_set : (task : Task) (settled : Settled) (run : PartialRun) (nodes : List Node) (n : ℕ) (node other : Node) → node_at task n ≡ Some node → n < length task.spots.items → other.value ≡ node.value → (other.ends ≡ true → EndsThere task settled run n) → (run.most ≡ 0 → other ≡ node) → Counts task settled run nodes → Counts task settled run (set nodes n other)
+counts_set : (task : Task) (settled : Settled) (run : PartialRun) (nodes : List Node) (n : ℕ) (node other : Node)
+    → node_at task n ≡ Some node → n < length task.spots.items → other.value ≡ node.value
+    → (other.ends ≡ true → EndsThere task settled run n) → (run.most ≡ 0 → other ≡ node)
+    → Counts task settled run nodes → Counts task settled run (set nodes n other)
 counts_set task settled run nodes n node other at low value ends plain counts =
     let within : n < length nodes = omega (arith, low, counts.all) in
     record {
       all = length-set nodes n other ∙ counts.all;
       value = λ spot. elim (set_at nodes n spot other within) [
-        | inl here ↦ ap value_in here.1 ∙ (value ∙ (sym (ap value_in at) ∙ ap (λ (i : ℕ). value_in (node_at task i)) here.0))
+        | inl here ↦ ap value_in here.1 ∙ (value ∙ (sym (ap value_in at)
+            ∙ ap (λ (i : ℕ). value_in (node_at task i)) here.0))
         | inr same ↦ ap value_in same ∙ counts.value spot
       ];
       ends = λ spot told. elim (set_at nodes n spot other within) [
         | inl here ↦ subst (EndsThere task settled run) here.0 (ends (sym (ap ends_in here.1) ∙ told))
         | inr same ↦ counts.ends spot (sym (ap ends_in same) ∙ told)
       ];
-      plain = λ none. ap (λ (xs : List Node). set xs n other) (counts.plain none) ∙ (ap (λ (x : Node). set task.spots.items n x) (plain none) ∙ set_same task.spots.items n node at);
+      plain = λ none. ap (λ (xs : List Node). set xs n other) (counts.plain none)
+          ∙ (ap (λ (x : Node). set task.spots.items n x) (plain none) ∙ set_same task.spots.items n node at);
     }
 
-module _ (task : Task) (settled : Settled) (run : PartialRun) (ahead : List Bool) (n : ℕ) (node : Node) (at : node_at task n ≡ Some node) (placed : n < length task.spots.items) (small : node.value ≤ 80) (free : get_or ahead n false ≡ false) (low : n < length ahead) (old new : Worth) (has : HasWorth task settled run ahead old) where
+module _ (task : Task) (settled : Settled) (run : PartialRun) (ahead : List Bool) (n : ℕ) (node : Node)
+    (at : node_at task n ≡ Some node) (placed : n < length task.spots.items) (small : node.value ≤ 80)
+    (free : get_or ahead n false ≡ false) (low : n < length ahead) (old new : Worth)
+    (has : HasWorth task settled run ahead old) where
   -- a run may pass one stop more
-  pub has_passing : ends_in (node_at task n) ≡ false → HasPassed node.value old new → CountsAsPassed task settled run n (set ahead n true) new
+  pub has_passing : ends_in (node_at task n) ≡ false → HasPassed node.value old new
+      → CountsAsPassed task settled run n (set ahead n true) new
   has_passing passes adds =
       let passed : node.ends ≡ false = sym (ap ends_in at) ∙ passes in
-      let here : slice_get (set has.nodes n node) n ≡ Some node = set_here has.nodes n node (omega (arith, placed, has.counts.all)) in
+      let here : slice_get (set has.nodes n node) n ≡ Some node =
+      set_here has.nodes n node (omega (arith, placed, has.counts.all)) in
       record {
         has = record {
           nodes = set has.nodes n node;
-          counts = counts_set task settled run has.nodes n node node at placed refl (λ ending. absurd (not_free node.ends ending passed)) (λ none. refl) has.counts;
-          known = worth_passed (set has.nodes n node) ahead n node old new here passed free low adds (worth_free has.nodes ahead n node old free has.known);
+          counts = counts_set task settled run has.nodes n node node at placed refl
+              (λ ending. absurd (not_free node.ends ending passed)) (λ none. refl) has.counts;
+          known = worth_passed (set has.nodes n node) ahead n node old new here passed free low adds
+              (worth_free has.nodes ahead n node old free has.known);
         };
         passed = ap ends_in here ∙ passed;
       }
 
   -- all runs end at one
-  pub has_ended : ends_in (node_at task n) ≡ true → HasRanked node.value old new → HasWorth task settled run (set ahead n true) new
+  pub has_ended : ends_in (node_at task n) ≡ true → HasRanked node.value old new
+      → HasWorth task settled run (set ahead n true) new
   has_ended ends ranks =
       record {
         nodes = set has.nodes n node;
-        counts = counts_set task settled run has.nodes n node node at placed refl (λ told. inl ends) (λ none. refl) has.counts;
-        known = worth_ended (set has.nodes n node) ahead n node old new (set_here has.nodes n node (omega (arith, placed, has.counts.all))) (sym (ap ends_in at) ∙ ends) small free low ranks (worth_free has.nodes ahead n node old free has.known);
+        counts = counts_set task settled run has.nodes n node node at placed refl (λ told. inl ends) (λ none. refl)
+            has.counts;
+        known = worth_ended (set has.nodes n node) ahead n node old new
+            (set_here has.nodes n node (omega (arith, placed, has.counts.all))) (sym (ap ends_in at) ∙ ends) small
+            free low ranks (worth_free has.nodes ahead n node old free has.known);
       }
 
 -- a stop that counted as passed counts as an end
-beyond_turned : (level : ℕ) (nodes : List Node) (ahead : List Bool) (n : ℕ) (other : Node) → get_or ahead n false ≡ true → n < length nodes → ends_in (slice_get nodes n) ≡ false → other.ends ≡ true → beyond level (set nodes n other) ahead + (value_in (slice_get nodes n) - level) ≡ beyond level nodes ahead
+beyond_turned : (level : ℕ) (nodes : List Node) (ahead : List Bool) (n : ℕ) (other : Node)
+    → get_or ahead n false ≡ true → n < length nodes → ends_in (slice_get nodes n) ≡ false → other.ends ≡ true
+    → beyond level (set nodes n other) ahead + (value_in (slice_get nodes n) - level) ≡ beyond level nodes ahead
 beyond_turned level [] ahead n other lies low passed ending = absurd (omega arith)
 beyond_turned level (node ∷ nodes) [] n other lies low passed ending = absurd (not_free false lies refl)
 beyond_turned level (node ∷ nodes) (true ∷ ahead) zero other lies low passed ending =
-    let none : if_passed other.ends (other.value - level) ≡ 0 = ap (λ (b : Bool). if_passed b (other.value - level)) ending in
-    let all : if_passed node.ends (node.value - level) ≡ node.value - level = ap (λ (b : Bool). if_passed b (node.value - level)) passed in
+    let none : if_passed other.ends (other.value - level) ≡ 0 =
+    ap (λ (b : Bool). if_passed b (other.value - level)) ending in
+    let all : if_passed node.ends (node.value - level) ≡ node.value - level =
+    ap (λ (b : Bool). if_passed b (node.value - level)) passed in
     omega (arith, none, all)
 beyond_turned level (node ∷ nodes) (false ∷ ahead) zero other lies low passed ending = absurd (not_free false lies refl)
 beyond_turned level (node ∷ nodes) (true ∷ ahead) (suc n) other lies low passed ending =
@@ -163,7 +200,8 @@ end_most : (b : Bool) (more : ℕ) → if_ending b more ≤ more
 end_most true more = omega arith
 end_most false more = omega arith
 
-one_turned : (level : ℕ) (nodes : List Node) (ahead : List Bool) (n : ℕ) (other : Node) → one_end level (set nodes n other) ahead ≤ max (one_end level nodes ahead) (other.value - level)
+one_turned : (level : ℕ) (nodes : List Node) (ahead : List Bool) (n : ℕ) (other : Node)
+    → one_end level (set nodes n other) ahead ≤ max (one_end level nodes ahead) (other.value - level)
 one_turned level [] ahead n other = omega arith
 one_turned level (node ∷ nodes) [] zero other = omega arith
 one_turned level (node ∷ nodes) [] (suc n) other = omega arith
@@ -172,7 +210,9 @@ one_turned level (node ∷ nodes) (false ∷ ahead) zero other = omega arith
 one_turned level (node ∷ nodes) (true ∷ ahead) (suc n) other = omega (arith, one_turned level nodes ahead n other)
 one_turned level (node ∷ nodes) (false ∷ ahead) (suc n) other = one_turned level nodes ahead n other
 
-two_turned : (level : ℕ) (nodes : List Node) (ahead : List Bool) (n : ℕ) (other : Node) → two_ends level (set nodes n other) ahead ≤ max (two_ends level nodes ahead) ((other.value - level) + one_end level nodes ahead)
+two_turned : (level : ℕ) (nodes : List Node) (ahead : List Bool) (n : ℕ) (other : Node)
+    → two_ends level (set nodes n other) ahead ≤ max (two_ends level nodes ahead)
+    ((other.value - level) + one_end level nodes ahead)
 two_turned level [] ahead n other = omega arith
 two_turned level (node ∷ nodes) [] zero other = omega arith
 two_turned level (node ∷ nodes) [] (suc n) other = omega arith
@@ -182,17 +222,45 @@ two_turned level (node ∷ nodes) (true ∷ ahead) (suc n) other =
     omega (arith, two_turned level nodes ahead n other, one_turned level nodes ahead n other)
 two_turned level (node ∷ nodes) (false ∷ ahead) (suc n) other = two_turned level nodes ahead n other
 
-worth_turned : (nodes : List Node) (ahead : List Bool) (n : ℕ) (other : Node) (old middle new : Worth) → get_or ahead n false ≡ true → n < length nodes → ends_in (slice_get nodes n) ≡ false → other.ends ≡ true → value_in (slice_get nodes n) ≡ other.value → other.value ≤ 80 → HasTakenBack other.value old middle → HasRanked other.value middle new → IsWorth nodes ahead old → IsWorth (set nodes n other) ahead new
+worth_turned : (nodes : List Node) (ahead : List Bool) (n : ℕ) (other : Node) (old middle new : Worth)
+    → get_or ahead n false ≡ true → n < length nodes → ends_in (slice_get nodes n) ≡ false → other.ends ≡ true
+    → value_in (slice_get nodes n) ≡ other.value → other.value ≤ 80 → HasTakenBack other.value old middle
+    → HasRanked other.value middle new → IsWorth nodes ahead old → IsWorth (set nodes n other) ahead new
 worth_turned nodes ahead n other old middle new lies low passed ending value small back ranks known =
     record {
       levels = omega (arith, known.levels, back.levels, ranks.levels);
       few = omega (arith, known.few, back.levels, ranks.levels);
       passed = λ place less.
           let within : place < old.levels = omega (arith, less, back.levels, ranks.levels) in
-          let same : get_or new.beyond place 0 ≡ get_or middle.beyond place 0 = ap (λ (xs : List ℕ). get_or xs place 0) ranks.same in
-          omega (arith, same, value, back.each place within, known.passed place within, beyond_turned (10 * place) nodes ahead n other lies low passed ending);
-      one = λ level. omega (arith, one_turned level nodes ahead n other, known.one level, back.first, (ranks.one level).0, (ranks.one level).1);
-      two = λ level. omega (arith, two_turned level nodes ahead n other, known.one level, known.two level, back.first, back.second, (ranks.two level).0, (ranks.two level).1);
+          let same : get_or new.beyond place 0 ≡ get_or middle.beyond place 0 =
+          ap (λ (xs : List ℕ). get_or xs place 0) ranks.same in
+          omega (
+            arith,
+            same,
+            value,
+            back.each place within,
+            known.passed place within,
+            beyond_turned (10 * place)
+                nodes ahead n other lies low passed ending,
+          );
+      one = λ level. omega (
+        arith,
+        one_turned level nodes ahead n other,
+        known.one level,
+        back.first,
+        (ranks.one level).0,
+        (ranks.one level).1,
+      );
+      two = λ level. omega (
+        arith,
+        two_turned level nodes ahead n other,
+        known.one level,
+        known.two level,
+        back.first,
+        back.second,
+        (ranks.two level).0,
+        (ranks.two level).1,
+      );
       order = ranks.order;
       low = ranks.low 80 (omega (arith, known.low, back.first)) small;
     }
@@ -200,21 +268,35 @@ worth_turned nodes ahead n other old middle new lies low passed ending value sma
 none_most : (most : ℕ) → 0 < most → most ≡ 0 → ⊥
 none_most most some none = omega (arith, some, none)
 
-pub turned_ends : (task : Task) (settled : Settled) (run : PartialRun) (ahead : List Bool) (n : ℕ) (node : Node) → node_at task n ≡ Some node → n < length task.spots.items → node.value ≤ 80 → get_or ahead n false ≡ true → (old middle new : Worth) → CountsAsPassed task settled run n ahead old → (0 < run.most) × IsLast task settled.used n → HasTakenBack node.value old middle → HasRanked node.value middle new → HasWorth task settled run ahead new
+pub turned_ends : (task : Task) (settled : Settled) (run : PartialRun) (ahead : List Bool) (n : ℕ) (node : Node)
+    → node_at task n ≡ Some node → n < length task.spots.items → node.value ≤ 80 → get_or ahead n false ≡ true
+    → (old middle new : Worth) → CountsAsPassed task settled run n ahead old
+    → (0 < run.most) × IsLast task settled.used n → HasTakenBack node.value old middle
+    → HasRanked node.value middle new → HasWorth task settled run ahead new
 turned_ends task settled run ahead n node at placed small lies old middle new counted last back ranks =
     let has = counted.has in
     let other : Node = record node { ends = true } in
     let value : value_in (slice_get has.nodes n) ≡ node.value = has.counts.value n ∙ ap value_in at in
     record {
       nodes = set has.nodes n other;
-      counts = counts_set task settled run has.nodes n node other at placed refl (λ told. inr last) (λ none. absurd (none_most run.most last.0 none)) has.counts;
-      known = worth_turned has.nodes ahead n other old middle new lies (omega (arith, placed, has.counts.all)) counted.passed refl value small back ranks has.known;
+      counts = counts_set task settled run has.nodes n node other at placed refl (λ told. inr last)
+          (λ none. absurd (none_most run.most last.0 none)) has.counts;
+      known = worth_turned has.nodes ahead n other old middle new lies (omega (arith, placed, has.counts.all))
+          counted.passed refl value small back ranks has.known;
     }
 
 -- stops that are worth at most 80 dollars each
-pub has_most : (task : Task) → IsFit task → (settled : Settled) (run : PartialRun) (ahead : List Bool) (worth : Worth) → HasWorth task settled run ahead worth → (place : ℕ) → place < worth.levels → get_or worth.beyond place 0 ≤ 59520
+pub has_most : (task : Task) → IsFit task → (settled : Settled) (run : PartialRun) (ahead : List Bool) (worth : Worth)
+    → HasWorth task settled run ahead worth → (place : ℕ) → place < worth.levels → get_or worth.beyond place 0 ≤ 59520
 has_most task fit settled run ahead worth has place small =
-    omega (arith, fit.all, has.counts.all, has.known.passed place small, most_of (10 * place) has.nodes ahead (λ n node at. each n node at))
+    omega (
+      arith,
+      fit.all,
+      has.counts.all,
+      has.known.passed place small,
+      most_of (10 * place) has.nodes ahead
+          (λ n node at. each n node at),
+    )
   where
     each : (n : ℕ) (node : Node) → slice_get has.nodes n ≡ Some node → node.value ≤ 80
     each n node at =
@@ -222,7 +304,9 @@ has_most task fit settled run ahead worth has place small =
         omega (arith, same, value_low task fit n)
 
 -- what is known of the stops ahead bounds what a run may earn there
-pub earns_ahead : (task : Task) (settled : Settled) (run : PartialRun) (ahead : List Bool) (worth : Worth) (on back : Bool) (most : ℕ) → HasWorth task settled run ahead worth → goes_on task run ≡ on → goes_back task run ≡ back → IsLeast worth run.left on back most → EarnsAhead task settled run ahead most
+pub earns_ahead : (task : Task) (settled : Settled) (run : PartialRun) (ahead : List Bool) (worth : Worth)
+    (on back : Bool) (most : ℕ) → HasWorth task settled run ahead worth → goes_on task run ≡ on
+    → goes_back task run ≡ back → IsLeast worth run.left on back most → EarnsAhead task settled run ahead most
 earns_ahead task settled run ahead worth on back most has is_on is_back least =
     let found = level_ahead task has.nodes run ahead worth on back most has.known is_on is_back least in
     record { nodes = has.nodes; counts = has.counts; level = found.0; low = found.1 }

@@ -46,8 +46,10 @@ both_are true b first second = second
 both_are false b first second = absurd cc
 
 -- a run that has visited nothing takes each piece whose borders are not used
-takes_free : (task : Task) (used : List Bool) (segment : Segment) → can_take task anywhere used segment ≡ misses used segment.borders.items
-takes_free task used segment = ap (λ b. b && misses used segment.borders.items) (by_stop (stop_in (node_at task segment.to)))
+takes_free : (task : Task) (used : List Bool) (segment : Segment)
+    → can_take task anywhere used segment ≡ misses used segment.borders.items
+takes_free task used segment = ap (λ b. b && misses used segment.borders.items)
+    (by_stop (stop_in (node_at task segment.to)))
   where
     by_stop : (stop : Bool) → may_come stop anywhere segment.to ≡ true
     by_stop true = ap not (none_marked 744 segment.to)
@@ -62,7 +64,8 @@ none_lead task used reach spot none place leg at free =
     no_leg zero at = cc
     no_leg (suc place) at = cc
 
-none_open : (task : Task) (used : List Bool) (spot : ℕ) (shut : List Bool) → legs_at task spot ≡ [] → AreOpen task used spot shut
+none_open : (task : Task) (used : List Bool) (spot : ℕ) (shut : List Bool) → legs_at task spot ≡ []
+    → AreOpen task used spot shut
 none_open task used spot shut none place leg at missed =
     absurd (no_leg place (ap (λ (legs : List Leg). slice_get legs place) (sym none) ∙ at))
   where
@@ -71,11 +74,13 @@ none_open task used spot shut none place leg at missed =
     no_leg (suc place) at = cc
 
 -- a listed stop is the next one, or one before it
-same_stop : (stops : List ℕ) (place other : ℕ) (stop found : ℕ) → slice_get stops place ≡ Some stop → slice_get stops other ≡ Some found → other ≡ place → stop ≡ found
+same_stop : (stops : List ℕ) (place other : ℕ) (stop found : ℕ) → slice_get stops place ≡ Some stop
+    → slice_get stops other ≡ Some found → other ≡ place → stop ≡ found
 same_stop stops place other stop found at finds same =
     let e : Some stop ≡ Some found = sym at ∙ (ap (λ i. slice_get stops i) (sym same) ∙ finds) in cc
 
-next_listed : (stops : List ℕ) (place stop spot : ℕ) → slice_get stops place ≡ Some stop → IsListed stops (place + 1) spot → IsListed stops place spot ⊎ (stop ≡ spot)
+next_listed : (stops : List ℕ) (place stop spot : ℕ) → slice_get stops place ≡ Some stop
+    → IsListed stops (place + 1) spot → IsListed stops place spot ⊎ (stop ≡ spot)
 next_listed stops place stop spot at listed =
     elim (below_next listed.0 place listed.1) [
       | inl less ↦ inl (listed.0, less, listed.2)
@@ -91,12 +96,15 @@ reach_none task used =
       all = λ spot lies. absurd (falsely (get_or (replicate 744 false) spot false) lies (none_marked 744 spot));
     }
 
-pub widens_all : (task : Task) (settled : Settled) (spot : ℕ) (legs : List Leg) (count : ℕ) (old new : List Bool) → legs_at task spot ≡ legs → length legs ≤ count → WidensBelow task settled anywhere spot count old new → WidensTo task settled spot old new
+pub widens_all : (task : Task) (settled : Settled) (spot : ℕ) (legs : List Leg) (count : ℕ) (old new : List Bool)
+    → legs_at task spot ≡ legs → length legs ≤ count → WidensBelow task settled anywhere spot count old new
+    → WidensTo task settled spot old new
 widens_all task settled spot legs count old new there all below =
     record {
       widens = below.widens;
       here = λ place leg at free.
-          let low : place < length legs = slice_get_within legs place leg (ap (λ ws. slice_get ws place) (sym there) ∙ at) in
+          let low : place < length legs = slice_get_within legs place leg
+          (ap (λ ws. slice_get ws place) (sym there) ∙ at) in
           below.leads place leg (omega (arith, low, all)) at (takes_free task settled.used leg.segment ∙ free);
     }
 
@@ -112,11 +120,14 @@ holds_more stop reach low =
       lies = get_or-set_same reach stop true false low;
     }
 
-pub reach_more : (task : Task) (settled : Settled) (place stop : ℕ) (old middle new : List Bool) → slice_get task.stops.items place ≡ Some stop → ReachesBelow task settled.used place old → Holds stop old middle → WidensTo task settled stop middle new → ReachesBelow task settled.used (place + 1) new
+pub reach_more : (task : Task) (settled : Settled) (place stop : ℕ) (old middle new : List Bool)
+    → slice_get task.stops.items place ≡ Some stop → ReachesBelow task settled.used place old → Holds stop old middle
+    → WidensTo task settled stop middle new → ReachesBelow task settled.used (place + 1) new
 reach_more task settled place stop old middle new at before holds more =
     record {
       own = λ spot listed own. elim (next_listed task.stops.items place stop spot at listed) [
-        | inl less ↦ λ index leg stands free. more.widens.kept leg.segment.to (holds.kept leg.segment.to (before.own spot less own index leg stands free))
+        | inl less ↦ λ index leg stands free. more.widens.kept leg.segment.to
+            (holds.kept leg.segment.to (before.own spot less own index leg stands free))
         | inr same ↦ subst (AllLead task settled.used new) same more.here
       ];
       held = λ spot listed own. elim (next_listed task.stops.items place stop spot at listed) [
@@ -125,28 +136,34 @@ reach_more task settled place stop old middle new at before holds more =
       ];
       all = λ spot lies passes index leg stands free. elim (more.widens.over spot lies) [
         | inl known ↦ elim (holds.over spot known) [
-          | inl was ↦ more.widens.kept leg.segment.to (holds.kept leg.segment.to (before.all spot was passes index leg stands free))
+          | inl was ↦ more.widens.kept leg.segment.to (holds.kept leg.segment.to
+              (before.all spot was passes index leg stands free))
           | inr same ↦ subst (AllLead task settled.used new) same more.here index leg stands free
         ]
         | inr over ↦ over passes index leg stands (takes_free task settled.used leg.segment ∙ free)
       ];
     }
 
-pub reach_same : (task : Task) (used : List Bool) (place stop : ℕ) (reach : List Bool) → slice_get task.stops.items place ≡ Some stop → own_in (node_at task stop) ≡ false → ReachesBelow task used place reach → ReachesBelow task used (place + 1) reach
+pub reach_same : (task : Task) (used : List Bool) (place stop : ℕ) (reach : List Bool)
+    → slice_get task.stops.items place ≡ Some stop → own_in (node_at task stop) ≡ false
+    → ReachesBelow task used place reach → ReachesBelow task used (place + 1) reach
 reach_same task used place stop reach at other before =
     record {
       own = λ spot listed own. elim (next_listed task.stops.items place stop spot at listed) [
         | inl less ↦ before.own spot less own
-        | inr same ↦ absurd (falsely (own_in (node_at task spot)) own (ap (λ (n : ℕ). own_in (node_at task n)) (sym same) ∙ other))
+        | inr same ↦ absurd (falsely (own_in (node_at task spot)) own
+            (ap (λ (n : ℕ). own_in (node_at task n)) (sym same) ∙ other))
       ];
       held = λ spot listed own. elim (next_listed task.stops.items place stop spot at listed) [
         | inl less ↦ before.held spot less own
-        | inr same ↦ absurd (falsely (own_in (node_at task spot)) own (ap (λ (n : ℕ). own_in (node_at task n)) (sym same) ∙ other))
+        | inr same ↦ absurd (falsely (own_in (node_at task spot)) own
+            (ap (λ (n : ℕ). own_in (node_at task n)) (sym same) ∙ other))
       ];
       all = before.all;
     }
 
-pub reach_all : (task : Task) → AreReady task → (used : List Bool) (most : ℕ) (reach : List Bool) → length task.stops.items ≤ most → ReachesBelow task used most reach → IsInReach task used reach
+pub reach_all : (task : Task) → AreReady task → (used : List Bool) (most : ℕ) (reach : List Bool)
+    → length task.stops.items ≤ most → ReachesBelow task used most reach → IsInReach task used reach
 reach_all task ready used most reach all below spot is out =
     elim out [
       | inl own ↦ elim (ready.stops.each spot is.0 is.1) [
@@ -156,7 +173,8 @@ reach_all task ready used most reach all below spot is out =
       | inr on ↦ below.all spot on.0 on.1
     ]
 
-pub held_all : (task : Task) → AreReady task → (used : List Bool) (most : ℕ) (reach : List Bool) → length task.stops.items ≤ most → ReachesBelow task used most reach → AreHeld task used reach
+pub held_all : (task : Task) → AreReady task → (used : List Bool) (most : ℕ) (reach : List Bool)
+    → length task.stops.items ≤ most → ReachesBelow task used most reach → AreHeld task used reach
 held_all task ready used most reach all below =
     record {
       held = λ spot is own. elim (ready.stops.each spot is.0 is.1) [
@@ -179,29 +197,37 @@ unset_fewer (mark ∷ marks) zero (suc m) is = is
 unset_fewer (mark ∷ marks) (suc n) zero is = is
 unset_fewer (mark ∷ marks) (suc n) (suc m) is = unset_fewer marks n m is
 
-pub cleared_fewer : (borders : List ℕ) (marks : List Bool) (m : ℕ) → IsMarked (cleared_all marks borders) m → IsMarked marks m
+pub cleared_fewer : (borders : List ℕ) (marks : List Bool) (m : ℕ) → IsMarked (cleared_all marks borders) m
+    → IsMarked marks m
 cleared_fewer [] marks m is = is
-cleared_fewer (border ∷ borders) marks m is = unset_fewer marks border m (cleared_fewer borders (set marks border false) m is)
+cleared_fewer (border ∷ borders) marks m is = unset_fewer marks border m
+    (cleared_fewer borders (set marks border false) m is)
 
-pub cleared_here : (borders : List ℕ) (marks : List Bool) (border : ℕ) → IsAmong border borders → IsMarked (cleared_all marks borders) border → ⊥
+pub cleared_here : (borders : List ℕ) (marks : List Bool) (border : ℕ) → IsAmong border borders
+    → IsMarked (cleared_all marks borders) border → ⊥
 cleared_here [] marks border among is = absurd among
 cleared_here (first ∷ borders) marks border among is =
     elim among [
-      | inl here ↦ falsely (get_or (set marks first false) border false) (cleared_fewer borders (set marks first false) border is) (ap (λ (n : ℕ). get_or (set marks first false) n false) (sym here) ∙ unset_here marks first)
+      | inl here ↦ falsely (get_or (set marks first false) border false)
+          (cleared_fewer borders (set marks first false) border is)
+          (ap (λ (n : ℕ). get_or (set marks first false) n false) (sym here) ∙ unset_here marks first)
       | inr later ↦ cleared_here borders (set marks first false) border later is
     ]
 
-freer_unset : (marks used : List Bool) (n : ℕ) → Freer marks used → (IsMarked used n → ⊥) → Freer (set marks n false) used
+freer_unset : (marks used : List Bool) (n : ℕ) → Freer marks used → (IsMarked used n → ⊥)
+    → Freer (set marks n false) used
 freer_unset [] [] n freer none = tt
 freer_unset [] (other ∷ used) n freer none = absurd freer
 freer_unset (mark ∷ marks) [] n freer none = absurd freer
 freer_unset (mark ∷ marks) (other ∷ used) zero freer none = ((λ is. absurd (none is)), freer.1)
 freer_unset (mark ∷ marks) (other ∷ used) (suc n) freer none = (freer.0, freer_unset marks used n freer.1 none)
 
-freer_cleared : (borders : List ℕ) (marks used : List Bool) → Freer marks used → ((border : ℕ) → IsAmong border borders → IsMarked used border → ⊥) → Freer (cleared_all marks borders) used
+freer_cleared : (borders : List ℕ) (marks used : List Bool) → Freer marks used
+    → ((border : ℕ) → IsAmong border borders → IsMarked used border → ⊥) → Freer (cleared_all marks borders) used
 freer_cleared [] marks used freer none = freer
 freer_cleared (border ∷ borders) marks used freer none =
-    freer_cleared borders (set marks border false) used (freer_unset marks used border freer (none border (inl refl))) (λ other among. none other (inr among))
+    freer_cleared borders (set marks border false) used (freer_unset marks used border freer (none border (inl refl)))
+    (λ other among. none other (inr among))
 
 pub freer_full : (used : List Bool) → Freer (replicate (length used) true) used
 freer_full [] = tt
@@ -211,62 +237,82 @@ freer_full (mark ∷ used) = ((λ is. refl), freer_full used)
 pub opens_none : (used shut : List Bool) → Opens used shut shut
 opens_none used shut = record { fewer = λ borders free. free; kept = λ freer. freer }
 
-one_leg : (legs : List Leg) (place other : ℕ) (leg found : Leg) → slice_get legs place ≡ Some leg → slice_get legs other ≡ Some found → other ≡ place → leg ≡ found
+one_leg : (legs : List Leg) (place other : ℕ) (leg found : Leg) → slice_get legs place ≡ Some leg
+    → slice_get legs other ≡ Some found → other ≡ place → leg ≡ found
 one_leg legs place other leg found at finds same =
     let e : Some leg ≡ Some found = sym at ∙ (ap (λ i. slice_get legs i) (sym same) ∙ finds) in cc
 
-cleared_open : (marks : List Bool) (borders others : List ℕ) → misses marks others ≡ true → misses (cleared_all marks borders) others ≡ true
+cleared_open : (marks : List Bool) (borders others : List ℕ) → misses marks others ≡ true
+    → misses (cleared_all marks borders) others ≡ true
 cleared_open marks borders others free =
-    free_misses (cleared_all marks borders) others (λ border among is. misses_free marks others free border among (cleared_fewer borders marks border is))
+    free_misses (cleared_all marks borders) others
+    (λ border among is. misses_free marks others free border among (cleared_fewer borders marks border is))
 
-pub open_more : (task : Task) (used : List Bool) (spot place : ℕ) (leg : Leg) (first shut : List Bool) → slice_get (legs_at task spot) place ≡ Some leg → misses used leg.segment.borders.items ≡ true → Opens used first shut × AreOpenBelow task used spot place shut → Opens used first (cleared_all shut leg.segment.borders.items) × AreOpenBelow task used spot (place + 1) (cleared_all shut leg.segment.borders.items)
+pub open_more : (task : Task) (used : List Bool) (spot place : ℕ) (leg : Leg) (first shut : List Bool)
+    → slice_get (legs_at task spot) place ≡ Some leg → misses used leg.segment.borders.items ≡ true
+    → Opens used first shut × AreOpenBelow task used spot place shut
+    → Opens used first (cleared_all shut leg.segment.borders.items)
+    × AreOpenBelow task used spot (place + 1) (cleared_all shut leg.segment.borders.items)
 open_more task used spot place leg first shut here free before = (
   record {
     fewer = λ borders missed. cleared_open shut leg.segment.borders.items borders (before.0.fewer borders missed);
-    kept = λ freer. freer_cleared leg.segment.borders.items shut used (before.0.kept freer) (misses_free used leg.segment.borders.items free);
+    kept = λ freer. freer_cleared leg.segment.borders.items shut used (before.0.kept freer)
+        (misses_free used leg.segment.borders.items free);
   },
   λ other found low at missed. elim (below_next other place low) [
-    | inl less ↦ cleared_open shut leg.segment.borders.items found.segment.borders.items (before.1 other found less at missed)
+    | inl less ↦ cleared_open shut leg.segment.borders.items found.segment.borders.items
+        (before.1 other found less at missed)
     | inr same ↦
         let is : leg ≡ found = one_leg (legs_at task spot) place other leg found here at same in
         subst (λ (w : Leg). misses (cleared_all shut leg.segment.borders.items) w.segment.borders.items ≡ true) is
-        (free_misses (cleared_all shut leg.segment.borders.items) leg.segment.borders.items (λ border among marked. cleared_here leg.segment.borders.items shut border among marked))
+        (free_misses (cleared_all shut leg.segment.borders.items) leg.segment.borders.items
+        (λ border among marked. cleared_here leg.segment.borders.items shut border among marked))
   ],
 )
 
-pub open_same : (task : Task) (used : List Bool) (spot place : ℕ) (leg : Leg) (shut : List Bool) → slice_get (legs_at task spot) place ≡ Some leg → misses used leg.segment.borders.items ≡ false → AreOpenBelow task used spot place shut → AreOpenBelow task used spot (place + 1) shut
+pub open_same : (task : Task) (used : List Bool) (spot place : ℕ) (leg : Leg) (shut : List Bool)
+    → slice_get (legs_at task spot) place ≡ Some leg → misses used leg.segment.borders.items ≡ false
+    → AreOpenBelow task used spot place shut → AreOpenBelow task used spot (place + 1) shut
 open_same task used spot place leg shut here met before other found low at missed =
     elim (below_next other place low) [
       | inl less ↦ before other found less at missed
       | inr same ↦
           let is : leg ≡ found = one_leg (legs_at task spot) place other leg found here at same in
-          absurd (falsely (misses used found.segment.borders.items) missed (ap (λ (w : Leg). misses used w.segment.borders.items) (sym is) ∙ met))
+          absurd (falsely (misses used found.segment.borders.items) missed
+          (ap (λ (w : Leg). misses used w.segment.borders.items) (sym is) ∙ met))
     ]
 
-pub open_all : (task : Task) (used : List Bool) (spot : ℕ) (legs : List Leg) (count : ℕ) (shut : List Bool) → legs_at task spot ≡ legs → length legs ≤ count → AreOpenBelow task used spot count shut → AreOpen task used spot shut
+pub open_all : (task : Task) (used : List Bool) (spot : ℕ) (legs : List Leg) (count : ℕ) (shut : List Bool)
+    → legs_at task spot ≡ legs → length legs ≤ count → AreOpenBelow task used spot count shut
+    → AreOpen task used spot shut
 open_all task used spot legs count shut there all below place leg at missed =
     let low : place < length legs = slice_get_within legs place leg (ap (λ ws. slice_get ws place) (sym there) ∙ at) in
     below place leg (omega (arith, low, all)) at missed
 
 -- the ways from no stop are open, those from one more are, those from one need not be, and all are
-pub shut_none : (task : Task) (used reach : List Bool) → length used ≡ 279 → IsShutBelow task used reach 0 (replicate 279 true)
+pub shut_none : (task : Task) (used reach : List Bool) → length used ≡ 279
+    → IsShutBelow task used reach 0 (replicate 279 true)
 shut_none task used reach whole =
     record {
       kept = subst (λ (n : ℕ). Freer (replicate n true) used) whole (freer_full used);
       open_legs = λ spot listed. absurd (let low = listed.1 in omega arith);
     }
 
-pub shut_more : (task : Task) (used reach : List Bool) (place stop : ℕ) (old new : List Bool) → slice_get task.stops.items place ≡ Some stop → IsShutBelow task used reach place old → Opens used old new → AreOpen task used stop new → IsShutBelow task used reach (place + 1) new
+pub shut_more : (task : Task) (used reach : List Bool) (place stop : ℕ) (old new : List Bool)
+    → slice_get task.stops.items place ≡ Some stop → IsShutBelow task used reach place old → Opens used old new
+    → AreOpen task used stop new → IsShutBelow task used reach (place + 1) new
 shut_more task used reach place stop old new at before opens here =
     record {
       kept = opens.kept before.kept;
       open_legs = λ spot listed out. elim (next_listed task.stops.items place stop spot at listed) [
-        | inl less ↦ λ index leg stands free. opens.fewer leg.segment.borders.items (before.open_legs spot less out index leg stands free)
+        | inl less ↦ λ index leg stands free. opens.fewer leg.segment.borders.items
+            (before.open_legs spot less out index leg stands free)
         | inr same ↦ subst (λ (n : ℕ). AreOpen task used n new) same here
       ];
     }
 
-pub shut_all : (task : Task) → AreReady task → (used reach : List Bool) (most : ℕ) (shut : List Bool) → length task.stops.items ≤ most → IsShutBelow task used reach most shut → IsShut task used reach shut
+pub shut_all : (task : Task) → AreReady task → (used reach : List Bool) (most : ℕ) (shut : List Bool)
+    → length task.stops.items ≤ most → IsShutBelow task used reach most shut → IsShut task used reach shut
 shut_all task ready used reach most shut all below =
     record {
       kept = below.kept;
@@ -276,23 +322,29 @@ shut_all task ready used reach most shut all below =
       ];
     }
 
-does_set_out : (task : Task) (reach : List Bool) (spot : ℕ) → stop_in (node_at task spot) ≡ true → SetsOut task reach spot → sets_out task reach spot ≡ true
+does_set_out : (task : Task) (reach : List Bool) (spot : ℕ) → stop_in (node_at task spot) ≡ true
+    → SetsOut task reach spot → sets_out task reach spot ≡ true
 does_set_out task reach spot stops out =
-    both_are (stop_in (node_at task spot)) (own_in (node_at task spot) || (get_or reach spot false && not (ends_in (node_at task spot)))) stops
+    both_are (stop_in (node_at task spot)) (own_in (node_at task spot)
+    || (get_or reach spot false && not (ends_in (node_at task spot)))) stops
     (by_out (own_in (node_at task spot)) (get_or reach spot false) (ends_in (node_at task spot)) out)
   where
-    by_out : (own lies ends : Bool) → (own ≡ true) ⊎ ((lies ≡ true) × (ends ≡ false)) → (own || (lies && not ends)) ≡ true
+    by_out : (own lies ends : Bool) → (own ≡ true) ⊎ ((lies ≡ true) × (ends ≡ false))
+        → (own || (lies && not ends)) ≡ true
     by_out true lies ends out = refl
     by_out false lies ends (inl own) = let wrong : false ≡ true = own in absurd cc
     by_out false lies ends (inr on) = both_are lies (not ends) on.0 (ap not on.1)
 
-pub shut_same : (task : Task) (used reach : List Bool) (place stop : ℕ) (shut : List Bool) → IsStop task stop → slice_get task.stops.items place ≡ Some stop → sets_out task reach stop ≡ false → IsShutBelow task used reach place shut → IsShutBelow task used reach (place + 1) shut
+pub shut_same : (task : Task) (used reach : List Bool) (place stop : ℕ) (shut : List Bool) → IsStop task stop
+    → slice_get task.stops.items place ≡ Some stop → sets_out task reach stop ≡ false
+    → IsShutBelow task used reach place shut → IsShutBelow task used reach (place + 1) shut
 shut_same task used reach place stop shut is at none before =
     record {
       kept = before.kept;
       open_legs = λ spot listed out. elim (next_listed task.stops.items place stop spot at listed) [
         | inl less ↦ before.open_legs spot less out
-        | inr same ↦ absurd (falsely (sets_out task reach stop) (does_set_out task reach stop is.1 (subst (SetsOut task reach) (sym same) out)) none)
+        | inr same ↦ absurd (falsely (sets_out task reach stop)
+            (does_set_out task reach stop is.1 (subst (SetsOut task reach) (sym same) out)) none)
       ];
     }
 
@@ -307,7 +359,8 @@ abbrev state_with : State → List Bool → List Bool → State
 state_with (between settled) used marks = between (with_used settled used)
 state_with (partial settled run) used marks = partial (with_used settled used) (with_marks run marks)
 
-module _ (task : Task) (fit : IsFit task) (ready : AreReady task) (first reach shut : List Bool) (reaches : IsInReach task first reach) (shuts : IsShut task first reach shut) where
+module _ (task : Task) (fit : IsFit task) (ready : AreReady task) (first reach shut : List Bool)
+    (reaches : IsInReach task first reach) (shuts : IsShut task first reach shut) where
   -- borders that are used since then are used in both
   record Shares (used others : List Bool) : Type 0 where
     pub still : (border : ℕ) → IsMarked first border → IsMarked used border
@@ -315,7 +368,8 @@ module _ (task : Task) (fit : IsFit task) (ready : AreReady task) (first reach s
     pub whole : length used ≡ 279
     pub other_whole : length others ≡ 279
 
-  shares_more : (used others : List Bool) (borders : List ℕ) → BordersFit borders → Shares used others → Shares (marked_all used borders) (marked_all others borders)
+  shares_more : (used others : List Bool) (borders : List ℕ) → BordersFit borders → Shares used others
+      → Shares (marked_all used borders) (marked_all others borders)
   shares_more used others borders fits shares =
       record {
         still = λ border is. (marks_more used borders fits shares.whole border).1 (inr (shares.still border is));
@@ -351,7 +405,8 @@ module _ (task : Task) (fit : IsFit task) (ready : AreReady task) (first reach s
   legs_of : (stop : ℕ) → IsStop task stop → AreLegsOf task stop (legs_at task stop)
   legs_of stop is = by_from (slice_get task.departures.items stop) refl
     where
-      by_from : (found : Option Departures) → slice_get task.departures.items stop ≡ found → AreLegsOf task stop (legs_in found)
+      by_from : (found : Option Departures) → slice_get task.departures.items stop ≡ found
+          → AreLegsOf task stop (legs_in found)
       by_from None at = absurd (none_at task.departures.items stop at (omega (arith, is.0, ready.long)))
       by_from (Some from) at = ready.each stop from at is.1
 
@@ -369,10 +424,12 @@ module _ (task : Task) (fit : IsFit task) (ready : AreReady task) (first reach s
     pub fits : SegmentFits task false leg.segment
     pub stop : IsStop task leg.segment.to
 
-  comes : (run : PartialRun) (marks : List Bool) (spot : ℕ) → LiesAhead reach spot → Sees run marks → (stop : Bool) → may_come stop run spot ≡ true → may_come stop (with_marks run marks) spot ≡ true
+  comes : (run : PartialRun) (marks : List Bool) (spot : ℕ) → LiesAhead reach spot → Sees run marks → (stop : Bool)
+      → may_come stop run spot ≡ true → may_come stop (with_marks run marks) spot ≡ true
   comes run marks spot lies sees false came = refl
   comes run marks spot lies sees true came =
-      both_are (nat_lt 0 run.left) (not (get_or marks spot false)) (both_first (nat_lt 0 run.left) (not (get_or run.visited spot false)) came)
+      both_are (nat_lt 0 run.left) (not (get_or marks spot false))
+      (both_first (nat_lt 0 run.left) (not (get_or run.visited spot false)) came)
       (unmarked (get_or marks spot false) refl)
     where
       not_both : (b : Bool) → b ≡ true → not b ≡ true → ⊥
@@ -380,19 +437,29 @@ module _ (task : Task) (fit : IsFit task) (ready : AreReady task) (first reach s
       not_both false is none = let wrong : false ≡ true = is in cc
 
       unmarked : (b : Bool) → get_or marks spot false ≡ b → not b ≡ true
-      unmarked true is = absurd (not_both (get_or run.visited spot false) (sees spot lies is) (both_second (nat_lt 0 run.left) (not (get_or run.visited spot false)) came))
+      unmarked true is = absurd (not_both (get_or run.visited spot false) (sees spot lies is)
+          (both_second (nat_lt 0 run.left) (not (get_or run.visited spot false)) came))
       unmarked false is = refl
 
-  takes_it : (used others : List Bool) → Shares used others → (spot : ℕ) → IsStop task spot → SetsOut task reach spot → (place : ℕ) (leg : Leg) → slice_get (legs_at task spot) place ≡ Some leg → (run : PartialRun) (marks : List Bool) → Sees run marks → can_take task run used leg.segment ≡ true → Takes_it others marks run leg
+  takes_it : (used others : List Bool) → Shares used others → (spot : ℕ) → IsStop task spot → SetsOut task reach spot
+      → (place : ℕ) (leg : Leg) → slice_get (legs_at task spot) place ≡ Some leg
+      → (run : PartialRun) (marks : List Bool) → Sees run marks → can_take task run used leg.segment ≡ true
+      → Takes_it others marks run leg
   takes_it used others shares spot is out place leg at run marks sees can =
       let borders = leg.segment.borders.items in
-      let come = both_first (may_come (stop_in (node_at task leg.segment.to)) run leg.segment.to) (misses used borders) can in
-      let free : misses used borders ≡ true = both_second (may_come (stop_in (node_at task leg.segment.to)) run leg.segment.to) (misses used borders) can in
-      let before : misses first borders ≡ true = free_misses first borders (λ border among marked. misses_free used borders free border among (shares.still border marked)) in
+      let come = both_first (may_come (stop_in (node_at task leg.segment.to)) run leg.segment.to)
+      (misses used borders) can in
+      let free : misses used borders ≡ true = both_second
+      (may_come (stop_in (node_at task leg.segment.to)) run leg.segment.to) (misses used borders) can in
+      let before : misses first borders ≡ true = free_misses first borders
+      (λ border among marked. misses_free used borders free border among (shares.still border marked)) in
       let open_leg : misses shut borders ≡ true = shuts.open_legs spot is out place leg at before in
-      let fits = leg_fits task fit spot (legs_at task spot) (legs_of spot is) is.1 leg (among_place (legs_at task spot) place leg at) in
+      let fits = leg_fits task fit spot (legs_at task spot) (legs_of spot is) is.1 leg
+      (among_place (legs_at task spot) place leg at) in
       record {
-        can = both_are (may_come (stop_in (node_at task leg.segment.to)) (with_marks run marks) leg.segment.to) (misses others borders) (comes run marks leg.segment.to (reaches spot is out place leg at before) sees (stop_in (node_at task leg.segment.to)) come)
+        can = both_are (may_come (stop_in (node_at task leg.segment.to)) (with_marks run marks) leg.segment.to)
+            (misses others borders) (comes run marks leg.segment.to (reaches spot is out place leg at before) sees
+            (stop_in (node_at task leg.segment.to)) come)
             (free_misses others borders (λ border among marked. elim (shares.either border marked) [
               | inl used_it ↦ misses_free used borders free border among used_it
               | inr shut_it ↦ misses_free shut borders open_leg border among shut_it
@@ -402,7 +469,9 @@ module _ (task : Task) (fit : IsFit task) (ready : AreReady task) (first reach s
         stop = (fits.0.to, fits.1);
       }
 
-  sees_next : (stop : Bool) (visited marks : List Bool) (to : ℕ) → to < length visited → ((spot : ℕ) → LiesAhead reach spot → IsMarked marks spot → IsMarked visited spot) → (spot : ℕ) → LiesAhead reach spot → IsMarked (marked_if stop marks to) spot → IsMarked (marked_if stop visited to) spot
+  sees_next : (stop : Bool) (visited marks : List Bool) (to : ℕ) → to < length visited
+      → ((spot : ℕ) → LiesAhead reach spot → IsMarked marks spot → IsMarked visited spot) → (spot : ℕ)
+      → LiesAhead reach spot → IsMarked (marked_if stop marks to) spot → IsMarked (marked_if stop visited to) spot
   sees_next true visited marks to low sees spot lies is =
       elim (set_cases marks to spot is) [
         | inl same ↦ subst (IsMarked (set visited to true)) same (get_or-set_same visited to true false low)
@@ -410,11 +479,17 @@ module _ (task : Task) (fit : IsFit task) (ready : AreReady task) (first reach s
       ]
   sees_next false visited marks to low sees spot lies is = sees spot lies is
 
-  goes_next : (settled : Settled) (run : PartialRun) (others marks : List Bool) → Shares settled.used others → Sees run marks → length run.visited ≡ 744 → IsStop task run.home → (ends_in (node_at task run.home) ≡ false → SetsOut task reach run.home) → (leg : Leg) → Takes_it others marks run leg → Goes (using settled leg.segment) (along task run leg.segment) (marked_all others leg.segment.borders.items) (marked_if (stop_in (node_at task leg.segment.to)) marks leg.segment.to)
+  goes_next : (settled : Settled) (run : PartialRun) (others marks : List Bool) → Shares settled.used others
+      → Sees run marks → length run.visited ≡ 744 → IsStop task run.home
+      → (ends_in (node_at task run.home) ≡ false → SetsOut task reach run.home) → (leg : Leg)
+      → Takes_it others marks run leg → Goes (using settled leg.segment) (along task run leg.segment)
+      (marked_all others leg.segment.borders.items) (marked_if (stop_in (node_at task leg.segment.to)) marks
+      leg.segment.to)
   goes_next settled run others marks shares sees spots begins home leg takes =
       record {
         shares = shares_more settled.used others leg.segment.borders.items takes.fits.borders shares;
-        sees = sees_next (stop_in (node_at task leg.segment.to)) run.visited marks leg.segment.to (omega (arith, spots, takes.fits.to)) sees;
+        sees = sees_next (stop_in (node_at task leg.segment.to)) run.visited marks leg.segment.to
+            (omega (arith, spots, takes.fits.to)) sees;
         spots = mark_length (stop_in (node_at task leg.segment.to)) run.visited leg.segment.to ∙ spots;
         stands = takes.stop;
         begins = begins;
@@ -428,66 +503,144 @@ module _ (task : Task) (fit : IsFit task) (ready : AreReady task) (first reach s
     pub completes : Completes task state moves
     pub same : total_after task state moves ≡ total
 
-  move_by : (fuel : ℕ) (moves : List Move) → length moves ≤ fuel → (state : State) (others marks : List Bool) → GoesOn state others marks → Completes task state moves → Moved (state_with state others marks) (total_after task state moves)
-  move_by fuel [] enough (between settled) others marks goes completes = record { moves = []; completes = completes; same = refl }
+  move_by : (fuel : ℕ) (moves : List Move) → length moves ≤ fuel → (state : State) (others marks : List Bool)
+      → GoesOn state others marks → Completes task state moves
+      → Moved (state_with state others marks) (total_after task state moves)
+  move_by fuel [] enough (between settled) others marks goes completes =
+      record { moves = []; completes = completes; same = refl }
   move_by fuel [] enough (partial settled run) others marks goes completes = absurd completes
   move_by zero (move ∷ moves) enough state others marks goes completes = absurd (omega (arith, enough))
   move_by (suc fuel) (pass ∷ moves) enough (between settled) others marks goes completes =
-      let rest : Moved (between (with_used (passed settled) others)) (total_after task (between (passed settled)) moves) = move_by fuel moves (omega (arith, enough)) (between (passed settled)) others marks goes completes.1 in
+      let rest : Moved (between (with_used (passed settled) others))
+      (total_after task (between (passed settled)) moves) =
+      move_by fuel moves (omega (arith, enough)) (between (passed settled)) others marks goes completes.1 in
       record { moves = pass ∷ rest.moves; completes = (completes.0, rest.completes); same = rest.same }
   move_by (suc fuel) (pass ∷ moves) enough (partial settled run) others marks goes completes = absurd completes.0
   move_by (suc fuel) (begin stop index segment ∷ moves) enough (between settled) others marks goes completes =
       let may = completes.0 in
       let is : IsStop task stop = is_stop stop may.begins in
       let run = begun task settled stop index in
-      let by : ByLeg task fit stop may.begins (legs_at task stop) (legs_of stop is) settled run index segment moves = by_leg task fit stop may.begins (legs_at task stop) (legs_of stop is) settled run goes.whole index segment moves may.leads may.taken completes.1 in
+      let by : ByLeg task fit stop may.begins (legs_at task stop) (legs_of stop is) settled run index segment moves =
+      by_leg task fit stop may.begins (legs_at task stop) (legs_of stop is) settled run goes.whole index segment
+      moves may.leads may.taken completes.1 in
       let marks = run.visited in
       let spots : length marks ≡ 744 = length-set (own_before task stop) stop true ∙ own_length task stop in
-      let takes : Takes_it others marks run by.leg = takes_it settled.used others goes stop is (inl may.token) by.place_of by.leg by.stands run marks (λ spot lies was. was) by.can in
-      let rest : Moved (partial (using (with_used settled others) by.leg.segment) (along task (with_marks run marks) by.leg.segment)) (total_after task (partial (using settled by.leg.segment) (along task run by.leg.segment)) by.later) = move_by fuel by.later (omega (arith, by.shorter, enough)) (partial (using settled by.leg.segment) (along task run by.leg.segment)) (marked_all others by.leg.segment.borders.items) (marked_if (stop_in (node_at task by.leg.segment.to)) marks by.leg.segment.to) (goes_next settled run others marks goes (λ spot lies was. was) spots is (λ passes. inl may.token) by.leg takes) by.completes in
-      let back : BySegments task fit stop may.begins (legs_at task stop) (legs_of stop is) (with_used settled others) (with_marks run marks) by.leg rest.moves = by_segments task fit stop may.begins (legs_at task stop) (legs_of stop is) (with_used settled others) (with_marks run marks) by.leg (among_place (legs_at task stop) by.place_of by.leg by.stands) takes.can rest.moves rest.completes in
+      let takes : Takes_it others marks run by.leg =
+      takes_it settled.used others goes stop is (inl may.token) by.place_of by.leg by.stands run marks
+      (λ spot lies was. was) by.can in
+      let rest : Moved (partial (using (with_used settled others) by.leg.segment)
+      (along task (with_marks run marks) by.leg.segment))
+      (total_after task (partial (using settled by.leg.segment) (along task run by.leg.segment)) by.later) =
+      move_by fuel by.later (omega (arith, by.shorter, enough))
+      (partial (using settled by.leg.segment) (along task run by.leg.segment))
+      (marked_all others by.leg.segment.borders.items)
+      (marked_if (stop_in (node_at task by.leg.segment.to)) marks by.leg.segment.to)
+      (goes_next settled run others marks goes (λ spot lies was. was) spots is (λ passes. inl may.token) by.leg
+      takes) by.completes in
+      let back : BySegments task fit stop may.begins (legs_at task stop) (legs_of stop is) (with_used settled others)
+      (with_marks run marks) by.leg rest.moves = by_segments task fit stop may.begins (legs_at task stop)
+      (legs_of stop is) (with_used settled others) (with_marks run marks) by.leg
+      (among_place (legs_at task stop) by.place_of by.leg by.stands) takes.can rest.moves rest.completes in
       record {
         moves = begin stop index back.segment ∷ back.moves;
-        completes = (record { train = may.train; begins = may.begins; token = may.token; leads = subst (λ (n : ℕ). LeadsFrom task stop n back.segment) by.first back.leads; taken = back.can }, back.completes);
+        completes = (
+          record {
+            train = may.train;
+            begins = may.begins;
+            token = may.token;
+            leads =
+                subst (λ (n : ℕ). LeadsFrom task stop n back.segment) by.first back.leads;
+            taken = back.can;
+          },
+          back.completes,
+        );
         same = back.total ∙ (rest.same ∙ sym by.total);
       }
-  move_by (suc fuel) (begin stop index segment ∷ moves) enough (partial settled run) others marks goes completes = absurd completes.0
-  move_by (suc fuel) (go index segment ∷ moves) enough (between settled) others marks goes completes = absurd completes.0
+  move_by (suc fuel) (begin stop index segment ∷ moves) enough (partial settled run) others marks goes completes =
+      absurd completes.0
+  move_by (suc fuel) (go index segment ∷ moves) enough (between settled) others marks goes completes =
+      absurd completes.0
   move_by (suc fuel) (go index segment ∷ moves) enough (partial settled run) others marks goes completes =
       let may = completes.0 in
       let stop = run.head in
       let is : IsStop task stop = goes.stands in
-      let by : ByLeg task fit stop is.1 (legs_at task stop) (legs_of stop is) settled run index segment moves = by_leg task fit stop is.1 (legs_at task stop) (legs_of stop is) settled run goes.shares.whole index segment moves may.leads may.taken completes.1 in
-      let takes : Takes_it others marks run by.leg = takes_it settled.used others goes.shares stop is (goes.head may.passes) by.place_of by.leg by.stands run marks goes.sees by.can in
-      let rest : Moved (partial (using (with_used settled others) by.leg.segment) (along task (with_marks run marks) by.leg.segment)) (total_after task (partial (using settled by.leg.segment) (along task run by.leg.segment)) by.later) = move_by fuel by.later (omega (arith, by.shorter, enough)) (partial (using settled by.leg.segment) (along task run by.leg.segment)) (marked_all others by.leg.segment.borders.items) (marked_if (stop_in (node_at task by.leg.segment.to)) marks by.leg.segment.to) (goes_next settled run others marks goes.shares goes.sees goes.spots goes.begins goes.home by.leg takes) by.completes in
-      let back : BySegments task fit stop is.1 (legs_at task stop) (legs_of stop is) (with_used settled others) (with_marks run marks) by.leg rest.moves = by_segments task fit stop is.1 (legs_at task stop) (legs_of stop is) (with_used settled others) (with_marks run marks) by.leg (among_place (legs_at task stop) by.place_of by.leg by.stands) takes.can rest.moves rest.completes in
+      let by : ByLeg task fit stop is.1 (legs_at task stop) (legs_of stop is) settled run index segment moves =
+      by_leg task fit stop is.1 (legs_at task stop) (legs_of stop is) settled run goes.shares.whole index segment
+      moves may.leads may.taken completes.1 in
+      let takes : Takes_it others marks run by.leg =
+      takes_it settled.used others goes.shares stop is (goes.head may.passes) by.place_of by.leg by.stands run
+      marks goes.sees by.can in
+      let rest : Moved (partial (using (with_used settled others) by.leg.segment)
+      (along task (with_marks run marks) by.leg.segment))
+      (total_after task (partial (using settled by.leg.segment) (along task run by.leg.segment)) by.later) =
+      move_by fuel by.later (omega (arith, by.shorter, enough))
+      (partial (using settled by.leg.segment) (along task run by.leg.segment))
+      (marked_all others by.leg.segment.borders.items)
+      (marked_if (stop_in (node_at task by.leg.segment.to)) marks by.leg.segment.to)
+      (goes_next settled run others marks goes.shares goes.sees goes.spots goes.begins goes.home by.leg takes)
+      by.completes in
+      let back : BySegments task fit stop is.1 (legs_at task stop) (legs_of stop is) (with_used settled others)
+      (with_marks run marks) by.leg rest.moves = by_segments task fit stop is.1 (legs_at task stop)
+      (legs_of stop is) (with_used settled others) (with_marks run marks) by.leg
+      (among_place (legs_at task stop) by.place_of by.leg by.stands) takes.can rest.moves rest.completes in
       record {
         moves = go by.leg.first back.segment ∷ back.moves;
         completes = (record { passes = may.passes; leads = back.leads; taken = back.can }, back.completes);
         same = back.total ∙ (rest.same ∙ sym by.total);
       }
-  move_by (suc fuel) (turn index segment ∷ moves) enough (between settled) others marks goes completes = absurd completes.0
+  move_by (suc fuel) (turn index segment ∷ moves) enough (between settled) others marks goes completes =
+      absurd completes.0
   move_by (suc fuel) (turn index segment ∷ moves) enough (partial settled ran) others marks goes completes =
       let may = completes.0 in
       let run = turned_back ran in
       let stop = ran.home in
       let is : IsStop task stop = goes.begins in
-      let by : ByLeg task fit stop is.1 (legs_at task stop) (legs_of stop is) settled run index segment moves = by_leg task fit stop is.1 (legs_at task stop) (legs_of stop is) settled run goes.shares.whole index segment moves may.leads may.taken completes.1 in
-      let takes : Takes_it others marks run by.leg = takes_it settled.used others goes.shares stop is (goes.home may.passes) by.place_of by.leg by.stands run marks goes.sees by.can in
-      let rest : Moved (partial (using (with_used settled others) by.leg.segment) (along task (with_marks run marks) by.leg.segment)) (total_after task (partial (using settled by.leg.segment) (along task run by.leg.segment)) by.later) = move_by fuel by.later (omega (arith, by.shorter, enough)) (partial (using settled by.leg.segment) (along task run by.leg.segment)) (marked_all others by.leg.segment.borders.items) (marked_if (stop_in (node_at task by.leg.segment.to)) marks by.leg.segment.to) (goes_next settled run others marks goes.shares goes.sees goes.spots goes.begins goes.home by.leg takes) by.completes in
-      let back : BySegments task fit stop is.1 (legs_at task stop) (legs_of stop is) (with_used settled others) (with_marks run marks) by.leg rest.moves = by_segments task fit stop is.1 (legs_at task stop) (legs_of stop is) (with_used settled others) (with_marks run marks) by.leg (among_place (legs_at task stop) by.place_of by.leg by.stands) takes.can rest.moves rest.completes in
+      let by : ByLeg task fit stop is.1 (legs_at task stop) (legs_of stop is) settled run index segment moves =
+      by_leg task fit stop is.1 (legs_at task stop) (legs_of stop is) settled run goes.shares.whole index segment
+      moves may.leads may.taken completes.1 in
+      let takes : Takes_it others marks run by.leg =
+      takes_it settled.used others goes.shares stop is (goes.home may.passes) by.place_of by.leg by.stands run
+      marks goes.sees by.can in
+      let rest : Moved (partial (using (with_used settled others) by.leg.segment)
+      (along task (with_marks run marks) by.leg.segment))
+      (total_after task (partial (using settled by.leg.segment) (along task run by.leg.segment)) by.later) =
+      move_by fuel by.later (omega (arith, by.shorter, enough))
+      (partial (using settled by.leg.segment) (along task run by.leg.segment))
+      (marked_all others by.leg.segment.borders.items)
+      (marked_if (stop_in (node_at task by.leg.segment.to)) marks by.leg.segment.to)
+      (goes_next settled run others marks goes.shares goes.sees goes.spots goes.begins goes.home by.leg takes)
+      by.completes in
+      let back : BySegments task fit stop is.1 (legs_at task stop) (legs_of stop is) (with_used settled others)
+      (with_marks run marks) by.leg rest.moves = by_segments task fit stop is.1 (legs_at task stop)
+      (legs_of stop is) (with_used settled others) (with_marks run marks) by.leg
+      (among_place (legs_at task stop) by.place_of by.leg by.stands) takes.can rest.moves rest.completes in
       record {
         moves = turn by.leg.first back.segment ∷ back.moves;
-        completes = (record { once = may.once; stands = may.stands; later = omega (arith, may.later, by.first); passes = may.passes; leads = back.leads; taken = back.can }, back.completes);
+        completes = (
+          record {
+            once = may.once;
+            stands = may.stands;
+            later =
+                omega (arith, may.later, by.first);
+            passes = may.passes;
+            leads = back.leads;
+            taken = back.can;
+          },
+          back.completes,
+        );
         same = back.total ∙ (rest.same ∙ sym by.total);
       }
   move_by (suc fuel) (settle ∷ moves) enough (between settled) others marks goes completes = absurd completes.0
   move_by (suc fuel) (settle ∷ moves) enough (partial settled run) others marks goes completes =
-      let rest : Moved (between (with_used (with_run_settled settled run) others)) (total_after task (between (with_run_settled settled run)) moves) = move_by fuel moves (omega (arith, enough)) (between (with_run_settled settled run)) others marks goes.shares completes.1 in
+      let rest : Moved (between (with_used (with_run_settled settled run) others))
+      (total_after task (between (with_run_settled settled run)) moves) =
+      move_by fuel moves (omega (arith, enough)) (between (with_run_settled settled run)) others marks goes.shares
+      completes.1 in
       record { moves = settle ∷ rest.moves; completes = (completes.0, rest.completes); same = rest.same }
 
 -- more stops lie in reach
-pub reach_past : (task : Task) (settled : Settled) (stop : ℕ) (old middle new : List Bool) → Holds stop old middle → WidensTo task settled stop middle new → ReachesPast task settled.used stop old new
+pub reach_past : (task : Task) (settled : Settled) (stop : ℕ) (old middle new : List Bool) → Holds stop old middle
+    → WidensTo task settled stop middle new → ReachesPast task settled.used stop old new
 reach_past task settled stop old middle new holds more =
     record {
       kept = λ spot lies. more.widens.kept spot (holds.kept spot lies);
@@ -499,16 +652,20 @@ reach_past task settled stop old middle new holds more =
             | inl was ↦ still spot (reaches spot is (inr (was, on.1)))
             | inr same ↦ subst (AllLead task settled.used new) same more.here
           ]
-          | inr over ↦ λ index leg stands free. over on.1 index leg stands (takes_free task settled.used leg.segment ∙ free)
+          | inr over ↦ λ index leg stands free. over on.1 index leg stands
+              (takes_free task settled.used leg.segment ∙ free)
         ]
       ];
     }
   where
     still : (spot : ℕ) → AllLead task settled.used old spot → AllLead task settled.used new spot
-    still spot leads index leg stands free = more.widens.kept leg.segment.to (holds.kept leg.segment.to (leads index leg stands free))
+    still spot leads index leg stands free = more.widens.kept leg.segment.to
+        (holds.kept leg.segment.to (leads index leg stands free))
 
 -- a run may go on from its head and from its home, as these lie in reach
-pub goes_past : (task : Task) (used : List Bool) (run : PartialRun) (old middle new : List Bool) → IsStop task run.head → IsStop task run.home → length run.visited ≡ 744 → ReachesPast task used run.head old middle → ReachesPast task used run.home middle new → MayGoOn task new run
+pub goes_past : (task : Task) (used : List Bool) (run : PartialRun) (old middle new : List Bool)
+    → IsStop task run.head → IsStop task run.home → length run.visited ≡ 744
+    → ReachesPast task used run.head old middle → ReachesPast task used run.home middle new → MayGoOn task new run
 goes_past task used run old middle new stands begins spots head home =
     record {
       head = (stands, λ passes. inr (home.kept run.head head.lies, passes));
@@ -517,26 +674,46 @@ goes_past task used run old middle new stands begins spots head home =
     }
 
 -- a state that is alike has as many borders
-pub canonical_whole : (task : Task) (settled : Settled) (run : Option PartialRun) (like : SearchState) → length settled.used ≡ 279 → IsCanonical task settled run like → length like.settled.used ≡ 279
-canonical_whole task settled run like whole canonical = freer_length like.settled.used settled.used canonical.off.shut.kept ∙ whole
+pub canonical_whole : (task : Task) (settled : Settled) (run : Option PartialRun) (like : SearchState)
+    → length settled.used ≡ 279 → IsCanonical task settled run like → length like.settled.used ≡ 279
+canonical_whole task settled run like whole canonical =
+    freer_length like.settled.used settled.used canonical.off.shut.kept ∙ whole
 
 -- what is earned from a state is earned from one that is alike
-pub low_canonical : (task : Task) → IsFit task → AreReady task → (settled : Settled) (run : Option PartialRun) (like : SearchState) → length settled.used ≡ 279 → IsCanonical task settled run like → (most : ℕ) → LeadsToAtMost task (state_at like) most → LeadsToAtMost task (state_by settled run) most
+pub low_canonical : (task : Task) → IsFit task → AreReady task
+    → (settled : Settled) (run : Option PartialRun) (like : SearchState) → length settled.used ≡ 279
+    → IsCanonical task settled run like → (most : ℕ) → LeadsToAtMost task (state_at like) most
+    → LeadsToAtMost task (state_by settled run) most
 low_canonical task fit ready settled run like whole canonical most low =
-    by_runs run like.run canonical.begun (subst (λ (s : Settled). LeadsToAtMost task (state_by s like.run) most) canonical.off.same low)
+    by_runs run like.run canonical.begun (subst (λ (s : Settled). LeadsToAtMost task (state_by s like.run) most)
+    canonical.off.same low)
   where
     used : List Bool
     used = like.settled.used
 
-    shares : Shares task fit ready settled.used canonical.reach used canonical.reaches canonical.off.shut settled.used used
-    shares = record { still = λ border is. is; either = λ border is. inr is; whole = whole; other_whole = canonical_whole task settled run like whole canonical }
+    shares : Shares task fit ready settled.used canonical.reach used canonical.reaches canonical.off.shut settled.used
+        used
+    shares = record {
+      still = λ border is. is;
+      either = λ border is. inr is;
+      whole = whole;
+      other_whole =
+          canonical_whole task settled run like whole canonical;
+    }
 
-    moved : (state : State) (marks : List Bool) → GoesOn task fit ready settled.used canonical.reach used canonical.reaches canonical.off.shut state used marks → LeadsToAtMost task (state_with state used marks) most → LeadsToAtMost task state most
+    moved : (state : State) (marks : List Bool) → GoesOn task fit ready settled.used canonical.reach used
+        canonical.reaches canonical.off.shut state used marks → LeadsToAtMost task (state_with state used marks) most
+        → LeadsToAtMost task state most
     moved state marks goes low moves completes =
-        let there : Moved task fit ready settled.used canonical.reach used canonical.reaches canonical.off.shut (state_with state used marks) (total_after task state moves) = move_by task fit ready settled.used canonical.reach used canonical.reaches canonical.off.shut (length moves) moves (omega arith) state used marks goes completes in
+        let there : Moved task fit ready settled.used canonical.reach used canonical.reaches canonical.off.shut
+        (state_with state used marks) (total_after task state moves) =
+        move_by task fit ready settled.used canonical.reach used canonical.reaches canonical.off.shut
+        (length moves) moves (omega arith) state used marks goes completes in
         subst (λ (n : ℕ). n ≤ most) there.same (low there.moves there.completes)
 
-    by_runs : (run other : Option PartialRun) → IsRunCanonical task canonical.reach run other → LeadsToAtMost task (state_by (with_used settled used) other) most → LeadsToAtMost task (state_by settled run) most
+    by_runs : (run other : Option PartialRun) → IsRunCanonical task canonical.reach run other
+        → LeadsToAtMost task (state_by (with_used settled used) other) most
+        → LeadsToAtMost task (state_by settled run) most
     by_runs None None like_it low = moved (between settled) [] shares low
     by_runs None (Some other) like_it low = absurd like_it
     by_runs (Some run) None like_it low = absurd like_it
@@ -544,20 +721,35 @@ low_canonical task fit ready settled run like whole canonical most low =
         let on = like_it.0 in
         let barred = like_it.1 in
         moved (partial settled run) other.visited
-        (record { shares = shares; sees = barred.marks.only; spots = on.spots; stands = on.head.0; begins = on.home.0; head = on.head.1; home = on.home.1 })
+        (record {
+          shares = shares;
+          sees = barred.marks.only;
+          spots = on.spots;
+          stands = on.head.0;
+          begins =
+              on.home.0;
+          head = on.head.1;
+          home = on.home.1;
+        })
         (subst (λ (r : PartialRun). LeadsToAtMost task (partial (with_used settled used) r) most) barred.same low)
 
 -- and the other way round
-pub low_back : (task : Task) → IsFit task → (settled : Settled) (run : Option PartialRun) (like : SearchState) → length settled.used ≡ 279 → IsCanonical task settled run like → (most : ℕ) → LeadsToAtMost task (state_by settled run) most → LeadsToAtMost task (state_at like) most
+pub low_back : (task : Task) → IsFit task → (settled : Settled) (run : Option PartialRun) (like : SearchState)
+    → length settled.used ≡ 279 → IsCanonical task settled run like → (most : ℕ)
+    → LeadsToAtMost task (state_by settled run) most → LeadsToAtMost task (state_at like) most
 low_back task fit settled run like whole canonical most low =
-    subst (λ (s : Settled). LeadsToAtMost task (state_by s like.run) most) (sym canonical.off.same) (by_runs run like.run canonical.begun low)
+    subst (λ (s : Settled). LeadsToAtMost task (state_by s like.run) most) (sym canonical.off.same)
+    (by_runs run like.run canonical.begun low)
   where
     used : List Bool
     used = like.settled.used
 
-    from_barred : (run : PartialRun) (marks : List Bool) → Freer marks run.visited → LeadsToAtMost task (partial settled run) most → LeadsToAtMost task (partial (with_used settled used) (with_marks run marks)) most
+    from_barred : (run : PartialRun) (marks : List Bool) → Freer marks run.visited
+        → LeadsToAtMost task (partial settled run) most
+        → LeadsToAtMost task (partial (with_used settled used) (with_marks run marks)) most
     from_barred run marks freer low moves completes =
-        let frees : Frees (with_used settled used) (with_marks run marks) run.home run.first run.left run.value run.visited settled.used settled.kind settled.cap 0 = record {
+        let frees : Frees (with_used settled used) (with_marks run marks) run.home run.first run.left run.value
+        run.visited settled.used settled.kind settled.cap 0 = record {
           back = λ once. (refl, refl);
           left_is = inl (omega arith);
           value_is = omega arith;
@@ -566,14 +758,23 @@ low_back task fit settled run like whole canonical most low =
           looser = inr (refl, omega arith);
           whole = whole;
         } in
-        let easy : Freed task (with_used settled used) (with_marks run marks) run settled.used settled.kind settled.cap 0 settled.total moves = free task fit moves (with_used settled used) (with_marks run marks) run.home run.first run.left run.value run.visited settled.used settled.kind settled.cap 0 settled.total frees completes in
+        let easy : Freed task (with_used settled used) (with_marks run marks) run settled.used settled.kind
+        settled.cap 0 settled.total moves = free task fit moves (with_used settled used) (with_marks run marks)
+        run.home run.first run.left run.value run.visited settled.used settled.kind settled.cap 0 settled.total
+        frees completes in
         omega (arith, easy.earns, low moves easy.completes)
 
-    by_runs : (run other : Option PartialRun) → IsRunCanonical task canonical.reach run other → LeadsToAtMost task (state_by settled run) most → LeadsToAtMost task (state_by (with_used settled used) other) most
+    by_runs : (run other : Option PartialRun) → IsRunCanonical task canonical.reach run other
+        → LeadsToAtMost task (state_by settled run) most
+        → LeadsToAtMost task (state_by (with_used settled used) other) most
     by_runs None None like_it low = λ moves completes.
-        let easy : Eased task settled.kind settled.cap (between (with_used settled used)) moves settled.total settled.used = ease task moves settled.kind settled.cap (between (with_used settled used)) settled.total settled.used (inr (refl, omega arith)) canonical.off.shut.kept completes in
+        let easy : Eased task settled.kind settled.cap (between (with_used settled used)) moves settled.total
+        settled.used = ease task moves settled.kind settled.cap (between (with_used settled used)) settled.total
+        settled.used (inr (refl, omega arith)) canonical.off.shut.kept completes in
         omega (arith, easy.earns, low moves easy.completes)
     by_runs None (Some other) like_it low = absurd like_it
     by_runs (Some run) None like_it low = absurd like_it
     by_runs (Some run) (Some other) like_it low =
-        subst (λ (r : PartialRun). LeadsToAtMost task (partial (with_used settled used) r) most) (sym like_it.1.same) (from_barred run other.visited (freer_from other.visited run.visited like_it.1.marks.whole like_it.1.marks.kept) low)
+        subst (λ (r : PartialRun). LeadsToAtMost task (partial (with_used settled used) r) most) (sym like_it.1.same)
+        (from_barred run other.visited (freer_from other.visited run.visited like_it.1.marks.whole
+        like_it.1.marks.kept) low)

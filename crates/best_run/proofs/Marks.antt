@@ -17,7 +17,8 @@ set_most (mark ∷ marks) zero = omega arith
 set_most (mark ∷ marks) (suc border) = let rest = set_most marks border in omega arith
 
 -- a new mark leaves one fewer
-pub set_fewer : (marks : List Bool) (border : ℕ) → border < length marks → get_or marks border false ≡ false → unused (set marks border true) + 1 ≡ unused marks
+pub set_fewer : (marks : List Bool) (border : ℕ) → border < length marks → get_or marks border false ≡ false
+    → unused (set marks border true) + 1 ≡ unused marks
 set_fewer [] border low free = absurd (omega arith)
 set_fewer (mark ∷ marks) zero low free = let counts : if_unset mark ≡ 1 = ap if_unset free in omega arith
 set_fewer (mark ∷ marks) (suc border) low free = let rest = set_fewer marks border (omega arith) free in omega arith
@@ -36,10 +37,13 @@ first_free true b is = absurd cc
 first_free false b is = refl
 
 -- new marks leave at least one fewer
-pub marked_fewer : (used : List Bool) (borders : List ℕ) → length used ≡ 279 → BordersFit borders → 0 < length borders → misses used borders ≡ true → unused (marked_all used borders) + 1 ≤ unused used
+pub marked_fewer : (used : List Bool) (borders : List ℕ) → length used ≡ 279 → BordersFit borders → 0 < length borders
+    → misses used borders ≡ true → unused (marked_all used borders) + 1 ≤ unused used
 marked_fewer used [] whole fit some free = absurd (omega arith)
 marked_fewer used (border ∷ borders) whole fit some free =
-    let one : unused (set used border true) + 1 ≡ unused used = set_fewer used border (omega (arith, fit.0)) (first_free (get_or used border false) (list_any (λ b. get_or used b false) borders) free) in
+    let one : unused (set used border true) + 1 ≡ unused used =
+    set_fewer used border (omega (arith, fit.0)) (first_free (get_or used border false)
+    (list_any (λ b. get_or used b false) borders) free) in
     omega (arith, marked_most (set used border true) borders)
 
 -- no more are unmarked than there are

@@ -16,16 +16,19 @@ use Rattle.best_run.proofs.Marks.{length_marked}
 use Rattle.best_run.proofs.Words.{marked_low, same_bool, same_marks}
 
 -- what is marked is among them
-later_among : (mark : Bool) (first n : ℕ) (numbers : List ℕ) → IsAmong n numbers → IsAmong n (before_if mark first numbers)
+later_among : (mark : Bool) (first n : ℕ) (numbers : List ℕ) → IsAmong n numbers
+    → IsAmong n (before_if mark first numbers)
 later_among true first n numbers among = inr among
 later_among false first n numbers among = among
 
-marked_among : (marks : List Bool) (first place n : ℕ) → n ≡ first + place → IsMarked marks place → IsAmong n (numbers_from first marks)
+marked_among : (marks : List Bool) (first place n : ℕ) → n ≡ first + place → IsMarked marks place
+    → IsAmong n (numbers_from first marks)
 marked_among [] first place n is marked = absurd (let wrong : false ≡ true = marked in cc)
 marked_among (true ∷ marks) first zero n is marked = inl (let same : first ≡ n = omega (arith, is) in same)
 marked_among (false ∷ marks) first zero n is marked = absurd (let wrong : false ≡ true = marked in cc)
 marked_among (mark ∷ marks) first (suc place) n is marked =
-    later_among mark first n (numbers_from (suc first) marks) (marked_among marks (suc first) place n (omega (arith, is)) marked)
+    later_among mark first n (numbers_from (suc first) marks)
+    (marked_among marks (suc first) place n (omega (arith, is)) marked)
 
 -- and nothing else is
 pub record IsAt (marks : List Bool) (first n : ℕ) : Type 0 where
@@ -59,10 +62,12 @@ fits_each (border ∷ borders) low = (low border (inl refl), fits_each borders (
 
 pub numbers_fit : (marks : List Bool) → length marks ≡ 279 → BordersFit (numbers_in marks)
 numbers_fit marks whole =
-    fits_each (numbers_in marks) (λ border among. omega (arith, whole, marked_low marks border ((in_set marks border).1 among)))
+    fits_each (numbers_in marks) (λ border among. omega
+    (arith, whole, marked_low marks border ((in_set marks border).1 among)))
 
 -- some borders that have been marked
-pub crossed_are : (borders : List ℕ) → BordersFit borders → (border : ℕ) → IsAmong border (numbers_in (marked_all none_used borders)) ↔ IsAmong border borders
+pub crossed_are : (borders : List ℕ) → BordersFit borders → (border : ℕ)
+    → IsAmong border (numbers_in (marked_all none_used borders)) ↔ IsAmong border borders
 crossed_are borders fit border =
     let of = marks_more none_used borders fit (length_replicate 279 false) border in
     let in_it = in_set (marked_all none_used borders) border in (
@@ -81,17 +86,22 @@ among_some : (borders : List ℕ) (border : ℕ) → IsAmong border borders → 
 among_some [] border among = absurd among
 among_some (first ∷ borders) border among = omega arith
 
-pub crossed_some : (borders : List ℕ) → BordersFit borders → 0 < length borders → 0 < length (numbers_in (marked_all none_used borders))
+pub crossed_some : (borders : List ℕ) → BordersFit borders → 0 < length borders
+    → 0 < length (numbers_in (marked_all none_used borders))
 crossed_some [] fit some = absurd (omega (arith, some))
 crossed_some (border ∷ borders) fit some =
-    among_some (numbers_in (marked_all none_used (border ∷ borders))) border ((crossed_are (border ∷ borders) fit border).1 (inl refl))
+    among_some (numbers_in (marked_all none_used (border ∷ borders))) border
+    ((crossed_are (border ∷ borders) fit border).1 (inl refl))
 
 -- none of some is used if none of the others is, where they are the same
-missed_by : (used : List Bool) (borders others : List ℕ) → ((border : ℕ) → IsAmong border others → IsAmong border borders) → misses used borders ≡ true → misses used others ≡ true
+missed_by : (used : List Bool) (borders others : List ℕ)
+    → ((border : ℕ) → IsAmong border others → IsAmong border borders) → misses used borders ≡ true
+    → misses used others ≡ true
 missed_by used borders others each free =
     free_misses used others (λ border among marked. misses_free used borders free border (each border among) marked)
 
-pub crossed_misses : (used : List Bool) (borders : List ℕ) → BordersFit borders → misses used (numbers_in (marked_all none_used borders)) ≡ misses used borders
+pub crossed_misses : (used : List Bool) (borders : List ℕ) → BordersFit borders
+    → misses used (numbers_in (marked_all none_used borders)) ≡ misses used borders
 crossed_misses used borders fit =
     same_bool (misses used (numbers_in (marked_all none_used borders))) (misses used borders)
     (missed_by used (numbers_in (marked_all none_used borders)) borders (λ border. (crossed_are borders fit border).1))
@@ -103,7 +113,8 @@ set_here [] n low = absurd (omega (arith, low))
 set_here (mark ∷ marks) zero low = refl
 set_here (mark ∷ marks) (suc n) low = set_here marks n (omega (arith, low))
 
-from_marked : (borders : List ℕ) (used : List Bool) (n : ℕ) → IsMarked (marked_all used borders) n → IsAmong n borders ⊎ IsMarked used n
+from_marked : (borders : List ℕ) (used : List Bool) (n : ℕ) → IsMarked (marked_all used borders) n
+    → IsAmong n borders ⊎ IsMarked used n
 from_marked [] used n marked = inr marked
 from_marked (border ∷ borders) used n marked =
     elim (from_marked borders (set used border true) n marked) [
@@ -111,7 +122,8 @@ from_marked (border ∷ borders) used n marked =
       | inr here ↦ elim (set_cases used border n here) [ inl same ↦ inl (inl same) | inr before ↦ inr before ]
     ]
 
-to_marked : (borders : List ℕ) (used : List Bool) (n : ℕ) → IsAmong n borders → n < length used → IsMarked (marked_all used borders) n
+to_marked : (borders : List ℕ) (used : List Bool) (n : ℕ) → IsAmong n borders → n < length used
+    → IsMarked (marked_all used borders) n
 to_marked [] used n among low = absurd among
 to_marked (border ∷ borders) used n (inl here) low =
     marked_stays (set used border true) borders n
@@ -119,15 +131,23 @@ to_marked (border ∷ borders) used n (inl here) low =
 to_marked (border ∷ borders) used n (inr later) low =
     to_marked borders (set used border true) n later (omega (arith, low, length-set used border true))
 
-marked_by : (used : List Bool) (borders others : List ℕ) → ((border : ℕ) → IsAmong border borders → IsAmong border others) → (n : ℕ) → IsMarked (marked_all used borders) n → IsMarked (marked_all used others) n
+marked_by : (used : List Bool) (borders others : List ℕ)
+    → ((border : ℕ) → IsAmong border borders → IsAmong border others) → (n : ℕ) → IsMarked (marked_all used borders) n
+    → IsMarked (marked_all used others) n
 marked_by used borders others each n marked =
-    let low : n < length used = omega (arith, marked_low (marked_all used borders) n marked, length_marked used borders) in
+    let low : n < length used = omega (
+      arith,
+      marked_low (marked_all used borders) n marked,
+      length_marked used
+          borders,
+    ) in
     elim (from_marked borders used n marked) [
       | inl among ↦ to_marked others used n (each n among) low
       | inr before ↦ marked_stays used others n before
     ]
 
-pub crossed_marks : (used : List Bool) (borders : List ℕ) → BordersFit borders → marked_all used (numbers_in (marked_all none_used borders)) ≡ marked_all used borders
+pub crossed_marks : (used : List Bool) (borders : List ℕ) → BordersFit borders
+    → marked_all used (numbers_in (marked_all none_used borders)) ≡ marked_all used borders
 crossed_marks used borders fit =
     let crossed : List ℕ = numbers_in (marked_all none_used borders) in
     same_marks (marked_all used crossed) (marked_all used borders)

@@ -11,23 +11,28 @@ use Rattle.best_run.specs.Moves.{LeadsFrom, along, can_take, marked_all, may_com
 use Rattle.best_run.proofs.Marks.{marked_fewer, marked_most}
 
 -- the stop at a number
-pub node_is : (task : Task) → IsFit task → (stop : ℕ) (node : Node) → stop < 744 → node ≡ get_or task.spots.items stop node → node_at task stop ≡ Some node
+pub node_is : (task : Task) → IsFit task → (stop : ℕ) (node : Node) → stop < 744
+    → node ≡ get_or task.spots.items stop node → node_at task stop ≡ Some node
 node_is task fit stop node low is = slice_get_read task.spots.items 744 stop node (sym fit.all) low is
 
 -- a node that is read where a piece leads is the one there
-pub came : (task : Task) (to read : ℕ) (node : Node) → read ≡ to → node ≡ get_or task.spots.items read node → node ≡ get_or task.spots.items to node
+pub came : (task : Task) (to read : ℕ) (node : Node) → read ≡ to → node ≡ get_or task.spots.items read node
+    → node ≡ get_or task.spots.items to node
 came task to read node same is = subst (λ (n : ℕ). node ≡ get_or task.spots.items n node) same is
 
 -- a piece that is found from where another leads
-pub from_there : (task : Task) (to read index : ℕ) (segment : Segment) → read ≡ to → slice_get (segments_at task read) index ≡ Some segment → LeadsFrom task to index segment
+pub from_there : (task : Task) (to read index : ℕ) (segment : Segment) → read ≡ to
+    → slice_get (segments_at task read) index ≡ Some segment → LeadsFrom task to index segment
 from_there task to read index segment same at = subst (λ (n : ℕ). LeadsFrom task n index segment) same at
 
-pub all_there : (task : Task) (to read count index : ℕ) → read ≡ to → count ≡ length (segments_at task read) → count ≤ index → length (segments_at task to) ≤ index
+pub all_there : (task : Task) (to read count index : ℕ) → read ≡ to → count ≡ length (segments_at task read)
+    → count ≤ index → length (segments_at task to) ≤ index
 all_there task to read count index same is all =
     subst (λ (n : ℕ). length (segments_at task n) ≤ index) same (omega (arith, is, all))
 
 -- a piece that leads from a spot has a place among its pieces
-pub place_low : (task : Task) (spot index : ℕ) (segment : Segment) → LeadsFrom task spot index segment → index < length (segments_at task spot)
+pub place_low : (task : Task) (spot index : ℕ) (segment : Segment) → LeadsFrom task spot index segment
+    → index < length (segments_at task spot)
 place_low task spot index segment leads = slice_get_within (segments_at task spot) index segment leads
 
 -- a number below the next one
@@ -59,12 +64,14 @@ second_true true b is = is
 second_true false b is = absurd cc
 
 -- the borders of a piece that is taken are free
-pub take_free : (task : Task) (run : PartialRun) (used : List Bool) (segment : Segment) → can_take task run used segment ≡ true → misses used segment.borders.items ≡ true
+pub take_free : (task : Task) (run : PartialRun) (used : List Bool) (segment : Segment)
+    → can_take task run used segment ≡ true → misses used segment.borders.items ≡ true
 take_free task run used segment taken =
     second_true (may_come (stop_in (node_at task segment.to)) run segment.to) (misses used segment.borders.items) taken
 
 -- a side is worth nothing
-pub side_value : (task : Task) → IsFit task → (spot : ℕ) → stop_in (node_at task spot) ≡ false → value_in (node_at task spot) ≡ 0
+pub side_value : (task : Task) → IsFit task → (spot : ℕ) → stop_in (node_at task spot) ≡ false
+    → value_in (node_at task spot) ≡ 0
 side_value task fit spot = by_node (node_at task spot) refl
   where
     by_node : (node : Option Node) → node_at task spot ≡ node → stop_in node ≡ false → value_in node ≡ 0
@@ -77,23 +84,37 @@ one_if true = 1
 one_if false = 0
 
 -- what is left to be earned is enough after a piece
-pub room_by : (task : Task) (settled : Settled) (run : PartialRun) (segment : Segment) → IsFit task → length settled.used ≡ 279 → misses settled.used segment.borders.items ≡ true → (from to : Bool) → stop_in (node_at task segment.to) ≡ to → SegmentFits task from segment → HasRoom settled.used (settled.total + run.value) 44720 → HasRoom (using settled segment).used ((using settled segment).total + ((along task run segment).value + credit to)) 44720
-room_by task settled run segment fit whole free true true is fits room = let wrong : true ≡ false = sym is ∙ fits.to_side refl in absurd cc
+pub room_by : (task : Task) (settled : Settled) (run : PartialRun) (segment : Segment) → IsFit task
+    → length settled.used ≡ 279 → misses settled.used segment.borders.items ≡ true → (from to : Bool)
+    → stop_in (node_at task segment.to) ≡ to → SegmentFits task from segment
+    → HasRoom settled.used (settled.total + run.value) 44720
+    → HasRoom (using settled segment).used ((using settled segment).total
+    + ((along task run segment).value + credit to)) 44720
+room_by task settled run segment fit whole free true true is fits room = let wrong : true ≡ false =
+    sym is ∙ fits.to_side refl in absurd cc
 room_by task settled run segment fit whole free true false is fits room =
     omega (arith, side_value task fit segment.to is, marked_most settled.used segment.borders.items)
 room_by task settled run segment fit whole free false to is fits room =
-    let fewer : unused (marked_all settled.used segment.borders.items) + 1 ≤ unused settled.used = marked_fewer settled.used segment.borders.items whole fits.borders (fits.over refl) free in
+    let fewer : unused (marked_all settled.used segment.borders.items) + 1 ≤ unused settled.used =
+    marked_fewer settled.used segment.borders.items whole fits.borders (fits.over refl) free in
     omega (arith, value_low task fit segment.to, credit_low to)
 
 -- and less is left to be gone
-pub less_by : (task : Task) (settled : Settled) (segment : Segment) → length settled.used ≡ 279 → misses settled.used segment.borders.items ≡ true → (from to : Bool) → stop_in (node_at task segment.to) ≡ to → SegmentFits task from segment → 3 * unused (marked_all settled.used segment.borders.items) + one_if to + 1 ≤ 3 * unused settled.used + one_if from
+pub less_by : (task : Task) (settled : Settled) (segment : Segment) → length settled.used ≡ 279
+    → misses settled.used segment.borders.items ≡ true → (from to : Bool) → stop_in (node_at task segment.to) ≡ to
+    → SegmentFits task from segment → 3 * unused (marked_all settled.used segment.borders.items) + one_if to + 1
+    ≤ 3 * unused settled.used + one_if from
 unfolding one_if
-less_by task settled segment whole free true true is fits = let wrong : true ≡ false = sym is ∙ fits.to_side refl in absurd cc
-less_by task settled segment whole free true false is fits = omega (arith, marked_most settled.used segment.borders.items)
+less_by task settled segment whole free true true is fits = let wrong : true ≡ false =
+    sym is ∙ fits.to_side refl in absurd cc
+less_by task settled segment whole free true false is fits =
+    omega (arith, marked_most settled.used segment.borders.items)
 less_by task settled segment whole free false true is fits =
-    let fewer : unused (marked_all settled.used segment.borders.items) + 1 ≤ unused settled.used = marked_fewer settled.used segment.borders.items whole fits.borders (fits.over refl) free in omega arith
+    let fewer : unused (marked_all settled.used segment.borders.items) + 1 ≤ unused settled.used =
+    marked_fewer settled.used segment.borders.items whole fits.borders (fits.over refl) free in omega arith
 less_by task settled segment whole free false false is fits =
-    let fewer : unused (marked_all settled.used segment.borders.items) + 1 ≤ unused settled.used = marked_fewer settled.used segment.borders.items whole fits.borders (fits.over refl) free in omega arith
+    let fewer : unused (marked_all settled.used segment.borders.items) + 1 ≤ unused settled.used =
+    marked_fewer settled.used segment.borders.items whole fits.borders (fits.over refl) free in omega arith
 
 pub one_low : (b : Bool) → one_if b ≤ 1
 unfolding one_if
@@ -110,5 +131,6 @@ unfolding one_if
 one_at_side = refl
 
 -- a piece that leads from a spot is fit
-pub leading_fits : (task : Task) → IsFit task → (spot index : ℕ) (segment : Segment) → LeadsFrom task spot index segment → (from : Bool) × SegmentFits task from segment
+pub leading_fits : (task : Task) → IsFit task → (spot index : ℕ) (segment : Segment)
+    → LeadsFrom task spot index segment → (from : Bool) × SegmentFits task from segment
 leading_fits task fit spot index segment leads = (stop_in (node_at task spot), fit.segments spot index segment leads)

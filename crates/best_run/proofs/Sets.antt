@@ -40,40 +40,50 @@ abbrev pub Avoids : List ℕ → TrainRun → Type 0
 Avoids others run = (border : ℕ) → IsAmong border (crossed run.steps) → ¬ IsAmong border others
 
 -- a set for some trains that avoids some borders
-pub record IsSetFor (position : Position) (company : Company) (trains : List Kind) (others : List ℕ) (runs : List TrainRun) : Type 0 where
+pub record IsSetFor (position : Position) (company : Company) (trains : List Kind) (others : List ℕ)
+    (runs : List TrainRun) : Type 0 where
   pub legal : AllByRecursion (RunsLegally position company) runs
   pub each_once : AreTakenFrom trains (trains_that_run runs)
   pub apart : AreApart runs
   pub avoid : AllByRecursion (Avoids others) runs
 
 -- all but one of some runs
-pub all_out : (P : TrainRun → Type 0) (front : List TrainRun) (run : TrainRun) (later : List TrainRun) → AllByRecursion P (front ++ run ∷ later) → P run × AllByRecursion P (front ++ later)
+pub all_out : (P : TrainRun → Type 0) (front : List TrainRun) (run : TrainRun) (later : List TrainRun)
+    → AllByRecursion P (front ++ run ∷ later) → P run × AllByRecursion P (front ++ later)
 all_out P [] run later all = all
 all_out P (first ∷ front) run later all =
     let rest : P run × AllByRecursion P (front ++ later) = all_out P front run later all.1 in (rest.0, (all.0, rest.1))
 
-pub revenue_out : (position : Position) (front : List TrainRun) (run : TrainRun) (later : List TrainRun) → revenue_of position (front ++ run ∷ later) ≡ earned position run.steps + revenue_of position (front ++ later)
+pub revenue_out : (position : Position) (front : List TrainRun) (run : TrainRun) (later : List TrainRun)
+    → revenue_of position (front ++ run ∷ later) ≡ earned position run.steps + revenue_of position (front ++ later)
 revenue_out position [] run later = refl
 revenue_out position (first ∷ front) run later = omega (arith, revenue_out position front run later)
 
-pub number_out : (kind : Kind) (front : List TrainRun) (run : TrainRun) (later : List TrainRun) → in_number kind (trains_that_run (front ++ run ∷ later)) ≡ in_number kind (run.kind ∷ trains_that_run (front ++ later))
+pub number_out : (kind : Kind) (front : List TrainRun) (run : TrainRun) (later : List TrainRun)
+    → in_number kind (trains_that_run (front ++ run ∷ later))
+    ≡ in_number kind (run.kind ∷ trains_that_run (front ++ later))
 number_out kind [] run later = refl
 number_out kind (first ∷ front) run later = let rest = number_out kind front run later in omega arith
 
 share_back : (first second : TrainRun) → ShareNoBorder first.steps second.steps → ShareNoBorder second.steps first.steps
 share_back first second share border here there = share border there here
 
-pub apart_out : (front : List TrainRun) (run : TrainRun) (later : List TrainRun) → AreApart (front ++ run ∷ later) → AllByRecursion (λ other. ShareNoBorder run.steps other.steps) (front ++ later) × AreApart (front ++ later)
+pub apart_out : (front : List TrainRun) (run : TrainRun) (later : List TrainRun) → AreApart (front ++ run ∷ later)
+    → AllByRecursion (λ other. ShareNoBorder run.steps other.steps) (front ++ later) × AreApart (front ++ later)
 apart_out [] run later apart = apart
 apart_out (first ∷ front) run later apart =
-    let rest : AllByRecursion (λ other. ShareNoBorder run.steps other.steps) (front ++ later) × AreApart (front ++ later) = apart_out front run later apart.1 in
-    let shares : ShareNoBorder first.steps run.steps × AllByRecursion (λ other. ShareNoBorder first.steps other.steps) (front ++ later) = all_out (λ other. ShareNoBorder first.steps other.steps) front run later apart.0 in
+    let rest : AllByRecursion (λ other. ShareNoBorder run.steps other.steps) (front ++ later)
+    × AreApart (front ++ later) = apart_out front run later apart.1 in
+    let shares : ShareNoBorder first.steps run.steps
+    × AllByRecursion (λ other. ShareNoBorder first.steps other.steps) (front ++ later) =
+    all_out (λ other. ShareNoBorder first.steps other.steps) front run later apart.0 in
     ((share_back first run shares.0, rest.0), (shares.1, rest.1))
 
 in_order : (a b : ℕ) → (a ≤ b) ⊎ (b ≤ a)
 in_order zero b = inl (omega arith)
 in_order (suc a) zero = inr (omega arith)
-in_order (suc a) (suc b) = elim (in_order a b) [ inl low ↦ inl (omega (arith, low)) | inr low ↦ inr (omega (arith, low)) ]
+in_order (suc a) (suc b) = elim (in_order a b)
+    [ inl low ↦ inl (omega (arith, low)) | inr low ↦ inr (omega (arith, low)) ]
 
 -- a run earns no more than a cap, if it is of the kind that the cap is for
 abbrev pub IsWithin : Position → ℕ → ℕ → TrainRun → Type 0
@@ -86,7 +96,8 @@ either_third false false c makes = refl
 
 pub may_by : (kind cap most value : ℕ) → (kind ≡ most → value ≤ cap) → may_earn kind cap most value ≡ true
 may_by kind cap most value low =
-    either_third (kind == 0) (kind == most) (nat_le value cap) (λ same. le-leb value cap (low (eqb-true kind most same)))
+    either_third (kind == 0) (kind == most) (nat_le value cap)
+    (λ same. le-leb value cap (low (eqb-true kind most same)))
 
 kind_with : (kind : Kind) → kind_at (most_of (stops_of kind) - 2) ≡ kind
 kind_with Two = refl
@@ -122,24 +133,34 @@ none_here true n none = absurd (omega (arith, none))
 none_here false n none = ((λ is. let wrong : false ≡ true = is in cc), omega (arith, none))
 
 -- no run is of the kind
-none_below : (position : Position) (kind : Kind) (run : TrainRun) (runs : List TrainRun) → in_number kind (trains_that_run runs) ≡ 0 → AllByRecursion (IsBelow position kind run) runs
+none_below : (position : Position) (kind : Kind) (run : TrainRun) (runs : List TrainRun)
+    → in_number kind (trains_that_run runs) ≡ 0 → AllByRecursion (IsBelow position kind run) runs
 none_below position kind run [] none = tt
 none_below position kind run (first ∷ runs) none =
-    let parts : (same_kind first.kind kind ≡ true → ⊥) × (in_number kind (trains_that_run runs) ≡ 0) = none_here (same_kind first.kind kind) (in_number kind (trains_that_run runs)) none in
-    ((λ is. absurd (parts.0 (ap (λ k. same_kind k kind) is ∙ same_itself kind))), none_below position kind run runs parts.1)
+    let parts : (same_kind first.kind kind ≡ true → ⊥) × (in_number kind (trains_that_run runs) ≡ 0) =
+    none_here (same_kind first.kind kind) (in_number kind (trains_that_run runs)) none in (
+      (λ is. absurd (parts.0 (ap (λ k. same_kind k kind) is ∙ same_itself kind))),
+      none_below position kind run runs
+          parts.1,
+    )
 
 -- a run that earns more
-below_more : (position : Position) (kind : Kind) (run more : TrainRun) → earned position run.steps ≤ earned position more.steps → (runs : List TrainRun) → AllByRecursion (IsBelow position kind run) runs → AllByRecursion (IsBelow position kind more) runs
+below_more : (position : Position) (kind : Kind) (run more : TrainRun)
+    → earned position run.steps ≤ earned position more.steps → (runs : List TrainRun)
+    → AllByRecursion (IsBelow position kind run) runs → AllByRecursion (IsBelow position kind more) runs
 below_more position kind run more low [] below = tt
 below_more position kind run more low (other ∷ runs) below =
     ((λ is. le_trans (below.0 is) low), below_more position kind run more low runs below.1)
 
 -- a set has a run of a kind that earns the most of them, or none
-pub find_greatest : (position : Position) (kind : Kind) (runs : List TrainRun) → HasGreatest position kind runs ⊎ (in_number kind (trains_that_run runs) ≡ 0)
+pub find_greatest : (position : Position) (kind : Kind) (runs : List TrainRun)
+    → HasGreatest position kind runs ⊎ (in_number kind (trains_that_run runs) ≡ 0)
 find_greatest position kind [] = inr refl
 find_greatest position kind (first ∷ runs) = by_test (find_greatest position kind runs) (same_kind first.kind kind) refl
   where
-    by_rest : same_kind first.kind kind ≡ false → HasGreatest position kind runs ⊎ (in_number kind (trains_that_run runs) ≡ 0) → HasGreatest position kind (first ∷ runs) ⊎ (in_number kind (trains_that_run (first ∷ runs)) ≡ 0)
+    by_rest : same_kind first.kind kind ≡ false → HasGreatest position kind runs
+        ⊎ (in_number kind (trains_that_run runs) ≡ 0) → HasGreatest position kind (first ∷ runs)
+        ⊎ (in_number kind (trains_that_run (first ∷ runs)) ≡ 0)
     by_rest fails (inl has) =
         inl (record {
           front = first ∷ has.front;
@@ -147,11 +168,18 @@ find_greatest position kind (first ∷ runs) = by_test (find_greatest position k
           later = has.later;
           is = ap (λ rs. first ∷ rs) has.is;
           kind_is = has.kind_is;
-          greatest = ((λ is. absurd (let wrong : true ≡ false = sym (same_itself kind) ∙ (sym (ap (λ k. same_kind k kind) is) ∙ fails) in cc)), has.greatest);
+          greatest = (
+            (λ is. absurd (let wrong : true ≡ false =
+                sym (same_itself kind) ∙ (sym (ap (λ k. same_kind k kind) is) ∙ fails) in cc)),
+            has.greatest,
+          );
         })
-    by_rest fails (inr none) = inr (one_or_none (same_kind first.kind kind) (in_number kind (trains_that_run runs)) fails none)
+    by_rest fails (inr none) = inr (one_or_none (same_kind first.kind kind) (in_number kind (trains_that_run runs))
+        fails none)
 
-    by_order : same_kind first.kind kind ≡ true → (has : HasGreatest position kind runs) → (earned position has.run.steps ≤ earned position first.steps) ⊎ (earned position first.steps ≤ earned position has.run.steps) → HasGreatest position kind (first ∷ runs)
+    by_order : same_kind first.kind kind ≡ true → (has : HasGreatest position kind runs)
+        → (earned position has.run.steps ≤ earned position first.steps)
+        ⊎ (earned position first.steps ≤ earned position has.run.steps) → HasGreatest position kind (first ∷ runs)
     by_order is has (inl more) =
         record {
           front = [];
@@ -171,7 +199,8 @@ find_greatest position kind (first ∷ runs) = by_test (find_greatest position k
           greatest = ((λ same. less), has.greatest);
         }
 
-    by_found : same_kind first.kind kind ≡ true → HasGreatest position kind runs ⊎ (in_number kind (trains_that_run runs) ≡ 0) → HasGreatest position kind (first ∷ runs)
+    by_found : same_kind first.kind kind ≡ true → HasGreatest position kind runs
+        ⊎ (in_number kind (trains_that_run runs) ≡ 0) → HasGreatest position kind (first ∷ runs)
     by_found is (inl has) = by_order is has (in_order (earned position has.run.steps) (earned position first.steps))
     by_found is (inr none) =
         record {
@@ -183,7 +212,9 @@ find_greatest position kind (first ∷ runs) = by_test (find_greatest position k
           greatest = ((λ same. omega arith), none_below position kind first runs none);
         }
 
-    by_test : HasGreatest position kind runs ⊎ (in_number kind (trains_that_run runs) ≡ 0) → (test : Bool) → same_kind first.kind kind ≡ test → HasGreatest position kind (first ∷ runs) ⊎ (in_number kind (trains_that_run (first ∷ runs)) ≡ 0)
+    by_test : HasGreatest position kind runs ⊎ (in_number kind (trains_that_run runs) ≡ 0) → (test : Bool)
+        → same_kind first.kind kind ≡ test → HasGreatest position kind (first ∷ runs)
+        ⊎ (in_number kind (trains_that_run (first ∷ runs)) ≡ 0)
     by_test rest true is = inl (by_found is rest)
     by_test rest false is = by_rest is rest
 
@@ -201,22 +232,29 @@ one_less all one other rest left is same low = omega arith
 pub none_left : (runs : List TrainRun) → AreTakenFrom [] (trains_that_run runs) → runs ≡ []
 none_left [] taken = refl
 none_left (run ∷ runs) taken =
-    absurd (too_many (if same_kind run.kind run.kind then 1 else 0) (in_number run.kind (trains_that_run runs)) (if_one (same_kind run.kind run.kind) (same_itself run.kind)) (taken run.kind))
+    absurd (too_many (if same_kind run.kind run.kind then 1 else 0) (in_number run.kind (trains_that_run runs))
+    (if_one (same_kind run.kind run.kind) (same_itself run.kind)) (taken run.kind))
 
 if_low : (test : Bool) (n m : ℕ) → (test ≡ true → n ≡ 0) → n ≤ (if test then 1 else 0) + m → n ≤ m
 if_low true n m none low = let e : n ≡ 0 = none refl in omega arith
 if_low false n m none low = omega arith
 
 -- a set with no run of the first train is one for the others
-pub without_first : (kind : Kind) (trains : List Kind) (runs : List TrainRun) → in_number kind (trains_that_run runs) ≡ 0 → AreTakenFrom (kind ∷ trains) (trains_that_run runs) → AreTakenFrom trains (trains_that_run runs)
+pub without_first : (kind : Kind) (trains : List Kind) (runs : List TrainRun)
+    → in_number kind (trains_that_run runs) ≡ 0 → AreTakenFrom (kind ∷ trains) (trains_that_run runs)
+    → AreTakenFrom trains (trains_that_run runs)
 without_first kind trains runs none taken other =
     if_low (same_kind kind other) (in_number other (trains_that_run runs)) (in_number other trains)
     (λ same. ap (λ k. in_number k (trains_that_run runs)) (sym (kind_is kind other same)) ∙ none) (taken other)
 
 -- a run of the first train taken out leaves a set for the others
-pub with_first : (kind : Kind) (trains : List Kind) (front : List TrainRun) (run : TrainRun) (later : List TrainRun) → run.kind ≡ kind → AreTakenFrom (kind ∷ trains) (trains_that_run (front ++ run ∷ later)) → AreTakenFrom trains (trains_that_run (front ++ later))
+pub with_first : (kind : Kind) (trains : List Kind) (front : List TrainRun) (run : TrainRun) (later : List TrainRun)
+    → run.kind ≡ kind → AreTakenFrom (kind ∷ trains) (trains_that_run (front ++ run ∷ later))
+    → AreTakenFrom trains (trains_that_run (front ++ later))
 with_first kind trains front run later is taken other =
-    one_less (in_number other (trains_that_run (front ++ run ∷ later))) (if same_kind run.kind other then 1 else 0) (if same_kind kind other then 1 else 0) (in_number other (trains_that_run (front ++ later))) (in_number other trains)
+    one_less (in_number other (trains_that_run (front ++ run ∷ later))) (if same_kind run.kind other then 1 else 0)
+    (if same_kind kind other then 1 else 0) (in_number other (trains_that_run (front ++ later)))
+    (in_number other trains)
     (number_out other front run later)
     (ap (λ k. if same_kind k other then 1 else 0) is)
     (taken other)

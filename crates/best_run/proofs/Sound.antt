@@ -59,12 +59,15 @@ end_once hex (AtSide side) = ((λ none. none), tt)
 end_once hex (AtStop number) = tt
 
 -- a border at an end before others that it is none of
-end_before : (hex : Hex) (end : End) (borders : List ℕ) → ((border : ℕ) → IsAmong border (border_at hex end) → ¬ IsAmong border borders) → AreDistinct borders → AreDistinct (border_at hex end ++ borders)
+end_before : (hex : Hex) (end : End) (borders : List ℕ)
+    → ((border : ℕ) → IsAmong border (border_at hex end) → ¬ IsAmong border borders) → AreDistinct borders
+    → AreDistinct (border_at hex end ++ borders)
 end_before hex (AtSide side) borders new once = ((λ among. new (border_of hex side) (inl refl) among), once)
 end_before hex (AtStop number) borders new once = once
 
 -- a walk from a stop visits one
-some_visited : (step : Step) (before : List Step) → BeginsAt (λ stop. Unit {0}) (step ∷ before) → 1 ≤ length (first_stop before step ++ visited before)
+some_visited : (step : Step) (before : List Step) → BeginsAt (λ stop. Unit {0}) (step ∷ before)
+    → 1 ≤ length (first_stop before step ++ visited before)
 some_visited step [] begins =
     let one : listed (stop_of (entered_at step)) ++ [] ≡ begins.0 ∷ [] = ap (λ o. listed o ++ []) begins.1 in
     omega (arith, ap length one)
@@ -94,66 +97,112 @@ two_at_least Diesel = omega arith
 turned_walk : (steps : List Step) → turned_about steps ≡ onto (returning steps) []
 turned_walk steps = all_turned steps []
   where
-    all_turned : (steps done : List Step) → map turned_step (reverse_aux steps done) ≡ onto (returning steps) (map turned_step done)
+    all_turned : (steps done : List Step) → map turned_step (reverse_aux steps done)
+        ≡ onto (returning steps) (map turned_step done)
     all_turned [] done = refl
     all_turned (step ∷ before) done = all_turned before (step ∷ done)
 
-module _ (position : Position) (company : Company) (lawful : IsLawful position) (kinds : List Kind) (task : Task) (describes : Describes position company kinds task) where
+module _ (position : Position) (company : Company) (lawful : IsLawful position) (kinds : List Kind) (task : Task)
+    (describes : Describes position company kinds task) where
   abbrev Told : ℕ → List ℕ → Spot → List Stop → List ℕ → Settled → PartialRun → Type 0
   Told most others at stops borders settled run = Tells task position company most others at stops borders settled run
 
   -- what a piece that is taken tells of its step
-  record Went (most : ℕ) (others : List ℕ) (stops : List Stop) (borders : List ℕ) (settled : Settled) (run : PartialRun) (step : Step) (segment : Segment) : Type 0 where
-    pub told : Told most others (left_at step) (listed (stop_of (left_at step)) ++ stops) (border_at (entered_at step).hex (entered_at step).end ++ borders) (using settled segment) (along task run segment)
+  record Went (most : ℕ) (others : List ℕ) (stops : List Stop) (borders : List ℕ) (settled : Settled)
+      (run : PartialRun) (step : Step) (segment : Segment) : Type 0 where
+    pub told : Told most others (left_at step) (listed (stop_of (left_at step)) ++ stops)
+        (border_at (entered_at step).hex (entered_at step).end ++ borders) (using settled segment)
+        (along task run segment)
     pub stops_once : AreDistinct stops → AreDistinct (listed (stop_of (left_at step)) ++ stops)
     pub few : length (listed (stop_of (left_at step)) ++ stops) ≤ most
-    pub new : (border : ℕ) → IsAmong border (border_at (entered_at step).hex (entered_at step).end) → ¬ IsAmong border borders
-    pub free : (border : ℕ) → IsAmong border (border_at (entered_at step).hex (entered_at step).end) → ¬ IsAmong border others
+    pub new : (border : ℕ) → IsAmong border (border_at (entered_at step).hex (entered_at step).end)
+        → ¬ IsAmong border borders
+    pub free : (border : ℕ) → IsAmong border (border_at (entered_at step).hex (entered_at step).end)
+        → ¬ IsAmong border others
 
-  went_by : (most : ℕ) (others : List ℕ) (at : Spot) (stops : List Stop) (borders : List ℕ) (settled : Settled) (run : PartialRun) → Told most others at stops borders settled run → (step : Step) (segment : Segment) → IsSegmentOf step segment → can_take task run settled.used segment ≡ true → (found : Option Stop) → stop_of (left_at step) ≡ found → Went most others stops borders settled run step segment
+  went_by : (most : ℕ) (others : List ℕ) (at : Spot) (stops : List Stop) (borders : List ℕ) (settled : Settled)
+      (run : PartialRun) → Told most others at stops borders settled run → (step : Step) (segment : Segment)
+      → IsSegmentOf step segment → can_take task run settled.used segment ≡ true → (found : Option Stop)
+      → stop_of (left_at step) ≡ found → Went most others stops borders settled run step segment
   went_by most others at stops borders settled run tells step segment is taken None side =
-      let free : misses settled.used segment.borders.items ≡ true = second_true (may_come (stop_in (node_at task segment.to)) run segment.to) (misses settled.used segment.borders.items) taken in
+      let free : misses settled.used segment.borders.items ≡ true =
+      second_true (may_come (stop_in (node_at task segment.to)) run segment.to)
+      (misses settled.used segment.borders.items) taken in
       record {
-        told = subst (λ o. Told most others (left_at step) (listed o ++ stops) (border_at (entered_at step).hex (entered_at step).end ++ borders) (using settled segment) (along task run segment)) (sym side)
-            (to_side position company kinds task describes most others at stops borders settled run tells step segment is side);
+        told = subst (λ o. Told most others (left_at step) (listed o ++ stops)
+            (border_at (entered_at step).hex (entered_at step).end ++ borders) (using settled segment)
+            (along task run segment)) (sym side)
+            (to_side position company kinds task describes most others at stops borders settled run tells step segment
+            is side);
         stops_once = λ once. subst (λ o. AreDistinct (listed o ++ stops)) (sym side) once;
         few = subst (λ o. length (listed o ++ stops) ≤ most) (sym side) (omega (arith, tells.left));
-        new = λ border here before. misses_free settled.used segment.borders.items free border (subst (IsAmong border) (sym is.borders) here) ((tells.used border).1 (inl before));
-        free = λ border here other. misses_free settled.used segment.borders.items free border (subst (IsAmong border) (sym is.borders) here) ((tells.used border).1 (inr other));
+        new = λ border here before. misses_free settled.used segment.borders.items free border
+            (subst (IsAmong border) (sym is.borders) here) ((tells.used border).1 (inl before));
+        free = λ border here other. misses_free settled.used segment.borders.items free border
+            (subst (IsAmong border) (sym is.borders) here) ((tells.used border).1 (inr other));
       }
   went_by most others at stops borders settled run tells step segment is taken (Some stop) there =
-      let node : IsStopNode position company stop (node_at task segment.to) = subst (λ (n : ℕ). IsStopNode position company stop (node_at task n)) (sym is.to) (node_left position company kinds task describes (left_at step) (Some stop) there) in
-      let free : misses settled.used segment.borders.items ≡ true = second_true (may_come (stop_in (node_at task segment.to)) run segment.to) (misses settled.used segment.borders.items) taken in
-      let come : may_come true run segment.to ≡ true = ap (λ b. may_come b run segment.to) (sym node.stops) ∙ first_true (may_come (stop_in (node_at task segment.to)) run segment.to) (misses settled.used segment.borders.items) taken in
-      let left : 0 < run.left = ltb-true 0 run.left (first_true (ltb 0 run.left) (not (get_or run.visited segment.to false)) come) in
-      let fresh : IsMarked run.visited segment.to → ⊥ = not_set (get_or run.visited segment.to false) (second_true (ltb 0 run.left) (not (get_or run.visited segment.to false)) come) in
+      let node : IsStopNode position company stop (node_at task segment.to) =
+      subst (λ (n : ℕ). IsStopNode position company stop (node_at task n)) (sym is.to)
+      (node_left position company kinds task describes (left_at step) (Some stop) there) in
+      let free : misses settled.used segment.borders.items ≡ true =
+      second_true (may_come (stop_in (node_at task segment.to)) run segment.to)
+      (misses settled.used segment.borders.items) taken in
+      let come : may_come true run segment.to ≡ true =
+      ap (λ b. may_come b run segment.to) (sym node.stops)
+      ∙ first_true (may_come (stop_in (node_at task segment.to)) run segment.to)
+      (misses settled.used segment.borders.items) taken in
+      let left : 0 < run.left = ltb-true 0 run.left (first_true (ltb 0 run.left)
+      (not (get_or run.visited segment.to false)) come) in
+      let fresh : IsMarked run.visited segment.to → ⊥ =
+      not_set (get_or run.visited segment.to false) (second_true (ltb 0 run.left)
+      (not (get_or run.visited segment.to false)) come) in
       record {
-        told = subst (λ o. Told most others (left_at step) (listed o ++ stops) (border_at (entered_at step).hex (entered_at step).end ++ borders) (using settled segment) (along task run segment)) (sym there)
-            (to_stop position company kinds task describes most others at stops borders settled run tells step segment is stop there left);
-        stops_once = λ once. subst (λ o. AreDistinct (listed o ++ stops)) (sym there)
-            ((λ among. fresh (subst (IsMarked run.visited) (sym is.to) ((tells.visited (left_at step) stop there).1 (inl among)))), once);
+        told = subst (λ o. Told most others (left_at step) (listed o ++ stops)
+            (border_at (entered_at step).hex (entered_at step).end ++ borders) (using settled segment)
+            (along task run segment)) (sym there)
+            (to_stop position company kinds task describes most others at stops borders settled run tells step segment
+            is stop there left);
+        stops_once = λ once. subst (λ o. AreDistinct (listed o ++ stops)) (sym there) (
+          (λ among. fresh (subst (IsMarked run.visited) (sym is.to)
+              ((tells.visited (left_at step) stop there).1 (inl among)))),
+          once,
+        );
         few = subst (λ o. length (listed o ++ stops) ≤ most) (sym there) (omega (arith, tells.left));
-        new = λ border here before. misses_free settled.used segment.borders.items free border (subst (IsAmong border) (sym is.borders) here) ((tells.used border).1 (inl before));
-        free = λ border here other. misses_free settled.used segment.borders.items free border (subst (IsAmong border) (sym is.borders) here) ((tells.used border).1 (inr other));
+        new = λ border here before. misses_free settled.used segment.borders.items free border
+            (subst (IsAmong border) (sym is.borders) here) ((tells.used border).1 (inl before));
+        free = λ border here other. misses_free settled.used segment.borders.items free border
+            (subst (IsAmong border) (sym is.borders) here) ((tells.used border).1 (inr other));
       }
 
   -- a run goes on only where it may pass
-  may_pass : (at : Spot) (found : Option Stop) → stop_of at ≡ found → (next : Spot) → AreJoined at next → ends_in (node_at task (spot_number at)) ≡ false → IfSome (stop_of next) (λ stop. ¬ (is_red position stop ≡ true)) × IfSome (stop_of next) (λ stop. ¬ IsFull position stop company)
+  may_pass : (at : Spot) (found : Option Stop) → stop_of at ≡ found → (next : Spot) → AreJoined at next
+      → ends_in (node_at task (spot_number at)) ≡ false
+      → IfSome (stop_of next) (λ stop. ¬ (is_red position stop ≡ true))
+      × IfSome (stop_of next) (λ stop. ¬ IsFull position stop company)
   may_pass at (Some stop) there next joined passes =
-      let node : IsStopNode position company stop (node_at task (spot_number at)) = node_left position company kinds task describes at (Some stop) there in
+      let node : IsStopNode position company stop (node_at task (spot_number at)) =
+      node_left position company kinds task describes at (Some stop) there in
       let both : (¬ (is_red position stop ≡ true)) × (¬ IsFull position stop company) = node.passes.0 passes in
-      let same : stop_of next ≡ Some stop = next_stop at next stop there joined in
-      (subst (λ o. IfSome o (λ s. ¬ (is_red position s ≡ true))) (sym same) both.0, subst (λ o. IfSome o (λ s. ¬ IsFull position s company)) (sym same) both.1)
+      let same : stop_of next ≡ Some stop = next_stop at next stop there joined in (
+        subst (λ o. IfSome o (λ s. ¬ (is_red position s ≡ true))) (sym same) both.0,
+        subst
+            (λ o. IfSome o (λ s. ¬ IsFull position s company)) (sym same) both.1,
+      )
   may_pass at None side next joined passes =
       elim joined [
         | inl one ↦ absurd (let wrong : None ≡ Some one.0 = sym side ∙ one.1 in cc)
         | inr over ↦
-            let none : stop_of next ≡ None = (back position lawful at next over).1 in
-            (subst (λ o. IfSome o (λ s. ¬ (is_red position s ≡ true))) (sym none) tt, subst (λ o. IfSome o (λ s. ¬ IsFull position s company)) (sym none) tt)
+            let none : stop_of next ≡ None = (back position lawful at next over).1 in (
+              subst (λ o. IfSome o (λ s. ¬ (is_red position s ≡ true))) (sym none) tt,
+              subst
+                  (λ o. IfSome o (λ s. ¬ IsFull position s company)) (sym none) tt,
+            )
       ]
 
   -- a step from a spot with this number goes on from here
-  joined_here : (at : Spot) (number : ℕ) → number ≡ spot_number at → (spot next : Spot) → spot_number spot ≡ number → AreJoined spot next → AreJoined at next
+  joined_here : (at : Spot) (number : ℕ) → number ≡ spot_number at → (spot next : Spot) → spot_number spot ≡ number
+      → AreJoined spot next → AreJoined at next
   joined_here at number is spot next number_is joined =
       let one : (stop_of spot ≡ stop_of at) × (across spot ≡ across at) = are_one spot at (number_is ∙ is) in
       elim joined [
@@ -162,12 +211,14 @@ module _ (position : Position) (company : Company) (lawful : IsLawful position) 
       ]
 
   -- some runs are a set for the trains that are left, and earn what is earned from a state on
-  pub record RunsTold (others : List ℕ) (left : List Kind) (settled : Settled) (total : ℕ) (runs : List TrainRun) : Type 0 where
+  pub record RunsTold (others : List ℕ) (left : List Kind) (settled : Settled) (total : ℕ)
+      (runs : List TrainRun) : Type 0 where
     pub set : IsSetFor position company left others runs
     pub earns : settled.total + revenue_of position runs ≡ total
 
   -- the first of some runs is that of the next train
-  pub record RunTold (others : List ℕ) (kind : Kind) (left : List Kind) (settled : Settled) (total : ℕ) (told : List TrainRun) : Type 0 where
+  pub record RunTold (others : List ℕ) (kind : Kind) (left : List Kind) (settled : Settled) (total : ℕ)
+      (told : List TrainRun) : Type 0 where
     pub steps : List Step
     pub legal : RunsLegally position company (record { kind = kind; steps = steps })
     pub avoids : Avoids others (record { kind = kind; steps = steps })
@@ -178,10 +229,20 @@ module _ (position : Position) (company : Company) (lawful : IsLawful position) 
 
   -- the borders of a piece change nothing in what the others earn
   keep_settled :
-      (others : List ℕ) (kind : Kind) (left : List Kind) (settled : Settled) (segment : Segment) (total : ℕ) (runs : List TrainRun) →
+      (others : List ℕ) (kind : Kind) (left : List Kind) (settled : Settled) (segment : Segment) (total : ℕ)
+      (runs : List TrainRun) →
       RunTold others kind left (using settled segment) total runs → RunTold others kind left settled total runs
   keep_settled others kind left settled segment total runs told =
-      record { steps = told.steps; legal = told.legal; avoids = told.avoids; runs = told.runs; set = told.set; earns = told.earns; are = told.are }
+      record {
+        steps = told.steps;
+        legal = told.legal;
+        avoids = told.avoids;
+        runs = told.runs;
+        set = told.set;
+        earns =
+            told.earns;
+        are = told.are;
+      }
 
   -- a run that has not turned back began where its walk does
   abbrev pub BeginsHome : PartialRun → Step → List Step → Type 0
@@ -190,34 +251,59 @@ module _ (position : Position) (company : Company) (lawful : IsLawful position) 
   -- from a state on some marks tell such runs
   abbrev pub SoundFrom : State → ℕ → List Mark → Type 0
   SoundFrom (between settled) total marks =
-      (others : List ℕ) (left : List Kind) → Used others settled → drop settled.next task.trains.items ≡ most_of_all left → RunsTold others left settled total (runs_told left [] marks)
+      (others : List ℕ) (left : List Kind) → Used others settled
+      → drop settled.next task.trains.items ≡ most_of_all left
+      → RunsTold others left settled total (runs_told left [] marks)
   SoundFrom (partial settled run) total marks =
-      (others : List ℕ) (kind : Kind) (left : List Kind) (step : Step) (before : List Step) → Told (most_of (stops_of kind)) others (left_at step) (visited (step ∷ before)) (crossed (step ∷ before)) settled run → Holds position company (most_of (stops_of kind)) others (step ∷ before) → HasSuch (λ stop. HasToken position stop company) (visited (step ∷ before)) → BeginsHome run step before → drop (settled.next + 1) task.trains.items ≡ most_of_all left → RunTold others kind left settled total (runs_told (kind ∷ left) (step ∷ before) marks)
+      (others : List ℕ) (kind : Kind) (left : List Kind) (step : Step) (before : List Step)
+      → Told (most_of (stops_of kind)) others (left_at step) (visited (step ∷ before)) (crossed (step ∷ before))
+      settled run → Holds position company (most_of (stops_of kind)) others (step ∷ before)
+      → HasSuch (λ stop. HasToken position stop company) (visited (step ∷ before)) → BeginsHome run step before
+      → drop (settled.next + 1) task.trains.items ≡ most_of_all left
+      → RunTold others kind left settled total (runs_told (kind ∷ left) (step ∷ before) marks)
 
   -- the end: all trains are settled
   at_end : (settled : Settled) → length task.trains.items ≤ settled.next → SoundFrom (between settled) settled.total []
   at_end settled over others [] used trains =
-      record { set = record { legal = tt; each_once = λ kind. omega arith; apart = tt; avoid = tt }; earns = omega arith }
+      record {
+        set = record { legal = tt; each_once = λ kind. omega arith; apart = tt; avoid = tt };
+        earns =
+            omega arith;
+      }
   at_end settled over others (kind ∷ left) used trains =
-      absurd (omega (arith, (drop_first task.trains.items settled.next (most_of (stops_of kind)) (most_of_all left) trains).0))
+      absurd (omega (
+        arith,
+        (drop_first task.trains.items settled.next (most_of (stops_of kind)) (most_of_all left)
+            trains).0,
+      ))
 
   -- the next train does not run
   has_passed :
-      (settled : Settled) (total : ℕ) (marks : List Mark) → settled.next < length task.trains.items → SoundFrom (between (passed settled)) total marks →
+      (settled : Settled) (total : ℕ) (marks : List Mark) → settled.next < length task.trains.items
+      → SoundFrom (between (passed settled)) total marks →
       SoundFrom (between settled) total (Pass ∷ marks)
-  has_passed settled total marks before rest others [] used trains = absurd (omega (arith, drop_none task.trains.items settled.next trains))
+  has_passed settled total marks before rest others [] used trains =
+      absurd (omega (arith, drop_none task.trains.items settled.next trains))
   has_passed settled total marks before rest others (kind ∷ left) used trains =
       let next = drop_first task.trains.items settled.next (most_of (stops_of kind)) (most_of_all left) trains in
-      let told : RunsTold others left (passed settled) total (runs_told left [] marks) = rest others left (record { used = used.used; whole = used.whole }) next.2 in
+      let told : RunsTold others left (passed settled) total (runs_told left [] marks) =
+      rest others left (record { used = used.used; whole = used.whole }) next.2 in
       record {
-        set = record { legal = told.set.legal; each_once = λ k. omega (arith, told.set.each_once k); apart = told.set.apart; avoid = told.set.avoid };
+        set = record {
+          legal = told.set.legal;
+          each_once = λ k. omega (arith, told.set.each_once k);
+          apart =
+              told.set.apart;
+          avoid = told.set.avoid;
+        };
         earns = told.earns;
       }
 
   -- a run is settled
   has_settled :
       (settled : Settled) (run : PartialRun) (total : ℕ) (marks : List Mark) → stop_in (node_at task run.head) ≡ true →
-      SoundFrom (between (with_run_settled settled run)) total marks → SoundFrom (partial settled run) total (Settle ∷ marks)
+      SoundFrom (between (with_run_settled settled run)) total marks
+      → SoundFrom (partial settled run) total (Settle ∷ marks)
   has_settled settled run total marks may rest others kind left step before tells holds own home trains =
       ends_by (stop_of (left_at step)) refl
     where
@@ -225,20 +311,30 @@ module _ (position : Position) (company : Company) (lawful : IsLawful position) 
           (found : Option Stop) → stop_of (left_at step) ≡ found →
           RunTold others kind left settled total (runs_told (kind ∷ left) (step ∷ before) (Settle ∷ marks))
       ends_by None side =
-          let node : IsSideNode (node_at task (spot_number (left_at step))) = node_left position company kinds task describes (left_at step) None side in
-          let stops : stop_in (node_at task (spot_number (left_at step))) ≡ true = subst (λ (n : ℕ). stop_in (node_at task n) ≡ true) tells.head may in
+          let node : IsSideNode (node_at task (spot_number (left_at step))) =
+          node_left position company kinds task describes (left_at step) None side in
+          let stops : stop_in (node_at task (spot_number (left_at step))) ≡ true =
+          subst (λ (n : ℕ). stop_in (node_at task n) ≡ true) tells.head may in
           absurd (let wrong : true ≡ false = sym stops ∙ node.stops in cc)
       ends_by (Some stop) there =
-          let told : RunsTold (crossed (step ∷ before) ++ others) left (with_run_settled settled run) total (runs_told left [] marks) =
+          let told : RunsTold (crossed (step ∷ before) ++ others) left (with_run_settled settled run) total
+          (runs_told left [] marks) =
           rest (crossed (step ∷ before) ++ others) left
           (record {
-            used = λ border. let all : IsAmong border (crossed (step ∷ before) ++ others) ↔ (IsAmong border (crossed (step ∷ before)) ⊎ IsAmong border others) = among_both border (crossed (step ∷ before)) others in
+            used = λ border. let all : IsAmong border (crossed (step ∷ before) ++ others)
+                ↔ (IsAmong border (crossed (step ∷ before)) ⊎ IsAmong border others) =
+                among_both border (crossed (step ∷ before)) others in
                 (λ marked. all.1 ((tells.used border).0 marked), λ among. (tells.used border).1 (all.0 among));
             whole = tells.whole;
           })
           trains
           in
-          let two : 2 ≤ length (visited (step ∷ before)) = omega (arith, ap (λ o. length (listed o ++ (first_stop before step ++ visited before))) there, some_visited step before holds.begins) in
+          let two : 2 ≤ length (visited (step ∷ before)) =
+          omega (
+            arith,
+            ap (λ o. length (listed o ++ (first_stop before step ++ visited before))) there,
+            some_visited step before holds.begins,
+          ) in
           record {
             steps = step ∷ before;
             legal = record {
@@ -264,78 +360,112 @@ module _ (position : Position) (company : Company) (lawful : IsLawful position) 
   -- a run goes on
   has_gone :
       (settled : Settled) (run : PartialRun) (index : ℕ) (segment : Segment) (total : ℕ) (marks : List Mark) →
-      Allows task (partial settled run) (go index segment) → SoundFrom (partial (using settled segment) (along task run segment)) total marks →
+      Allows task (partial settled run) (go index segment)
+      → SoundFrom (partial (using settled segment) (along task run segment)) total marks →
       SoundFrom (partial settled run) total (Go segment.step ∷ marks)
   has_gone settled run index segment total marks may rest others kind left step before tells holds own home trains =
       let from : IsStepFrom position run.head segment = describes.sound run.head index segment may.leads in
       let next = from.step in
-      let joined : AreJoined (left_at step) (entered_at next) = joined_here (left_at step) run.head tells.head from.goes.spot (entered_at next) from.goes.number_is from.goes.joined in
-      let went : Went (most_of (stops_of kind)) others (visited (step ∷ before)) (crossed (step ∷ before)) settled run next segment = went_by (most_of (stops_of kind)) others (left_at step) (visited (step ∷ before)) (crossed (step ∷ before)) settled run tells next segment from.segment_is may.taken (stop_of (left_at next)) refl in
-      let passes = may_pass (left_at step) (stop_of (left_at step)) refl (entered_at next) joined (subst (λ (n : ℕ). ends_in (node_at task n) ≡ false) tells.head may.passes) in
-      let told : RunTold others kind left (using settled segment) total (runs_told (kind ∷ left) (next ∷ step ∷ before) marks) =
+      let joined : AreJoined (left_at step) (entered_at next) =
+      joined_here (left_at step) run.head tells.head from.goes.spot (entered_at next) from.goes.number_is
+      from.goes.joined in
+      let went : Went (most_of (stops_of kind)) others (visited (step ∷ before)) (crossed (step ∷ before)) settled run
+      next segment = went_by (most_of (stops_of kind)) others (left_at step) (visited (step ∷ before))
+      (crossed (step ∷ before)) settled run tells next segment from.segment_is may.taken (stop_of (left_at next))
+      refl in
+      let passes = may_pass (left_at step) (stop_of (left_at step)) refl (entered_at next) joined
+      (subst (λ (n : ℕ). ends_in (node_at task n) ≡ false) tells.head may.passes) in
+      let told : RunTold others kind left (using settled segment) total
+      (runs_told (kind ∷ left) (next ∷ step ∷ before) marks) =
       rest others kind left next (step ∷ before) went.told
       (record {
         walk = (from.track, joined, holds.walk);
         begins = holds.begins;
         few = went.few;
         stops = went.stops_once holds.stops;
-        borders = end_before (entered_at next).hex (entered_at next).end (crossed (step ∷ before)) went.new holds.borders;
-        free = λ border among. elim ((among_both border (border_at (entered_at next).hex (entered_at next).end) (crossed (step ∷ before))).0 among) [ inl here ↦ went.free border here | inr old ↦ holds.free border old ];
+        borders = end_before (entered_at next).hex (entered_at next).end (crossed (step ∷ before)) went.new
+            holds.borders;
+        free = λ border among. elim ((among_both border (border_at (entered_at next).hex (entered_at next).end)
+            (crossed (step ∷ before))).0 among) [ inl here ↦ went.free border here | inr old ↦ holds.free border old ];
         red = (passes.0, holds.red);
         full = (passes.1, holds.full);
       })
-      (such_later (λ stop. HasToken position stop company) (listed (stop_of (left_at next))) (visited (step ∷ before)) own) home trains
+      (such_later (λ stop. HasToken position stop company) (listed (stop_of (left_at next))) (visited (step ∷ before))
+      own) home trains
       in
       let runs : Step → List TrainRun = λ last. runs_told (kind ∷ left) (last ∷ step ∷ before) marks in
       keep_settled others kind left settled segment total (runs segment.step)
-      (subst (λ (last : Step). RunTold others kind left (using settled segment) total (runs last)) (sym from.segment_is.step_is) told)
+      (subst (λ (last : Step). RunTold others kind left (using settled segment) total (runs last))
+      (sym from.segment_is.step_is) told)
 
   -- where a run stands at a stop, its walk ends at one
-  ends_there : (step : Step) (before : List Step) (number : ℕ) → number ≡ spot_number (left_at step) → stop_in (node_at task number) ≡ true → (found : Option Stop) → stop_of (left_at step) ≡ found → EndsAtStop (step ∷ before)
+  ends_there : (step : Step) (before : List Step) (number : ℕ) → number ≡ spot_number (left_at step)
+      → stop_in (node_at task number) ≡ true → (found : Option Stop) → stop_of (left_at step) ≡ found
+      → EndsAtStop (step ∷ before)
   ends_there step before number is stops None side =
-      let node : IsSideNode (node_at task (spot_number (left_at step))) = node_left position company kinds task describes (left_at step) None side in
-      absurd (let wrong : false ≡ true = sym node.stops ∙ (ap (λ (n : ℕ). stop_in (node_at task n)) (sym is) ∙ stops) in cc)
+      let node : IsSideNode (node_at task (spot_number (left_at step))) =
+      node_left position company kinds task describes (left_at step) None side in
+      absurd (let wrong : false ≡ true = sym node.stops
+      ∙ (ap (λ (n : ℕ). stop_in (node_at task n)) (sym is) ∙ stops) in cc)
   ends_there step before number is stops (Some stop) there = (stop, there)
 
   -- a run turns back: its walk is turned about, and goes on where it began
   has_turned :
       (settled : Settled) (run : PartialRun) (index : ℕ) (segment : Segment) (total : ℕ) (marks : List Mark) →
-      Allows task (partial settled run) (turn index segment) → SoundFrom (partial (using settled segment) (along task (turned_back run) segment)) total marks →
+      Allows task (partial settled run) (turn index segment)
+      → SoundFrom (partial (using settled segment) (along task (turned_back run) segment)) total marks →
       SoundFrom (partial settled run) total (Turn ∷ Go segment.step ∷ marks)
   has_turned settled run index segment total marks may rest others kind left step before tells holds own home trains =
       let most = most_of (stops_of kind) in
-      let ends : EndsAtStop (step ∷ before) = ends_there step before run.head tells.head may.stands (stop_of (left_at step)) refl in
-      let turned : Turned position lawful company most others step before = walk_turned position lawful company most others step before holds ends in
+      let ends : EndsAtStop (step ∷ before) = ends_there step before run.head tells.head may.stands
+      (stop_of (left_at step)) refl in
+      let turned : Turned position lawful company most others step before =
+      walk_turned position lawful company most others step before holds ends in
       let walk = turned.last ∷ turned.rest in
-      let one : AreOne position (step ∷ before) walk = one_turned position company lawful kinds task describes most others step before turned in
+      let one : AreOne position (step ∷ before) walk =
+      one_turned position company lawful kinds task describes most others step before turned in
       let at_home : run.home ≡ spot_number (left_at turned.last) = home may.once ∙ ap spot_number (sym turned.stands) in
-      let tells_back : Told most others (left_at turned.last) (visited walk) (crossed walk) settled (turned_back run) = to_home position company kinds task describes most others (left_at step) (visited (step ∷ before)) (crossed (step ∷ before)) settled run tells (left_at turned.last) (visited walk) (crossed walk) at_home one.stops one.worth one.borders in
+      let tells_back : Told most others (left_at turned.last) (visited walk) (crossed walk) settled
+      (turned_back run) = to_home position company kinds task describes most others (left_at step)
+      (visited (step ∷ before)) (crossed (step ∷ before)) settled run tells (left_at turned.last) (visited walk)
+      (crossed walk) at_home one.stops one.worth one.borders in
       let about : turned_about (step ∷ before) ≡ walk = turned_walk (step ∷ before) ∙ turned.is in
-      subst (λ (steps : List Step). RunTold others kind left settled total (runs_told (kind ∷ left) steps (Go segment.step ∷ marks))) (sym about)
-      (has_gone settled (turned_back run) index segment total marks (record { passes = may.passes; leads = may.leads; taken = may.taken }) rest others kind left turned.last turned.rest tells_back turned.holds
+      subst (λ (steps : List Step). RunTold others kind left settled total
+      (runs_told (kind ∷ left) steps (Go segment.step ∷ marks))) (sym about)
+      (has_gone settled (turned_back run) index segment total marks
+      (record { passes = may.passes; leads = may.leads; taken = may.taken }) rest others kind left turned.last
+      turned.rest tells_back turned.holds
       (such_canonical (λ stop. HasToken position stop company) (visited (step ∷ before)) (visited walk) one.stops own)
       (λ once. absurd (let wrong : true ≡ false = once in cc)) trains)
 
   -- a step leads from a stop with this number
-  enters_stop : (number : ℕ) → stop_in (node_at task number) ≡ true → (spot next : Spot) → spot_number spot ≡ number → AreJoined spot next → (found : Option Stop) → stop_of spot ≡ found → (stop : Stop) × (stop_of next ≡ Some stop) × (number ≡ spot_number next)
+  enters_stop : (number : ℕ) → stop_in (node_at task number) ≡ true → (spot next : Spot) → spot_number spot ≡ number
+      → AreJoined spot next → (found : Option Stop) → stop_of spot ≡ found
+      → (stop : Stop) × (stop_of next ≡ Some stop) × (number ≡ spot_number next)
   enters_stop number stops spot next number_is joined None side =
-      let node : IsSideNode (node_at task (spot_number spot)) = node_left position company kinds task describes spot None side in
-      absurd (let wrong : false ≡ true = sym node.stops ∙ (ap (λ (n : ℕ). stop_in (node_at task n)) number_is ∙ stops) in cc)
+      let node : IsSideNode (node_at task (spot_number spot)) =
+      node_left position company kinds task describes spot None side in
+      absurd (let wrong : false ≡ true = sym node.stops
+      ∙ (ap (λ (n : ℕ). stop_in (node_at task n)) number_is ∙ stops) in cc)
   enters_stop number stops spot next number_is joined (Some stop) there =
       let same : stop_of next ≡ Some stop = next_stop spot next stop there joined in
       (stop, same, sym number_is ∙ one_number spot next stop there same)
 
   -- the first step of a run holds
-  first_holds : (most : ℕ) (others : List ℕ) (settled : Settled) (run : PartialRun) (step : Step) (segment : Segment) (stop : Stop) → stop_of (entered_at step) ≡ Some stop → IsTrack position step → Went most others (stop ∷ []) [] settled run step segment → Holds position company most others (step ∷ [])
+  first_holds : (most : ℕ) (others : List ℕ) (settled : Settled) (run : PartialRun) (step : Step) (segment : Segment)
+      (stop : Stop) → stop_of (entered_at step) ≡ Some stop → IsTrack position step
+      → Went most others (stop ∷ []) [] settled run step segment → Holds position company most others (step ∷ [])
   first_holds most others settled run step segment stop there track went =
-      let visits : visited (step ∷ []) ≡ listed (stop_of (left_at step)) ++ (stop ∷ []) = ap (λ o. listed (stop_of (left_at step)) ++ (listed o ++ [])) there in
+      let visits : visited (step ∷ []) ≡ listed (stop_of (left_at step)) ++ (stop ∷ []) =
+      ap (λ o. listed (stop_of (left_at step)) ++ (listed o ++ [])) there in
       record {
         walk = (track, tt, tt);
         begins = (stop, there, tt);
         few = subst (λ vs. length vs ≤ most) (sym visits) went.few;
         stops = subst AreDistinct (sym visits) (went.stops_once ((λ none. none), tt));
         borders = end_once (entered_at step).hex (entered_at step).end;
-        free = λ border among. elim ((among_both border (border_at (entered_at step).hex (entered_at step).end) []).0 among) [ inl here ↦ went.free border here | inr none ↦ absurd none ];
+        free = λ border among. elim ((among_both border (border_at (entered_at step).hex (entered_at step).end) []).0
+            among) [ inl here ↦ went.free border here | inr none ↦ absurd none ];
         red = (tt, tt);
         full = (tt, tt);
       }
@@ -356,55 +486,94 @@ module _ (position : Position) (company : Company) (lawful : IsLawful position) 
         earns = told.earns;
       })
     where
-      apart_by : (runs : List TrainRun) → AllByRecursion (Avoids (crossed told.steps ++ others)) runs → AllByRecursion (λ other. ShareNoBorder told.steps other.steps) runs
+      apart_by : (runs : List TrainRun) → AllByRecursion (Avoids (crossed told.steps ++ others)) runs
+          → AllByRecursion (λ other. ShareNoBorder told.steps other.steps) runs
       apart_by [] avoid = tt
-      apart_by (run ∷ runs) avoid = ((λ border here there. avoid.0 border there ((among_both border (crossed told.steps) others).1 (inl here))), apart_by runs avoid.1)
+      apart_by (run ∷ runs) avoid = (
+        (λ border here there. avoid.0 border there
+            ((among_both border (crossed told.steps) others).1 (inl here))),
+        apart_by runs avoid.1,
+      )
 
-      avoid_by : (runs : List TrainRun) → AllByRecursion (Avoids (crossed told.steps ++ others)) runs → AllByRecursion (Avoids others) runs
+      avoid_by : (runs : List TrainRun) → AllByRecursion (Avoids (crossed told.steps ++ others)) runs
+          → AllByRecursion (Avoids others) runs
       avoid_by [] avoid = tt
-      avoid_by (run ∷ runs) avoid = ((λ border here there. avoid.0 border here ((among_both border (crossed told.steps) others).1 (inr there))), avoid_by runs avoid.1)
+      avoid_by (run ∷ runs) avoid = (
+        (λ border here there. avoid.0 border here
+            ((among_both border (crossed told.steps) others).1 (inr there))),
+        avoid_by runs avoid.1,
+      )
 
   -- a run begins
   has_begun :
-      (settled : Settled) (number index : ℕ) (segment : Segment) (total : ℕ) (marks : List Mark) → Allows task (between settled) (begin number index segment) →
+      (settled : Settled) (number index : ℕ) (segment : Segment) (total : ℕ) (marks : List Mark)
+      → Allows task (between settled) (begin number index segment) →
       SoundFrom (partial (using settled segment) (along task (begun task settled number index) segment)) total marks →
       SoundFrom (between settled) total (Go segment.step ∷ marks)
-  has_begun settled number index segment total marks may rest others [] used trains = absurd (omega (arith, may.train, drop_none task.trains.items settled.next trains))
+  has_begun settled number index segment total marks may rest others [] used trains =
+      absurd (omega (arith, may.train, drop_none task.trains.items settled.next trains))
   has_begun settled number index segment total marks may rest others (kind ∷ left) used trains =
       let most = most_of (stops_of kind) in
       let next = drop_first task.trains.items settled.next most (most_of_all left) trains in
       let from : IsStepFrom position number segment = describes.sound number index segment may.leads in
       let step = from.step in
-      let entered = enters_stop number may.begins from.goes.spot (entered_at step) from.goes.number_is from.goes.joined (stop_of from.goes.spot) refl in
+      let entered = enters_stop number may.begins from.goes.spot (entered_at step) from.goes.number_is
+      from.goes.joined (stop_of from.goes.spot) refl in
       let stop = entered.0 in
       let some : 0 < most = two_at_least kind in
-      let tells = begun_tells position company lawful kinds task describes others settled used most index next.1 some (entered_at step) stop entered.1 in
-      let here : Tells task position company most others (entered_at step) (stop ∷ []) [] settled (begun task settled number index) = subst (λ (n : ℕ). Tells task position company most others (entered_at step) (stop ∷ []) [] settled (begun task settled n index)) (sym entered.2) tells in
-      let went : Went most others (stop ∷ []) [] settled (begun task settled number index) step segment = went_by most others (entered_at step) (stop ∷ []) [] settled (begun task settled number index) here step segment from.segment_is may.taken (stop_of (left_at step)) refl in
-      let visits : visited (step ∷ []) ≡ listed (stop_of (left_at step)) ++ (stop ∷ []) = ap (λ o. listed (stop_of (left_at step)) ++ (listed o ++ [])) entered.1 in
-      let told = subst (λ vs. Tells task position company most others (left_at step) vs (crossed (step ∷ [])) (using settled segment) (along task (begun task settled number index) segment)) (sym visits) went.told in
-      let node : IsStopNode position company stop (node_at task number) = subst (λ (n : ℕ). IsStopNode position company stop (node_at task n)) (sym entered.2) (node_left position company kinds task describes (entered_at step) (Some stop) entered.1) in
-      let own : HasSuch (λ s. HasToken position s company) (visited (step ∷ [])) = subst (HasSuch (λ s. HasToken position s company)) (sym visits) (such_later (λ s. HasToken position s company) (listed (stop_of (left_at step))) (stop ∷ []) (inl (node.own.0 may.token))) in
+      let tells = begun_tells position company lawful kinds task describes others settled used most index next.1 some
+      (entered_at step) stop entered.1 in
+      let here : Tells task position company most others (entered_at step) (stop ∷ []) [] settled
+      (begun task settled number index) = subst (λ (n : ℕ). Tells task position company most others
+      (entered_at step) (stop ∷ []) [] settled (begun task settled n index)) (sym entered.2) tells in
+      let went : Went most others (stop ∷ []) [] settled (begun task settled number index) step segment =
+      went_by most others (entered_at step) (stop ∷ []) [] settled (begun task settled number index) here step
+      segment from.segment_is may.taken (stop_of (left_at step)) refl in
+      let visits : visited (step ∷ []) ≡ listed (stop_of (left_at step)) ++ (stop ∷ []) =
+      ap (λ o. listed (stop_of (left_at step)) ++ (listed o ++ [])) entered.1 in
+      let told = subst (λ vs. Tells task position company most others (left_at step) vs (crossed (step ∷ []))
+      (using settled segment) (along task (begun task settled number index) segment)) (sym visits) went.told in
+      let node : IsStopNode position company stop (node_at task number) =
+      subst (λ (n : ℕ). IsStopNode position company stop (node_at task n)) (sym entered.2)
+      (node_left position company kinds task describes (entered_at step) (Some stop) entered.1) in
+      let own : HasSuch (λ s. HasToken position s company) (visited (step ∷ [])) =
+      subst (HasSuch (λ s. HasToken position s company)) (sym visits)
+      (such_later (λ s. HasToken position s company) (listed (stop_of (left_at step))) (stop ∷ [])
+      (inl (node.own.0 may.token))) in
       let runs : Step → List TrainRun = λ first. runs_told (kind ∷ left) (first ∷ []) marks in
       set_more others kind left settled total (runs segment.step)
       (keep_settled others kind left settled segment total (runs segment.step)
-      (subst (λ (first : Step). RunTold others kind left (using settled segment) total (runs first)) (sym from.segment_is.step_is)
-      (rest others kind left step [] told (first_holds most others settled (begun task settled number index) step segment stop entered.1 from.track went) own (λ once. entered.2) next.2)))
+      (subst (λ (first : Step). RunTold others kind left (using settled segment) total (runs first))
+      (sym from.segment_is.step_is)
+      (rest others kind left step [] told (first_holds most others settled (begun task settled number index) step
+      segment stop entered.1 from.track went) own (λ once. entered.2) next.2)))
 
-  pub sound_from : (moves : List Move) (state : State) → Completes task state moves → SoundFrom state (total_after task state moves) (marks_of moves)
+  pub sound_from : (moves : List Move) (state : State) → Completes task state moves
+      → SoundFrom state (total_after task state moves) (marks_of moves)
   sound_from [] (between settled) completes = at_end settled completes
   sound_from [] (partial settled run) completes = absurd completes
-  sound_from (pass ∷ moves) (between settled) completes = has_passed settled (total_after task (between (passed settled)) moves) (marks_of moves) completes.0 (sound_from moves (between (passed settled)) completes.1)
+  sound_from (pass ∷ moves) (between settled) completes =
+      has_passed settled (total_after task (between (passed settled)) moves) (marks_of moves) completes.0
+      (sound_from moves (between (passed settled)) completes.1)
   sound_from (pass ∷ moves) (partial settled run) completes = absurd completes.0
   sound_from (begin number index segment ∷ moves) (between settled) completes =
-      has_begun settled number index segment (total_after task (partial (using settled segment) (along task (begun task settled number index) segment)) moves) (marks_of moves) completes.0 (sound_from moves (partial (using settled segment) (along task (begun task settled number index) segment)) completes.1)
+      has_begun settled number index segment (total_after task
+      (partial (using settled segment) (along task (begun task settled number index) segment)) moves)
+      (marks_of moves) completes.0 (sound_from moves
+      (partial (using settled segment) (along task (begun task settled number index) segment)) completes.1)
   sound_from (begin number index segment ∷ moves) (partial settled run) completes = absurd completes.0
   sound_from (go index segment ∷ moves) (between settled) completes = absurd completes.0
   sound_from (go index segment ∷ moves) (partial settled run) completes =
-      has_gone settled run index segment (total_after task (partial (using settled segment) (along task run segment)) moves) (marks_of moves) completes.0 (sound_from moves (partial (using settled segment) (along task run segment)) completes.1)
+      has_gone settled run index segment (total_after task (partial (using settled segment) (along task run segment))
+      moves) (marks_of moves) completes.0 (sound_from moves
+      (partial (using settled segment) (along task run segment)) completes.1)
   sound_from (turn index segment ∷ moves) (between settled) completes = absurd completes.0
   sound_from (turn index segment ∷ moves) (partial settled run) completes =
-      has_turned settled run index segment (total_after task (partial (using settled segment) (along task (turned_back run) segment)) moves) (marks_of moves) completes.0 (sound_from moves (partial (using settled segment) (along task (turned_back run) segment)) completes.1)
+      has_turned settled run index segment (total_after task
+      (partial (using settled segment) (along task (turned_back run) segment)) moves) (marks_of moves) completes.0
+      (sound_from moves (partial (using settled segment) (along task (turned_back run) segment)) completes.1)
   sound_from (settle ∷ moves) (between settled) completes = absurd completes.0
   sound_from (settle ∷ moves) (partial settled run) completes =
-      has_settled settled run (total_after task (between (with_run_settled settled run)) moves) (marks_of moves) (first_true (stop_in (node_at task run.head)) (may_earn settled.kind settled.cap run.most run.value) completes.0) (sound_from moves (between (with_run_settled settled run)) completes.1)
+      has_settled settled run (total_after task (between (with_run_settled settled run)) moves) (marks_of moves)
+      (first_true (stop_in (node_at task run.head)) (may_earn settled.kind settled.cap run.most run.value)
+      completes.0) (sound_from moves (between (with_run_settled settled run)) completes.1)

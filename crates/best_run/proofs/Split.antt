@@ -40,7 +40,9 @@ own_length task zero = length_replicate 744 false
 own_length task (suc n) = length_if (own_in (node_at task n)) (own_before task n) n ∙ own_length task n
 
 -- one number more: marked if the company has a token there
-marks_by : (task : Task) (n m : ℕ) (own : Bool) → n < 744 → own_in (node_at task n) ≡ own → (IsMarked (own_before task n) m → (m < n) × (own_in (node_at task m) ≡ true)) → IsMarked (marked_if own (own_before task n) n) m → (m < suc n) × (own_in (node_at task m) ≡ true)
+marks_by : (task : Task) (n m : ℕ) (own : Bool) → n < 744 → own_in (node_at task n) ≡ own
+    → (IsMarked (own_before task n) m → (m < n) × (own_in (node_at task m) ≡ true))
+    → IsMarked (marked_if own (own_before task n) n) m → (m < suc n) × (own_in (node_at task m) ≡ true)
 marks_by task n m true low is before has =
     elim ((mark_more (own_before task n) n m (omega (arith, low, own_length task n))).0 has) [
       | inl same ↦ (omega (arith, same), ap (λ (k : ℕ). own_in (node_at task k)) same ∙ is)
@@ -48,15 +50,18 @@ marks_by task n m true low is before has =
     ]
 marks_by task n m false low is before has = (omega (arith, (before has).0), (before has).1)
 
-own_marks : (task : Task) (n m : ℕ) → n ≤ 744 → IsMarked (own_before task n) m → (m < n) × (own_in (node_at task m) ≡ true)
+own_marks : (task : Task) (n m : ℕ) → n ≤ 744 → IsMarked (own_before task n) m
+    → (m < n) × (own_in (node_at task m) ≡ true)
 own_marks task zero m low marked = absurd (let wrong : true ≡ false = sym marked ∙ none_marked 744 m in cc)
 own_marks task (suc n) m low marked =
-    marks_by task n m (own_in (node_at task n)) (omega (arith, low)) refl (own_marks task n m (omega (arith, low))) marked
+    marks_by task n m (own_in (node_at task n)) (omega (arith, low)) refl (own_marks task n m (omega (arith, low)))
+    marked
 
 pub either_way : (m n : ℕ) → (m ≤ n) ⊎ (n ≤ m)
 either_way zero n = inl (omega arith)
 either_way (suc m) zero = inr (omega arith)
-either_way (suc m) (suc n) = elim (either_way m n) [ inl low ↦ inl (omega (arith, low)) | inr low ↦ inr (omega (arith, low)) ]
+either_way (suc m) (suc n) = elim (either_way m n)
+    [ inl low ↦ inl (omega (arith, low)) | inr low ↦ inr (omega (arith, low)) ]
 
 -- the first of some stops that pass a test, by their numbers
 record IsFirst (passes : Stop → Bool) (stops : List Stop) : Type 0 where
@@ -65,11 +70,14 @@ record IsFirst (passes : Stop → Bool) (stops : List Stop) : Type 0 where
   pub such : passes stop ≡ true
   pub least : (other : Stop) → IsAmong other stops → passes other ≡ true → number_of stop ≤ number_of other
 
-find_first : (passes : Stop → Bool) (stops : List Stop) → IsFirst passes stops ⊎ ((stop : Stop) → IsAmong stop stops → passes stop ≡ true → ⊥)
+find_first : (passes : Stop → Bool) (stops : List Stop)
+    → IsFirst passes stops ⊎ ((stop : Stop) → IsAmong stop stops → passes stop ≡ true → ⊥)
 find_first passes [] = inr (λ stop among is. among)
 find_first passes (stop ∷ stops) = by_test (find_first passes stops) (passes stop) refl
   where
-    by_test : (IsFirst passes stops ⊎ ((other : Stop) → IsAmong other stops → passes other ≡ true → ⊥)) → (test : Bool) → passes stop ≡ test → IsFirst passes (stop ∷ stops) ⊎ ((other : Stop) → IsAmong other (stop ∷ stops) → passes other ≡ true → ⊥)
+    by_test : (IsFirst passes stops ⊎ ((other : Stop) → IsAmong other stops → passes other ≡ true → ⊥))
+        → (test : Bool) → passes stop ≡ test → IsFirst passes (stop ∷ stops)
+        ⊎ ((other : Stop) → IsAmong other (stop ∷ stops) → passes other ≡ true → ⊥)
     by_test (inl rest) false fails =
         inl (record {
           stop = rest.stop;
@@ -126,7 +134,8 @@ spot_of (step ∷ before) stop among =
       | inr rest ↦ by_first before (λ earlier. spot_of before stop earlier) rest
     ]
   where
-    by_first : (before : List Step) → (IsAmong stop (visited before) → (spot : Spot) × (stop_of spot ≡ Some stop)) → IsAmong stop (first_stop before step ++ visited before) → (spot : Spot) × (stop_of spot ≡ Some stop)
+    by_first : (before : List Step) → (IsAmong stop (visited before) → (spot : Spot) × (stop_of spot ≡ Some stop))
+        → IsAmong stop (first_stop before step ++ visited before) → (spot : Spot) × (stop_of spot ≡ Some stop)
     by_first [] earlier rest =
         elim ((among_both stop (listed (stop_of (entered_at step))) []).0 rest) [
           | inl here ↦ (entered_at step, among_listed (stop_of (entered_at step)) stop here)
@@ -145,7 +154,8 @@ among_such P [] stop among is = among
 among_such P (other ∷ stops) stop among is =
     elim among [ inl here ↦ inl (subst P (sym here) is) | inr later ↦ inr (among_such P stops stop later is) ]
 
-pub such_canonical : (P : Stop → Type 0) (stops others : List Stop) → AreCanonical stops others → HasSuch P stops → HasSuch P others
+pub such_canonical : (P : Stop → Type 0) (stops others : List Stop) → AreCanonical stops others → HasSuch P stops
+    → HasSuch P others
 such_canonical P stops others canonical has =
     let one : (stop : Stop) × IsAmong stop stops × P stop = such_among P stops has in
     among_such P others one.0 ((canonical.among one.0).0 one.1) one.2
@@ -154,7 +164,8 @@ pub such_later : (P : Stop → Type 0) (first stops : List Stop) → HasSuch P s
 such_later P [] stops has = has
 such_later P (stop ∷ first) stops has = inr (such_later P first stops has)
 
-module _ (position : Position) (company : Company) (kinds : List Kind) (task : Task) (describes : Describes position company kinds task) where
+module _ (position : Position) (company : Company) (kinds : List Kind) (task : Task)
+    (describes : Describes position company kinds task) where
   -- the token from which a run is gone over
   pub record HasHome (steps : List Step) : Type 0 where
     pub stop : Stop
@@ -162,10 +173,13 @@ module _ (position : Position) (company : Company) (kinds : List Kind) (task : T
     pub token : HasToken position stop company
     pub ahead : AreAhead task (number_of stop) (visited steps)
 
-  owns : (spot : Spot) (stop : Stop) → stop_of spot ≡ Some stop → (own_in (node_at task (number_of stop)) ≡ true) ↔ HasToken position stop company
+  owns : (spot : Spot) (stop : Stop) → stop_of spot ≡ Some stop
+      → (own_in (node_at task (number_of stop)) ≡ true) ↔ HasToken position stop company
   owns spot stop there =
-      let node : IsStopNode position company stop (node_at task (spot_number spot)) = node_left position company kinds task describes spot (Some stop) there in
-      subst (λ (n : ℕ). (own_in (node_at task n) ≡ true) ↔ HasToken position stop company) (stop_number spot stop there) node.own
+      let node : IsStopNode position company stop (node_at task (spot_number spot)) =
+      node_left position company kinds task describes spot (Some stop) there in
+      subst (λ (n : ℕ). (own_in (node_at task n) ≡ true) ↔ HasToken position stop company)
+      (stop_number spot stop there) node.own
 
   pub find_home : (steps : List Step) → HasSuch (λ stop. HasToken position stop company) (visited steps) → HasHome steps
   find_home steps has =
@@ -177,13 +191,18 @@ module _ (position : Position) (company : Company) (kinds : List Kind) (task : T
               among = first.among;
               token = (owns spot.0 first.stop spot.1).0 first.such;
               ahead = λ at stop there among marked.
-                  let passed : (spot_number at < number_of first.stop) × (own_in (node_at task (spot_number at)) ≡ true) = own_marks task (number_of first.stop) (spot_number at) (omega (arith, spot_low spot.0, stop_number spot.0 first.stop spot.1)) marked in
+                  let passed : (spot_number at < number_of first.stop)
+                  × (own_in (node_at task (spot_number at)) ≡ true) =
+                  own_marks task (number_of first.stop) (spot_number at)
+                  (omega (arith, spot_low spot.0, stop_number spot.0 first.stop spot.1)) marked in
                   let number : spot_number at ≡ number_of stop = stop_number at stop there in
-                  let least : number_of first.stop ≤ number_of stop = first.least stop among (ap (λ (n : ℕ). own_in (node_at task n)) (sym number) ∙ passed.1) in
+                  let least : number_of first.stop ≤ number_of stop =
+                  first.least stop among (ap (λ (n : ℕ). own_in (node_at task n)) (sym number) ∙ passed.1) in
                   omega (arith, passed.0, number, least);
             }
         | inr none ↦
-            let such : (stop : Stop) × IsAmong stop (visited steps) × HasToken position stop company = such_among (λ stop. HasToken position stop company) (visited steps) has in
+            let such : (stop : Stop) × IsAmong stop (visited steps) × HasToken position stop company =
+            such_among (λ stop. HasToken position stop company) (visited steps) has in
             let spot = spot_of steps such.0 such.1 in
             absurd (none such.0 such.1 ((owns spot.0 such.0 spot.1).1 such.2))
       ]
@@ -222,12 +241,20 @@ cut stop (step ∷ before) later among =
   where
     by_later : (later : List Step) → stop_of (left_at step) ≡ Some stop → IsCut stop (onto later (step ∷ before))
     by_later [] there = inl (record { step = step; before = before; is = refl; there = there })
-    by_later (next ∷ later) there = inr (inr (record { last = step; before = before; step = next; later = later; is = refl; there = there }))
+    by_later (next ∷ later) there = inr (inr (record
+        { last = step; before = before; step = next; later = later; is = refl; there = there }))
 
-    by_before : (before : List Step) → (IsAmong stop (visited before) → IsCut stop (onto later (step ∷ before))) → IsAmong stop (first_stop before step ++ visited before) → IsCut stop (onto later (step ∷ before))
+    by_before : (before : List Step) → (IsAmong stop (visited before) → IsCut stop (onto later (step ∷ before)))
+        → IsAmong stop (first_stop before step ++ visited before) → IsCut stop (onto later (step ∷ before))
     by_before [] earlier rest =
         elim ((among_both stop (listed (stop_of (entered_at step))) []).0 rest) [
-          | inl here ↦ inr (inl (record { step = step; later = later; is = refl; there = among_listed (stop_of (entered_at step)) stop here }))
+          | inl here ↦ inr (inl (record {
+            step = step;
+            later = later;
+            is = refl;
+            there =
+                among_listed (stop_of (entered_at step)) stop here;
+          }))
           | inr none ↦ absurd none
         ]
     by_before (one ∷ before) earlier rest = earlier rest
@@ -253,13 +280,19 @@ crossed_put (step ∷ later) before =
     ∙ sym (append_together (border_at (entered_at step).hex (entered_at step).end) (crossed later) (crossed before))
 
 -- the part of a walk from a stop on begins there
-visited_put : (step : Step) (later : List Step) (last : Step) (before : List Step) (home : Stop) → stop_of (left_at last) ≡ Some home → BeginsAt (λ stop. stop ≡ home) (step ∷ later) → visited (step ∷ later ++ last ∷ before) ≡ visited (step ∷ later) ++ (first_stop before last ++ visited before)
+visited_put : (step : Step) (later : List Step) (last : Step) (before : List Step) (home : Stop)
+    → stop_of (left_at last) ≡ Some home → BeginsAt (λ stop. stop ≡ home) (step ∷ later)
+    → visited (step ∷ later ++ last ∷ before) ≡ visited (step ∷ later) ++ (first_stop before last ++ visited before)
 visited_put step [] last before home there begins =
     let rest = first_stop before last ++ visited before in
     let here = listed (stop_of (left_at step)) in
-    let enters : stop_of (entered_at step) ≡ stop_of (left_at last) = begins.1 ∙ (ap (λ (s : Stop). Some s) begins.2 ∙ sym there) in
-    let one : listed (stop_of (left_at last)) ++ rest ≡ (listed (stop_of (entered_at step)) ++ []) ++ rest = ap (λ o. listed o ++ rest) (sym enters) ∙ ap (λ (stops : List Stop). stops ++ rest) (sym (append_none (listed (stop_of (entered_at step))))) in
-    ap (λ (stops : List Stop). here ++ stops) one ∙ sym (append_together here (listed (stop_of (entered_at step)) ++ []) rest)
+    let enters : stop_of (entered_at step) ≡ stop_of (left_at last) =
+    begins.1 ∙ (ap (λ (s : Stop). Some s) begins.2 ∙ sym there) in
+    let one : listed (stop_of (left_at last)) ++ rest ≡ (listed (stop_of (entered_at step)) ++ []) ++ rest =
+    ap (λ o. listed o ++ rest) (sym enters) ∙ ap (λ (stops : List Stop). stops ++ rest)
+    (sym (append_none (listed (stop_of (entered_at step))))) in
+    ap (λ (stops : List Stop). here ++ stops) one ∙ sym
+    (append_together here (listed (stop_of (entered_at step)) ++ []) rest)
   where
     append_none : (xs : List Stop) → xs ++ [] ≡ xs
     append_none [] = refl
@@ -286,10 +319,15 @@ passes_part P (step ∷ later) before passes = (by_later later passes.0, passes_
     by_later [] by = tt
     by_later (earlier ∷ later) by = by
 
-begins_some : (step : Step) (later : List Step) (home : Stop) → BeginsAt (λ stop. stop ≡ home) (step ∷ later) → BeginsAt (λ stop. Unit {0}) (step ∷ later)
+begins_some : (step : Step) (later : List Step) (home : Stop) → BeginsAt (λ stop. stop ≡ home) (step ∷ later)
+    → BeginsAt (λ stop. Unit {0}) (step ∷ later)
 begins_some step later home begins = (begins.0, begins.1, tt)
 
-pub holds_part : (position : Position) (company : Company) (most : ℕ) (others : List ℕ) (step : Step) (later : List Step) (last : Step) (before : List Step) (home : Stop) → stop_of (left_at last) ≡ Some home → BeginsAt (λ stop. stop ≡ home) (step ∷ later) → Holds position company most others (step ∷ later ++ last ∷ before) → Holds position company most others (step ∷ later)
+pub holds_part : (position : Position) (company : Company) (most : ℕ) (others : List ℕ) (step : Step)
+    (later : List Step) (last : Step) (before : List Step) (home : Stop) → stop_of (left_at last) ≡ Some home
+    → BeginsAt (λ stop. stop ≡ home) (step ∷ later)
+    → Holds position company most others (step ∷ later ++ last ∷ before)
+    → Holds position company most others (step ∷ later)
 holds_part position company most others step later last before home there begins holds =
     let rest = first_stop before last ++ visited before in
     let visits = visited_put step later last before home there begins in
@@ -299,8 +337,10 @@ holds_part position company most others step later last before home there begins
       begins = begins_some step later home begins;
       few = omega (arith, holds.few, ap length visits, length-append (visited (step ∷ later)) rest);
       stops = distinct_left (visited (step ∷ later)) rest (subst AreDistinct visits holds.stops);
-      borders = distinct_left (crossed (step ∷ later)) (crossed (last ∷ before)) (subst AreDistinct crosses holds.borders);
-      free = λ border among. holds.free border (subst (IsAmong border) (sym crosses) ((among_both border (crossed (step ∷ later)) (crossed (last ∷ before))).1 (inl among)));
+      borders = distinct_left (crossed (step ∷ later)) (crossed (last ∷ before))
+          (subst AreDistinct crosses holds.borders);
+      free = λ border among. holds.free border (subst (IsAmong border) (sym crosses)
+          ((among_both border (crossed (step ∷ later)) (crossed (last ∷ before))).1 (inl among)));
       red = passes_part (λ stop. ¬ (is_red position stop ≡ true)) (step ∷ later) (last ∷ before) holds.red;
       full = passes_part (λ stop. ¬ IsFull position stop company) (step ∷ later) (last ∷ before) holds.full;
     }

@@ -48,43 +48,54 @@ last_read all rest mark is = ap reverse is ∙ reverse-append rest (mark ∷ [])
 
 -- the runs of some trains begin with that of the first one, if it runs
 next_told :
-    (kinds : List Kind) (i : ℕ) (d : Kind) (old new : List Mark) (walk : Option (Vec Step Global)) → i < length kinds → IsWalkRead old new walk →
+    (kinds : List Kind) (i : ℕ) (d : Kind) (old new : List Mark) (walk : Option (Vec Step Global)) → i < length kinds
+    → IsWalkRead old new walk →
     runs_told (drop i kinds) [] (reverse old) ≡ with_run (get_or kinds i d) (steps_of walk)
     (runs_told (drop (i + 1) kinds) [] (reverse new))
 next_told kinds i d old new walk low read =
     let kind = get_or kinds i d in
     let later : drop (suc i) kinds ≡ drop (i + 1) kinds = ap (λ (n : ℕ). drop n kinds) (sym (add-one i)) in
     ap (λ (ks : List Kind). runs_told ks [] (reverse old)) (drop-cons kinds i d low)
-    ∙ ap (λ (ks : List Kind). with_run kind (walk_told [] (reverse old)) (runs_told ks [] (after_walk (reverse old)))) later
-    ∙ ap (λ (w : Option (List Step)). with_run kind w (runs_told (drop (i + 1) kinds) [] (after_walk (reverse old)))) (sym read.walk_is)
+    ∙ ap (λ (ks : List Kind). with_run kind (walk_told [] (reverse old)) (runs_told ks [] (after_walk (reverse old))))
+    later
+    ∙ ap (λ (w : Option (List Step)). with_run kind w (runs_told (drop (i + 1) kinds) [] (after_walk (reverse old))))
+    (sym read.walk_is)
     ∙ ap (λ (ms : List Mark). with_run kind (steps_of walk) (runs_told (drop (i + 1) kinds) [] ms)) (sym read.after)
 
 -- where the first of them runs, it can be written out, and so can the others
 pub can_next :
-    (kinds : List Kind) (i : ℕ) (d : Kind) (old new : List Mark) (walk : Option (Vec Step Global)) (steps : Vec Step Global) → i < length kinds →
-    IsWalkRead old new walk → walk ≡ Some steps → AllByRecursion CanBeClaimed (runs_told (drop i kinds) [] (reverse old)) →
-    CanBeClaimed (record { kind = get_or kinds i d; steps = steps.items }) × AllByRecursion CanBeClaimed (runs_told (drop (i + 1) kinds) [] (reverse new))
+    (kinds : List Kind) (i : ℕ) (d : Kind) (old new : List Mark) (walk : Option (Vec Step Global))
+    (steps : Vec Step Global) → i < length kinds →
+    IsWalkRead old new walk → walk ≡ Some steps → AllByRecursion CanBeClaimed
+    (runs_told (drop i kinds) [] (reverse old)) →
+    CanBeClaimed (record { kind = get_or kinds i d; steps = steps.items })
+    × AllByRecursion CanBeClaimed (runs_told (drop (i + 1) kinds) [] (reverse new))
 can_next kinds i d old new walk steps low read is can =
     let later = runs_told (drop (i + 1) kinds) [] (reverse new) in
-    subst (λ (w : Option (Vec Step Global)). AllByRecursion CanBeClaimed (with_run (get_or kinds i d) (steps_of w) later)) is
+    subst (λ (w : Option (Vec Step Global)). AllByRecursion CanBeClaimed
+    (with_run (get_or kinds i d) (steps_of w) later)) is
     (subst (AllByRecursion CanBeClaimed) (next_told kinds i d old new walk low read) can)
 
 -- where it does not, the others can
 pub can_pass :
-    (kinds : List Kind) (i : ℕ) (d : Kind) (old new : List Mark) (walk : Option (Vec Step Global)) → i < length kinds → IsWalkRead old new walk →
+    (kinds : List Kind) (i : ℕ) (d : Kind) (old new : List Mark) (walk : Option (Vec Step Global)) → i < length kinds
+    → IsWalkRead old new walk →
     walk ≡ None → AllByRecursion CanBeClaimed (runs_told (drop i kinds) [] (reverse old)) →
     AllByRecursion CanBeClaimed (runs_told (drop (i + 1) kinds) [] (reverse new))
 can_pass kinds i d old new walk low read is can =
     let later = runs_told (drop (i + 1) kinds) [] (reverse new) in
-    subst (λ (w : Option (Vec Step Global)). AllByRecursion CanBeClaimed (with_run (get_or kinds i d) (steps_of w) later)) is
+    subst (λ (w : Option (Vec Step Global)). AllByRecursion CanBeClaimed
+    (with_run (get_or kinds i d) (steps_of w) later)) is
     (subst (AllByRecursion CanBeClaimed) (next_told kinds i d old new walk low read) can)
 
 -- the first of them is claimed before the others
 pub claims_next :
-    (kinds : List Kind) (i : ℕ) (d : Kind) (old new : List Mark) (walk : Option (Vec Step Global)) (steps : Vec Step Global)
+    (kinds : List Kind) (i : ℕ) (d : Kind) (old new : List Mark) (walk : Option (Vec Step Global))
+    (steps : Vec Step Global)
     (runs all : List ClaimedRun) → i < length kinds → IsWalkRead old new walk → walk ≡ Some steps →
     runs ++ written (runs_told (drop i kinds) [] (reverse old)) ≡ all →
-    (runs ++ record { kind = get_or kinds i d; run = places_of steps.items } ∷ []) ++ written (runs_told (drop (i + 1) kinds) [] (reverse new)) ≡ all
+    (runs ++ record { kind = get_or kinds i d; run = places_of steps.items } ∷ [])
+    ++ written (runs_told (drop (i + 1) kinds) [] (reverse new)) ≡ all
 claims_next kinds i d old new walk steps runs all low read is so_far =
     let later = runs_told (drop (i + 1) kinds) [] (reverse new) in
     append_assoc runs (record { kind = get_or kinds i d; run = places_of steps.items } ∷ []) (written later)
@@ -93,7 +104,8 @@ claims_next kinds i d old new walk steps runs all low read is so_far =
     ∙ so_far
 
 pub claims_pass :
-    (kinds : List Kind) (i : ℕ) (d : Kind) (old new : List Mark) (walk : Option (Vec Step Global)) (runs all : List ClaimedRun) → i < length kinds →
+    (kinds : List Kind) (i : ℕ) (d : Kind) (old new : List Mark) (walk : Option (Vec Step Global))
+    (runs all : List ClaimedRun) → i < length kinds →
     IsWalkRead old new walk → walk ≡ None → runs ++ written (runs_told (drop i kinds) [] (reverse old)) ≡ all →
     runs ++ written (runs_told (drop (i + 1) kinds) [] (reverse new)) ≡ all
 claims_pass kinds i d old new walk runs all low read is so_far =

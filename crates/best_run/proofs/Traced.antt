@@ -23,10 +23,19 @@ pub traced_both :
     (task : Task) (state : State) (old middle new : Found) → old.amount ≤ middle.amount → middle.amount ≤ new.amount →
     IsTraced task state old middle → IsTraced task state middle new → IsTraced task state old new
 traced_both task state old middle new grows more first second =
-    record { refused = λ none. first.refused (second.refused none); told = λ none. by_second (second.refused none) (second.told none) }
+    record {
+      refused = λ none. first.refused (second.refused none);
+      told =
+          λ none. by_second (second.refused none) (second.told none);
+    }
   where
-    by_first : IsAsBefore middle new → IsAsBefore old middle ⊎ IsBetter task state old middle → IsAsBefore old new ⊎ IsBetter task state old new
-    by_first same (inl before) = inl (record { amount = same.amount ∙ before.amount; marks = same.marks ∙ before.marks })
+    by_first : IsAsBefore middle new → IsAsBefore old middle ⊎ IsBetter task state old middle
+        → IsAsBefore old new ⊎ IsBetter task state old new
+    by_first same (inl before) = inl (record {
+      amount = same.amount ∙ before.amount;
+      marks =
+          same.marks ∙ before.marks;
+    })
     by_first same (inr better) =
         inr (record {
           more = omega (arith, better.more, same.amount);
@@ -35,7 +44,8 @@ traced_both task state old middle new grows more first second =
         })
 
     by_second :
-        middle.move_path.refused ≡ None → IsAsBefore middle new ⊎ IsBetter task state middle new → IsAsBefore old new ⊎ IsBetter task state old new
+        middle.move_path.refused ≡ None → IsAsBefore middle new ⊎ IsBetter task state middle new
+        → IsAsBefore old new ⊎ IsBetter task state old new
     by_second none (inl same) = by_first same (first.told none)
     by_second none (inr better) = inr (record { more = omega (arith, grows, better.more); earns = better.earns })
 
@@ -51,7 +61,8 @@ Leads task from to front = (later : List Move) → Completes task to later → C
 
 -- what is earned from a state on is earned from one before it
 pub earns_by :
-    (task : Task) (from to : State) (front marks : List Mark) (amount : ℕ) → Leads task from to front → Earns task to marks amount →
+    (task : Task) (from to : State) (front marks : List Mark) (amount : ℕ) → Leads task from to front
+    → Earns task to marks amount →
     Earns task from (front ++ marks) amount
 earns_by task from to front marks amount leads earns =
     let by : ComesBy task from to front earns.moves = leads earns.moves earns.completes in
@@ -66,7 +77,8 @@ earns_by task from to front marks amount leads earns =
 found_before :
     (task : Task) (from to : State) (front : List Mark) (old middle new : Found) → old.amount ≤ middle.amount →
     (middle.move_path.refused ≡ None → old.move_path.refused ≡ None) → Traces old.amount front middle new →
-    (middle.move_path.refused ≡ None → IsAsBefore old middle ⊎ (Leads task from to front × IsBetter task to old middle)) → IsTraced task from old new
+    (middle.move_path.refused ≡ None → IsAsBefore old middle
+    ⊎ (Leads task from to front × IsBetter task to old middle)) → IsTraced task from old new
 found_before task from to front old middle new grows refused traces told =
     elim (same_or_more grows) [
       | inl same ↦
@@ -74,7 +86,11 @@ found_before task from to front old middle new grows refused traces told =
           record {
             refused = λ none. refused (subst (λ (t : MovePath). t.refused ≡ None) as_before none);
             told = λ none. elim (told (subst (λ (t : MovePath). t.refused ≡ None) as_before none)) [
-              | inl before ↦ inl (record { amount = traces.amount ∙ before.amount; marks = ap marks_in as_before ∙ before.marks })
+              | inl before ↦ inl (record {
+                amount = traces.amount ∙ before.amount;
+                marks =
+                    ap marks_in as_before ∙ before.marks;
+              })
               | inr better ↦ absurd (omega (arith, same, better.1.more))
             ];
           }
@@ -99,7 +115,8 @@ found_before task from to front old middle new grows refused traces told =
 
 -- what is kept as explored stays so where the trail alone grows
 known_traced :
-    (task : Task) (least : ℕ) (front : List Mark) (middle new : Found) → Traces least front middle new → AreInMemo task middle →
+    (task : Task) (least : ℕ) (front : List Mark) (middle new : Found) → Traces least front middle new
+    → AreInMemo task middle →
     AreInMemo task new
 known_traced task least front middle new traces known place entry there =
     subst (λ (n : ℕ). LeadsToAtMost task (state_at entry) n) (sym traces.amount)
@@ -113,7 +130,8 @@ pub record ExploresFrom (task : Task) (from to : State) (old new : Found) : Type
   pub most : AreInMemo task old → (moves : List Move) → Completes task to moves → total_after task to moves ≤ new.amount
 
 pub explores_from :
-    (task : Task) (from to : State) (front : List Mark) (old middle new : Found) → Leads task from to front → Explores task to old middle →
+    (task : Task) (from to : State) (front : List Mark) (old middle new : Found) → Leads task from to front
+    → Explores task to old middle →
     Traces old.amount front middle new → ExploresFrom task from to old new
 explores_from task from to front old middle new leads explores traces =
     record {
@@ -125,7 +143,8 @@ explores_from task from to front old middle new leads explores traces =
     }
 
 -- a way has been tried with a run, and the trail tells of it from where it is tried
-pub record TakesFrom (task : Task) (from : State) (settled : Settled) (run : PartialRun) (leg : Leg) (old new : Found) : Type 0 where
+pub record TakesFrom (task : Task) (from : State) (settled : Settled) (run : PartialRun) (leg : Leg)
+    (old new : Found) : Type 0 where
   pub grows : old.amount ≤ new.amount
   pub traced : IsTraced task from old new
   pub known : AreInMemo task old → AreInMemo task new
@@ -135,9 +154,12 @@ pub record TakesFrom (task : Task) (from : State) (settled : Settled) (run : Par
       total_after task (partial (using settled leg.segment) (along task run leg.segment)) moves ≤ new.amount
 
 pub takes_from :
-    (task : Task) (from : State) (settled : Settled) (run : PartialRun) (leg : Leg) (front : List Mark) (old middle new : Found) →
-    (can_take task run settled.used leg.segment ≡ true → Leads task from (partial (using settled leg.segment) (along task run leg.segment)) front) →
-    Takes task settled run leg.segment old middle → Traces old.amount front middle new → TakesFrom task from settled run leg old new
+    (task : Task) (from : State) (settled : Settled) (run : PartialRun) (leg : Leg) (front : List Mark)
+    (old middle new : Found) →
+    (can_take task run settled.used leg.segment ≡ true
+    → Leads task from (partial (using settled leg.segment) (along task run leg.segment)) front) →
+    Takes task settled run leg.segment old middle → Traces old.amount front middle new
+    → TakesFrom task from settled run leg old new
 takes_from task from settled run leg front old middle new leads takes traces =
     let there = partial (using settled leg.segment) (along task run leg.segment) in
     record {
@@ -150,7 +172,8 @@ takes_from task from settled run leg front old middle new leads takes traces =
 
 -- marks are written in front of others, and then more in front of these
 pub traces_both :
-    (least : ℕ) (first second : List Mark) (old middle new : Found) → Traces least first old middle → Traces least second middle new →
+    (least : ℕ) (first second : List Mark) (old middle new : Found) → Traces least first old middle
+    → Traces least second middle new →
     Traces least (second ++ first) old new
 traces_both least first second old middle new before after =
     record {
@@ -159,7 +182,8 @@ traces_both least first second old middle new before after =
       as_before = λ low. after.as_before (omega (arith, low, before.amount)) ∙ before.as_before low;
       written = λ more.
           let one : IsWritten first old.move_path middle.move_path = before.written more in
-          let two : IsWritten second middle.move_path new.move_path = after.written (omega (arith, more, before.amount)) in
+          let two : IsWritten second middle.move_path new.move_path =
+          after.written (omega (arith, more, before.amount)) in
           record {
             refused = λ none. one.refused (two.refused none);
             marks_are = λ none. two.marks_are none

@@ -22,7 +22,8 @@ IsOn (turn index segment) = Unit {0}
 IsOn settle = ⊥
 
 -- nothing has been tried
-pub tries_none : (task : Task) (state : State) (P : Move → Type 0) (best : Found) → ((move : Move) → P move → Allows task state move → ⊥) → Tries task state P best best
+pub tries_none : (task : Task) (state : State) (P : Move → Type 0) (best : Found)
+    → ((move : Move) → P move → Allows task state move → ⊥) → Tries task state P best best
 tries_none task state P best none =
     record {
       grows = omega arith;
@@ -32,7 +33,9 @@ tries_none task state P best none =
     }
 
 -- moves of one sort, and then those of another
-pub tries_both : (task : Task) (state : State) (P Q R : Move → Type 0) (old middle new : Found) → Tries task state P old middle → Tries task state Q middle new → ((move : Move) → R move → Allows task state move → P move ⊎ Q move) → Tries task state R old new
+pub tries_both : (task : Task) (state : State) (P Q R : Move → Type 0) (old middle new : Found)
+    → Tries task state P old middle → Tries task state Q middle new
+    → ((move : Move) → R move → Allows task state move → P move ⊎ Q move) → Tries task state R old new
 tries_both task state P Q R old middle new first second either =
     record {
       grows = le_trans first.grows second.grows;
@@ -45,7 +48,8 @@ tries_both task state P Q R old middle new first second either =
     }
 
 -- fewer moves
-pub tries_fewer : (task : Task) (state : State) (P R : Move → Type 0) (old new : Found) → Tries task state P old new → ((move : Move) → R move → Allows task state move → P move) → Tries task state R old new
+pub tries_fewer : (task : Task) (state : State) (P R : Move → Type 0) (old new : Found) → Tries task state P old new
+    → ((move : Move) → R move → Allows task state move → P move) → Tries task state R old new
 tries_fewer task state P R old new tries are =
     record {
       grows = tries.grows;
@@ -55,7 +59,9 @@ tries_fewer task state P R old new tries are =
     }
 
 -- no turn is allowed of a run that has turned back, that stands at a side, or that began where none passes
-pub turn_none : (task : Task) (settled : Settled) (run : PartialRun) (best : Found) → ((run.turned ≡ true) ⊎ ((ends_in (node_at task run.home) ≡ true) ⊎ (stop_in (node_at task run.head) ≡ false))) → Tries task (partial settled run) (IsTurn Any) best best
+pub turn_none : (task : Task) (settled : Settled) (run : PartialRun) (best : Found)
+    → ((run.turned ≡ true) ⊎ ((ends_in (node_at task run.home) ≡ true) ⊎ (stop_in (node_at task run.head) ≡ false)))
+    → Tries task (partial settled run) (IsTurn Any) best best
 turn_none task settled run best why = tries_none task (partial settled run) (IsTurn Any) best none
   where
     none : (move : Move) → IsTurn Any move → Allows task (partial settled run) move → ⊥
@@ -73,29 +79,40 @@ turn_none task settled run best why = tries_none task (partial settled run) (IsT
     none settle is may = is
 
 -- all trains are settled, and the best is kept
-pub over_most : (task : Task) (settled : Settled) (new : ℕ) → length task.trains.items ≤ settled.next → settled.total ≤ new → (moves : List Move) → Completes task (between settled) moves → total_after task (between settled) moves ≤ new
+pub over_most : (task : Task) (settled : Settled) (new : ℕ) → length task.trains.items ≤ settled.next
+    → settled.total ≤ new → (moves : List Move) → Completes task (between settled) moves
+    → total_after task (between settled) moves ≤ new
 over_most task settled new over low [] completes = low
-over_most task settled new over low (pass ∷ moves) completes = let before : settled.next < length task.trains.items = completes.0 in absurd (omega arith)
+over_most task settled new over low (pass ∷ moves) completes = let before : settled.next < length task.trains.items =
+    completes.0 in absurd (omega arith)
 over_most task settled new over low (begin token i found ∷ moves) completes = absurd (omega (arith, completes.0.train))
 over_most task settled new over low (go i found ∷ moves) completes = absurd completes.0
 over_most task settled new over low (turn i found ∷ moves) completes = absurd completes.0
 over_most task settled new over low (settle ∷ moves) completes = absurd completes.0
 
 pub over_better :
-    (task : Task) (settled : Settled) (old : Found) (move_path : MovePath) → length task.trains.items ≤ settled.next → old.amount < settled.total →
-    marks_in move_path ≡ [] → move_path.refused ≡ old.move_path.refused → Explores task (between settled) old (record old { amount = settled.total; move_path = move_path })
+    (task : Task) (settled : Settled) (old : Found) (move_path : MovePath) → length task.trains.items ≤ settled.next
+    → old.amount < settled.total →
+    marks_in move_path ≡ [] → move_path.refused ≡ old.move_path.refused
+    → Explores task (between settled) old (record old { amount = settled.total; move_path = move_path })
 over_better task settled old move_path over low empty same =
     record {
       grows = omega (arith, low);
       traced = record {
         refused = λ none. sym same ∙ none;
-        told = λ none. inr (record { more = low; earns = record { moves = []; completes = over; total = refl; marks_are = empty } });
+        told = λ none. inr (record {
+          more = low;
+          earns =
+              record { moves = []; completes = over; total = refl; marks_are = empty };
+        });
       };
-      known = λ known place entry there moves completes. le_trans (known place entry there moves completes) (omega (arith, low));
+      known = λ known place entry there moves completes. le_trans (known place entry there moves completes)
+          (omega (arith, low));
       most = λ known. over_most task settled settled.total over (omega arith);
     }
 
-pub over_no_better : (task : Task) (settled : Settled) (old : Found) → length task.trains.items ≤ settled.next → settled.total ≤ old.amount → Explores task (between settled) old old
+pub over_no_better : (task : Task) (settled : Settled) (old : Found) → length task.trains.items ≤ settled.next
+    → settled.total ≤ old.amount → Explores task (between settled) old old
 over_no_better task settled old over low =
     record {
       grows = omega arith;
@@ -106,7 +123,8 @@ over_no_better task settled old over low =
 
 -- a train passes, and a run is settled
 pub leads_pass :
-    (task : Task) (settled : Settled) → settled.next < length task.trains.items → Leads task (between settled) (between (passed settled)) (Pass ∷ [])
+    (task : Task) (settled : Settled) → settled.next < length task.trains.items
+    → Leads task (between settled) (between (passed settled)) (Pass ∷ [])
 leads_pass task settled before later completes =
     record { moves = pass ∷ later; completes = (before, completes); total = refl; marks_are = refl }
 
@@ -119,7 +137,8 @@ leads_settle task settled run may later completes =
 -- the next train has begun all its runs, and has passed
 pub explores_between :
     (task : Task) (settled : Settled) (old middle new : Found) → Tries task (between settled) (IsBegin Any) old middle →
-    ExploresFrom task (between settled) (between (passed settled)) middle new → settled.next < length task.trains.items → Explores task (between settled) old new
+    ExploresFrom task (between settled) (between (passed settled)) middle new
+    → settled.next < length task.trains.items → Explores task (between settled) old new
 explores_between task settled old middle new first second before =
     record {
       grows = le_trans first.grows second.grows;
@@ -128,16 +147,20 @@ explores_between task settled old middle new first second before =
       most = by_moves;
     }
   where
-    by_moves : AreInMemo task old → (moves : List Move) → Completes task (between settled) moves → total_after task (between settled) moves ≤ new.amount
+    by_moves : AreInMemo task old → (moves : List Move) → Completes task (between settled) moves
+        → total_after task (between settled) moves ≤ new.amount
     by_moves known [] completes = absurd (let over : length task.trains.items ≤ settled.next = completes in omega arith)
     by_moves known (pass ∷ moves) completes = second.most (first.known known) moves completes.1
-    by_moves known (begin token i found ∷ moves) completes = le_trans (first.most known (begin token i found) moves tt completes) second.grows
+    by_moves known (begin token i found ∷ moves) completes =
+        le_trans (first.most known (begin token i found) moves tt completes) second.grows
     by_moves known (go i found ∷ moves) completes = absurd completes.0
     by_moves known (turn i found ∷ moves) completes = absurd completes.0
     by_moves known (settle ∷ moves) completes = absurd completes.0
 
 -- the run has gone on from where it stands, and then from where it began
-pub tries_on : (task : Task) (settled : Settled) (run : PartialRun) (old middle new : Found) → Tries task (partial settled run) (IsGo Any) old middle → Tries task (partial settled run) (IsTurn Any) middle new → Tries task (partial settled run) IsOn old new
+pub tries_on : (task : Task) (settled : Settled) (run : PartialRun) (old middle new : Found)
+    → Tries task (partial settled run) (IsGo Any) old middle
+    → Tries task (partial settled run) (IsTurn Any) middle new → Tries task (partial settled run) IsOn old new
 tries_on task settled run old middle new first second =
     tries_both task (partial settled run) (IsGo Any) (IsTurn Any) IsOn old middle new first second either
   where
@@ -151,25 +174,32 @@ tries_on task settled run old middle new first second =
 -- the run has gone on, and has been settled, if it may be
 pub explores_partial :
     (task : Task) (settled : Settled) (run : PartialRun) (old middle new : Found) →
-    Tries task (partial settled run) IsOn old middle → ExploresFrom task (partial settled run) (between (with_run_settled settled run)) middle new →
+    Tries task (partial settled run) IsOn old middle
+    → ExploresFrom task (partial settled run) (between (with_run_settled settled run)) middle new →
     Explores task (partial settled run) old new
 explores_partial task settled run old middle new first second =
     record {
       grows = le_trans first.grows second.grows;
-      traced = traced_both task (partial settled run) old middle new first.grows second.grows first.traced second.traced;
+      traced = traced_both task (partial settled run) old middle new first.grows second.grows first.traced
+          second.traced;
       known = λ known. second.known (first.known known);
       most = by_moves;
     }
   where
-    by_moves : AreInMemo task old → (moves : List Move) → Completes task (partial settled run) moves → total_after task (partial settled run) moves ≤ new.amount
+    by_moves : AreInMemo task old → (moves : List Move) → Completes task (partial settled run) moves
+        → total_after task (partial settled run) moves ≤ new.amount
     by_moves known [] completes = absurd completes
     by_moves known (pass ∷ moves) completes = absurd completes.0
     by_moves known (begin stop i found ∷ moves) completes = absurd completes.0
-    by_moves known (go i found ∷ moves) completes = le_trans (first.most known (go i found) moves tt completes) second.grows
-    by_moves known (turn i found ∷ moves) completes = le_trans (first.most known (turn i found) moves tt completes) second.grows
+    by_moves known (go i found ∷ moves) completes =
+        le_trans (first.most known (go i found) moves tt completes) second.grows
+    by_moves known (turn i found ∷ moves) completes =
+        le_trans (first.most known (turn i found) moves tt completes) second.grows
     by_moves known (settle ∷ moves) completes = second.most (first.known known) moves completes.1
 
-pub explores_on : (task : Task) (settled : Settled) (run : PartialRun) (old new : Found) → may_settle task settled run ≡ false → Tries task (partial settled run) IsOn old new → Explores task (partial settled run) old new
+pub explores_on : (task : Task) (settled : Settled) (run : PartialRun) (old new : Found)
+    → may_settle task settled run ≡ false → Tries task (partial settled run) IsOn old new
+    → Explores task (partial settled run) old new
 explores_on task settled run old new none second =
     record {
       grows = second.grows;
@@ -178,7 +208,8 @@ explores_on task settled run old new none second =
       most = by_moves;
     }
   where
-    by_moves : AreInMemo task old → (moves : List Move) → Completes task (partial settled run) moves → total_after task (partial settled run) moves ≤ new.amount
+    by_moves : AreInMemo task old → (moves : List Move) → Completes task (partial settled run) moves
+        → total_after task (partial settled run) moves ≤ new.amount
     by_moves known [] completes = absurd completes
     by_moves known (pass ∷ moves) completes = absurd completes.0
     by_moves known (begin stop i found ∷ moves) completes = absurd completes.0
@@ -187,7 +218,8 @@ explores_on task settled run old new none second =
     by_moves known (settle ∷ moves) completes = absurd (let wrong : true ≡ false = sym completes.0 ∙ none in cc)
 
 -- no run begins before the first stop
-pub begin_first : (task : Task) (settled : Settled) (best : Found) → Tries task (between settled) (IsBegin (Below 0)) best best
+pub begin_first : (task : Task) (settled : Settled) (best : Found)
+    → Tries task (between settled) (IsBegin (Below 0)) best best
 begin_first task settled best = tries_none task (between settled) (IsBegin (Below 0)) best none
   where
     none : (move : Move) → IsBegin (Below 0) move → Allows task (between settled) move → ⊥
@@ -198,40 +230,52 @@ begin_first task settled best = tries_none task (between settled) (IsBegin (Belo
     none settle is may = is
 
 -- all runs from the stops before one have been tried, and then those from there
-pub begin_more : (task : Task) (settled : Settled) (stop : ℕ) (old middle new : Found) → Tries task (between settled) (IsBegin (Below stop)) old middle → Tries task (between settled) (IsBeginAt stop Any) middle new → Tries task (between settled) (IsBegin (Below (stop + 1))) old new
+pub begin_more : (task : Task) (settled : Settled) (stop : ℕ) (old middle new : Found)
+    → Tries task (between settled) (IsBegin (Below stop)) old middle
+    → Tries task (between settled) (IsBeginAt stop Any) middle new
+    → Tries task (between settled) (IsBegin (Below (stop + 1))) old new
 begin_more task settled stop old middle new first second =
-    tries_both task (between settled) (IsBegin (Below stop)) (IsBeginAt stop Any) (IsBegin (Below (stop + 1))) old middle new first second either
+    tries_both task (between settled) (IsBegin (Below stop)) (IsBeginAt stop Any) (IsBegin (Below (stop + 1))) old
+    middle new first second either
   where
-    either : (move : Move) → IsBegin (Below (stop + 1)) move → Allows task (between settled) move → IsBegin (Below stop) move ⊎ IsBeginAt stop Any move
+    either : (move : Move) → IsBegin (Below (stop + 1)) move → Allows task (between settled) move
+        → IsBegin (Below stop) move ⊎ IsBeginAt stop Any move
     either pass is may = absurd is
-    either (begin there i found) is may = elim (below_next there stop is) [ inl less ↦ inl less | inr same ↦ inr (same, tt) ]
+    either (begin there i found) is may = elim (below_next there stop is)
+        [ inl less ↦ inl less | inr same ↦ inr (same, tt) ]
     either (go i found) is may = absurd is
     either (turn i found) is may = absurd is
     either settle is may = absurd is
 
 -- none begins where the company has no token
-pub begin_none : (task : Task) (settled : Settled) (stop : ℕ) (best : Found) → ((stop_in (node_at task stop) ≡ false) ⊎ (own_in (node_at task stop) ≡ false)) → Tries task (between settled) (IsBeginAt stop Any) best best
+pub begin_none : (task : Task) (settled : Settled) (stop : ℕ) (best : Found)
+    → ((stop_in (node_at task stop) ≡ false) ⊎ (own_in (node_at task stop) ≡ false))
+    → Tries task (between settled) (IsBeginAt stop Any) best best
 begin_none task settled stop best why = tries_none task (between settled) (IsBeginAt stop Any) best none
   where
     none : (move : Move) → IsBeginAt stop Any move → Allows task (between settled) move → ⊥
     none pass is may = is
     none (begin there i found) is may =
         elim why [
-          | inl side ↦ let wrong : false ≡ true = sym side ∙ (ap (λ (n : ℕ). stop_in (node_at task n)) (sym is.0) ∙ may.begins) in cc
-          | inr other ↦ let wrong : false ≡ true = sym other ∙ (ap (λ (n : ℕ). own_in (node_at task n)) (sym is.0) ∙ may.token) in cc
+          | inl side ↦ let wrong : false ≡ true = sym side
+              ∙ (ap (λ (n : ℕ). stop_in (node_at task n)) (sym is.0) ∙ may.begins) in cc
+          | inr other ↦ let wrong : false ≡ true = sym other
+              ∙ (ap (λ (n : ℕ). own_in (node_at task n)) (sym is.0) ∙ may.token) in cc
         ]
     none (go i found) is may = is
     none (turn i found) is may = is
     none settle is may = is
 
 -- there is no stop beyond the last one
-pub begin_every : (task : Task) (settled : Settled) (count : ℕ) (old new : Found) → length task.spots.items ≤ count → Tries task (between settled) (IsBegin (Below count)) old new → Tries task (between settled) (IsBegin Any) old new
+pub begin_every : (task : Task) (settled : Settled) (count : ℕ) (old new : Found) → length task.spots.items ≤ count
+    → Tries task (between settled) (IsBegin (Below count)) old new → Tries task (between settled) (IsBegin Any) old new
 begin_every task settled count old new all tries =
     tries_fewer task (between settled) (IsBegin (Below count)) (IsBegin Any) old new tries within
   where
     is_there : (there : ℕ) (node : Option Node) → node_at task there ≡ node → stop_in node ≡ true → there < count
     is_there there None is stops = absurd (let wrong : false ≡ true = stops in cc)
-    is_there there (Some node) is stops = let low : there < length task.spots.items = slice_get_within task.spots.items there node is in omega arith
+    is_there there (Some node) is stops = let low : there < length task.spots.items =
+        slice_get_within task.spots.items there node is in omega arith
 
     within : (move : Move) → IsBegin Any move → Allows task (between settled) move → IsBegin (Below count) move
     within pass is may = absurd is

@@ -49,12 +49,14 @@ unfolding mark_at
 test_is words n = rw shr_and_one refl
 
 -- a mark, and its bit
-pub marked_bit : (count : ℕ) (words : List ℕ) (n : ℕ) → IsMarked (marks_in count words) n → (n < count) × (bit_of words n ≡ 1)
+pub marked_bit : (count : ℕ) (words : List ℕ) (n : ℕ) → IsMarked (marks_in count words) n
+    → (n < count) × (bit_of words n ≡ 1)
 marked_bit count words n is =
     let low : n < count = omega (arith, marked_low (marks_in count words) n is, length_marks count words) in
     (low, is_bit words n (sym (mark_is count words n low) ∙ is))
 
-pub bit_marked : (count : ℕ) (words : List ℕ) (n : ℕ) → n < count → bit_of words n ≡ 1 → IsMarked (marks_in count words) n
+pub bit_marked : (count : ℕ) (words : List ℕ) (n : ℕ) → n < count → bit_of words n ≡ 1
+    → IsMarked (marks_in count words) n
 bit_marked count words n low bit = mark_is count words n low ∙ bit_is words n bit
 
 pub same_bool : (a b : Bool) → (a ≡ true → b ≡ true) → (b ≡ true → a ≡ true) → a ≡ b
@@ -81,20 +83,24 @@ either_bit a b i =
     (λ told. let is = eqb-true (bit_at (bit_or a b) i) 1 told in
     elim (cases_eq (bit_at a i) 1) [
       | inl one ↦ left_true (eqb (bit_at a i) 1) (eqb (bit_at b i) 1) (eq-eqb (bit_at a i) 1 one)
-      | inr other ↦ right_true (eqb (bit_at a i) 1) (eqb (bit_at b i) 1) (eq-eqb (bit_at b i) 1 (omega (arith, is, other, bit_at_or a b i, bit_at-lt a i)))
+      | inr other ↦ right_true (eqb (bit_at a i) 1) (eqb (bit_at b i) 1)
+          (eq-eqb (bit_at b i) 1 (omega (arith, is, other, bit_at_or a b i, bit_at-lt a i)))
     ])
     (λ told. eq-eqb (bit_at (bit_or a b) i) 1 (elim (either_true (eqb (bit_at a i) 1) (eqb (bit_at b i) 1) told) [
       | inl one ↦ omega (arith, eqb-true (bit_at a i) 1 one, bit_at_or a b i, bit_at-lt b i)
       | inr two ↦ omega (arith, eqb-true (bit_at b i) 1 two, bit_at_or a b i, bit_at-lt a i)
     ]))
 
-pub either_is : (words others : List ℕ) (n : ℕ) → eqb (bit_and (bit_or (get_or words (n / 64) 0) (get_or others (n / 64) 0) / 2 ^ (n % 64)) 1) 1 ≡ (mark_at words n || mark_at others n)
+pub either_is : (words others : List ℕ) (n : ℕ)
+    → eqb (bit_and (bit_or (get_or words (n / 64) 0) (get_or others (n / 64) 0) / 2 ^ (n % 64)) 1) 1
+    ≡ (mark_at words n || mark_at others n)
 unfolding mark_at
 either_is words others n =
     rw shr_and_one (either_bit (get_or words (n / 64) 0) (get_or others (n / 64) 0) (n % 64))
 
 -- two lists with the same marks are the same
-pub same_marks : (marks others : List Bool) → length marks ≡ length others → ((n : ℕ) → IsMarked marks n ↔ IsMarked others n) → marks ≡ others
+pub same_marks : (marks others : List Bool) → length marks ≡ length others
+    → ((n : ℕ) → IsMarked marks n ↔ IsMarked others n) → marks ≡ others
 same_marks [] [] long each = refl
 same_marks [] (other ∷ others) long each = absurd (omega arith)
 same_marks (mark ∷ marks) [] long each = absurd (omega arith)
@@ -107,21 +113,25 @@ same_marks (mark ∷ marks) (other ∷ others) long each =
 abbrev with_bit : List ℕ → ℕ → ℕ
 with_bit words n = bit_or (get_or words (n / 64) 0) (1 * 2 ^ (n % 64) % 2 ^ 64)
 
-bit_here : (words : List ℕ) (n m : ℕ) → n / 64 < length words → m / 64 ≡ n / 64 → m % 64 ≡ n % 64 → bit_of (set words (n / 64) (with_bit words n)) m ≡ 1
+bit_here : (words : List ℕ) (n m : ℕ) → n / 64 < length words → m / 64 ≡ n / 64 → m % 64 ≡ n % 64
+    → bit_of (set words (n / 64) (with_bit words n)) m ≡ 1
 bit_here words n m low same also =
     rw (same, also, get_or-set_same words (n / 64) (with_bit words n) 0 low)
     (bit_at_set_same w64 (get_or words (n / 64) 0) (n % 64) (omega arith))
 
-bit_beside : (words : List ℕ) (n m : ℕ) → n / 64 < length words → m / 64 ≡ n / 64 → (m % 64 ≡ n % 64 → ⊥) → bit_of (set words (n / 64) (with_bit words n)) m ≡ bit_of words m
+bit_beside : (words : List ℕ) (n m : ℕ) → n / 64 < length words → m / 64 ≡ n / 64 → (m % 64 ≡ n % 64 → ⊥)
+    → bit_of (set words (n / 64) (with_bit words n)) m ≡ bit_of words m
 bit_beside words n m low same other =
     rw (same, get_or-set_same words (n / 64) (with_bit words n) 0 low)
     (bit_at_set_other w64 (get_or words (n / 64) 0) (n % 64) (omega arith) (m % 64) other)
 
-bit_apart : (words : List ℕ) (n m : ℕ) → (m / 64 ≡ n / 64 → ⊥) → bit_of (set words (n / 64) (with_bit words n)) m ≡ bit_of words m
+bit_apart : (words : List ℕ) (n m : ℕ) → (m / 64 ≡ n / 64 → ⊥)
+    → bit_of (set words (n / 64) (with_bit words n)) m ≡ bit_of words m
 bit_apart words n m other = rw (get_or-set_other words (n / 64) (m / 64) (with_bit words n) 0 other) refl
 
 -- the bit of another number stays
-pub bit_stays : (words : List ℕ) (n m : ℕ) → n / 64 < length words → (m ≡ n → ⊥) → bit_of (set words (n / 64) (with_bit words n)) m ≡ bit_of words m
+pub bit_stays : (words : List ℕ) (n m : ℕ) → n / 64 < length words → (m ≡ n → ⊥)
+    → bit_of (set words (n / 64) (with_bit words n)) m ≡ bit_of words m
 bit_stays words n m low other =
     elim (cases_eq (m / 64) (n / 64)) [
       | inl same ↦ bit_beside words n m low same (λ also. other (omega (arith, same, also)))
@@ -129,13 +139,17 @@ bit_stays words n m low other =
     ]
 
 -- one number more is marked
-set_each : (count : ℕ) (words : List ℕ) (n m : ℕ) → n < count → n / 64 < length words → IsMarked (marks_in count (set words (n / 64) (with_bit words n))) m ↔ IsMarked (set (marks_in count words) n true) m
+set_each : (count : ℕ) (words : List ℕ) (n m : ℕ) → n < count → n / 64 < length words
+    → IsMarked (marks_in count (set words (n / 64) (with_bit words n))) m
+    ↔ IsMarked (set (marks_in count words) n true) m
 set_each count words n m low within =
-    let more : IsMarked (set (marks_in count words) n true) m ↔ ((m ≡ n) ⊎ IsMarked (marks_in count words) m) = mark_more (marks_in count words) n m (omega (arith, length_marks count words)) in
+    let more : IsMarked (set (marks_in count words) n true) m ↔ ((m ≡ n) ⊎ IsMarked (marks_in count words) m) =
+    mark_more (marks_in count words) n m (omega (arith, length_marks count words)) in
     elim (cases_eq m n) [
       | inl same ↦ (
         λ is. more.1 (inl same),
-        λ is. bit_marked count (set words (n / 64) (with_bit words n)) m (omega arith) (bit_here words n m within (ap (λ k. k / 64) same) (ap (λ k. k % 64) same)),
+        λ is. bit_marked count (set words (n / 64) (with_bit words n)) m (omega arith)
+            (bit_here words n m within (ap (λ k. k / 64) same) (ap (λ k. k % 64) same)),
       )
       | inr other ↦ (
         λ is. let bit = marked_bit count (set words (n / 64) (with_bit words n)) m is in
@@ -143,17 +157,23 @@ set_each count words n m low within =
         λ is. elim (more.0 is) [
           | inl same ↦ absurd (other same)
           | inr before ↦ let bit = marked_bit count words m before in
-              bit_marked count (set words (n / 64) (with_bit words n)) m bit.0 (bit_stays words n m within other ∙ bit.1)
+              bit_marked count (set words (n / 64) (with_bit words n)) m bit.0
+              (bit_stays words n m within other ∙ bit.1)
         ],
       )
     ]
 
-pub set_mark : (count : ℕ) (words : List ℕ) (n : ℕ) → n < count → n / 64 < length words → marks_in count (set words (n / 64) (with_bit words n)) ≡ set (marks_in count words) n true
+pub set_mark : (count : ℕ) (words : List ℕ) (n : ℕ) → n < count → n / 64 < length words
+    → marks_in count (set words (n / 64) (with_bit words n)) ≡ set (marks_in count words) n true
 set_mark count words n low within =
-    same_marks (marks_in count (set words (n / 64) (with_bit words n))) (set (marks_in count words) n true) (length_marks count (set words (n / 64) (with_bit words n)) ∙ sym (length-set (marks_in count words) n true ∙ length_marks count words)) (λ m. set_each count words n m low within)
+    same_marks (marks_in count (set words (n / 64) (with_bit words n))) (set (marks_in count words) n true)
+    (length_marks count (set words (n / 64) (with_bit words n))
+    ∙ sym (length-set (marks_in count words) n true ∙ length_marks count words))
+    (λ m. set_each count words n m low within)
 
 -- so has no bit from one on
-pub set_none : (count : ℕ) (words : List ℕ) (n : ℕ) → n < count → n / 64 < length words → HasNoneFrom count words → HasNoneFrom count (set words (n / 64) (with_bit words n))
+pub set_none : (count : ℕ) (words : List ℕ) (n : ℕ) → n < count → n / 64 < length words → HasNoneFrom count words
+    → HasNoneFrom count (set words (n / 64) (with_bit words n))
 set_none count words n low within clean =
     record { none = λ m high. bit_stays words n m within (λ same. absurd (omega arith)) ∙ clean.none m high }
 
@@ -168,7 +188,8 @@ bit_none width n = ap (λ word. bit_at word (n % 64)) (all_zero width (n / 64)) 
 
 pub none_marks : (count width : ℕ) → marks_in count (replicate {A = ℕ} width 0) ≡ replicate count false
 none_marks count width =
-    same_marks (marks_in count (replicate {A = ℕ} width 0)) (replicate count false) (length_marks count (replicate {A = ℕ} width 0) ∙ sym (length_replicate count)) each
+    same_marks (marks_in count (replicate {A = ℕ} width 0)) (replicate count false)
+    (length_marks count (replicate {A = ℕ} width 0) ∙ sym (length_replicate count)) each
   where
     length_replicate : (n : ℕ) → length (replicate n false) ≡ n
     length_replicate zero = refl
@@ -181,12 +202,15 @@ none_marks count width =
 
     each : (m : ℕ) → IsMarked (marks_in count (replicate {A = ℕ} width 0)) m ↔ IsMarked (replicate count false) m
     each m = (
-      λ is. let bit = marked_bit count (replicate {A = ℕ} width 0) m is in absurd (omega (arith, bit.1, bit_none width m)),
+      λ is. let bit = marked_bit count (replicate {A = ℕ} width 0) m is in absurd
+          (omega (arith, bit.1, bit_none width m)),
       λ is. absurd (never count m is),
     )
 
 -- words joined bit by bit
-pub joined : (count width : ℕ) (a b new : List ℕ) → count ≤ 64 * width → ((j : ℕ) → j < width → get_or new j 0 ≡ bit_or (get_or a j 0) (get_or b j 0)) → AreBoth (marks_in count a) (marks_in count b) (marks_in count new)
+pub joined : (count width : ℕ) (a b new : List ℕ) → count ≤ 64 * width
+    → ((j : ℕ) → j < width → get_or new j 0 ≡ bit_or (get_or a j 0) (get_or b j 0))
+    → AreBoth (marks_in count a) (marks_in count b) (marks_in count new)
 joined count width a b new fits each =
     record {
       whole = length_marks count new ∙ sym (length_marks count a);
@@ -194,13 +218,34 @@ joined count width a b new fits each =
         λ is. let bit = marked_bit count new n is in
             elim (cases_eq (bit_of a n) 1) [
               | inl here ↦ inl (bit_marked count a n bit.0 here)
-              | inr clear ↦ inr (bit_marked count b n bit.0 (omega (arith, bit.1, clear, at n bit.0, bit_at_or (get_or a (n / 64) 0) (get_or b (n / 64) 0) (n % 64), bit_at-lt (get_or a (n / 64) 0) (n % 64))))
+              | inr clear ↦ inr (bit_marked count b n bit.0 (omega (
+                arith,
+                bit.1,
+                clear,
+                at n bit.0,
+                bit_at_or (get_or a (n / 64) 0) (get_or b (n / 64) 0) (n % 64),
+                bit_at-lt (get_or a (n / 64) 0) (n % 64),
+              )))
             ],
         λ is. elim is [
           | inl first ↦ let bit = marked_bit count a n first in
-              bit_marked count new n bit.0 (omega (arith, bit.1, at n bit.0, bit_at_or (get_or a (n / 64) 0) (get_or b (n / 64) 0) (n % 64), bit_at-lt (get_or b (n / 64) 0) (n % 64)))
+              bit_marked count new n bit.0 (omega (
+                arith,
+                bit.1,
+                at n bit.0,
+                bit_at_or (get_or a (n / 64) 0)
+                    (get_or b (n / 64) 0) (n % 64),
+                bit_at-lt (get_or b (n / 64) 0) (n % 64),
+              ))
           | inr second ↦ let bit = marked_bit count b n second in
-              bit_marked count new n bit.0 (omega (arith, bit.1, at n bit.0, bit_at_or (get_or a (n / 64) 0) (get_or b (n / 64) 0) (n % 64), bit_at-lt (get_or a (n / 64) 0) (n % 64)))
+              bit_marked count new n bit.0 (omega (
+                arith,
+                bit.1,
+                at n bit.0,
+                bit_at_or (get_or a (n / 64) 0)
+                    (get_or b (n / 64) 0) (n % 64),
+                bit_at-lt (get_or a (n / 64) 0) (n % 64),
+              ))
         ],
       );
     }
@@ -212,7 +257,9 @@ joined count width a b new fits each =
 abbrev pub IsWithout : ℕ → ℕ → ℕ → Type 0
 IsWithout word other left = (bit : ℕ) → bit < 64 → bit_at left bit ≡ bit_at word bit - bit_at other bit
 
-pub taken_away : (count width : ℕ) (a b new : List ℕ) → count ≤ 64 * width → ((j : ℕ) → j < width → IsWithout (get_or a j 0) (get_or b j 0) (get_or new j 0)) → AreOnly (marks_in count a) (marks_in count b) (marks_in count new)
+pub taken_away : (count width : ℕ) (a b new : List ℕ) → count ≤ 64 * width
+    → ((j : ℕ) → j < width → IsWithout (get_or a j 0) (get_or b j 0) (get_or new j 0))
+    → AreOnly (marks_in count a) (marks_in count b) (marks_in count new)
 taken_away count width a b new fits each =
     record {
       whole = length_marks count new ∙ sym (length_marks count a);
@@ -225,7 +272,8 @@ taken_away count width a b new fits each =
         λ is. let bit = marked_bit count a n is.0 in
             elim (cases_eq (bit_of b n) 1) [
               | inl met ↦ absurd (is.1 (bit_marked count b n bit.0 met))
-              | inr clear ↦ bit_marked count new n bit.0 (omega (arith, bit.1, clear, at n bit.0, bit_at-lt (get_or b (n / 64) 0) (n % 64)))
+              | inr clear ↦ bit_marked count new n bit.0 (omega
+                  (arith, bit.1, clear, at n bit.0, bit_at-lt (get_or b (n / 64) 0) (n % 64)))
             ],
       );
     }
@@ -234,15 +282,25 @@ taken_away count width a b new fits each =
     at n low = each (n / 64) (omega arith) (n % 64) (omega arith)
 
 -- no word has a bit that another has
-pub apart_words : (count width : ℕ) (a b : List ℕ) → count ≤ 64 * width → ((j : ℕ) → j < width → bit_and (get_or a j 0) (get_or b j 0) ≡ 0) → AreApart (marks_in count a) (marks_in count b)
+pub apart_words : (count width : ℕ) (a b : List ℕ) → count ≤ 64 * width
+    → ((j : ℕ) → j < width → bit_and (get_or a j 0) (get_or b j 0) ≡ 0) → AreApart (marks_in count a) (marks_in count b)
 apart_words count width a b fits each n first second =
     let one = marked_bit count a n first in
     let two = marked_bit count b n second in
-    let at : bit_at (bit_and (get_or a (n / 64) 0) (get_or b (n / 64) 0)) (n % 64) ≡ bit_at 0 (n % 64) = ap (λ word. bit_at word (n % 64)) (each (n / 64) (omega arith)) in
-    absurd (omega (arith, one.1, two.1, at, bit_at_and (get_or a (n / 64) 0) (get_or b (n / 64) 0) (n % 64), bit_at-zero (n % 64)))
+    let at : bit_at (bit_and (get_or a (n / 64) 0) (get_or b (n / 64) 0)) (n % 64) ≡ bit_at 0 (n % 64) =
+    ap (λ word. bit_at word (n % 64)) (each (n / 64) (omega arith)) in
+    absurd (omega (
+      arith,
+      one.1,
+      two.1,
+      at,
+      bit_at_and (get_or a (n / 64) 0) (get_or b (n / 64) 0) (n % 64),
+      bit_at-zero (n % 64),
+    ))
 
 -- a word has one
-meets_at : (count : ℕ) (a b : List ℕ) (k i : ℕ) → HasNoneFrom count a → i < 64 → bit_at (bit_and (get_or a k 0) (get_or b k 0)) i ≡ 1 → AreApart (marks_in count a) (marks_in count b) → ⊥
+meets_at : (count : ℕ) (a b : List ℕ) (k i : ℕ) → HasNoneFrom count a → i < 64
+    → bit_at (bit_and (get_or a k 0) (get_or b k 0)) i ≡ 1 → AreApart (marks_in count a) (marks_in count b) → ⊥
 meets_at count a b k i clean low bit apart =
     let word : (64 * k + i) / 64 ≡ k = omega (arith, low) in
     let rest : (64 * k + i) % 64 ≡ i = omega (arith, low) in
@@ -251,95 +309,136 @@ meets_at count a b k i clean low bit apart =
     let two : bit_at (get_or b k 0) i ≡ 1 = omega (arith, both, bit, bit_at-lt (get_or b k 0) i) in
     let first : bit_of a (64 * k + i) ≡ 1 = rw (word, rest) one in
     let second : bit_of b (64 * k + i) ≡ 1 = rw (word, rest) two in
-    let within : 64 * k + i < count = elim (cases_lt (64 * k + i) count) [ inl less ↦ less | inr past ↦ absurd (omega (arith, clean.none (64 * k + i) past, first)) ] in
+    let within : 64 * k + i < count = elim (cases_lt (64 * k + i) count)
+    [ inl less ↦ less | inr past ↦ absurd (omega (arith, clean.none (64 * k + i) past, first)) ] in
     apart (64 * k + i) (bit_marked count a (64 * k + i) within first) (bit_marked count b (64 * k + i) within second)
 
 some_bit : (n : ℕ) → (n ≡ 0 → ⊥) → 0 < n
 some_bit zero some = absurd (some refl)
 some_bit (suc n) some = omega arith
 
-pub met_words : (count : ℕ) (a b : List ℕ) (k : ℕ) → HasNoneFrom count a → get_or a k 0 < 2 ^ 64 → (bit_and (get_or a k 0) (get_or b k 0) ≡ 0 → ⊥) → AreApart (marks_in count a) (marks_in count b) → ⊥
+pub met_words : (count : ℕ) (a b : List ℕ) (k : ℕ) → HasNoneFrom count a → get_or a k 0 < 2 ^ 64
+    → (bit_and (get_or a k 0) (get_or b k 0) ≡ 0 → ⊥) → AreApart (marks_in count a) (marks_in count b) → ⊥
 met_words count a b k clean fits some apart =
     let both : ℕ = bit_and (get_or a k 0) (get_or b k 0) in
-    let lowest = bit_at-trailing_zeros w64 (bit_and (get_or a k 0) (get_or b k 0)) (some_bit (bit_and (get_or a k 0) (get_or b k 0)) some) (omega (arith, fits, and_le_l (get_or a k 0) (get_or b k 0))) in
+    let lowest = bit_at-trailing_zeros w64 (bit_and (get_or a k 0) (get_or b k 0))
+    (some_bit (bit_and (get_or a k 0) (get_or b k 0)) some)
+    (omega (arith, fits, and_le_l (get_or a k 0) (get_or b k 0))) in
     meets_at count a b k (trailing_zeros w64 (bit_and (get_or a k 0) (get_or b k 0))) clean lowest.0 lowest.1 apart
 
 -- the number of the lowest bit of a word
 abbrev pub lowest_of : ℕ → ℕ → ℕ
 lowest_of k word = 64 * k + trailing_zeros w64 word
 
-lowest_bit : (words : List ℕ) (k : ℕ) → get_or words k 0 < 2 ^ 64 → (get_or words k 0 ≡ 0 → ⊥) → bit_of words (lowest_of k (get_or words k 0)) ≡ 1
+lowest_bit : (words : List ℕ) (k : ℕ) → get_or words k 0 < 2 ^ 64 → (get_or words k 0 ≡ 0 → ⊥)
+    → bit_of words (lowest_of k (get_or words k 0)) ≡ 1
 lowest_bit words k fits some =
-    let lowest = bit_at-trailing_zeros w64 (get_or words k 0) (some_bit (get_or words k 0) some) (omega (arith, fits)) in
+    let lowest = bit_at-trailing_zeros w64 (get_or words k 0) (some_bit (get_or words k 0) some)
+    (omega (arith, fits)) in
     let i : ℕ = trailing_zeros w64 (get_or words k 0) in
     let word : (64 * k + i) / 64 ≡ k = omega (arith, lowest.0) in
     let rest : (64 * k + i) % 64 ≡ i = omega (arith, lowest.0) in
     rw (word, rest) lowest.1
 
-pub first_low : (count : ℕ) (words : List ℕ) (k : ℕ) → HasNoneFrom count words → get_or words k 0 < 2 ^ 64 → (get_or words k 0 ≡ 0 → ⊥) → lowest_of k (get_or words k 0) < count
+pub first_low : (count : ℕ) (words : List ℕ) (k : ℕ) → HasNoneFrom count words → get_or words k 0 < 2 ^ 64
+    → (get_or words k 0 ≡ 0 → ⊥) → lowest_of k (get_or words k 0) < count
 first_low count words k clean fits some =
     let bit = lowest_bit words k fits some in
-    elim (cases_lt (lowest_of k (get_or words k 0)) count) [ inl less ↦ less | inr past ↦ absurd (omega (arith, clean.none (lowest_of k (get_or words k 0)) past, bit)) ]
+    elim (cases_lt (lowest_of k (get_or words k 0)) count)
+    [ inl less ↦ less | inr past ↦ absurd (omega (arith, clean.none (lowest_of k (get_or words k 0)) past, bit)) ]
 
-pub first_marked : (count : ℕ) (words : List ℕ) (k : ℕ) → HasNoneFrom count words → get_or words k 0 < 2 ^ 64 → (get_or words k 0 ≡ 0 → ⊥) → IsMarked (marks_in count words) (lowest_of k (get_or words k 0))
+pub first_marked : (count : ℕ) (words : List ℕ) (k : ℕ) → HasNoneFrom count words → get_or words k 0 < 2 ^ 64
+    → (get_or words k 0 ≡ 0 → ⊥) → IsMarked (marks_in count words) (lowest_of k (get_or words k 0))
 first_marked count words k clean fits some =
-    bit_marked count words (lowest_of k (get_or words k 0)) (first_low count words k clean fits some) (lowest_bit words k fits some)
+    bit_marked count words (lowest_of k (get_or words k 0)) (first_low count words k clean fits some)
+    (lowest_bit words k fits some)
 
 -- no word has a bit
-pub unmarked : (count width : ℕ) (words : List ℕ) → count ≤ 64 * width → ((j : ℕ) → j < width → get_or words j 0 ≡ 0) → (n : ℕ) → IsMarked (marks_in count words) n → ⊥
+pub unmarked : (count width : ℕ) (words : List ℕ) → count ≤ 64 * width → ((j : ℕ) → j < width → get_or words j 0 ≡ 0)
+    → (n : ℕ) → IsMarked (marks_in count words) n → ⊥
 unmarked count width words fits none n is =
     let bit = marked_bit count words n is in
-    let at : bit_of words n ≡ bit_at 0 (n % 64) = ap (λ word. bit_at word (n % 64)) (none (n / 64) (omega (arith, fits, bit.0))) in
+    let at : bit_of words n ≡ bit_at 0 (n % 64) = ap (λ word. bit_at word (n % 64))
+    (none (n / 64) (omega (arith, fits, bit.0))) in
     absurd (omega (arith, bit.1, at, bit_at-zero (n % 64)))
 
 -- all that is marked in one is marked in another
-pub freer_from : (marks others : List Bool) → length marks ≡ length others → ((n : ℕ) → IsMarked others n → IsMarked marks n) → Freer marks others
+pub freer_from : (marks others : List Bool) → length marks ≡ length others
+    → ((n : ℕ) → IsMarked others n → IsMarked marks n) → Freer marks others
 freer_from [] [] long each = tt
 freer_from [] (other ∷ others) long each = absurd (omega arith)
 freer_from (mark ∷ marks) [] long each = absurd (omega arith)
-freer_from (mark ∷ marks) (other ∷ others) long each = (each 0, freer_from marks others (omega arith) (λ n. each (suc n)))
+freer_from (mark ∷ marks) (other ∷ others) long each =
+    (each 0, freer_from marks others (omega arith) (λ n. each (suc n)))
 
-pub within_words : (count width : ℕ) (a b : List ℕ) → count ≤ 64 * width → ((j bit : ℕ) → j < width → bit < 64 → bit_at (get_or a j 0) bit ≤ bit_at (get_or b j 0) bit) → Freer (marks_in count b) (marks_in count a)
+pub within_words : (count width : ℕ) (a b : List ℕ) → count ≤ 64 * width
+    → ((j bit : ℕ) → j < width → bit < 64 → bit_at (get_or a j 0) bit ≤ bit_at (get_or b j 0) bit)
+    → Freer (marks_in count b) (marks_in count a)
 within_words count width a b fits each =
     freer_from (marks_in count b) (marks_in count a) (length_marks count b ∙ sym (length_marks count a)) (λ n is.
     let bit = marked_bit count a n is in
-    bit_marked count b n bit.0 (omega (arith, bit.1, each (n / 64) (n % 64) (omega (arith, fits, bit.0)) (omega arith), bit_at-lt (get_or b (n / 64) 0) (n % 64))))
+    bit_marked count b n bit.0 (omega (
+      arith,
+      bit.1,
+      each (n / 64) (n % 64) (omega (arith, fits, bit.0))
+          (omega arith),
+      bit_at-lt (get_or b (n / 64) 0) (n % 64),
+    )))
 
 -- a word that has no bit that another has not
 pub none_without : (word other : ℕ) → IsWithout word other 0 → (bit : ℕ) → bit < 64 → bit_at word bit ≤ bit_at other bit
 none_without word other without bit low = omega (arith, without bit low, bit_at-zero bit)
 
 -- no bit is set from a number on: where two are joined, and where some are taken away
-pub joined_none : (count width : ℕ) (a b new : List ℕ) → length new ≡ width → ((j : ℕ) → j < width → get_or new j 0 ≡ bit_or (get_or a j 0) (get_or b j 0)) → HasNoneFrom count a → HasNoneFrom count b → HasNoneFrom count new
+pub joined_none : (count width : ℕ) (a b new : List ℕ) → length new ≡ width
+    → ((j : ℕ) → j < width → get_or new j 0 ≡ bit_or (get_or a j 0) (get_or b j 0)) → HasNoneFrom count a
+    → HasNoneFrom count b → HasNoneFrom count new
 joined_none count width a b new long each first second =
     record {
       none = λ n high. elim (cases_lt (n / 64) width) [
-        | inl low ↦ ap (λ word. bit_at word (n % 64)) (each (n / 64) low) ∙ omega (arith, first.none n high, second.none n high, bit_at_or (get_or a (n / 64) 0) (get_or b (n / 64) 0) (n % 64))
+        | inl low ↦ ap (λ word. bit_at word (n % 64)) (each (n / 64) low)
+            ∙ omega (
+              arith,
+              first.none n high,
+              second.none n high,
+              bit_at_or (get_or a (n / 64) 0)
+                  (get_or b (n / 64) 0) (n % 64),
+            )
         | inr past ↦ past_none new n (omega (arith, long, past))
       ];
     }
   where
     past_none : (words : List ℕ) (n : ℕ) → length words ≤ n / 64 → bit_of words n ≡ 0
-    past_none words n past = ap (λ word. bit_at word (n % 64)) (get_or_past words (n / 64) 0 past) ∙ bit_at-zero (n % 64)
+    past_none words n past = ap (λ word. bit_at word (n % 64)) (get_or_past words (n / 64) 0 past)
+        ∙ bit_at-zero (n % 64)
 
-pub taken_none : (count width : ℕ) (a b new : List ℕ) → length new ≡ width → ((j : ℕ) → j < width → IsWithout (get_or a j 0) (get_or b j 0) (get_or new j 0)) → HasNoneFrom count a → HasNoneFrom count new
+pub taken_none : (count width : ℕ) (a b new : List ℕ) → length new ≡ width
+    → ((j : ℕ) → j < width → IsWithout (get_or a j 0) (get_or b j 0) (get_or new j 0)) → HasNoneFrom count a
+    → HasNoneFrom count new
 taken_none count width a b new long each first =
     record {
       none = λ n high. elim (cases_lt (n / 64) width) [
         | inl low ↦ omega (arith, first.none n high, each (n / 64) low (n % 64) (omega arith))
-        | inr past ↦ ap (λ word. bit_at word (n % 64)) (get_or_past new (n / 64) 0 (omega (arith, long, past))) ∙ bit_at-zero (n % 64)
+        | inr past ↦ ap (λ word. bit_at word (n % 64)) (get_or_past new (n / 64) 0 (omega (arith, long, past)))
+            ∙ bit_at-zero (n % 64)
       ];
     }
 
 -- the next word is taken away from
-pub without_more : (a b words : List ℕ) (k value : ℕ) → k < length words → IsWithout (get_or words k 0) (get_or b k 0) value → ((j : ℕ) → j < k → IsWithout (get_or a j 0) (get_or b j 0) (get_or words j 0)) → ((j : ℕ) → k ≤ j → get_or words j 0 ≡ get_or a j 0) → (j : ℕ) → j < k + 1 → IsWithout (get_or a j 0) (get_or b j 0) (get_or (set words k value) j 0)
+pub without_more : (a b words : List ℕ) (k value : ℕ) → k < length words
+    → IsWithout (get_or words k 0) (get_or b k 0) value
+    → ((j : ℕ) → j < k → IsWithout (get_or a j 0) (get_or b j 0) (get_or words j 0))
+    → ((j : ℕ) → k ≤ j → get_or words j 0 ≡ get_or a j 0) → (j : ℕ) → j < k + 1
+    → IsWithout (get_or a j 0) (get_or b j 0) (get_or (set words k value) j 0)
 without_more a b words k value low here before rest j less =
     elim (below_next j k less) [
       | inl under ↦
-          subst (λ (word : ℕ). IsWithout (get_or a j 0) (get_or b j 0) word) (sym (get_or-set_other words k j value 0 (λ same. absurd (omega arith)))) (before j under)
+          subst (λ (word : ℕ). IsWithout (get_or a j 0) (get_or b j 0) word)
+          (sym (get_or-set_other words k j value 0 (λ same. absurd (omega arith)))) (before j under)
       | inr same ↦
           subst (λ (i : ℕ). IsWithout (get_or a i 0) (get_or b i 0) (get_or (set words k value) i 0)) (sym same)
-          (subst (λ (word : ℕ). IsWithout (get_or a k 0) (get_or b k 0) word) (sym (get_or-set_same words k value 0 low))
+          (subst (λ (word : ℕ). IsWithout (get_or a k 0) (get_or b k 0) word)
+          (sym (get_or-set_same words k value 0 low))
           (subst (λ (word : ℕ). IsWithout word (get_or b k 0) value) (rest k (omega arith)) here))
     ]
 
@@ -355,7 +454,8 @@ full_bit words full n low =
       | inl less ↦ ap (λ word. bit_at word (n % 64)) (full.each (n / 64) less) ∙ bit_at_ones 64 (n % 64) (omega arith)
       | inr high ↦
           let at : n / 64 ≡ 4 = omega arith in
-          ap (λ k. bit_at (get_or words k 0) (n % 64)) at ∙ (ap (λ word. bit_at word (n % 64)) full.last ∙ bit_at_ones 23 (n % 64) (omega arith))
+          ap (λ k. bit_at (get_or words k 0) (n % 64)) at
+          ∙ (ap (λ word. bit_at word (n % 64)) full.last ∙ bit_at_ones 23 (n % 64) (omega arith))
     ]
 
 full_none : (words : List ℕ) → AreFull words → (n : ℕ) → 279 ≤ n → bit_of words n ≡ 0
@@ -363,8 +463,10 @@ full_none words full n high =
     elim (cases_lt (n / 64) 5) [
       | inl less ↦
           let at : n / 64 ≡ 4 = omega arith in
-          ap (λ k. bit_at (get_or words k 0) (n % 64)) at ∙ (ap (λ word. bit_at word (n % 64)) full.last ∙ bit_at_ones_above 23 (n % 64) (omega arith))
-      | inr past ↦ ap (λ word. bit_at word (n % 64)) (get_or_past words (n / 64) 0 (omega (arith, full.long, past))) ∙ bit_at-zero (n % 64)
+          ap (λ k. bit_at (get_or words k 0) (n % 64)) at
+          ∙ (ap (λ word. bit_at word (n % 64)) full.last ∙ bit_at_ones_above 23 (n % 64) (omega arith))
+      | inr past ↦ ap (λ word. bit_at word (n % 64)) (get_or_past words (n / 64) 0 (omega (arith, full.long, past)))
+          ∙ bit_at-zero (n % 64)
     ]
 
 get_same : (n word j : ℕ) → j < n → get_or (replicate n word) j 0 ≡ word
@@ -381,7 +483,8 @@ unfolding all_words
 all_full =
     record {
       long = refl;
-      each = λ j low. get_or-set_other (replicate 5 18446744073709551615) 4 j 8388607 0 (λ same. absurd (omega arith)) ∙ get_same 5 18446744073709551615 j (omega arith);
+      each = λ j low. get_or-set_other (replicate 5 18446744073709551615) 4 j 8388607 0 (λ same. absurd (omega arith))
+          ∙ get_same 5 18446744073709551615 j (omega arith);
       last = refl;
     }
 
@@ -399,7 +502,8 @@ marked_true (suc n) (suc m) low = marked_true n m (omega arith)
 
 pub all_marks : marks_in 279 all_words ≡ replicate 279 true
 all_marks =
-    same_marks (marks_in 279 all_words) (replicate 279 true) (length_marks 279 all_words ∙ sym (length_true 279)) (λ n. (
+    same_marks (marks_in 279 all_words) (replicate 279 true) (length_marks 279 all_words ∙ sym (length_true 279))
+    (λ n. (
       λ is. marked_true 279 n (marked_bit 279 all_words n is).0,
       λ is. let low : n < 279 = omega (arith, marked_low (replicate 279 true) n is, length_true 279) in
           bit_marked 279 all_words n low (full_bit all_words all_full n low),
@@ -408,21 +512,30 @@ all_marks =
 -- all bits are set
 pub all_spots : marks_in 744 (replicate 12 18446744073709551615) ≡ replicate 744 true
 all_spots =
-    same_marks (marks_in 744 (replicate 12 18446744073709551615)) (replicate 744 true) (length_marks 744 (replicate 12 18446744073709551615) ∙ sym (length_true 744)) (λ n. (
+    same_marks (marks_in 744 (replicate 12 18446744073709551615)) (replicate 744 true)
+    (length_marks 744 (replicate 12 18446744073709551615) ∙ sym (length_true 744)) (λ n. (
       λ is. marked_true 744 n (marked_bit 744 (replicate 12 18446744073709551615) n is).0,
       λ is. let low : n < 744 = omega (arith, marked_low (replicate 744 true) n is, length_true 744) in
-          bit_marked 744 (replicate 12 18446744073709551615) n low (ap (λ word. bit_at word (n % 64)) (get_same 12 18446744073709551615 (n / 64) (omega (arith, low))) ∙ bit_at_ones 64 (n % 64) (omega arith)),
+          bit_marked 744 (replicate 12 18446744073709551615) n low
+          (ap (λ word. bit_at word (n % 64)) (get_same 12 18446744073709551615 (n / 64) (omega (arith, low)))
+          ∙ bit_at_ones 64 (n % 64) (omega arith)),
     ))
 
 -- what is open is taken away from all
-pub barred_out : (marks reach fresh barred : List Bool) → length marks ≡ 744 → AreOnly reach marks fresh → AreOnly (replicate 744 true) fresh barred → AreBarred marks reach barred
+pub barred_out : (marks reach fresh barred : List Bool) → length marks ≡ 744 → AreOnly reach marks fresh
+    → AreOnly (replicate 744 true) fresh barred → AreBarred marks reach barred
 barred_out marks reach fresh barred whole opens bars =
     record {
       whole = bars.whole ∙ (length_true 744 ∙ sym whole);
-      kept = λ n is. (bars.each n).1 (marked_true 744 n (omega (arith, marked_low marks n is, whole)), λ opened. ((opens.each n).0 opened).1 is);
+      kept = λ n is. (bars.each n).1 (
+        marked_true 744 n (omega (arith, marked_low marks n is, whole)),
+        λ opened.
+            ((opens.each n).0 opened).1 is,
+      );
       only = λ n lies out. elim (marked_or (get_or marks n false)) [
         | inl is ↦ is
-        | inr not ↦ absurd (((bars.each n).0 out).1 ((opens.each n).1 (lies, λ is. false_true (get_or marks n false) not is)))
+        | inr not ↦ absurd (((bars.each n).0 out).1 ((opens.each n).1
+            (lies, λ is. false_true (get_or marks n false) not is)))
       ];
     }
   where

@@ -22,12 +22,14 @@ LiesAhead ahead spot = get_or ahead spot false ≡ true
 -- each way that a run may take from a stop, if it may pass the stop, leads to one that lies ahead
 abbrev pub IsGoneOver : Task → Settled → PartialRun → List Bool → ℕ → Type 0
 IsGoneOver task settled run ahead spot =
-    ends_in (node_at task spot) ≡ false → (place : ℕ) (leg : Leg) → slice_get (legs_at task spot) place ≡ Some leg → can_take task run settled.used leg.segment ≡ true → LiesAhead ahead leg.segment.to
+    ends_in (node_at task spot) ≡ false → (place : ℕ) (leg : Leg) → slice_get (legs_at task spot) place ≡ Some leg
+    → can_take task run settled.used leg.segment ≡ true → LiesAhead ahead leg.segment.to
 
 -- the same for those ways alone of which the first piece does not stand before a place
 abbrev pub IsGoneOverFrom : Task → Settled → PartialRun → ℕ → List Bool → ℕ → Type 0
 IsGoneOverFrom task settled run least ahead spot =
-    ends_in (node_at task spot) ≡ false → (place : ℕ) (leg : Leg) → slice_get (legs_at task spot) place ≡ Some leg → least ≤ leg.first → can_take task run settled.used leg.segment ≡ true → LiesAhead ahead leg.segment.to
+    ends_in (node_at task spot) ≡ false → (place : ℕ) (leg : Leg) → slice_get (legs_at task spot) place ≡ Some leg
+    → least ≤ leg.first → can_take task run settled.used leg.segment ≡ true → LiesAhead ahead leg.segment.to
 
 -- more stops lie ahead, and each new one is gone over
 pub record Widens (task : Task) (settled : Settled) (run : PartialRun) (old new : List Bool) : Type 0 where
@@ -36,12 +38,14 @@ pub record Widens (task : Task) (settled : Settled) (run : PartialRun) (old new 
   pub fewer : unused new ≤ unused old
 
 -- a stop is gone over
-pub record WidensFrom (task : Task) (settled : Settled) (run : PartialRun) (spot : ℕ) (old new : List Bool) : Type 0 where
+pub record WidensFrom (task : Task) (settled : Settled) (run : PartialRun) (spot : ℕ) (old new : List Bool) : Type
+    0 where
   pub widens : Widens task settled run old new
   pub here : IsGoneOver task settled run new spot
 
 -- a stop lies ahead, and is gone over
-pub record WidensPast (task : Task) (settled : Settled) (run : PartialRun) (spot : ℕ) (old new : List Bool) : Type 0 where
+pub record WidensPast (task : Task) (settled : Settled) (run : PartialRun) (spot : ℕ) (old new : List Bool) : Type
+    0 where
   pub widens : Widens task settled run old new
   pub lies : LiesAhead new spot
 
@@ -50,14 +54,17 @@ abbrev pub leads_on : Task → Settled → PartialRun → List Bool → Segment 
 leads_on task settled run ahead segment = not (get_or ahead segment.to false) && can_take task run settled.used segment
 
 -- a piece leads to a stop that lies ahead, if the run may take it
-pub record WidensBy (task : Task) (settled : Settled) (run : PartialRun) (segment : Segment) (old new : List Bool) : Type 0 where
+pub record WidensBy (task : Task) (settled : Settled) (run : PartialRun) (segment : Segment)
+    (old new : List Bool) : Type 0 where
   pub widens : Widens task settled run old new
   pub leads : can_take task run settled.used segment ≡ true → LiesAhead new segment.to
 
 -- the ways from a stop before one of them are gone over
-pub record WidensBelow (task : Task) (settled : Settled) (run : PartialRun) (spot most : ℕ) (old new : List Bool) : Type 0 where
+pub record WidensBelow (task : Task) (settled : Settled) (run : PartialRun) (spot most : ℕ)
+    (old new : List Bool) : Type 0 where
   pub widens : Widens task settled run old new
-  pub leads : (place : ℕ) (leg : Leg) → place < most → slice_get (legs_at task spot) place ≡ Some leg → can_take task run settled.used leg.segment ≡ true → LiesAhead new leg.segment.to
+  pub leads : (place : ℕ) (leg : Leg) → place < most → slice_get (legs_at task spot) place ≡ Some leg
+      → can_take task run settled.used leg.segment ≡ true → LiesAhead new leg.segment.to
 
 -- the stop where a run began is gone over, as far as the run may turn back
 pub record WidensBack (task : Task) (settled : Settled) (run : PartialRun) (old new : List Bool) : Type 0 where
@@ -65,9 +72,11 @@ pub record WidensBack (task : Task) (settled : Settled) (run : PartialRun) (old 
   pub here : IsGoneOverFrom task settled run run.first new run.home
 
 -- the ways from there before one of them are gone over
-pub record WidensBackBelow (task : Task) (settled : Settled) (run : PartialRun) (most : ℕ) (old new : List Bool) : Type 0 where
+pub record WidensBackBelow (task : Task) (settled : Settled) (run : PartialRun) (most : ℕ)
+    (old new : List Bool) : Type 0 where
   pub widens : Widens task settled run old new
-  pub leads : (place : ℕ) (leg : Leg) → place < most → slice_get (legs_at task run.home) place ≡ Some leg → run.first ≤ leg.first → can_take task run settled.used leg.segment ≡ true → LiesAhead new leg.segment.to
+  pub leads : (place : ℕ) (leg : Leg) → place < most → slice_get (legs_at task run.home) place ≡ Some leg
+      → run.first ≤ leg.first → can_take task run settled.used leg.segment ≡ true → LiesAhead new leg.segment.to
 
 -- all stops that a run may still come to lie ahead
 pub record IsOutlook (task : Task) (settled : Settled) (run : PartialRun) (ahead : List Bool) : Type 0 where
@@ -101,7 +110,8 @@ one_end level (node ∷ nodes) (false ∷ ahead) = one_end level nodes ahead
 abbrev pub two_ends : ℕ → List Node → List Bool → ℕ
 two_ends level [] ahead = 0
 two_ends level (node ∷ nodes) [] = 0
-two_ends level (node ∷ nodes) (true ∷ ahead) = max (two_ends level nodes ahead) (if_ending node.ends (node.value - level) + one_end level nodes ahead)
+two_ends level (node ∷ nodes) (true ∷ ahead) =
+    max (two_ends level nodes ahead) (if_ending node.ends (node.value - level) + one_end level nodes ahead)
 two_ends level (node ∷ nodes) (false ∷ ahead) = two_ends level nodes ahead
 
 -- what counts of these, if a run may go on from where it stands, and from where it began: at a stop at which it ends it goes
@@ -137,14 +147,16 @@ pub record IsWorth (nodes : List Node) (ahead : List Bool) (worth : Worth) : Typ
 -- a stop that may be passed is added
 pub record HasPassed (value : ℕ) (old new : Worth) : Type 0 where
   pub levels : new.levels ≡ old.levels
-  pub each : (place : ℕ) → place < old.levels → get_or new.beyond place 0 ≡ get_or old.beyond place 0 + (value - 10 * place)
+  pub each : (place : ℕ) → place < old.levels → get_or new.beyond place 0
+      ≡ get_or old.beyond place 0 + (value - 10 * place)
   pub first : new.first ≡ old.first
   pub second : new.second ≡ old.second
 
 -- a stop that may be passed is taken away
 pub record HasTakenBack (value : ℕ) (old new : Worth) : Type 0 where
   pub levels : new.levels ≡ old.levels
-  pub each : (place : ℕ) → place < old.levels → get_or new.beyond place 0 ≡ get_or old.beyond place 0 - (value - 10 * place)
+  pub each : (place : ℕ) → place < old.levels → get_or new.beyond place 0
+      ≡ get_or old.beyond place 0 - (value - 10 * place)
   pub first : new.first ≡ old.first
   pub second : new.second ≡ old.second
 
@@ -153,7 +165,8 @@ pub record HasRanked (value : ℕ) (old new : Worth) : Type 0 where
   pub levels : new.levels ≡ old.levels
   pub same : new.beyond ≡ old.beyond
   pub one : (level : ℕ) → (old.first - level ≤ new.first - level) × (value - level ≤ new.first - level)
-  pub two : (level : ℕ) → ((old.first - level) + (old.second - level) ≤ (new.first - level) + (new.second - level)) × ((value - level) + (old.first - level) ≤ (new.first - level) + (new.second - level))
+  pub two : (level : ℕ) → ((old.first - level) + (old.second - level) ≤ (new.first - level) + (new.second - level))
+      × ((value - level) + (old.first - level) ≤ (new.first - level) + (new.second - level))
   pub order : new.second ≤ new.first
   pub low : (most : ℕ) → old.first ≤ most → value ≤ most → new.first ≤ most
 

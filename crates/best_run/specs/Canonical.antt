@@ -14,15 +14,18 @@ use Rattle.best_run.specs.Legs.{IsListed, IsStop, legs_at}
 -- each way from a stop that crosses no used border leads to a stop in reach
 abbrev pub AllLead : Task → List Bool → List Bool → ℕ → Type 0
 AllLead task used reach spot =
-    (place : ℕ) (leg : Leg) → slice_get (legs_at task spot) place ≡ Some leg → misses used leg.segment.borders.items ≡ true → LiesAhead reach leg.segment.to
+    (place : ℕ) (leg : Leg) → slice_get (legs_at task spot) place ≡ Some leg
+    → misses used leg.segment.borders.items ≡ true → LiesAhead reach leg.segment.to
 
 -- a run may set out from a token of the company, and go on from a stop in reach that it may pass
 abbrev pub SetsOut : Task → List Bool → ℕ → Type 0
-SetsOut task reach spot = (own_in (node_at task spot) ≡ true) ⊎ (LiesAhead reach spot × (ends_in (node_at task spot) ≡ false))
+SetsOut task reach spot = (own_in (node_at task spot) ≡ true)
+    ⊎ (LiesAhead reach spot × (ends_in (node_at task spot) ≡ false))
 
 abbrev pub sets_out : Task → List Bool → ℕ → Bool
 sets_out task reach spot =
-    stop_in (node_at task spot) && (own_in (node_at task spot) || (get_or reach spot false && not (ends_in (node_at task spot))))
+    stop_in (node_at task spot) && (own_in (node_at task spot)
+    || (get_or reach spot false && not (ends_in (node_at task spot))))
 
 -- all stops to which a run may come lie in reach
 abbrev pub IsInReach : Task → List Bool → List Bool → Type 0
@@ -36,19 +39,31 @@ pub record Holds (stop : ℕ) (old new : List Bool) : Type 0 where
 
 -- the tokens from which ways lead lie in reach, and all stops to which a run may come from a stop that does
 pub record AreHeld (task : Task) (used reach : List Bool) : Type 0 where
-  pub held : (spot : ℕ) → IsStop task spot → own_in (node_at task spot) ≡ true → (legs_at task spot ≡ []) ⊎ LiesAhead reach spot
+  pub held : (spot : ℕ) → IsStop task spot → own_in (node_at task spot) ≡ true
+      → (legs_at task spot ≡ []) ⊎ LiesAhead reach spot
   pub all : (spot : ℕ) → LiesAhead reach spot → ends_in (node_at task spot) ≡ false → AllLead task used reach spot
 
 -- the same for tokens at listed stops before one, and for the stops that lie in reach so far
 pub record ReachesBelow (task : Task) (used : List Bool) (most : ℕ) (reach : List Bool) : Type 0 where
-  pub own : (spot : ℕ) → IsListed task.stops.items most spot → own_in (node_at task spot) ≡ true → AllLead task used reach spot
+  pub own : (spot : ℕ) → IsListed task.stops.items most spot → own_in (node_at task spot) ≡ true
+      → AllLead task used reach spot
   pub held : (spot : ℕ) → IsListed task.stops.items most spot → own_in (node_at task spot) ≡ true → LiesAhead reach spot
   pub all : (spot : ℕ) → LiesAhead reach spot → ends_in (node_at task spot) ≡ false → AllLead task used reach spot
 
 -- a run that has visited nothing
 abbrev pub anywhere : PartialRun
 anywhere =
-    record { home = 0; first = 0; turned = false; head = 0; most = 0; left = 1; value = 0; visited = replicate 744 false }
+    record {
+      home = 0;
+      first = 0;
+      turned = false;
+      head = 0;
+      most = 0;
+      left = 1;
+      value = 0;
+      visited =
+          replicate 744 false;
+    }
 
 -- more stops lie in reach, and all to which a way from a stop leads
 pub record WidensTo (task : Task) (settled : Settled) (spot : ℕ) (old new : List Bool) : Type 0 where
@@ -63,11 +78,13 @@ cleared_all marks (border ∷ borders) = cleared_all (set marks border false) bo
 -- each way from a stop before a place that crosses no used border crosses none of the shut ones
 abbrev pub AreOpenBelow : Task → List Bool → ℕ → ℕ → List Bool → Type 0
 AreOpenBelow task used spot most shut =
-    (place : ℕ) (leg : Leg) → place < most → slice_get (legs_at task spot) place ≡ Some leg → misses used leg.segment.borders.items ≡ true → misses shut leg.segment.borders.items ≡ true
+    (place : ℕ) (leg : Leg) → place < most → slice_get (legs_at task spot) place ≡ Some leg
+    → misses used leg.segment.borders.items ≡ true → misses shut leg.segment.borders.items ≡ true
 
 abbrev pub AreOpen : Task → List Bool → ℕ → List Bool → Type 0
 AreOpen task used spot shut =
-    (place : ℕ) (leg : Leg) → slice_get (legs_at task spot) place ≡ Some leg → misses used leg.segment.borders.items ≡ true → misses shut leg.segment.borders.items ≡ true
+    (place : ℕ) (leg : Leg) → slice_get (legs_at task spot) place ≡ Some leg
+    → misses used leg.segment.borders.items ≡ true → misses shut leg.segment.borders.items ≡ true
 
 -- fewer borders are shut, and among them are still the used ones, if they were before
 pub record Opens (used old new : List Bool) : Type 0 where
@@ -77,7 +94,8 @@ pub record Opens (used old new : List Bool) : Type 0 where
 -- each way from the listed stops before one from which a run may go on is open, and the used borders are shut
 pub record IsShutBelow (task : Task) (used reach : List Bool) (most : ℕ) (shut : List Bool) : Type 0 where
   pub kept : Freer shut used
-  pub open_legs : (spot : ℕ) → IsListed task.stops.items most spot → SetsOut task reach spot → AreOpen task used spot shut
+  pub open_legs : (spot : ℕ) → IsListed task.stops.items most spot → SetsOut task reach spot
+      → AreOpen task used spot shut
 
 -- the same for all stops
 pub record IsShut (task : Task) (used reach shut : List Bool) : Type 0 where

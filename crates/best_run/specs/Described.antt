@@ -79,8 +79,10 @@ pub record HasSegmentOf (task : Task) (number : ℕ) (step : Step) : Type 0 wher
 -- what is searched is the position, for these trains of a company
 pub record Describes (position : Position) (company : Company) (kinds : List Kind) (task : Task) : Type 0 where
   pub spots : (spot : Spot) → IsNodeAt position company (stop_of spot) (node_at task (spot_number spot))
-  pub sound : (number index : ℕ) (segment : Segment) → LeadsFrom task number index segment → IsStepFrom position number segment
-  pub complete : (number : ℕ) (step : Step) → IsTrack position step → GoesFrom number step → HasSegmentOf task number step
+  pub sound : (number index : ℕ) (segment : Segment) → LeadsFrom task number index segment
+      → IsStepFrom position number segment
+  pub complete : (number : ℕ) (step : Step) → IsTrack position step → GoesFrom number step
+      → HasSegmentOf task number step
   pub trains : task.trains.items ≡ most_of_all kinds
 
 -- the number of the spot from which a step is taken that is entered at an end of a hex
@@ -152,7 +154,8 @@ pub record AreNumbered (position : Position) (company : Company) (nodes : List N
 -- the sides, and the stops before a number
 pub record AreNumberedBefore (position : Position) (company : Company) (most : ℕ) (nodes : List Node) : Type 0 where
   pub all : length nodes ≡ 744
-  pub each : (number : ℕ) (node : Node) → slice_get nodes number ≡ Some node → (number < most) ⊎ (number % 8 < 6) → IsNumbered position company number node
+  pub each : (number : ℕ) (node : Node) → slice_get nodes number ≡ Some node → (number < most) ⊎ (number % 8 < 6)
+      → IsNumbered position company number node
 
 -- to the pieces of some steps that of one more step is added
 abbrev pub TakesStep : Step → List Entry → List Entry → Type 0

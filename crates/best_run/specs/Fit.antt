@@ -31,7 +31,8 @@ IsSide task spot = (stop_in (node_at task spot) ≡ false) × (own_in (node_at t
 pub record IsFit (task : Task) : Type 0 where
   pub all : length task.spots.items ≡ 744
   pub nodes : (spot : ℕ) (node : Node) → slice_get task.spots.items spot ≡ Some node → NodeFits node
-  pub segments : (spot index : ℕ) (segment : Segment) → LeadsFrom task spot index segment → SegmentFits task (stop_in (node_at task spot)) segment
+  pub segments : (spot index : ℕ) (segment : Segment) → LeadsFrom task spot index segment
+      → SegmentFits task (stop_in (node_at task spot)) segment
   pub sides : (spot : ℕ) → spot % 8 < 6 → IsSide task spot
 
 -- a run at a stop has room for one stop less

@@ -12,7 +12,8 @@ use Rattle.tables.specs.declared.roster.Company.{Company}
 use Rattle.tables.specs.declared.round.Round.{Round}
 
 -- one group more is kept
-pub record KeepsOne (position : Position) (round : Round) (company : Company) (trains : List Kind) (money : ℤ) (old new : List Group) : Type 0 where
+pub record KeepsOne (position : Position) (round : Round) (company : Company) (trains : List Kind) (money : ℤ)
+    (old new : List Group) : Type 0 where
   pub group : Group
   pub kept : new ≡ old ++ group ∷ []
   pub of_round : group.round ≡ round

@@ -71,7 +71,8 @@ pub record IsKept (search_state : SearchState) (old new : Found) : Type 0 where
   pub amount : new.amount ≡ old.amount
   pub marks : marks_in new.move_path ≡ marks_in old.move_path
   pub refused : new.move_path.refused ≡ None → old.move_path.refused ≡ None
-  pub only : (place : ℕ) (entry : SearchState) → slice_get new.memo.items place ≡ Some entry → IsHeld old entry ⊎ (search_state ≡ entry)
+  pub only : (place : ℕ) (entry : SearchState) → slice_get new.memo.items place ≡ Some entry
+      → IsHeld old entry ⊎ (search_state ≡ entry)
 
 -- nothing is found yet, no move is told, and no state is kept
 pub record IsNothing (found : Found) : Type 0 where

@@ -16,12 +16,14 @@ use Rattle.best_run.specs.Legs.{IsMirrored, legs_at}
 -- all ways from a stop that cross no used border cross a border
 abbrev pub CrossIt : Task → List Bool → ℕ → ℕ → Type 0
 CrossIt task used spot border =
-    (place : ℕ) (leg : Leg) → slice_get (legs_at task spot) place ≡ Some leg → misses used leg.segment.borders.items ≡ true → IsAmong border leg.segment.borders.items
+    (place : ℕ) (leg : Leg) → slice_get (legs_at task spot) place ≡ Some leg
+    → misses used leg.segment.borders.items ≡ true → IsAmong border leg.segment.borders.items
 
 -- the same for those before a place
 abbrev pub CrossItBelow : Task → List Bool → ℕ → ℕ → ℕ → Type 0
 CrossItBelow task used spot border most =
-    (place : ℕ) (leg : Leg) → place < most → slice_get (legs_at task spot) place ≡ Some leg → misses used leg.segment.borders.items ≡ true → IsAmong border leg.segment.borders.items
+    (place : ℕ) (leg : Leg) → place < most → slice_get (legs_at task spot) place ≡ Some leg
+    → misses used leg.segment.borders.items ≡ true → IsAmong border leg.segment.borders.items
 
 -- a run that comes to a stop goes on from there no more
 abbrev pub IsLast : Task → List Bool → ℕ → Type 0
@@ -40,13 +42,15 @@ pub record Counts (task : Task) (settled : Settled) (run : PartialRun) (nodes : 
   pub plain : run.most ≡ 0 → nodes ≡ task.spots.items
 
 -- it is known what the stops ahead are worth, as they count
-pub record HasWorth (task : Task) (settled : Settled) (run : PartialRun) (ahead : List Bool) (worth : Worth) : Type 0 where
+pub record HasWorth (task : Task) (settled : Settled) (run : PartialRun) (ahead : List Bool) (worth : Worth) : Type
+    0 where
   pub nodes : List Node
   pub counts : Counts task settled run nodes
   pub known : IsWorth nodes ahead worth
 
 -- the same, where a stop counts as one that may be passed
-pub record CountsAsPassed (task : Task) (settled : Settled) (run : PartialRun) (spot : ℕ) (ahead : List Bool) (worth : Worth) : Type 0 where
+pub record CountsAsPassed (task : Task) (settled : Settled) (run : PartialRun) (spot : ℕ) (ahead : List Bool)
+    (worth : Worth) : Type 0 where
   pub has : HasWorth task settled run ahead worth
   pub passed : ends_in (slice_get has.nodes spot) ≡ false
 

@@ -46,7 +46,8 @@ AreFree used segment (hop ∷ hops) =
     (misses used segment.borders.items ≡ true) × AreFree (marked_all used segment.borders.items) hop.segment hops
 
 -- a way is made of a piece at a place and of others, after some steps over the used borders: it crosses these as well
-pub record IsMadeOf (task : Task) (used : List Bool) (walked : List Step) (place : ℕ) (segment : Segment) (hops : List Hop) (leg : Leg) : Type 0 where
+pub record IsMadeOf (task : Task) (used : List Bool) (walked : List Step) (place : ℕ) (segment : Segment)
+    (hops : List Hop) (leg : Leg) : Type 0 where
   pub leads : LeadsTo task segment hops leg.segment.to
   pub free : AreFree used segment hops
   pub place_is : leg.first ≡ place
@@ -54,17 +55,21 @@ pub record IsMadeOf (task : Task) (used : List Bool) (walked : List Step) (place
   pub steps : leg.steps.items ≡ walked ++ steps_by segment hops
 
 -- a way by a piece is among some
-pub record HasLeg (task : Task) (used : List Bool) (walked : List Step) (place : ℕ) (segment : Segment) (hops : List Hop) (to : ℕ) (legs : List Leg) : Type 0 where
+pub record HasLeg (task : Task) (used : List Bool) (walked : List Step) (place : ℕ) (segment : Segment)
+    (hops : List Hop) (to : ℕ) (legs : List Leg) : Type 0 where
   pub leg : Leg
   pub among : IsAmong leg legs
   pub made : IsMadeOf task used walked place segment hops leg
   pub to_is : leg.segment.to ≡ to
 
 -- the ways by a piece are added to some
-pub record AddsLegs (task : Task) (used : List Bool) (walked : List Step) (place : ℕ) (segment : Segment) (old new : List Leg) : Type 0 where
+pub record AddsLegs (task : Task) (used : List Bool) (walked : List Step) (place : ℕ) (segment : Segment)
+    (old new : List Leg) : Type 0 where
   pub kept : (leg : Leg) → IsAmong leg old → IsAmong leg new
-  pub sound : (leg : Leg) → IsAmong leg new → IsAmong leg old ⊎ ((hops : List Hop) × IsMadeOf task used walked place segment hops leg)
-  pub complete : (hops : List Hop) (to : ℕ) → LeadsTo task segment hops to → AreFree used segment hops → HasLeg task used walked place segment hops to new
+  pub sound : (leg : Leg) → IsAmong leg new → IsAmong leg old
+      ⊎ ((hops : List Hop) × IsMadeOf task used walked place segment hops leg)
+  pub complete : (hops : List Hop) (to : ℕ) → LeadsTo task segment hops to → AreFree used segment hops
+      → HasLeg task used walked place segment hops to new
 
 -- the ways by a piece after a path are added to some
 abbrev pub AddsLegsBy : Task → List Bool → Path → Segment → List Leg → List Leg → Type 0
@@ -93,10 +98,15 @@ pub record IsSamePath (old new : Path) : Type 0 where
   pub steps : new.steps.items ≡ old.steps.items
 
 -- those by the pieces from a spot before one of them, after a piece that led there
-pub record AddsBelow (task : Task) (used : List Bool) (walked : List Step) (place : ℕ) (spot most : ℕ) (old new : List Leg) : Type 0 where
+pub record AddsBelow (task : Task) (used : List Bool) (walked : List Step) (place : ℕ) (spot most : ℕ)
+    (old new : List Leg) : Type 0 where
   pub kept : (leg : Leg) → IsAmong leg old → IsAmong leg new
-  pub sound : (leg : Leg) → IsAmong leg new → IsAmong leg old ⊎ ((hop : Hop) × LeadsFrom task spot hop.place hop.segment × ((hops : List Hop) × IsMadeOf task used walked place hop.segment hops leg))
-  pub complete : (hop : Hop) (hops : List Hop) (to : ℕ) → hop.place < most → LeadsFrom task spot hop.place hop.segment → LeadsTo task hop.segment hops to → AreFree used hop.segment hops → HasLeg task used walked place hop.segment hops to new
+  pub sound : (leg : Leg) → IsAmong leg new → IsAmong leg old
+      ⊎ ((hop : Hop) × LeadsFrom task spot hop.place hop.segment
+      × ((hops : List Hop) × IsMadeOf task used walked place hop.segment hops leg))
+  pub complete : (hop : Hop) (hops : List Hop) (to : ℕ) → hop.place < most → LeadsFrom task spot hop.place hop.segment
+      → LeadsTo task hop.segment hops to → AreFree used hop.segment hops
+      → HasLeg task used walked place hop.segment hops to new
 
 -- no border is used
 abbrev pub none_used : List Bool
@@ -104,18 +114,25 @@ none_used = replicate 279 false
 
 -- the ways from a stop by its pieces before one of them
 pub record AreLegsFrom (task : Task) (stop most : ℕ) (legs : List Leg) : Type 0 where
-  pub sound : (leg : Leg) → IsAmong leg legs → (segment : Segment) × LeadsFrom task stop leg.first segment × ((hops : List Hop) × IsMadeOf task none_used [] leg.first segment hops leg)
-  pub complete : (place : ℕ) (segment : Segment) (hops : List Hop) (to : ℕ) → place < most → LeadsFrom task stop place segment → LeadsTo task segment hops to → AreFree none_used segment hops → HasLeg task none_used [] place segment hops to legs
+  pub sound : (leg : Leg) → IsAmong leg legs → (segment : Segment) × LeadsFrom task stop leg.first segment
+      × ((hops : List Hop) × IsMadeOf task none_used [] leg.first segment hops leg)
+  pub complete : (place : ℕ) (segment : Segment) (hops : List Hop) (to : ℕ) → place < most
+      → LeadsFrom task stop place segment → LeadsTo task segment hops to → AreFree none_used segment hops
+      → HasLeg task none_used [] place segment hops to legs
 
 -- the ways from a stop
 pub record AreLegsOf (task : Task) (stop : ℕ) (legs : List Leg) : Type 0 where
-  pub sound : (leg : Leg) → IsAmong leg legs → (segment : Segment) × LeadsFrom task stop leg.first segment × ((hops : List Hop) × IsMadeOf task none_used [] leg.first segment hops leg)
-  pub complete : (place : ℕ) (segment : Segment) (hops : List Hop) (to : ℕ) → LeadsFrom task stop place segment → LeadsTo task segment hops to → AreFree none_used segment hops → HasLeg task none_used [] place segment hops to legs
+  pub sound : (leg : Leg) → IsAmong leg legs → (segment : Segment) × LeadsFrom task stop leg.first segment
+      × ((hops : List Hop) × IsMadeOf task none_used [] leg.first segment hops leg)
+  pub complete : (place : ℕ) (segment : Segment) (hops : List Hop) (to : ℕ) → LeadsFrom task stop place segment
+      → LeadsTo task segment hops to → AreFree none_used segment hops
+      → HasLeg task none_used [] place segment hops to legs
 
 -- those from the first spots, as far as these are stops
 pub record AreDepartures (task : Task) (count : ℕ) (all : List Departures) : Type 0 where
   pub long : length all ≡ count
-  pub each : (stop : ℕ) (from : Departures) → slice_get all stop ≡ Some from → stop_in (node_at task stop) ≡ true → AreLegsOf task stop from.legs.items
+  pub each : (stop : ℕ) (from : Departures) → slice_get all stop ≡ Some from → stop_in (node_at task stop) ≡ true
+      → AreLegsOf task stop from.legs.items
 
 -- from one spot on before another there is no stop
 abbrev pub AreSides : Task → ℕ → ℕ → Type 0
@@ -139,7 +156,8 @@ IsListed stops most stop = (place : ℕ) × (place < most) × (slice_get stops p
 
 -- the stops before one from which ways lead are listed, and all that are listed are stops
 pub record AreStops (task : Task) (count : ℕ) (stops : List ℕ) : Type 0 where
-  pub each : (stop : ℕ) → stop < count → stop_in (node_at task stop) ≡ true → (legs_at task stop ≡ []) ⊎ IsListed stops (length stops) stop
+  pub each : (stop : ℕ) → stop < count → stop_in (node_at task stop) ≡ true
+      → (legs_at task stop ≡ []) ⊎ IsListed stops (length stops) stop
   pub only : (place stop : ℕ) → slice_get stops place ≡ Some stop → IsStop task stop
 
 -- the company has no token from one spot on before another
@@ -150,7 +168,8 @@ HasNoHome task from to = (spot : ℕ) → from ≤ spot → spot < to → own_in
 abbrev pub AreHomes : Task → ℕ → ℕ → List ℕ → Type 0
 AreHomes task from to [] = HasNoHome task from to
 AreHomes task from to (home ∷ homes) =
-    (from ≤ home) × (home < to) × (own_in (node_at task home) ≡ true) × HasNoHome task from home × AreHomes task (home + 1) to homes
+    (from ≤ home) × (home < to) × (own_in (node_at task home) ≡ true) × HasNoHome task from home
+    × AreHomes task (home + 1) to homes
 
 -- a way leads back from where another one comes to, and crosses no border but those of it
 pub record HasMirror (task : Task) (leg : Leg) : Type 0 where
@@ -170,7 +189,8 @@ IsMirrored task = (spot : ℕ) → AllLeadBack task spot
 -- ways lead back over all of them
 pub record AreReady (task : Task) : Type 0 where
   pub long : length task.departures.items ≡ 744
-  pub each : (stop : ℕ) (from : Departures) → slice_get task.departures.items stop ≡ Some from → stop_in (node_at task stop) ≡ true → AreLegsOf task stop from.legs.items
+  pub each : (stop : ℕ) (from : Departures) → slice_get task.departures.items stop ≡ Some from
+      → stop_in (node_at task stop) ≡ true → AreLegsOf task stop from.legs.items
   pub stops : AreStops task 744 task.stops.items
   pub homes : AreHomes task 0 744 task.homes.items
   pub mirrored : task.mirrored ≡ true → IsMirrored task
@@ -181,8 +201,12 @@ StandsBefore legs most leg = (place : ℕ) × (place < most) × (slice_get legs 
 
 -- such ways have been tried, each with its run: the best found grows at most, the trail tells how it is earned from where
 -- the ways are tried, and whatever comes after one of them earns at most that
-pub record TriesLegs (task : Task) (from : State) (settled : Settled) (runs : Leg → PartialRun) (P : Leg → Type 0) (old new : Found) : Type 0 where
+pub record TriesLegs (task : Task) (from : State) (settled : Settled) (runs : Leg → PartialRun) (P : Leg → Type 0)
+    (old new : Found) : Type 0 where
   pub grows : old.amount ≤ new.amount
   pub traced : IsTraced task from old new
   pub known : AreInMemo task old → AreInMemo task new
-  pub most : AreInMemo task old → (leg : Leg) → P leg → can_take task (runs leg) settled.used leg.segment ≡ true → (moves : List Move) → Completes task (partial (using settled leg.segment) (along task (runs leg) leg.segment)) moves → total_after task (partial (using settled leg.segment) (along task (runs leg) leg.segment)) moves ≤ new.amount
+  pub most : AreInMemo task old → (leg : Leg) → P leg → can_take task (runs leg) settled.used leg.segment ≡ true
+      → (moves : List Move) → Completes task (partial (using settled leg.segment) (along task (runs leg) leg.segment))
+      moves → total_after task (partial (using settled leg.segment) (along task (runs leg) leg.segment)) moves
+      ≤ new.amount

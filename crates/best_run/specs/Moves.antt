@@ -61,7 +61,8 @@ may_come false run spot = true
 
 -- a run may take a piece
 abbrev pub can_take : Task → PartialRun → List Bool → Segment → Bool
-can_take task run used segment = may_come (stop_in (node_at task segment.to)) run segment.to && misses used segment.borders.items
+can_take task run used segment = may_come (stop_in (node_at task segment.to)) run segment.to
+    && misses used segment.borders.items
 
 -- how many stops are left after a spot
 abbrev pub left_after : Bool → ℕ → ℕ
@@ -274,7 +275,8 @@ state_at search_state = state_by search_state.settled search_state.run
 -- from no state that is kept as explored more is earned than the best found
 abbrev pub AreInMemo : Task → Found → Type 0
 AreInMemo task found =
-    (place : ℕ) (search_state : SearchState) → slice_get found.memo.items place ≡ Some search_state → LeadsToAtMost task (state_at search_state) found.amount
+    (place : ℕ) (search_state : SearchState) → slice_get found.memo.items place ≡ Some search_state
+    → LeadsToAtMost task (state_at search_state) found.amount
 
 -- moves that begin with such a move have been tried in a state: the best found grows at most, the trail tells how it is
 -- earned, and those that have been tried earn at most that, if what is kept as explored is
@@ -282,22 +284,29 @@ pub record Tries (task : Task) (state : State) (P : Move → Type 0) (old new : 
   pub grows : old.amount ≤ new.amount
   pub traced : IsTraced task state old new
   pub known : AreInMemo task old → AreInMemo task new
-  pub most : AreInMemo task old → (move : Move) (moves : List Move) → P move → Completes task state (move ∷ moves) → total_after task state (move ∷ moves) ≤ new.amount
+  pub most : AreInMemo task old → (move : Move) (moves : List Move) → P move → Completes task state (move ∷ moves)
+      → total_after task state (move ∷ moves) ≤ new.amount
 
 -- all ways from a state to the end have been tried
 pub record Explores (task : Task) (state : State) (old new : Found) : Type 0 where
   pub grows : old.amount ≤ new.amount
   pub traced : IsTraced task state old new
   pub known : AreInMemo task old → AreInMemo task new
-  pub most : AreInMemo task old → (moves : List Move) → Completes task state moves → total_after task state moves ≤ new.amount
+  pub most : AreInMemo task old → (moves : List Move) → Completes task state moves
+      → total_after task state moves ≤ new.amount
 
 -- a piece has been tried with a run that stands before it: if the run may take it, all ways on have been tried
-pub record Takes (task : Task) (settled : Settled) (run : PartialRun) (segment : Segment) (old new : Found) : Type 0 where
+pub record Takes (task : Task) (settled : Settled) (run : PartialRun) (segment : Segment) (old new : Found) : Type
+    0 where
   pub grows : old.amount ≤ new.amount
   pub refused : new.move_path.refused ≡ None → old.move_path.refused ≡ None
-  pub told : new.move_path.refused ≡ None → IsAsBefore old new ⊎ ((can_take task run settled.used segment ≡ true) × IsBetter task (partial (using settled segment) (along task run segment)) old new)
+  pub told : new.move_path.refused ≡ None → IsAsBefore old new
+      ⊎ ((can_take task run settled.used segment ≡ true)
+      × IsBetter task (partial (using settled segment) (along task run segment)) old new)
   pub known : AreInMemo task old → AreInMemo task new
-  pub most : AreInMemo task old → can_take task run settled.used segment ≡ true → (moves : List Move) → Completes task (partial (using settled segment) (along task run segment)) moves → total_after task (partial (using settled segment) (along task run segment)) moves ≤ new.amount
+  pub most : AreInMemo task old → can_take task run settled.used segment ≡ true → (moves : List Move)
+      → Completes task (partial (using settled segment) (along task run segment)) moves
+      → total_after task (partial (using settled segment) (along task run segment)) moves ≤ new.amount
 
 -- moves by their sort
 abbrev pub IsBegin : (ℕ → Type 0) → Move → Type 0

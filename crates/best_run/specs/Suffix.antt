@@ -14,17 +14,20 @@ nothing_before next = record { next = next; total = 0; kind = 0; cap = 0; used =
 -- the trains from one on earn at most so much
 abbrev pub EarnAtMost : Task → ℕ → ℕ → Type 0
 EarnAtMost task next most =
-    (moves : List Move) → Completes task (between (nothing_before next)) moves → total_after task (between (nothing_before next)) moves ≤ most
+    (moves : List Move) → Completes task (between (nothing_before next)) moves
+    → total_after task (between (nothing_before next)) moves ≤ most
 
 -- for no train, for the last one, for the last two, ..: what they earn at most
 abbrev pub AreBounds : Task → List ℕ → Type 0
 AreBounds task bounds =
-    (count bound next : ℕ) → slice_get bounds count ≡ Some bound → next + count ≡ length task.trains.items → EarnAtMost task next bound
+    (count bound next : ℕ) → slice_get bounds count ≡ Some bound → next + count ≡ length task.trains.items
+    → EarnAtMost task next bound
 
 -- with what is settled, the trains that are left can earn no more than has been found
 abbrev pub FallShort : Task → List ℕ → Settled → ℕ → Type 0
 FallShort task bounds settled best =
-    (bound : ℕ) × (slice_get bounds (length task.trains.items - settled.next) ≡ Some bound) × (settled.total + bound ≤ best)
+    (bound : ℕ) × (slice_get bounds (length task.trains.items - settled.next) ≡ Some bound)
+    × (settled.total + bound ≤ best)
 
 -- so many trains from one on may visit so many stops
 abbrev pub AreEqual : Task → ℕ → ℕ → ℕ → Type 0
@@ -46,7 +49,8 @@ pub record IsSolved (task : Task) (count : ℕ) (bounds : List ℕ) (found : Fou
   pub all : length bounds ≡ count
   pub true_bounds : AreBounds task bounds
   pub known : AreInMemo task found
-  pub earns : found.move_path.refused ≡ None → Earns task (between (nothing_before (length task.trains.items - count))) (marks_in found.move_path) found.amount
+  pub earns : found.move_path.refused ≡ None → Earns task
+      (between (nothing_before (length task.trains.items - count))) (marks_in found.move_path) found.amount
 
 -- what is found is the most that any moves from the start earn, and the trail tells how
 pub record IsTop (task : Task) (found : Found) : Type 0 where

@@ -28,12 +28,16 @@ use Rattle.tables.specs.declared.rolling_stock.Kind.TheVariants.{Two, Three}
 
 -- in phase 2 no green tile is laid
 early : Some ColourClosed ≡ first_broken (map_rules (erie_at_home Two) (beginner Erie (pos 0)) (tile_59 false))
-unfolding is_cs_lay is_dh_lay is_lay_used is_none_left on_map_of is_colour_closed tile_on index_of groups plain_hexes print_of printed tile_index_of hexes
+unfolding is_cs_lay is_dh_lay is_lay_used is_none_left on_map_of is_colour_closed tile_on index_of groups plain_hexes
+    print_of printed tile_index_of hexes
 early = refl
 
 -- the lay with its stops swapped breaks no rule, and costs nothing
-allowed : Ok (pos 0) ≡ cost_or (lay_cost_of (erie_at_home Three).lays E11) (first_broken (lay_rules (erie_at_home Three) (beginner Erie (pos 0)) (tile_59 true) true))
-unfolding is_cs_lay is_dh_lay is_lay_used is_none_left on_map_of is_colour_closed is_wrong_colour is_wrong_kind loses_track has_bad_side is_blocked lay_cost_of tile_on index_of groups plain_hexes print_of printed_links_of printed tile_index_of hexes laid_links_of laid_track_of neighbour_of adjacent hex_at site_of
+allowed : Ok (pos 0) ≡ cost_or (lay_cost_of (erie_at_home Three).lays E11)
+    (first_broken (lay_rules (erie_at_home Three) (beginner Erie (pos 0)) (tile_59 true) true))
+unfolding is_cs_lay is_dh_lay is_lay_used is_none_left on_map_of is_colour_closed is_wrong_colour is_wrong_kind
+    loses_track has_bad_side is_blocked lay_cost_of tile_on index_of groups plain_hexes print_of printed_links_of
+    printed tile_index_of hexes laid_links_of laid_track_of neighbour_of adjacent hex_at site_of
 allowed = refl
 
 -- the Erie's own token is reached
@@ -49,7 +53,8 @@ into_city : Step
 into_city = record { link = record { hex = H10; a = AtSide East; b = AtStop First }; turned = false }
 
 walk : IsWalkOf (position_of pennsylvania_at_home) Pennsylvania (into_city ∷ out_of_home ∷ [])
-unfolding out_of_home into_city position_of tile_on index_of groups plain_hexes print_of printed_links_of printed hexes laid_links_of laid_track_of neighbour_of adjacent hex_at site_of
+unfolding out_of_home into_city position_of tile_on index_of groups plain_hexes print_of printed_links_of printed
+    hexes laid_links_of laid_track_of neighbour_of adjacent hex_at site_of
 walk =
     record {
       walk = (inr (inl refl), inr refl, (inr (inl refl), tt, tt));
@@ -70,13 +75,15 @@ reaches =
 -- with 39 the token there is too dear
 too_dear : Err CashTooSmall ≡ cost_or (token_cost_of pennsylvania_at_home.tokens (beginner Pennsylvania (pos 39)) H10)
     (first_broken (token_rules pennsylvania_at_home (beginner Pennsylvania (pos 39)) city_beside true))
-unfolding is_dh_token is_token_used has_none_left has_token_in is_no_free_slot kept_at laid_by token_cost_of tile_on index_of groups plain_hexes print_of printed
+unfolding is_dh_token is_token_used has_none_left has_token_in is_no_free_slot kept_at laid_by token_cost_of tile_on
+    index_of groups plain_hexes print_of printed
 too_dear = refl
 
 -- with 40 it is not
 placed : Ok (pos 40) ≡ cost_or (token_cost_of pennsylvania_at_home.tokens (beginner Pennsylvania (pos 40)) H10)
     (first_broken (token_rules pennsylvania_at_home (beginner Pennsylvania (pos 40)) city_beside true))
-unfolding is_dh_token is_token_used has_none_left has_token_in is_no_free_slot kept_at laid_by token_cost_of tile_on index_of groups plain_hexes print_of printed
+unfolding is_dh_token is_token_used has_none_left has_token_in is_no_free_slot kept_at laid_by token_cost_of tile_on
+    index_of groups plain_hexes print_of printed
 placed = refl
 
 pub worked_examples : WorkedExamples

@@ -26,7 +26,8 @@ abbrev with_homes : MapState → MapState
 with_homes laid = record laid { tokens = laid.tokens ++ homes_to_come laid.tokens }
 
 -- a lay on what is fit
-lay_keeps : (laid : MapState) (asker : Asker) (lay : Lay) → AreFit laid.lays laid.tokens → first_broken (map_rules laid asker lay) ≡ None → AreFit (laid.lays ++ lay ∷ []) laid.tokens
+lay_keeps : (laid : MapState) (asker : Asker) (lay : Lay) → AreFit laid.lays laid.tokens
+    → first_broken (map_rules laid asker lay) ≡ None → AreFit (laid.lays ++ lay ∷ []) laid.tokens
 lay_keeps laid asker lay fit none =
     let kept = none_broken (map_rules laid asker lay) none in
     let tile = or_parts (is_wrong_colour laid.lays lay) (is_wrong_kind lay) kept.1.1.1.1.0 in
@@ -49,14 +50,18 @@ fits_without_homes laid fit =
     no_fault laid.lays laid.tokens (record {
       kinds = fit.kinds;
       sides = fit.sides;
-      slots = slots_for_all laid (λ token among. named (with_homes laid) fit token (among_first laid.tokens (homes_to_come laid.tokens) token among)) (λ stop.
+      slots = slots_for_all laid (λ token among. named (with_homes laid) fit token
+          (among_first laid.tokens (homes_to_come laid.tokens) token among)) (λ stop.
           let before = room (with_homes laid) fit stop in
           let homes = homes_take laid.tokens stop in
           omega arith);
     })
 
 -- one more token that names a stop, for which each stop has room beside the slots that are kept then
-one_more : (laid : MapState) (token : Place × Company) → Fits laid → ((stop : Stop) × (stop_of token.0 ≡ Some stop)) → ((stop : Stop) → taken_at (laid.tokens ++ token ∷ []) stop + kept_at (laid.tokens ++ token ∷ []) (joined_stop_of stop) ≤ slots_at laid.lays stop) → Fits (with_token laid token.0 token.1)
+one_more : (laid : MapState) (token : Place × Company) → Fits laid → ((stop : Stop) × (stop_of token.0 ≡ Some stop))
+    → ((stop : Stop) → taken_at (laid.tokens ++ token ∷ []) stop
+    + kept_at (laid.tokens ++ token ∷ []) (joined_stop_of stop) ≤ slots_at laid.lays stop)
+    → Fits (with_token laid token.0 token.1)
 one_more laid token fit names_one enough =
     let tokens = laid.tokens ++ token ∷ [] in
     record {
@@ -65,7 +70,8 @@ one_more laid token fit names_one enough =
       slots = slots_for_all (with_homes (with_token laid token.0 token.1)) (λ other among.
           elim (among_append tokens (homes_to_come tokens) other among) [
             | inl lies ↦ elim (among_append laid.tokens (token ∷ []) other lies) [
-              | inl before ↦ named (with_homes laid) fit other (among_first laid.tokens (homes_to_come laid.tokens) other before)
+              | inl before ↦ named (with_homes laid) fit other
+                  (among_first laid.tokens (homes_to_come laid.tokens) other before)
               | inr last ↦ elim last [
                 | inl is ↦ (names_one.0, ap (λ (t : Place × Company). stop_of t.0) (sym is) ∙ names_one.1)
                 | inr none ↦ absurd none
@@ -79,7 +85,8 @@ one_more laid token fit names_one enough =
     }
 
 -- how many name a stop with one more
-taken_push : (tokens : List (Place × Company)) (token : Place × Company) (stop : Stop) → taken_at (tokens ++ token ∷ []) stop ≡ taken_at tokens stop + cond (names (joined_stop_of stop) token.0) 1 0
+taken_push : (tokens : List (Place × Company)) (token : Place × Company) (stop : Stop)
+    → taken_at (tokens ++ token ∷ []) stop ≡ taken_at tokens stop + cond (names (joined_stop_of stop) token.0) 1 0
 taken_push tokens token stop =
     sum_by_push (λ (t : Place × Company). cond (names (joined_stop_of stop) t.0) 1 0) tokens token
 
@@ -94,7 +101,10 @@ token_keeps_fit laid asker place fit none =
     let before = room (with_homes laid) fit stop in
     let homes = homes_take laid.tokens stop in
     let less = kept_less laid.tokens (place, asker.company) (joined_stop_of stop) in
-    (elim (names (joined_stop_of stop) place) as (λ b. names (joined_stop_of stop) place ≡ b → taken_at (laid.tokens ++ (place, asker.company) ∷ []) stop ≡ taken_at laid.tokens stop + cond b 1 0 → taken_at (laid.tokens ++ (place, asker.company) ∷ []) stop + kept_at (laid.tokens ++ (place, asker.company) ∷ []) (joined_stop_of stop) ≤ slots_at laid.lays stop) [
+    (elim (names (joined_stop_of stop) place) as (λ b. names (joined_stop_of stop) place ≡ b
+    → taken_at (laid.tokens ++ (place, asker.company) ∷ []) stop ≡ taken_at laid.tokens stop + cond b 1 0
+    → taken_at (laid.tokens ++ (place, asker.company) ∷ []) stop
+    + kept_at (laid.tokens ++ (place, asker.company) ∷ []) (joined_stop_of stop) ≤ slots_at laid.lays stop) [
       | true ↦ λ here count. let low = free_where laid (stop_of place) stop here free in omega arith
       | false ↦ λ elsewhere count. omega arith
     ]) refl pushed)
@@ -108,10 +118,15 @@ home_keeps_fit laid company fit none =
     let before = room (with_homes laid) fit stop in
     let homes = homes_take laid.tokens stop in
     let less = kept_less laid.tokens (home_token company) joined in
-    (elim (names joined (home_token company).0) as (λ b. names joined (home_token company).0 ≡ b → taken_at (laid.tokens ++ home_token company ∷ []) stop ≡ taken_at laid.tokens stop + cond b 1 0 → taken_at (laid.tokens ++ home_token company ∷ []) stop + kept_at (laid.tokens ++ home_token company ∷ []) joined ≤ slots_at laid.lays stop) [
+    (elim (names joined (home_token company).0) as
+    (λ b. names joined (home_token company).0 ≡ b → taken_at (laid.tokens ++ home_token company ∷ []) stop
+    ≡ taken_at laid.tokens stop + cond b 1 0 → taken_at (laid.tokens ++ home_token company ∷ []) stop
+    + kept_at (laid.tokens ++ home_token company ∷ []) joined ≤ slots_at laid.lays stop) [
       | true ↦ λ here count.
           let is : home_of company ≡ joined = home_there company joined here in
-          let taken : kept_at (laid.tokens ++ home_token company ∷ []) joined + 1 ≤ kept_at laid.tokens joined = subst (λ (s : Stop). kept_at (laid.tokens ++ home_token company ∷ []) s + 1 ≤ kept_at laid.tokens s) is (home_takes_kept laid.tokens company none) in
+          let taken : kept_at (laid.tokens ++ home_token company ∷ []) joined + 1 ≤ kept_at laid.tokens joined =
+          subst (λ (s : Stop). kept_at (laid.tokens ++ home_token company ∷ []) s + 1 ≤ kept_at laid.tokens s) is
+          (home_takes_kept laid.tokens company none) in
           omega arith
       | false ↦ λ elsewhere count. omega arith
     ]) refl pushed)

@@ -9,10 +9,12 @@ use Rattle.map_tables.specs.declared.rules.LayRule.{LayRule}
 use Rattle.tables.specs.Rules.{first_broken}
 
 -- a rule that stands before what is reached
-pub broken_before : (laid : MapState) (asker : Asker) (lay : Lay) (rule : LayRule) → Some rule ≡ first_broken (map_rules laid asker lay) → IsLayAnswer laid asker lay (Err rule)
+pub broken_before : (laid : MapState) (asker : Asker) (lay : Lay) (rule : LayRule)
+    → Some rule ≡ first_broken (map_rules laid asker lay) → IsLayAnswer laid asker lay (Err rule)
 broken_before laid asker lay rule e =
     record {
       reached = true;
       exact = λ none. absurd (let wrong : Some rule ≡ None = e ∙ none in let no : ⊥ = cc in no);
-      given = sym (ap (cost_or (lay_cost_of laid.lays lay.hex)) (earlier (map_rules laid asker lay) (reach_rules laid asker lay true) rule (sym e)));
+      given = sym (ap (cost_or (lay_cost_of laid.lays lay.hex))
+          (earlier (map_rules laid asker lay) (reach_rules laid asker lay true) rule (sym e)));
     }

@@ -25,7 +25,8 @@ west_has_one link (inl is) second = absurd (let wrong = ap (λ (l : Link). l.b) 
 west_has_one link (inr more) second = absurd more
 
 -- whatever was laid
-one_stop : (laid : MapState) (hex : Hex) (link : Link) → IsAmong link (track_in laid.lays hex) → link.b ≡ AtStop Second → joined_hex hex ≡ hex
+one_stop : (laid : MapState) (hex : Hex) (link : Link) → IsAmong link (track_in laid.lays hex)
+    → link.b ≡ AtStop Second → joined_hex hex ≡ hex
 unfolding index_of
 one_stop laid I1 link track second = gulf_has_one link track second
 one_stop laid A9 link track second = west_has_one link track second

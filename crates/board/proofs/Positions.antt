@@ -34,7 +34,9 @@ in_hex_is laid hex =
     get_or-map (on_map_in laid) hexes (index_of hex) A9 empty_hex (index_low hex) ∙ ap (on_map_in laid) (at_index hex)
 
 -- what stands at a number among so many stops
-numbered : (f : StopNumber → AtStop) (count : ℕ) (number : StopNumber) (none : AtStop) → get_or (map f (stop_numbers count)) (stop_index_of number) none ≡ cond (nat_lt (stop_index_of number) count) (f number) none
+numbered : (f : StopNumber → AtStop) (count : ℕ) (number : StopNumber) (none : AtStop)
+    → get_or (map f (stop_numbers count)) (stop_index_of number) none
+    ≡ cond (nat_lt (stop_index_of number) count) (f number) none
 numbered f zero First none = refl
 numbered f zero Second none = refl
 numbered f (suc zero) First none = refl
@@ -49,13 +51,16 @@ joined_twice A9 = refl
 joined_twice hex = refl
 
 -- so its stops are kept there
-stops_kept : (laid : MapState) (hex : Hex) → stops_in laid (joined_hex hex) ≡ map (λ number. on_map_at laid (stop_at (joined_hex hex) number)) (stop_numbers (print_of (joined_hex hex)).stops)
+stops_kept : (laid : MapState) (hex : Hex) → stops_in laid (joined_hex hex)
+    ≡ map (λ number. on_map_at laid (stop_at (joined_hex hex) number)) (stop_numbers (print_of (joined_hex hex)).stops)
 stops_kept laid hex =
-    let there = map (λ number. on_map_at laid (stop_at (joined_hex hex) number)) (stop_numbers (print_of (joined_hex hex)).stops) in
+    let there = map (λ number. on_map_at laid (stop_at (joined_hex hex) number))
+    (stop_numbers (print_of (joined_hex hex)).stops) in
     ap (λ b. cond b there []) (joined_twice hex)
 
 -- what the position has at a stop
-at_stop_is : (laid : MapState) (stop : Stop) → at_stop (position_of laid) stop ≡ cond (is_stop (joined_stop_of stop)) (on_map_at laid (joined_stop_of stop)) no_stop
+at_stop_is : (laid : MapState) (stop : Stop) → at_stop (position_of laid) stop
+    ≡ cond (is_stop (joined_stop_of stop)) (on_map_at laid (joined_stop_of stop)) no_stop
 at_stop_is laid stop =
     let hex = joined_hex stop.hex in
     ap (λ (here : InHex). get_or here.stops (stop_index_of stop.number) no_stop) (in_hex_is laid hex)
@@ -63,17 +68,20 @@ at_stop_is laid stop =
     ∙ numbered (λ number. on_map_at laid (stop_at hex number)) (print_of hex).stops stop.number no_stop
 
 -- at a stop of a hex it has what lies there
-pub shown : (laid : MapState) (stop : Stop) → is_stop (joined_stop_of stop) ≡ true → at_stop (position_of laid) stop ≡ on_map_at laid (joined_stop_of stop)
+pub shown : (laid : MapState) (stop : Stop) → is_stop (joined_stop_of stop) ≡ true
+    → at_stop (position_of laid) stop ≡ on_map_at laid (joined_stop_of stop)
 shown laid stop is = at_stop_is laid stop ∙ ap (λ b. cond b (on_map_at laid (joined_stop_of stop)) no_stop) is
 
 -- and elsewhere nothing
-pub not_on_map : (laid : MapState) (stop : Stop) → is_stop (joined_stop_of stop) ≡ false → at_stop (position_of laid) stop ≡ no_stop
+pub not_on_map : (laid : MapState) (stop : Stop) → is_stop (joined_stop_of stop) ≡ false
+    → at_stop (position_of laid) stop ≡ no_stop
 not_on_map laid stop is = at_stop_is laid stop ∙ ap (λ b. cond b (on_map_at laid (joined_stop_of stop)) no_stop) is
 
 -- the slots of a stop are those that the position has there
 pub slots_on_map : (laid : MapState) (stop : Stop) → (at_stop (position_of laid) stop).slots ≡ slots_at laid.lays stop
 slots_on_map laid stop =
-    (elim (is_stop (joined_stop_of stop)) as (λ b. is_stop (joined_stop_of stop) ≡ b → (at_stop (position_of laid) stop).slots ≡ cond b (slots_on laid.lays (joined_stop_of stop).hex) 0) [
+    (elim (is_stop (joined_stop_of stop)) as (λ b. is_stop (joined_stop_of stop) ≡ b
+    → (at_stop (position_of laid) stop).slots ≡ cond b (slots_on laid.lays (joined_stop_of stop).hex) 0) [
       | true ↦ λ is. ap (λ (s : AtStop). s.slots) (shown laid stop is)
       | false ↦ λ is. ap (λ (s : AtStop). s.slots) (not_on_map laid stop is)
     ]) refl

@@ -23,12 +23,14 @@ pub stop_is : (a b : Stop) → same_stop a b ≡ true → a ≡ b
 stop_is a b same =
     let parts = and_parts (same_hex a.hex b.hex) (stop_index_of a.number == stop_index_of b.number) same in
     ap (λ (hex : Hex). stop_at hex a.number) (hex_is a.hex b.hex parts.0)
-    ∙ ap (λ (number : StopNumber). stop_at b.hex number) (same_stop_index a.number b.number (eqb-true (stop_index_of a.number) (stop_index_of b.number) parts.1))
+    ∙ ap (λ (number : StopNumber). stop_at b.hex number)
+    (same_stop_index a.number b.number (eqb-true (stop_index_of a.number) (stop_index_of b.number) parts.1))
 
 -- and one passes for itself
 pub stop_is_same : (a b : Stop) → a ≡ b → same_stop a b ≡ true
 stop_is_same a b is =
-    ap (λ h. h && (stop_index_of a.number == stop_index_of b.number)) (hex_is_same a.hex b.hex (ap (λ (s : Stop). s.hex) is))
+    ap (λ h. h && (stop_index_of a.number == stop_index_of b.number))
+    (hex_is_same a.hex b.hex (ap (λ (s : Stop). s.hex) is))
     ∙ eq-eqb (stop_index_of a.number) (stop_index_of b.number) (ap (λ (s : Stop). stop_index_of s.number) is)
 
 -- a test or true

@@ -45,7 +45,8 @@ one_of_two true b c implied =
 one_of_two false b c implied = omega arith
 
 -- those that pass a test pass one of two
-count_either : {X : Type 0} (p q r : X → Bool) (xs : List X) → ((x : X) → p x ≡ true → (q x ≡ true) ⊎ (r x ≡ true)) → count_by p xs ≤ count_by q xs + count_by r xs
+count_either : {X : Type 0} (p q r : X → Bool) (xs : List X) → ((x : X) → p x ≡ true → (q x ≡ true) ⊎ (r x ≡ true))
+    → count_by p xs ≤ count_by q xs + count_by r xs
 count_either p q r [] implied = omega arith
 count_either p q r (x ∷ xs) implied =
     let first : count_by p (x ∷ xs) ≡ cond (p x) 1 0 + count_by p xs = sum_by-cons (λ y. cond (p y) 1 0) x xs in
@@ -56,17 +57,23 @@ count_either p q r (x ∷ xs) implied =
     rw (first, second, third) (omega arith)
 
 -- a tile that lies after a lay lay before, or it is the one laid
-lay_or_before : (lays : List Lay) (lay : Lay) (tile : TileNo) (hex : Hex) → is_tile tile (tile_on (lays ++ lay ∷ []) hex) ≡ true → (is_tile tile (tile_on lays hex) ≡ true) ⊎ (same_hex lay.hex hex ≡ true)
+lay_or_before : (lays : List Lay) (lay : Lay) (tile : TileNo) (hex : Hex)
+    → is_tile tile (tile_on (lays ++ lay ∷ []) hex) ≡ true
+    → (is_tile tile (tile_on lays hex) ≡ true) ⊎ (same_hex lay.hex hex ≡ true)
 lay_or_before lays lay tile hex lies =
-    (elim (same_hex lay.hex hex) as (λ b. is_tile tile (cond b (Some lay) (tile_on lays hex)) ≡ true → (is_tile tile (tile_on lays hex) ≡ true) ⊎ (b ≡ true)) [
+    (elim (same_hex lay.hex hex) as (λ b. is_tile tile (cond b (Some lay) (tile_on lays hex)) ≡ true
+    → (is_tile tile (tile_on lays hex) ≡ true) ⊎ (b ≡ true)) [
       | true ↦ λ here. inr refl
       | false ↦ λ before. inl before
     ]) (ap (is_tile tile) (sym (last_lies lays lay hex)) ∙ lies)
 
 -- a tile of another number lay before
-before_lay : (lays : List Lay) (lay : Lay) (tile : TileNo) (hex : Hex) → (tile_index_of lay.tile == tile_index_of tile) ≡ false → is_tile tile (tile_on (lays ++ lay ∷ []) hex) ≡ true → is_tile tile (tile_on lays hex) ≡ true
+before_lay : (lays : List Lay) (lay : Lay) (tile : TileNo) (hex : Hex)
+    → (tile_index_of lay.tile == tile_index_of tile) ≡ false → is_tile tile (tile_on (lays ++ lay ∷ []) hex) ≡ true
+    → is_tile tile (tile_on lays hex) ≡ true
 before_lay lays lay tile hex other lies =
-    (elim (same_hex lay.hex hex) as (λ b. is_tile tile (cond b (Some lay) (tile_on lays hex)) ≡ true → is_tile tile (tile_on lays hex) ≡ true) [
+    (elim (same_hex lay.hex hex) as (λ b. is_tile tile (cond b (Some lay) (tile_on lays hex)) ≡ true
+    → is_tile tile (tile_on lays hex) ≡ true) [
       | true ↦ λ here. cc
       | false ↦ λ before. before
     ]) (ap (is_tile tile) (sym (last_lies lays lay hex)) ∙ lies)
@@ -75,18 +82,22 @@ before_lay lays lay tile hex other lies =
 one_more : (lays : List Lay) (lay : Lay) (tile : TileNo) → on_map_of (lays ++ lay ∷ []) tile ≤ on_map_of lays tile + 1
 unfolding on_map_of
 one_more lays lay tile =
-    let both = count_either (λ hex. is_tile tile (tile_on (lays ++ lay ∷ []) hex)) (λ hex. is_tile tile (tile_on lays hex)) (same_hex lay.hex) hexes (lay_or_before lays lay tile) in
+    let both = count_either (λ hex. is_tile tile (tile_on (lays ++ lay ∷ []) hex))
+    (λ hex. is_tile tile (tile_on lays hex)) (same_hex lay.hex) hexes (lay_or_before lays lay tile) in
     let one = once lay.hex in
     omega arith
 
 -- and no more of another
-no_more : (lays : List Lay) (lay : Lay) (tile : TileNo) → (tile_index_of lay.tile == tile_index_of tile) ≡ false → on_map_of (lays ++ lay ∷ []) tile ≤ on_map_of lays tile
+no_more : (lays : List Lay) (lay : Lay) (tile : TileNo) → (tile_index_of lay.tile == tile_index_of tile) ≡ false
+    → on_map_of (lays ++ lay ∷ []) tile ≤ on_map_of lays tile
 unfolding on_map_of
 no_more lays lay tile other =
-    count_le (λ hex. is_tile tile (tile_on (lays ++ lay ∷ []) hex)) (λ hex. is_tile tile (tile_on lays hex)) hexes (λ hex lies. before_lay lays lay tile hex other lies)
+    count_le (λ hex. is_tile tile (tile_on (lays ++ lay ∷ []) hex)) (λ hex. is_tile tile (tile_on lays hex)) hexes
+    (λ hex lies. before_lay lays lay tile hex other lies)
 
 -- a tile that is left
-left : (lays : List Lay) (tile : TileNo) → is_none_left lays tile ≡ false → on_map_of lays tile + 1 ≤ (entry_of tile).count
+left : (lays : List Lay) (tile : TileNo) → is_none_left lays tile ≡ false
+    → on_map_of lays tile + 1 ≤ (entry_of tile).count
 unfolding is_none_left
 left lays tile some =
     let low = leb-false (entry_of tile).count (on_map_of lays tile) some in omega arith
@@ -95,10 +106,13 @@ pub lay_keeps_stock : LayKeepsStock
 lay_keeps_stock laid asker lay stocked none tile =
     let kept = none_broken (map_rules laid asker lay) none in
     let has = left laid.lays lay.tile kept.1.1.0 in
-    (elim (tile_index_of lay.tile == tile_index_of tile) as (λ b. (tile_index_of lay.tile == tile_index_of tile) ≡ b → on_map_of (laid.lays ++ lay ∷ []) tile ≤ (entry_of tile).count) [
+    (elim (tile_index_of lay.tile == tile_index_of tile) as
+    (λ b. (tile_index_of lay.tile == tile_index_of tile) ≡ b
+    → on_map_of (laid.lays ++ lay ∷ []) tile ≤ (entry_of tile).count) [
       | true ↦ λ same.
           let more = one_more laid.lays lay tile in
-          let enough : on_map_of laid.lays tile + 1 ≤ (entry_of tile).count = subst (λ (t : TileNo). on_map_of laid.lays t + 1 ≤ (entry_of t).count) (tile_is lay.tile tile same) has in
+          let enough : on_map_of laid.lays tile + 1 ≤ (entry_of tile).count =
+          subst (λ (t : TileNo). on_map_of laid.lays t + 1 ≤ (entry_of t).count) (tile_is lay.tile tile same) has in
           omega arith
       | false ↦ λ other.
           let no = no_more laid.lays lay tile other in

@@ -22,16 +22,20 @@ unfolding tile_on
 lies_there lays hex lay e = find_passes (λ l. same_hex l.hex hex) (reverse lays) lay e
 
 -- the last lay lies on its hex, and changes no other
-pub last_lies : (lays : List Lay) (lay : Lay) (hex : Hex) → tile_on (lays ++ lay ∷ []) hex ≡ cond (same_hex lay.hex hex) (Some lay) (tile_on lays hex)
+pub last_lies : (lays : List Lay) (lay : Lay) (hex : Hex)
+    → tile_on (lays ++ lay ∷ []) hex ≡ cond (same_hex lay.hex hex) (Some lay) (tile_on lays hex)
 unfolding tile_on
 last_lies lays lay hex = ap (find (λ l. same_hex l.hex hex)) (reverse-append lays (lay ∷ []))
 
 -- the last of some lays lies on its hex
-pub tile_here : (lays before : List Lay) (lay : Lay) (hex : Hex) → lays ≡ before ++ lay ∷ [] → same_hex lay.hex hex ≡ true → tile_on lays hex ≡ Some lay
+pub tile_here : (lays before : List Lay) (lay : Lay) (hex : Hex) → lays ≡ before ++ lay ∷ []
+    → same_hex lay.hex hex ≡ true → tile_on lays hex ≡ Some lay
 tile_here lays before lay hex ends here =
     ap (λ ls. tile_on ls hex) ends ∙ last_lies before lay hex ∙ ap (λ b. cond b (Some lay) (tile_on before hex)) here
 
 -- and on another hex what lay there before it
-pub tile_before : (lays before : List Lay) (lay : Lay) (hex : Hex) → lays ≡ before ++ lay ∷ [] → same_hex lay.hex hex ≡ false → tile_on lays hex ≡ tile_on before hex
+pub tile_before : (lays before : List Lay) (lay : Lay) (hex : Hex) → lays ≡ before ++ lay ∷ []
+    → same_hex lay.hex hex ≡ false → tile_on lays hex ≡ tile_on before hex
 tile_before lays before lay hex ends elsewhere =
-    ap (λ ls. tile_on ls hex) ends ∙ last_lies before lay hex ∙ ap (λ b. cond b (Some lay) (tile_on before hex)) elsewhere
+    ap (λ ls. tile_on ls hex) ends ∙ last_lies before lay hex
+    ∙ ap (λ b. cond b (Some lay) (tile_on before hex)) elsewhere

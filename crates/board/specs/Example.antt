@@ -45,7 +45,8 @@ tile_59 swap = record { hex = E11; tile = T59; rot = Zero; swap = swap }
 -- the Pennsylvania's token at home, and a city beside it
 abbrev pub pennsylvania_at_home : MapState
 pennsylvania_at_home =
-    map_state_of (record { hex = H10; tile = T57; rot = One; swap = false } ∷ []) ((record { hex = H12; stop = Some First }, Pennsylvania) ∷ []) Two
+    map_state_of (record { hex = H10; tile = T57; rot = One; swap = false } ∷ [])
+    ((record { hex = H12; stop = Some First }, Pennsylvania) ∷ []) Two
 
 -- that city
 abbrev pub city_beside : Place

@@ -24,4 +24,5 @@ board_fault_of lays tokens = first_broken (board_rules lays tokens)
 
 -- none is broken exactly where the tiles and tokens are fit
 abbrev pub FaultlessAreFit : Type 0
-FaultlessAreFit = (lays : List Lay) (tokens : List (Place × Company)) → (board_fault_of lays tokens ≡ None) ↔ AreFit lays tokens
+FaultlessAreFit = (lays : List Lay) (tokens : List (Place × Company))
+    → (board_fault_of lays tokens ≡ None) ↔ AreFit lays tokens

@@ -26,7 +26,8 @@ FitsWithoutHomes = (laid : MapState) → Fits laid → board_fault_of laid.lays 
 -- a lay by the rules keeps what lies fit
 abbrev pub LayKeepsFit : Type 0
 LayKeepsFit =
-    (laid : MapState) (asker : Asker) (lay : Lay) → Fits laid → first_broken (map_rules laid asker lay) ≡ None → Fits (with_lay laid lay)
+    (laid : MapState) (asker : Asker) (lay : Lay) → Fits laid → first_broken (map_rules laid asker lay) ≡ None
+    → Fits (with_lay laid lay)
 
 -- a token by the rules does
 abbrev pub TokenKeepsFit : Type 0
@@ -38,4 +39,5 @@ TokenKeepsFit =
 abbrev pub HomeKeepsFit : Type 0
 HomeKeepsFit =
     (laid : MapState) (company : Company) →
-    Fits laid → has_token laid.tokens (home_of company) company ≡ false → Fits (with_token laid (place_of (home_of company)) company)
+    Fits laid → has_token laid.tokens (home_of company) company ≡ false
+    → Fits (with_token laid (place_of (home_of company)) company)

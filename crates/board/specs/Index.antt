@@ -21,11 +21,13 @@ abbrev pub holder_order : Stop → Company → ℕ
 holder_order stop company = 8 * stop_order stop + place_of_company company
 
 -- these tell what lies
-pub record IsIndex (lays : List Lay) (laid : List (Place × Company)) (tiles : List (Option Lay)) (links : List (List Link)) (counts : List ℕ) (holders : List Bool) : Type 0 where
+pub record IsIndex (lays : List Lay) (laid : List (Place × Company)) (tiles : List (Option Lay))
+    (links : List (List Link)) (counts : List ℕ) (holders : List Bool) : Type 0 where
   pub tile : (hex : Hex) → get_or tiles (index_of hex) None ≡ tile_on lays hex
   pub link : (hex : Hex) → get_or links (index_of hex) [] ≡ by_tile [] laid_links_of (tile_on lays hex)
   pub count : (stop : Stop) → get_or counts (stop_order stop) 0 ≡ count_by (λ token. names stop token.0) laid
-  pub holder : (stop : Stop) (company : Company) → get_or holders (holder_order stop company) false ≡ has_token laid stop company
+  pub holder : (stop : Stop) (company : Company)
+      → get_or holders (holder_order stop company) false ≡ has_token laid stop company
 
 -- the counts once a token is placed that names a stop, or names none
 abbrev pub counting : Option Stop → List ℕ → List ℕ

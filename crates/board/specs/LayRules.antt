@@ -93,7 +93,8 @@ loses_track lays lay = list_any (λ old. not (is_kept (laid_links_of lay) old)) 
 -- whether a hex is one of a private that a player owns
 unfoldable pub is_blocked : Asker → Hex → Bool
 is_blocked asker hex =
-    list_any (λ private. slice_index_or asker.player_privates (place_of_private private) false && list_any (λ one. same_hex one hex) (hexes_of_private private)) privates
+    list_any (λ private. slice_index_or asker.player_privates (place_of_private private) false
+    && list_any (λ one. same_hex one hex) (hexes_of_private private)) privates
 
 -- what a lay on a hex costs: its terrain, with the first tile
 unfoldable pub lay_cost_of : List Lay → Hex → ℕ
@@ -101,7 +102,8 @@ lay_cost_of lays hex = by_tile (print_of hex).cost (λ lay. 0) (tile_on lays hex
 
 -- a company reaches some piece of the tile: a link of it, or a stop of its hex
 pub record IsConnected (position : Position) (company : Company) (lay : Lay) : Type 0 where
-  pub piece : ((link : Link) × IsAmong link (laid_links_of lay) × ReachesLink position company link) ⊎ ((number : StopNumber) × ReachesStop position company (stop_at lay.hex number))
+  pub piece : ((link : Link) × IsAmong link (laid_links_of lay) × ReachesLink position company link)
+      ⊎ ((number : StopNumber) × ReachesStop position company (stop_at lay.hex number))
 
 -- some of these links is one of those
 abbrev pub ShareLink : List Link → List Link → Type 0
@@ -149,7 +151,8 @@ lay_answer_of laid asker lay reached =
 -- is reached is looked at, in the position after the lay.
 pub record IsLayAnswer (laid : MapState) (asker : Asker) (lay : Lay) (answer : Result ℤ LayRule) : Type 0 where
   pub reached : Bool
-  pub exact : first_broken (map_rules laid asker lay) ≡ None → IsTrue reached ↔ IsConnected (position_of (with_lay laid lay)) asker.company lay
+  pub exact : first_broken (map_rules laid asker lay) ≡ None
+      → IsTrue reached ↔ IsConnected (position_of (with_lay laid lay)) asker.company lay
   pub given : answer ≡ lay_answer_of laid asker lay reached
 
 -- the outcome of a call for a lay: that answer; or want of memory, where the rules before what is reached are kept

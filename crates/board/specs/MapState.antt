@@ -75,7 +75,8 @@ stop_numbers (suc (suc more)) = First ∷ Second ∷ []
 -- what lies at the stops of a hex; a stop that lies in two hexes is kept in the one that names it
 abbrev pub stops_in : MapState → Hex → List AtStop
 stops_in laid hex =
-    if same_hex (joined_hex hex) hex then map (λ number. on_map_at laid (stop_at hex number)) (stop_numbers (print_of hex).stops) else []
+    if same_hex (joined_hex hex) hex then map (λ number. on_map_at laid (stop_at hex number))
+    (stop_numbers (print_of hex).stops) else []
 
 -- the track in a hex; one that is a part of another's stop is red and takes no tile, so that its print stays
 abbrev pub track_in : List Lay → Hex → List Link

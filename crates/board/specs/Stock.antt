@@ -16,4 +16,5 @@ IsStocked lays = (tile : TileNo) → on_map_of lays tile ≤ (entry_of tile).cou
 -- nor do they after a lay by the rules
 abbrev pub LayKeepsStock : Type 0
 LayKeepsStock =
-    (laid : MapState) (asker : Asker) (lay : Lay) → IsStocked laid.lays → first_broken (map_rules laid asker lay) ≡ None → IsStocked (laid.lays ++ lay ∷ [])
+    (laid : MapState) (asker : Asker) (lay : Lay) → IsStocked laid.lays
+    → first_broken (map_rules laid asker lay) ≡ None → IsStocked (laid.lays ++ lay ∷ [])

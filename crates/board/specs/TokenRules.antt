@@ -100,7 +100,8 @@ token_answer_of laid asker place reached =
 -- is reached is looked at.
 pub record IsTokenAnswer (laid : MapState) (asker : Asker) (place : Place) (answer : Result ℤ TokenRule) : Type 0 where
   pub reached : Bool
-  pub exact : first_broken (slot_rules laid asker place) ≡ None → IsTrue reached ↔ IsReachedPlace (position_of laid) asker.company place
+  pub exact : first_broken (slot_rules laid asker place) ≡ None
+      → IsTrue reached ↔ IsReachedPlace (position_of laid) asker.company place
   pub given : answer ≡ token_answer_of laid asker place reached
 
 -- the outcome of a call for a token: that answer; or want of memory, where the rules before what is reached are kept

@@ -21,13 +21,15 @@ use Rattle.certificate.proofs.SetBelow.{set_is_leaf}
 
 -- a list in order is known by what is among it
 module _ {A : Type 0} (order : A → ℕ) where
-  earlier : (thing other : A) (things : List A) → AllByRecursion (λ (next : A). order thing < order next) things → IsAmong other things → order thing < order other
+  earlier : (thing other : A) (things : List A) → AllByRecursion (λ (next : A). order thing < order next) things
+      → IsAmong other things → order thing < order other
   earlier thing other [] later among = absurd among
   earlier thing other (next ∷ things) later (inl is) = subst (λ (n : A). order thing < order n) is later.0
   earlier thing other (next ∷ things) later (inr among) = earlier thing other things later.1 among
 
   first_is :
-      (thing other : A) (things others : List A) → StandInOrder order (thing ∷ things) → StandInOrder order (other ∷ others) →
+      (thing other : A) (things others : List A) → StandInOrder order (thing ∷ things)
+      → StandInOrder order (other ∷ others) →
       IsAmong thing (other ∷ others) → IsAmong other (thing ∷ things) → thing ≡ other
   first_is thing other things others first second (inl is) among = sym is
   first_is thing other things others first second (inr later) (inl is) = is
@@ -38,7 +40,8 @@ module _ {A : Type 0} (order : A → ℕ) where
 
   without_first :
       (thing : A) (things others : List A) → StandInOrder order (thing ∷ things) →
-      ((one : A) → IsAmong one (thing ∷ things) → IsAmong one (thing ∷ others)) → (one : A) → IsAmong one things → IsAmong one others
+      ((one : A) → IsAmong one (thing ∷ things) → IsAmong one (thing ∷ others)) → (one : A) → IsAmong one things
+      → IsAmong one others
   without_first thing things others first each one among =
       let up : order thing < order one = earlier thing one things first.0 among in
       elim (each one (inr among)) [
@@ -48,7 +51,8 @@ module _ {A : Type 0} (order : A → ℕ) where
 
   pub one_order :
       (things others : List A) → StandInOrder order things → StandInOrder order others →
-      ((one : A) → IsAmong one things → IsAmong one others) → ((one : A) → IsAmong one others → IsAmong one things) → things ≡ others
+      ((one : A) → IsAmong one things → IsAmong one others) → ((one : A) → IsAmong one others → IsAmong one things)
+      → things ≡ others
   one_order [] [] first second each back = refl
   one_order [] (other ∷ others) first second each back = absurd (back other (inl refl))
   one_order (thing ∷ things) [] first second each back = absurd (each thing (inl refl))
@@ -58,18 +62,21 @@ module _ {A : Type 0} (order : A → ℕ) where
     where
       with_first :
           thing ≡ other →
-          (((one : A) → IsAmong one things → IsAmong one others) → ((one : A) → IsAmong one others → IsAmong one things) → things ≡ others) →
+          (((one : A) → IsAmong one things → IsAmong one others)
+          → ((one : A) → IsAmong one others → IsAmong one things) → things ≡ others) →
           thing ∷ things ≡ other ∷ others
       with_first is rest =
           let along : (one : A) → IsAmong one (thing ∷ things) → IsAmong one (thing ∷ others) =
           subst (λ (o : A). (one : A) → IsAmong one (thing ∷ things) → IsAmong one (o ∷ others)) (sym is) each in
           let against : (one : A) → IsAmong one (other ∷ others) → IsAmong one (other ∷ things) =
           subst (λ (t : A). (one : A) → IsAmong one (other ∷ others) → IsAmong one (t ∷ things)) is back in
-          let tails : things ≡ others = rest (without_first thing things others first along) (without_first other others things second against) in
+          let tails : things ≡ others = rest (without_first thing things others first along)
+          (without_first other others things second against) in
           cc
 
 pub reached_once :
-    (position : Position) (company : Company) (reached others : List Stop) → AreReached position company reached → AreReached position company others →
+    (position : Position) (company : Company) (reached others : List Stop) → AreReached position company reached
+    → AreReached position company others →
     reached ≡ others
 reached_once position company reached others these those =
     one_order stop_order reached others these.in_order those.in_order
@@ -79,7 +86,8 @@ reached_once position company reached others these those =
 pub marks_are_read : MarksAreRead
 marks_are_read position company trains reached revenue bits are_reached = (
   λ are.
-      let same : are.reached ≡ reached = reached_once position company are.reached reached are.are_reached are_reached in
+      let same : are.reached ≡ reached = reached_once position company are.reached reached are.are_reached
+      are_reached in
       let hold : Hold position company reached revenue (root_of trains) are.marks =
       subst (λ (r : List Stop). Hold position company r revenue (root_of trains) are.marks) same are.hold in
       record {
@@ -105,39 +113,60 @@ marks_are_read position company trains reached revenue bits are_reached = (
 -- what is below a node is the node, or below one of its children
 module _ (position : Position) (company : Company) (reached : List Stop) where
   abbrev AreBelow : Node → Node → Type 0
-  AreBelow start node = (child : Node) × IsAmong child (children position company reached start) × IsBelow position company reached child node
+  AreBelow start node = (child : Node) × IsAmong child (children position company reached start)
+      × IsBelow position company reached child node
 
-  first_child : (start node : Node) (before : List Node) → IsWayDown position company reached start (node ∷ before) → AreBelow start node
+  first_child : (start node : Node) (before : List Node) → IsWayDown position company reached start (node ∷ before)
+      → AreBelow start node
   first_child start node [] way = (node, way.0, ([], tt, refl))
   first_child start node (earlier ∷ before) way = onward (first_child start earlier before way.1)
     where
       onward : AreBelow start earlier → AreBelow start node
       onward found =
-          let below : IsBelow position company reached found.0 earlier = found.2 in
-          (found.0, found.1, (node ∷ below.0, (subst (λ (n : Node). IsAmong node (children position company reached n)) (sym below.2) way.0, below.1), refl))
+          let below : IsBelow position company reached found.0 earlier = found.2 in (
+            found.0,
+            found.1,
+            (
+              node ∷ below.0,
+              (
+                subst (λ (n : Node). IsAmong node
+                    (children position company reached n)) (sym below.2) way.0,
+                below.1,
+              ),
+              refl,
+            ),
+          )
 
-  node_or_below : (start node : Node) → IsBelow position company reached start node → (start ≡ node) ⊎ AreBelow start node
+  node_or_below : (start node : Node) → IsBelow position company reached start node
+      → (start ≡ node) ⊎ AreBelow start node
   node_or_below start node ([], way, is) = inl is
-  node_or_below start node (last ∷ before, way, is) = inr (subst (AreBelow start) is (first_child start last before way))
+  node_or_below start node (last ∷ before, way, is) =
+      inr (subst (AreBelow start) is (first_child start last before way))
 
-module _ (position : Position) (lawful : IsLawful position) (company : Company) (reached : List Stop) (named : (stop : Stop) → IsAmong stop reached → joined_stop_of stop ≡ stop) (all : List Kind) (revenue : ℕ) where
+module _ (position : Position) (lawful : IsLawful position) (company : Company) (reached : List Stop)
+    (named : (stop : Stop) → IsAmong stop reached → joined_stop_of stop ≡ stop) (all : List Kind) (revenue : ℕ) where
   abbrev AreGood : List Node → Type 0
   AreGood nodes = (node : Node) → IsAmong node nodes → IsGoodNode position company all node
 
-  children_good : (node : Node) → IsGoodNode position company all node → AreGood (children position company reached node)
+  children_good : (node : Node) → IsGoodNode position company all node
+      → AreGood (children position company reached node)
   children_good node good child among =
-      let choice : IsGoodChoice position lawful company reached named all node.settled node.begun node.trains child = choice_good position lawful company reached named all node.settled node.begun node.trains good child among in
+      let choice : IsGoodChoice position lawful company reached named all node.settled node.begun node.trains child =
+      choice_good position lawful company reached named all node.settled node.begun node.trains good child among in
       choice.good
 
   leaf_bound : (node : Node) → IsLeaf node → bound position reached node ≡ revenue_of position node.settled
   leaf_bound node leaf =
-      let nothing : may_come position reached node.begun node.trains ≡ 0 = ap (may_come position reached node.begun) leaf in omega arith
+      let nothing : may_come position reached node.begun node.trains ≡ 0 =
+      ap (may_come position reached node.begun) leaf in omega arith
 
   -- a leaf below a node at which marks hold earns no more
   abbrev IsCovered : Node → Type 0
-  IsCovered node = (leaf : Node) → IsBelow position company reached node leaf → IsLeaf leaf → revenue_of position leaf.settled ≤ revenue
+  IsCovered node = (leaf : Node) → IsBelow position company reached node leaf → IsLeaf leaf
+      → revenue_of position leaf.settled ≤ revenue
 
-  covered_by_cut : (node : Node) → bound position reached node ≤ revenue → IsGoodNode position company all node → IsCovered node
+  covered_by_cut : (node : Node) → bound position reached node ≤ revenue → IsGoodNode position company all node
+      → IsCovered node
   covered_by_cut node within good leaf below is =
       let under = good_below position lawful company reached named all node leaf good below in
       let falls : bound position reached leaf ≤ bound position reached node = under.1 in
@@ -145,14 +174,19 @@ module _ (position : Position) (lawful : IsLawful position) (company : Company) 
       omega arith
 
   mutual
-    pub covered : (node : Node) (marks : List Bool) → Hold position company reached revenue node marks → IsGoodNode position company all node → IsCovered node
+    pub covered : (node : Node) (marks : List Bool) → Hold position company reached revenue node marks
+        → IsGoodNode position company all node → IsCovered node
     covered _ _ (cut node within) good = covered_by_cut node within good
-    covered _ _ (split node inner trains holds) good = λ leaf below is. elim (node_or_below position company reached node leaf below) [
-      | inl same ↦ absurd (trains (subst (λ (n : Node). IsLeaf n) (sym same) is))
-      | inr found ↦ each_covered (children position company reached node) inner holds (children_good node good) found.0 found.1 leaf found.2 is
-    ]
+    covered _ _ (split node inner trains holds) good =
+        λ leaf below is. elim (node_or_below position company reached node leaf below) [
+          | inl same ↦ absurd (trains (subst (λ (n : Node). IsLeaf n) (sym same) is))
+          | inr found ↦ each_covered (children position company reached node) inner holds (children_good node good)
+              found.0 found.1 leaf found.2 is
+        ]
 
-    pub each_covered : (nodes : List Node) (marks : List Bool) → HoldInTurn position company reached revenue nodes marks → AreGood nodes → (child : Node) → IsAmong child nodes → IsCovered child
+    pub each_covered : (nodes : List Node) (marks : List Bool)
+        → HoldInTurn position company reached revenue nodes marks → AreGood nodes → (child : Node)
+        → IsAmong child nodes → IsCovered child
     each_covered _ _ none good = λ child among. absurd among
     each_covered _ _ (more node nodes first later holds hold) good = λ child among. elim among [
       | inl is ↦ subst (λ (n : Node). IsCovered n) is (covered node first holds (good node (inl refl)))
@@ -160,11 +194,13 @@ module _ (position : Position) (lawful : IsLawful position) (company : Company) 
     ]
 
   -- what is written holds, where no legal set earns more
-  good_ahead : (node : Node) (nodes : List Node) → AreGood (node ∷ nodes) → AreGood (children position company reached node ++ nodes)
-  good_ahead node nodes good child among = elim ((among_both child (children position company reached node) nodes).0 among) [
-    | inl here ↦ children_good node (good node (inl refl)) child here
-    | inr later ↦ good child (inr later)
-  ]
+  good_ahead : (node : Node) (nodes : List Node) → AreGood (node ∷ nodes)
+      → AreGood (children position company reached node ++ nodes)
+  good_ahead node nodes good child among = elim ((among_both child (children position company reached node) nodes).0
+      among) [
+        | inl here ↦ children_good node (good node (inl refl)) child here
+        | inr later ↦ good child (inr later)
+      ]
 
   pub written_hold :
       ((runs : List TrainRun) → IsLegalSet position company all runs → revenue_of position runs ≤ revenue) →
@@ -180,10 +216,12 @@ module _ (position : Position) (lawful : IsLawful position) (company : Company) 
       read_split position company reached revenue node marks nodes (no_leaf_there node (good node (inl refl)) writes.0)
       ∙ written_hold most (children position company reached node ++ nodes) marks (good_ahead node nodes good) writes.1
     where
-      no_leaf_there : (node : Node) → IsGoodNode position company all node → revenue < bound position reached node → ¬ IsLeaf node
+      no_leaf_there : (node : Node) → IsGoodNode position company all node → revenue < bound position reached node
+          → ¬ IsLeaf node
       no_leaf_there node good over leaf =
           let earns : bound position reached node ≡ revenue_of position node.settled = leaf_bound node leaf in
-          let low : revenue_of position node.settled ≤ revenue = most node.settled (good_set position company all node good) in
+          let low : revenue_of position node.settled ≤ revenue =
+          most node.settled (good_set position company all node good) in
           absurd (omega arith)
 
 module _ (position : Position) (lawful : IsLawful position) (company : Company) (trains : List Kind) where
@@ -198,7 +236,8 @@ module _ (position : Position) (lawful : IsLawful position) (company : Company) 
       IsLegalSet position company trains runs → revenue_of position runs ≤ revenue
   most_by_marks revenue bits are runs set =
       let named : AreNamed are.reached = stops_named are.reached are.are_reached in
-      let found = set_is_leaf position lawful company trains are.reached (λ stop. (are.are_reached.exact stop).1) runs set in
+      let found = set_is_leaf position lawful company trains are.reached (λ stop. (are.are_reached.exact stop).1) runs
+      set in
       let low : revenue_of position found.0.settled ≤ revenue =
       covered position lawful company are.reached named trains revenue (root_of trains) are.marks are.hold
       (root_good position lawful company are.reached named trains) found.0 found.1 found.2 in
@@ -217,11 +256,13 @@ written_marks_hold position company trains reached revenue marks filling lawful 
     let named = stops_named position lawful company trains reached are in
     let root_is : (node : Node) → IsAmong node (root_of trains ∷ []) → IsGoodNode position company trains node =
     λ node among. elim among [
-      | inl is ↦ subst (λ (n : Node). IsGoodNode position company trains n) is (root_good position lawful company reached named trains)
+      | inl is ↦ subst (λ (n : Node). IsGoodNode position company trains n) is
+          (root_good position lawful company reached named trains)
       | inr wrong ↦ absurd wrong
     ] in
     let read : left_over position company reached revenue (root_of trains ∷ []) marks ≡ Some [] =
-    written_hold position lawful company reached named trains revenue greatest.most (root_of trains ∷ []) marks root_is writes in
+    written_hold position lawful company reached named trains revenue greatest.most (root_of trains ∷ []) marks
+    root_is writes in
     let found = held_at position company reached revenue (root_of trains) marks [] read in
     record {
       reached = reached;
@@ -229,6 +270,7 @@ written_marks_hold position company trains reached revenue marks filling lawful 
       marks = marks;
       filling = filling;
       parts = refl;
-      hold = subst (λ (m : List Bool). Hold position company reached revenue (root_of trains) m) (sym (found.1 ∙ append-nil found.0)) found.2;
+      hold = subst (λ (m : List Bool). Hold position company reached revenue (root_of trains) m)
+          (sym (found.1 ∙ append-nil found.0)) found.2;
       fill = fill;
     }

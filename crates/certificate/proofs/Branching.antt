@@ -27,14 +27,17 @@ use Rattle.certificate.proofs.Named.{same_end}
 use Rattle.certificate.proofs.Written.{Ordered, ordered}
 
 module _ {A B : Type 0} (make : A → List B) where
-  pub among_for_each : (things : List A) (thing : A) (made : B) → IsAmong thing things → IsAmong made (make thing) → IsAmong made (for_each make things)
+  pub among_for_each : (things : List A) (thing : A) (made : B) → IsAmong thing things → IsAmong made (make thing)
+      → IsAmong made (for_each make things)
   among_for_each [] thing made among here = absurd among
   among_for_each (first ∷ things) thing made (inl is) here =
-      (among_both made (make first) (for_each make things)).1 (inl (subst (λ (a : A). IsAmong made (make a)) (sym is) here))
+      (among_both made (make first) (for_each make things)).1
+      (inl (subst (λ (a : A). IsAmong made (make a)) (sym is) here))
   among_for_each (first ∷ things) thing made (inr later) here =
       (among_both made (make first) (for_each make things)).1 (inr (among_for_each things thing made later here))
 
-  pub for_each_among : (things : List A) (made : B) → IsAmong made (for_each make things) → (thing : A) × IsAmong thing things × IsAmong made (make thing)
+  pub for_each_among : (things : List A) (made : B) → IsAmong made (for_each make things)
+      → (thing : A) × IsAmong thing things × IsAmong made (make thing)
   for_each_among [] made among = absurd among
   for_each_among (first ∷ things) made among =
       elim ((among_both made (make first) (for_each make things)).0 among) [
@@ -60,39 +63,55 @@ module _ (test : Step → Bool) (node : Node) (steps : List Step) where
       let parts = node_if_among (test found.0) (with_step node found.0) made found.2 in
       (found.0, found.1, parts.0, parts.1)
 
-  pub among_with_steps : (step : Step) → IsAmong step steps → test step ≡ true → IsAmong (with_step node step) (with_steps test node steps)
+  pub among_with_steps : (step : Step) → IsAmong step steps → test step ≡ true
+      → IsAmong (with_step node step) (with_steps test node steps)
   among_with_steps step among passes =
-      among_for_each (λ (step : Step). node_if (test step) (with_step node step)) steps step (with_step node step) among (among_node_if (test step) (with_step node step) passes)
+      among_for_each (λ (step : Step). node_if (test step) (with_step node step)) steps step (with_step node step)
+      among (among_node_if (test step) (with_step node step) passes)
 
 -- a step enters a link where it should
-pub ways_are : (end : End) (link : Link) (step : Step) → IsAmong step (ways_by end link) → (step.link ≡ link) × ((entered_at step).end ≡ end)
+pub ways_are : (end : End) (link : Link) (step : Step) → IsAmong step (ways_by end link)
+    → (step.link ≡ link) × ((entered_at step).end ≡ end)
 ways_are end link step among =
     by_tests (end_order link.a == end_order end) (end_order link.b == end_order end) refl refl among
   where
     by_tests :
         (b c : Bool) → (end_order link.a == end_order end) ≡ b → (end_order link.b == end_order end) ≡ c →
-        IsAmong step (if b then record { link = link; turned = false } ∷ [] else (if c then record { link = link; turned = true } ∷ [] else [])) →
+        IsAmong step (if b then record { link = link; turned = false }
+        ∷ [] else (if c then record { link = link; turned = true } ∷ [] else [])) →
         (step.link ≡ link) × ((entered_at step).end ≡ end)
-    by_tests true c is also (inl here) =
-        (ap (λ (s : Step). s.link) (sym here), ap (λ (s : Step). (entered_at s).end) (sym here) ∙ same_end link.a end (eqb-true (end_order link.a) (end_order end) is))
+    by_tests true c is also (inl here) = (
+      ap (λ (s : Step). s.link) (sym here),
+      ap (λ (s : Step). (entered_at s).end) (sym here)
+          ∙ same_end link.a end (eqb-true (end_order link.a) (end_order end) is),
+    )
     by_tests true c is also (inr none) = absurd none
-    by_tests false true is also (inl here) =
-        (ap (λ (s : Step). s.link) (sym here), ap (λ (s : Step). (entered_at s).end) (sym here) ∙ same_end link.b end (eqb-true (end_order link.b) (end_order end) also))
+    by_tests false true is also (inl here) = (
+      ap (λ (s : Step). s.link) (sym here),
+      ap (λ (s : Step). (entered_at s).end) (sym here)
+          ∙ same_end link.b end (eqb-true (end_order link.b) (end_order end) also),
+    )
     by_tests false true is also (inr none) = absurd none
     by_tests false false is also among = absurd among
 
 way_itself :
     (link : Link) (turned : Bool) → Ordered link →
-    IsAmong (let step : Step = record { link = link; turned = turned } in step) (ways_by (if turned then link.b else link.a) link)
+    IsAmong (let step : Step = record { link = link; turned = turned } in step)
+    (ways_by (if turned then link.b else link.a) link)
 way_itself link false facts =
-    subst (λ (b : Bool). IsAmong (let step : Step = record { link = link; turned = false } in step) (if b then record { link = link; turned = false } ∷ [] else (if end_order link.b == end_order link.a then record { link = link; turned = true } ∷ [] else [])))
+    subst (λ (b : Bool). IsAmong (let step : Step = record { link = link; turned = false } in step)
+    (if b then record { link = link; turned = false }
+    ∷ [] else (if end_order link.b == end_order link.a then record { link = link; turned = true } ∷ [] else [])))
     (sym (eq-eqb (end_order link.a) (end_order link.a) refl)) (inl refl)
 way_itself link true facts =
     let step : Step = record { link = link; turned = true } in
     let other : Step = record { link = link; turned = false } in
-    let differ : (end_order link.a == end_order link.b) ≡ false = eqb_not (end_order link.a) (end_order link.b) (λ same. omega (arith, facts.rising, same)) in
-    subst (λ (b : Bool). IsAmong step (if b then other ∷ [] else (if end_order link.b == end_order link.b then step ∷ [] else []))) (sym differ)
-    (subst (λ (b : Bool). IsAmong step (if b then step ∷ [] else [])) (sym (eq-eqb (end_order link.b) (end_order link.b) refl)) (inl refl))
+    let differ : (end_order link.a == end_order link.b) ≡ false =
+    eqb_not (end_order link.a) (end_order link.b) (λ same. omega (arith, facts.rising, same)) in
+    subst (λ (b : Bool). IsAmong step (if b then other
+    ∷ [] else (if end_order link.b == end_order link.b then step ∷ [] else []))) (sym differ)
+    (subst (λ (b : Bool). IsAmong step (if b then step ∷ [] else []))
+    (sym (eq-eqb (end_order link.b) (end_order link.b) refl)) (inl refl))
 
 alone : (hex part : Hex) → joined_hex hex ≡ hex → IsAmong part (hex ∷ []) → joined_hex part ≡ hex
 alone hex part names (inl is) = ap joined_hex (sym is) ∙ names
@@ -139,9 +158,11 @@ there_is : {A : Type 0} (found : Option A) → is_some found ≡ true → (thing
 there_is None is = absurd cc
 there_is (Some thing) is = (thing, refl)
 
-pub leads_over : (borders : List ℕ) (hex : Hex) (end : End) → is_free_end borders hex end ≡ true → LeadsOver borders hex end
+pub leads_over : (borders : List ℕ) (hex : Hex) (end : End) → is_free_end borders hex end ≡ true
+    → LeadsOver borders hex end
 leads_over borders hex (AtSide side) is =
-    let parts : (is_some (neighbour_of hex side) ≡ true) × (not (has_border (border_of hex side) borders) ≡ true) = both_true (is_some (neighbour_of hex side)) (not (has_border (border_of hex side) borders)) is in
+    let parts : (is_some (neighbour_of hex side) ≡ true) × (not (has_border (border_of hex side) borders) ≡ true) =
+    both_true (is_some (neighbour_of hex side)) (not (has_border (border_of hex side) borders)) is in
     let other : (next : Hex) × (neighbour_of hex side ≡ Some next) = there_is (neighbour_of hex side) parts.0 in
     record {
       side = side;
@@ -149,8 +170,10 @@ leads_over borders hex (AtSide side) is =
       at_side = refl;
       beside = other.1;
       free = λ among.
-          let wrong : has_border (border_of hex side) borders ≡ true = (among_is (border_of hex side) borders).1 among in
-          let none : has_border (border_of hex side) borders ≡ false = not_true (has_border (border_of hex side) borders) parts.1 in
+          let wrong : has_border (border_of hex side) borders ≡ true =
+          (among_is (border_of hex side) borders).1 among in
+          let none : has_border (border_of hex side) borders ≡ false =
+          not_true (has_border (border_of hex side) borders) parts.1 in
           let clash : false ≡ true = sym none ∙ wrong in absurd cc;
     }
 leads_over borders hex (AtStop number) is = absurd cc
@@ -159,26 +182,32 @@ not_false : (b : Bool) → (b ≡ true → ⊥) → not b ≡ true
 not_false true none = absurd (none refl)
 not_false false none = refl
 
-pub over_leads : (borders : List ℕ) (hex : Hex) (end : End) → LeadsOver borders hex end → is_free_end borders hex end ≡ true
+pub over_leads : (borders : List ℕ) (hex : Hex) (end : End) → LeadsOver borders hex end
+    → is_free_end borders hex end ≡ true
 over_leads borders hex end over =
     subst (λ (e : End). is_free_end borders hex e ≡ true) (sym over.at_side)
-    (true_both (is_some (neighbour_of hex over.side)) (not (has_border (border_of hex over.side) borders)) (ap is_some over.beside)
-    (not_false (has_border (border_of hex over.side) borders) (λ has. over.free ((among_is (border_of hex over.side) borders).0 has))))
+    (true_both (is_some (neighbour_of hex over.side)) (not (has_border (border_of hex over.side) borders))
+    (ap is_some over.beside)
+    (not_false (has_border (border_of hex over.side) borders)
+    (λ has. over.free ((among_is (border_of hex over.side) borders).0 has))))
 
 -- a border is that of both its sides
 pub border_both :
-    (position : Position) → IsLawful position → (hex : Hex) (end : End) (spot : Spot) → across (spot_at hex end) ≡ Some spot →
+    (position : Position) → IsLawful position → (hex : Hex) (end : End) (spot : Spot)
+    → across (spot_at hex end) ≡ Some spot →
     border_at hex end ≡ border_at spot.hex spot.end
 border_both position lawful hex (AtStop number) spot is = absurd cc
 border_both position lawful hex (AtSide side) spot is = by_next (neighbour_of hex side) refl is
   where
     by_next :
-        (found : Option Hex) → neighbour_of hex side ≡ found → option_map (λ other. spot_at other (AtSide (facing_of side))) found ≡ Some spot →
+        (found : Option Hex) → neighbour_of hex side ≡ found
+        → option_map (λ other. spot_at other (AtSide (facing_of side))) found ≡ Some spot →
         border_of hex side ∷ [] ≡ border_at spot.hex spot.end
     by_next None beside is = absurd cc
     by_next (Some next) beside is =
         let there : spot_at next (AtSide (facing_of side)) ≡ spot = cc in
-        ap (λ n. n ∷ []) (faced hex next side beside (lawful.borders_pair hex side next beside)) ∙ ap (λ (s : Spot). border_at s.hex s.end) there
+        ap (λ n. n ∷ []) (faced hex next side beside (lawful.borders_pair hex side next beside))
+        ∙ ap (λ (s : Spot). border_at s.hex s.end) there
 
 -- at a stop there is none
 pub no_border : (hex : Hex) (end : End) (stop : Stop) → stop_at_end hex end ≡ Some stop → border_at hex end ≡ []
@@ -197,37 +226,47 @@ module _ (position : Position) (lawful : IsLawful position) where
       let is = ways_are end found.0 step found.2 in
       let lies : found.0.hex ≡ hex = lies_there hex (links_of position hex) found.0 (lawful.links hex).here found.1 in
       record {
-        track = subst (λ (l : Link). IsAmong l (links_of position l.hex)) (sym is.0) (own_hex position lawful hex found.0 found.1);
-        enters = ap (λ (h : Hex). spot_at h (entered_at step).end) (ap (λ (l : Link). l.hex) is.0 ∙ lies) ∙ ap (spot_at hex) is.1;
+        track = subst (λ (l : Link). IsAmong l (links_of position l.hex)) (sym is.0)
+            (own_hex position lawful hex found.0 found.1);
+        enters = ap (λ (h : Hex). spot_at h (entered_at step).end) (ap (λ (l : Link). l.hex) is.0 ∙ lies)
+            ∙ ap (spot_at hex) is.1;
       }
 
-  pub way_there : (step : Step) → IsTrack position step → IsAmong step (ways_at position step.link.hex (entered_at step).end)
+  pub way_there : (step : Step) → IsTrack position step
+      → IsAmong step (ways_at position step.link.hex (entered_at step).end)
   way_there step track =
-      among_for_each (ways_by (entered_at step).end) (links_of position step.link.hex) step.link step track (way_itself step.link step.turned (ordered position lawful step track))
+      among_for_each (ways_by (entered_at step).end) (links_of position step.link.hex) step.link step track
+      (way_itself step.link step.turned (ordered position lawful step track))
 
   -- a step that leaves a stop
   pub record Leaves (stop : Stop) (step : Step) : Type 0 where
     pub track : IsTrack position step
     pub from_stop : stop_of (entered_at step) ≡ Some stop
 
-  pub leaves_stop : (stop : Stop) → joined_stop_of stop ≡ stop → (step : Step) → IsAmong step (ways_from position stop) → Leaves stop step
+  pub leaves_stop : (stop : Stop) → joined_stop_of stop ≡ stop → (step : Step)
+      → IsAmong step (ways_from position stop) → Leaves stop step
   leaves_stop stop names step among =
-      let found = for_each_among (λ (hex : Hex). ways_at position hex (AtStop stop.number)) (hexes_of stop.hex) step among in
+      let found = for_each_among (λ (hex : Hex). ways_at position hex (AtStop stop.number)) (hexes_of stop.hex) step
+      among in
       let way : IsWay found.0 (AtStop stop.number) step = way_is found.0 (AtStop stop.number) step found.2 in
       record {
         track = way.track;
-        from_stop = ap stop_of way.enters ∙ ap (λ (h : Hex). Some (stop_at h stop.number)) (named_hex stop.hex found.0 (ap (λ (s : Stop). s.hex) names) found.1);
+        from_stop = ap stop_of way.enters ∙ ap (λ (h : Hex). Some (stop_at h stop.number))
+            (named_hex stop.hex found.0 (ap (λ (s : Stop). s.hex) names) found.1);
       }
 
   by_its_end :
-      (stop : Stop) (step : Step) → IsTrack position step → (end : End) → (entered_at step).end ≡ end → stop_at_end step.link.hex end ≡ Some stop →
+      (stop : Stop) (step : Step) → IsTrack position step → (end : End) → (entered_at step).end ≡ end
+      → stop_at_end step.link.hex end ≡ Some stop →
       IsAmong step (ways_from position stop)
   by_its_end stop step track (AtSide side) enters is = absurd cc
   by_its_end stop step track (AtStop number) enters is =
       let named : stop_at (joined_hex step.link.hex) number ≡ stop = cc in
       subst (λ (s : Stop). IsAmong step (ways_from position s)) named
-      (among_for_each (λ (hex : Hex). ways_at position hex (AtStop number)) (hexes_of (joined_hex step.link.hex)) step.link.hex step (among_its_hexes step.link.hex)
+      (among_for_each (λ (hex : Hex). ways_at position hex (AtStop number)) (hexes_of (joined_hex step.link.hex))
+      step.link.hex step (among_its_hexes step.link.hex)
       (subst (λ (e : End). IsAmong step (ways_at position step.link.hex e)) enters (way_there step track)))
 
-  pub stop_left : (stop : Stop) (step : Step) → IsTrack position step → stop_of (entered_at step) ≡ Some stop → IsAmong step (ways_from position stop)
+  pub stop_left : (stop : Stop) (step : Step) → IsTrack position step → stop_of (entered_at step) ≡ Some stop
+      → IsAmong step (ways_from position stop)
   stop_left stop step track is = by_its_end stop step track (entered_at step).end refl is

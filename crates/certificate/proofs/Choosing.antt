@@ -58,7 +58,8 @@ places = each_with place_at hexes stops
 
 place_among : (place : Place) → IsAmong place places
 unfolding places
-place_among place = among_each_with place_at hexes stops place.hex place.stop (hex_among place.hex) (stop_among place.stop)
+place_among place = among_each_with place_at hexes stops place.hex place.stop (hex_among place.hex)
+    (stop_among place.stop)
 
 -- all lists of places of a run
 writings : ℕ → List (List Place)
@@ -88,7 +89,8 @@ decided_of_kinds P known = six (known Two) (known Three) (known Four) (known Fiv
     all a b c d e f Six = e
     all a b c d e f Diesel = f
 
-    six : Decided (P Two) → Decided (P Three) → Decided (P Four) → Decided (P Five) → Decided (P Six) → Decided (P Diesel) → Decided ((kind : Kind) → P kind)
+    six : Decided (P Two) → Decided (P Three) → Decided (P Four) → Decided (P Five) → Decided (P Six)
+        → Decided (P Diesel) → Decided ((kind : Kind) → P kind)
     six (inl a) (inl b) (inl c) (inl d) (inl e) (inl f) = inl (all a b c d e f)
     six (inr fails) b c d e f = inr (λ each. fails (each Two))
     six a (inr fails) c d e f = inr (λ each. fails (each Three))
@@ -102,7 +104,8 @@ decided_among : (border : ℕ) (borders : List ℕ) → Decided (IsAmong border 
 decided_among border [] = inr (λ among. among)
 decided_among border (other ∷ borders) = by_test (eqb other border) refl (decided_among border borders)
   where
-    by_test : (b : Bool) → eqb other border ≡ b → Decided (IsAmong border borders) → Decided ((other ≡ border) ⊎ IsAmong border borders)
+    by_test : (b : Bool) → eqb other border ≡ b → Decided (IsAmong border borders)
+        → Decided ((other ≡ border) ⊎ IsAmong border borders)
     by_test true is later = inl (inl (eqb-true other border is))
     by_test false is (inl later) = inl (inr later)
     by_test false is (inr fails) = inr (λ either. elim either [
@@ -125,24 +128,29 @@ decided_free (border ∷ borders) others = by_first (decided_among border others
     ])
     by_first (inr apart) (inr fails) = inr (λ free. fails (λ b among. free b (inr among)))
 
-decided_all : {A : Type 0} (P : A → Type 0) → ((thing : A) → Decided (P thing)) → (things : List A) → Decided (AllByRecursion P things)
+decided_all : {A : Type 0} (P : A → Type 0) → ((thing : A) → Decided (P thing)) → (things : List A)
+    → Decided (AllByRecursion P things)
 decided_all P known [] = inl tt
-decided_all P known (thing ∷ things) = decided_both (P thing) (AllByRecursion P things) (known thing) (decided_all P known things)
+decided_all P known (thing ∷ things) = decided_both (P thing) (AllByRecursion P things) (known thing)
+    (decided_all P known things)
 
 decided_apart : (runs : List TrainRun) → Decided (AreApart runs)
 decided_apart [] = inl tt
 decided_apart (run ∷ runs) =
     decided_both (AllByRecursion (λ (other : TrainRun). ShareNoBorder run.steps other.steps) runs) (AreApart runs)
-    (decided_all (λ (other : TrainRun). ShareNoBorder run.steps other.steps) (λ other. decided_free (crossed run.steps) (crossed other.steps)) runs)
+    (decided_all (λ (other : TrainRun). ShareNoBorder run.steps other.steps)
+    (λ other. decided_free (crossed run.steps) (crossed other.steps)) runs)
     (decided_apart runs)
 
 decided_taken : (trains taken : List Kind) → Decided (AreTakenFrom trains taken)
 decided_taken trains taken =
-    decided_of_kinds (λ kind. in_number kind taken ≤ in_number kind trains) (λ kind. decided_at_most (in_number kind taken) (in_number kind trains))
+    decided_of_kinds (λ kind. in_number kind taken ≤ in_number kind trains)
+    (λ kind. decided_at_most (in_number kind taken) (in_number kind trains))
 
 -- a list of trains has so many of each kind
 count_kinds : List Kind → ℕ
-count_kinds trains = in_number Two trains + (in_number Three trains + (in_number Four trains + (in_number Five trains + (in_number Six trains + in_number Diesel trains))))
+count_kinds trains = in_number Two trains + (in_number Three trains
+    + (in_number Four trains + (in_number Five trains + (in_number Six trains + in_number Diesel trains))))
 
 counted : (trains : List Kind) → length trains ≡ count_kinds trains
 unfolding count_kinds
@@ -178,9 +186,11 @@ module _ (position : Position) (company : Company) where
   legal_of kind [] = []
   legal_of kind (list ∷ lists) = kept (run_fault position company kind [] list) (run_by kind list) (legal_of kind lists)
 
-  legal_by : (kind : Kind) (list : List Place) → run_fault position company kind [] list ≡ None → RunsLegally position company (run_by kind list)
+  legal_by : (kind : Kind) (list : List Place) → run_fault position company kind [] list ≡ None
+      → RunsLegally position company (run_by kind list)
   legal_by kind list is =
-      let run : NameLegalRun position company kind [] list = (legal_where_unbroken position company kind [] list).0 is in
+      let run : NameLegalRun position company kind [] list =
+      (legal_where_unbroken position company kind [] list).0 is in
       subst (λ (steps : List Step). IsLegalRun position company kind [] steps) (sym (ap steps_of run.1)) run.2
 
   among_kept :
@@ -191,17 +201,20 @@ module _ (position : Position) (company : Company) where
   among_kept None run other runs (inr later) = inr later
   among_kept (Some fault) run other runs among = inr among
 
-  kept_later : (fault : Option RunRule) (run other : TrainRun) (runs : List TrainRun) → IsAmong other runs → IsAmong other (kept fault run runs)
+  kept_later : (fault : Option RunRule) (run other : TrainRun) (runs : List TrainRun) → IsAmong other runs
+      → IsAmong other (kept fault run runs)
   unfolding kept
   kept_later None run other runs among = inr among
   kept_later (Some fault) run other runs among = among
 
-  kept_here : (fault : Option RunRule) (run : TrainRun) (runs : List TrainRun) → fault ≡ None → IsAmong run (kept fault run runs)
+  kept_here : (fault : Option RunRule) (run : TrainRun) (runs : List TrainRun) → fault ≡ None
+      → IsAmong run (kept fault run runs)
   unfolding kept
   kept_here None run runs is = inl refl
   kept_here (Some fault) run runs is = absurd cc
 
-  all_legal : (kind : Kind) (lists : List (List Place)) (run : TrainRun) → IsAmong run (legal_of kind lists) → RunsLegally position company run
+  all_legal : (kind : Kind) (lists : List (List Place)) (run : TrainRun) → IsAmong run (legal_of kind lists)
+      → RunsLegally position company run
   unfolding legal_of
   all_legal kind [] run among = absurd among
   all_legal kind (list ∷ lists) run among =
@@ -211,22 +224,27 @@ module _ (position : Position) (company : Company) where
       ]
 
   legal_there :
-      (kind : Kind) (lists : List (List Place)) (list : List Place) → IsAmong list lists → run_fault position company kind [] list ≡ None →
+      (kind : Kind) (lists : List (List Place)) (list : List Place) → IsAmong list lists
+      → run_fault position company kind [] list ≡ None →
       IsAmong (run_by kind list) (legal_of kind lists)
   unfolding legal_of
   legal_there kind [] list among is = absurd among
   legal_there kind (other ∷ lists) list (inl here) is =
-      subst (λ (l : List Place). IsAmong (run_by kind l) (kept (run_fault position company kind [] other) (run_by kind other) (legal_of kind lists))) here
-      (kept_here (run_fault position company kind [] other) (run_by kind other) (legal_of kind lists) (ap (run_fault position company kind []) here ∙ is))
+      subst (λ (l : List Place). IsAmong (run_by kind l)
+      (kept (run_fault position company kind [] other) (run_by kind other) (legal_of kind lists))) here
+      (kept_here (run_fault position company kind [] other) (run_by kind other) (legal_of kind lists)
+      (ap (run_fault position company kind []) here ∙ is))
   legal_there kind (other ∷ lists) list (inr later) is =
-      kept_later (run_fault position company kind [] other) (run_by kind other) (run_by kind list) (legal_of kind lists) (legal_there kind lists list later is)
+      kept_later (run_fault position company kind [] other) (run_by kind other) (run_by kind list)
+      (legal_of kind lists) (legal_there kind lists list later is)
 
   -- for trains of some kinds
   legal_runs : List Kind → ℕ → List TrainRun
   legal_runs [] most = []
   legal_runs (kind ∷ more) most = legal_of kind (writings most) ++ legal_runs more most
 
-  each_legal : (some : List Kind) (most : ℕ) (run : TrainRun) → IsAmong run (legal_runs some most) → RunsLegally position company run
+  each_legal : (some : List Kind) (most : ℕ) (run : TrainRun) → IsAmong run (legal_runs some most)
+      → RunsLegally position company run
   unfolding legal_runs
   each_legal [] most run among = absurd among
   each_legal (kind ∷ more) most run among =
@@ -242,25 +260,33 @@ module _ (position : Position) (company : Company) where
   legal_here [] most kind list among few is = absurd among
   legal_here (first ∷ more) most kind list (inl here) few is =
       (among_both (run_by kind list) (legal_of first (writings most)) (legal_runs more most)).1
-      (inl (subst (λ (k : Kind). IsAmong (run_by kind list) (legal_of k (writings most))) (sym here) (legal_there kind (writings most) list (written_among most list few) is)))
+      (inl (subst (λ (k : Kind). IsAmong (run_by kind list) (legal_of k (writings most))) (sym here)
+      (legal_there kind (writings most) list (written_among most list few) is)))
   legal_here (first ∷ more) most kind list (inr later) few is =
-      (among_both (run_by kind list) (legal_of first (writings most)) (legal_runs more most)).1 (inr (legal_here more most kind list later few is))
+      (among_both (run_by kind list) (legal_of first (writings most)) (legal_runs more most)).1
+      (inr (legal_here more most kind list later few is))
 
   -- each legal run is among them
-  run_there : IsLawful position → (run : TrainRun) → RunsLegally position company run → IsAmong run (legal_runs kinds 280)
+  run_there : IsLawful position → (run : TrainRun) → RunsLegally position company run
+      → IsAmong run (legal_runs kinds 280)
   run_there lawful run legal =
-      let written : (list : List Place) × AreItsPlaces position run.steps list = each_named position company run.kind [] run.steps lawful legal in
-      let unbroken : run_fault position company run.kind [] written.0 ≡ None = (legal_where_unbroken position company run.kind [] written.0).1 (run.steps, written.1.name_it, legal) in
+      let written : (list : List Place) × AreItsPlaces position run.steps list =
+      each_named position company run.kind [] run.steps lawful legal in
+      let unbroken : run_fault position company run.kind [] written.0 ≡ None =
+      (legal_where_unbroken position company run.kind [] written.0).1 (run.steps, written.1.name_it, legal) in
       let steps : named_steps position written.0 ≡ run.steps = ap steps_of written.1.name_it in
-      subst (λ (s : List Step). IsAmong (let made : TrainRun = record { kind = run.kind; steps = s } in made) (legal_runs kinds 280)) steps
+      subst (λ (s : List Step). IsAmong (let made : TrainRun = record { kind = run.kind; steps = s } in made)
+      (legal_runs kinds 280)) steps
       (legal_here kinds 280 run.kind written.0 (kind_among run.kind) written.1.most unbroken)
 
-  all_among : (P : TrainRun → Type 0) (runs : List TrainRun) → AllByRecursion P runs → (run : TrainRun) → IsAmong run runs → P run
+  all_among : (P : TrainRun → Type 0) (runs : List TrainRun) → AllByRecursion P runs → (run : TrainRun)
+      → IsAmong run runs → P run
   all_among P [] holds run among = absurd among
   all_among P (first ∷ runs) holds run (inl here) = subst P here holds.0
   all_among P (first ∷ runs) holds run (inr later) = all_among P runs holds.1 run later
 
-  among_all : (P : TrainRun → Type 0) (runs : List TrainRun) → ((run : TrainRun) → IsAmong run runs → P run) → AllByRecursion P runs
+  among_all : (P : TrainRun → Type 0) (runs : List TrainRun) → ((run : TrainRun) → IsAmong run runs → P run)
+      → AllByRecursion P runs
   among_all P [] each = tt
   among_all P (run ∷ runs) each = (each run (inl refl), among_all P runs (λ other among. each other (inr among)))
 
@@ -269,7 +295,8 @@ module _ (position : Position) (company : Company) where
   choices trains = lists_of (length trains) (legal_runs kinds 280)
 
   -- each legal set is one of them
-  pub set_there : IsLawful position → (trains : List Kind) (runs : List TrainRun) → IsLegalSet position company trains runs → IsAmong runs (choices trains)
+  pub set_there : IsLawful position → (trains : List Kind) (runs : List TrainRun)
+      → IsLegalSet position company trains runs → IsAmong runs (choices trains)
   unfolding choices
   set_there lawful trains runs set =
       among_lists (length trains) (legal_runs kinds 280) runs
@@ -277,12 +304,15 @@ module _ (position : Position) (company : Company) where
       (λ run among. run_there lawful run (all_among (RunsLegally position company) runs set.legal run among))
 
   -- and of each of them it is known whether it is a legal set
-  pub set_decided : (trains : List Kind) (runs : List TrainRun) → IsAmong runs (choices trains) → Decided (IsLegalSet position company trains runs)
+  pub set_decided : (trains : List Kind) (runs : List TrainRun) → IsAmong runs (choices trains)
+      → Decided (IsLegalSet position company trains runs)
   unfolding choices
   set_decided trains runs among =
       let legal : AllByRecursion (RunsLegally position company) runs =
-      among_all (RunsLegally position company) runs (λ run there. each_legal kinds 280 run (lists_among (length trains) (legal_runs kinds 280) runs among run there)) in
-      elim (decided_both (AreTakenFrom trains (trains_that_run runs)) (AreApart runs) (decided_taken trains (trains_that_run runs)) (decided_apart runs)) [
+      among_all (RunsLegally position company) runs (λ run there. each_legal kinds 280 run
+      (lists_among (length trains) (legal_runs kinds 280) runs among run there)) in
+      elim (decided_both (AreTakenFrom trains (trains_that_run runs)) (AreApart runs)
+      (decided_taken trains (trains_that_run runs)) (decided_apart runs)) [
         | inl both ↦ inl (record { legal = legal; each_once = both.0; apart = both.1 })
         | inr fails ↦ inr (λ set. fails (set.each_once, set.apart))
       ]

@@ -23,38 +23,48 @@ low_bit number bit =
     ap (λ (n : ℕ). nat_eq n 1) (bit_at_lowest (2 * number + bit_number bit) ∙ odd number bit) ∙ is_bit bit
 
 higher : (count number : ℕ) (bit : Bool) → (2 * number + bit_number bit) / 2 ^ suc count % 2 ≡ number / 2 ^ count % 2
-higher count number bit = bit_at-suc (2 * number + bit_number bit) count ∙ ap (λ (n : ℕ). n / 2 ^ count % 2) (half number bit)
+higher count number bit = bit_at-suc (2 * number + bit_number bit) count
+    ∙ ap (λ (n : ℕ). n / 2 ^ count % 2) (half number bit)
 
 -- with one bit more at the end
-one_more : (count number : ℕ) (bit : Bool) → bits_of (suc count) (2 * number + bit_number bit) ≡ bits_of count number ++ bit ∷ []
+one_more : (count number : ℕ) (bit : Bool) → bits_of (suc count) (2 * number + bit_number bit)
+    ≡ bits_of count number ++ bit ∷ []
 one_more zero number bit = ap (λ (b : Bool). b ∷ []) (low_bit number bit)
 one_more (suc count) number bit =
-    ap (λ (b : Bool). b ∷ bits_of (suc count) (2 * number + bit_number bit)) (ap (λ (n : ℕ). nat_eq n 1) (higher count number bit))
+    ap (λ (b : Bool). b ∷ bits_of (suc count) (2 * number + bit_number bit))
+    (ap (λ (n : ℕ). nat_eq n 1) (higher count number bit))
     ∙ ap (λ (rest : List Bool). nat_eq (number / 2 ^ count % 2) 1 ∷ rest) (one_more count number bit)
 
-more_at_end : (count number more : ℕ) (bit : Bool) → more ≡ bit_number bit → bits_of (count + 1) (2 * number + more) ≡ bits_of count number ++ bit ∷ []
+more_at_end : (count number more : ℕ) (bit : Bool) → more ≡ bit_number bit
+    → bits_of (count + 1) (2 * number + more) ≡ bits_of count number ++ bit ∷ []
 more_at_end count number more bit is =
     let next : count + 1 ≡ suc count = omega arith in
-    ap (λ (c : ℕ). bits_of c (2 * number + more)) next ∙ (ap (λ (m : ℕ). bits_of (suc count) (2 * number + m)) is ∙ one_more count number bit)
+    ap (λ (c : ℕ). bits_of c (2 * number + more)) next
+    ∙ (ap (λ (m : ℕ). bits_of (suc count) (2 * number + m)) is ∙ one_more count number bit)
 
 -- a bit is added behind the bytes
 pub pushed :
     (bytes : List ℕ) (count number more : ℕ) (bit : Bool) (old : List Bool) → more ≡ bit_number bit →
-    bits_of_bytes bytes ++ bits_of count number ≡ old → bits_of_bytes bytes ++ bits_of (count + 1) (2 * number + more) ≡ old ++ bit ∷ []
+    bits_of_bytes bytes ++ bits_of count number ≡ old
+    → bits_of_bytes bytes ++ bits_of (count + 1) (2 * number + more) ≡ old ++ bit ∷ []
 pushed bytes count number more bit old is before =
     ap (λ (b : List Bool). bits_of_bytes bytes ++ b) (more_at_end count number more bit is)
-    ∙ (sym (append_assoc (bits_of_bytes bytes) (bits_of count number) (bit ∷ [])) ∙ ap (λ (b : List Bool). b ++ bit ∷ []) before)
+    ∙ (sym (append_assoc (bits_of_bytes bytes) (bits_of count number) (bit ∷ []))
+    ∙ ap (λ (b : List Bool). b ++ bit ∷ []) before)
 
 byte_more : (bytes : List ℕ) (byte : ℕ) → bits_of_bytes (bytes ++ byte ∷ []) ≡ bits_of_bytes bytes ++ bits_of 8 byte
-byte_more bytes byte = flat_map-append (bits_of 8) bytes (byte ∷ []) ∙ ap (λ (b : List Bool). bits_of_bytes bytes ++ b) (append-nil (bits_of 8 byte))
+byte_more bytes byte = flat_map-append (bits_of 8) bytes (byte ∷ [])
+    ∙ ap (λ (b : List Bool). bits_of_bytes bytes ++ b) (append-nil (bits_of 8 byte))
 
 -- and is the eighth of a byte
 pub filled :
-    (bytes more_bytes : List ℕ) (count number more : ℕ) (bit : Bool) (old : List Bool) → count ≡ 7 → more ≡ bit_number bit →
+    (bytes more_bytes : List ℕ) (count number more : ℕ) (bit : Bool) (old : List Bool) → count ≡ 7
+    → more ≡ bit_number bit →
     more_bytes ≡ bytes ++ (2 * number + more) ∷ [] → bits_of_bytes bytes ++ bits_of count number ≡ old →
     bits_of_bytes more_bytes ++ bits_of 0 0 ≡ old ++ bit ∷ []
 filled bytes more_bytes count number more bit old seven is gained before =
-    let eight : bits_of (count + 1) (2 * number + more) ≡ bits_of 8 (2 * number + more) = ap (λ (c : ℕ). bits_of (c + 1) (2 * number + more)) seven in
+    let eight : bits_of (count + 1) (2 * number + more) ≡ bits_of 8 (2 * number + more) =
+    ap (λ (c : ℕ). bits_of (c + 1) (2 * number + more)) seven in
     append-nil (bits_of_bytes more_bytes)
     ∙ (ap bits_of_bytes gained
     ∙ (byte_more bytes (2 * number + more)
@@ -74,10 +84,12 @@ is_low (suc (suc (suc (suc (suc (suc (suc zero))))))) number few low = omega ari
 is_low (suc (suc (suc (suc (suc (suc (suc (suc count)))))))) number few low = absurd (omega arith)
 
 -- the highest bit comes first
-pub first_bit : (count number : ℕ) → 0 < count → bits_of count number ≡ nat_eq (number / 2 ^ (count - 1) % 2) 1 ∷ bits_of (count - 1) number
+pub first_bit : (count number : ℕ) → 0 < count
+    → bits_of count number ≡ nat_eq (number / 2 ^ (count - 1) % 2) 1 ∷ bits_of (count - 1) number
 first_bit zero number some = absurd (omega arith)
 first_bit (suc count) number some =
-    let less : count ≡ suc count - 1 = omega arith in ap (λ (c : ℕ). nat_eq (number / 2 ^ c % 2) 1 ∷ bits_of c number) less
+    let less : count ≡ suc count - 1 = omega arith in ap (λ (c : ℕ). nat_eq (number / 2 ^ c % 2) 1 ∷ bits_of c number)
+    less
 
 -- it is read, and the others are left
 pub read_first :
@@ -87,7 +99,8 @@ read_first count number rest old some is = sym is ∙ ap (λ (b : List Bool). b 
 
 -- where none is in hand, the next byte is taken in hand, or what is behind the bytes
 pub open_byte :
-    (left opened : ℕ) (bytes later : List ℕ) (first count last : ℕ) (old : List Bool) → left ≡ 0 → bytes ≡ first ∷ later →
+    (left opened : ℕ) (bytes later : List ℕ) (first count last : ℕ) (old : List Bool) → left ≡ 0
+    → bytes ≡ first ∷ later →
     bits_of left opened ++ (bits_of_bytes bytes ++ bits_of count last) ≡ old →
     bits_of 8 first ++ (bits_of_bytes later ++ bits_of count last) ≡ old
 open_byte left opened bytes later first count last old none is before =
@@ -97,7 +110,8 @@ open_byte left opened bytes later first count last old none is before =
 
 pub open_last :
     (left opened : ℕ) (bytes : List ℕ) (count last : ℕ) (old : List Bool) → left ≡ 0 → length bytes ≡ 0 →
-    bits_of left opened ++ (bits_of_bytes bytes ++ bits_of count last) ≡ old → bits_of count last ++ (bits_of_bytes bytes ++ bits_of 0 last) ≡ old
+    bits_of left opened ++ (bits_of_bytes bytes ++ bits_of count last) ≡ old
+    → bits_of count last ++ (bits_of_bytes bytes ++ bits_of 0 last) ≡ old
 open_last left opened [] count last old none is before =
     append-nil (bits_of count last) ∙ (ap (λ (n : ℕ). bits_of n opened ++ bits_of count last) (sym none) ∙ before)
 open_last left opened (byte ∷ bytes) count last old none is before = absurd (omega arith)
@@ -111,17 +125,24 @@ pub some_in_hand : (count number : ℕ) (rest : List Bool) → 0 < count → ¬ 
 some_in_hand zero number rest some is = absurd (omega arith)
 some_in_hand (suc count) number rest some is = cc
 
-pub some_behind : (bits : List Bool) (bytes : List ℕ) (count number : ℕ) → 0 < count → ¬ (bits ++ (bits_of_bytes bytes ++ bits_of count number) ≡ [])
+pub some_behind : (bits : List Bool) (bytes : List ℕ) (count number : ℕ) → 0 < count
+    → ¬ (bits ++ (bits_of_bytes bytes ++ bits_of count number) ≡ [])
 some_behind bits bytes count number some is =
     let none : length (bits ++ (bits_of_bytes bytes ++ bits_of count number)) ≡ 0 = ap length is in
-    let all : length (bits ++ (bits_of_bytes bytes ++ bits_of count number)) ≡ length bits + length (bits_of_bytes bytes ++ bits_of count number) = length-append bits (bits_of_bytes bytes ++ bits_of count number) in
-    let later : length (bits_of_bytes bytes ++ bits_of count number) ≡ length (bits_of_bytes bytes) + length (bits_of count number) = length-append (bits_of_bytes bytes) (bits_of count number) in
+    let all : length (bits ++ (bits_of_bytes bytes ++ bits_of count number))
+    ≡ length bits + length (bits_of_bytes bytes ++ bits_of count number) =
+    length-append bits (bits_of_bytes bytes ++ bits_of count number) in
+    let later : length (bits_of_bytes bytes ++ bits_of count number)
+    ≡ length (bits_of_bytes bytes) + length (bits_of count number) =
+    length-append (bits_of_bytes bytes) (bits_of count number) in
     omega (arith, so_many count number)
 
-pub some_bytes : (left opened : ℕ) (bytes : List ℕ) (rest : List Bool) → left ≡ 0 → bits_of left opened ++ (bits_of_bytes bytes ++ rest) ≡ [] → length bytes ≡ 0
+pub some_bytes : (left opened : ℕ) (bytes : List ℕ) (rest : List Bool) → left ≡ 0
+    → bits_of left opened ++ (bits_of_bytes bytes ++ rest) ≡ [] → length bytes ≡ 0
 some_bytes left opened [] rest none is = refl
 some_bytes left opened (byte ∷ bytes) rest none is =
-    let all : (bits_of 8 byte ++ bits_of_bytes bytes) ++ rest ≡ [] = ap (λ (n : ℕ). bits_of n opened ++ ((bits_of 8 byte ++ bits_of_bytes bytes) ++ rest)) (sym none) ∙ is in
+    let all : (bits_of 8 byte ++ bits_of_bytes bytes) ++ rest ≡ [] =
+    ap (λ (n : ℕ). bits_of n opened ++ ((bits_of 8 byte ++ bits_of_bytes bytes) ++ rest)) (sym none) ∙ is in
     absurd cc
 
 pub none_there :
@@ -141,18 +162,21 @@ digits_split (a ∷ b ∷ c ∷ d ∷ bits) = refl
 
 -- a digit is printed
 pub printed_more :
-    (text : List ℕ) (digit : ℕ) (bits four later : List Bool) (whole : List ℕ) → four ≡ take 4 bits → later ≡ drop 4 bits →
+    (text : List ℕ) (digit : ℕ) (bits four later : List Bool) (whole : List ℕ) → four ≡ take 4 bits
+    → later ≡ drop 4 bits →
     digits_of four ≡ digit ∷ [] → text ++ digits_of bits ≡ whole → (text ++ digit ∷ []) ++ digits_of later ≡ whole
 printed_more text digit bits four later whole first rest is before =
     let split : digits_of bits ≡ digits_of (take 4 bits) ++ digits_of (drop 4 bits) = digits_split bits in
     let now : digits_of (take 4 bits) ≡ digit ∷ [] = ap digits_of (sym first) ∙ is in
     append_assoc text (digit ∷ []) (digits_of later)
     ∙ (ap (λ (l : List Bool). text ++ (digit ∷ digits_of l)) rest
-    ∙ (ap (λ (d : List ℕ). text ++ (d ++ digits_of (drop 4 bits))) (sym now) ∙ (ap (λ (d : List ℕ). text ++ d) (sym split) ∙ before)))
+    ∙ (ap (λ (d : List ℕ). text ++ (d ++ digits_of (drop 4 bits))) (sym now)
+    ∙ (ap (λ (d : List ℕ). text ++ d) (sym split) ∙ before)))
 
 pub digit_read :
     (first : Bool) (bits : List Bool) →
-    digits_of (take 4 (first ∷ bits)) ≡ digit_of first (get_or bits 0 false) (get_or (drop 1 bits) 0 false) (get_or (drop 1 (drop 1 bits)) 0 false) ∷ []
+    digits_of (take 4 (first ∷ bits)) ≡ digit_of first (get_or bits 0 false) (get_or (drop 1 bits) 0 false)
+    (get_or (drop 1 (drop 1 bits)) 0 false) ∷ []
 digit_read first [] = refl
 digit_read first (b ∷ []) = refl
 digit_read first (b ∷ c ∷ []) = refl
@@ -173,11 +197,15 @@ drop_none zero = refl
 drop_none (suc count) = refl
 
 -- four bits on, and the rest
-take_split : (count : ℕ) (bits : List Bool) → digits_of (take (suc (suc (suc (suc count)))) bits) ≡ digits_of (take 4 bits) ++ digits_of (take count (drop 4 bits))
+take_split : (count : ℕ) (bits : List Bool) → digits_of (take (suc (suc (suc (suc count)))) bits)
+    ≡ digits_of (take 4 bits) ++ digits_of (take count (drop 4 bits))
 take_split count [] = sym (ap digits_of (take_none count))
-take_split count (a ∷ []) = ap (λ (rest : List Bool). digit_of a false false false ∷ digits_of rest) (sym (take_none count))
-take_split count (a ∷ b ∷ []) = ap (λ (rest : List Bool). digit_of a b false false ∷ digits_of rest) (sym (take_none count))
-take_split count (a ∷ b ∷ c ∷ []) = ap (λ (rest : List Bool). digit_of a b c false ∷ digits_of rest) (sym (take_none count))
+take_split count (a ∷ []) = ap (λ (rest : List Bool). digit_of a false false false ∷ digits_of rest)
+    (sym (take_none count))
+take_split count (a ∷ b ∷ []) = ap (λ (rest : List Bool). digit_of a b false false ∷ digits_of rest)
+    (sym (take_none count))
+take_split count (a ∷ b ∷ c ∷ []) = ap (λ (rest : List Bool). digit_of a b c false ∷ digits_of rest)
+    (sym (take_none count))
 take_split count (a ∷ b ∷ c ∷ d ∷ bits) = refl
 
 drop_split : (count : ℕ) (bits : List Bool) → drop (suc (suc (suc (suc count)))) bits ≡ drop count (drop 4 bits)
@@ -192,14 +220,18 @@ abbrev pub Prints : List ℕ → List Bool → ℕ → List ℕ → List Bool �
 Prints text bits count whole left = (text ++ digits_of (take (4 * count) bits) ≡ whole) × (drop (4 * count) bits ≡ left)
 
 pub print_more :
-    (text more : List ℕ) (digit : ℕ) (bits later : List Bool) (most counter : ℕ) (whole : List ℕ) (left : List Bool) → counter < most →
-    more ≡ text ++ digit ∷ [] → digits_of (take 4 bits) ≡ digit ∷ [] → later ≡ drop 4 bits → Prints text bits (most - counter) whole left →
+    (text more : List ℕ) (digit : ℕ) (bits later : List Bool) (most counter : ℕ) (whole : List ℕ) (left : List Bool)
+    → counter < most →
+    more ≡ text ++ digit ∷ [] → digits_of (take 4 bits) ≡ digit ∷ [] → later ≡ drop 4 bits
+    → Prints text bits (most - counter) whole left →
     Prints more later (most - (counter + 1)) whole left
 print_more text more digit bits later most counter whole left some gained is rest before =
     let count : 4 * (most - counter) ≡ suc (suc (suc (suc (4 * (most - (counter + 1)))))) = omega arith in
-    let digits : digits_of (take (4 * (most - counter)) bits) ≡ digit ∷ digits_of (take (4 * (most - (counter + 1))) (drop 4 bits)) =
+    let digits : digits_of (take (4 * (most - counter)) bits)
+    ≡ digit ∷ digits_of (take (4 * (most - (counter + 1))) (drop 4 bits)) =
     ap (λ (n : ℕ). digits_of (take n bits)) count
-    ∙ (take_split (4 * (most - (counter + 1))) bits ∙ ap (λ (d : List ℕ). d ++ digits_of (take (4 * (most - (counter + 1))) (drop 4 bits))) is) in (
+    ∙ (take_split (4 * (most - (counter + 1))) bits
+    ∙ ap (λ (d : List ℕ). d ++ digits_of (take (4 * (most - (counter + 1))) (drop 4 bits))) is) in (
       ap (λ (t : List ℕ). t ++ digits_of (take (4 * (most - (counter + 1))) later)) gained
           ∙ (append_assoc text (digit ∷ []) (digits_of (take (4 * (most - (counter + 1))) later))
           ∙ (ap (λ (l : List Bool). text ++ (digit ∷ digits_of (take (4 * (most - (counter + 1))) l))) rest

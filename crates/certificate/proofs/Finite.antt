@@ -43,11 +43,13 @@ module _ {A B : Type 0} (make : A → B) where
   among_each (other ∷ things) thing (inl is) = inl (ap make is)
   among_each (other ∷ things) thing (inr later) = inr (among_each things thing later)
 
-  pub each_among : (things : List A) (made : B) → IsAmong made (each things) → (thing : A) × IsAmong thing things × (make thing ≡ made)
+  pub each_among : (things : List A) (made : B) → IsAmong made (each things)
+      → (thing : A) × IsAmong thing things × (make thing ≡ made)
   unfolding each
   each_among [] made among = absurd among
   each_among (other ∷ things) made (inl is) = (other, inl refl, is)
-  each_among (other ∷ things) made (inr later) = let found = each_among things made later in (found.0, inr found.1, found.2)
+  each_among (other ∷ things) made (inr later) = let found =
+      each_among things made later in (found.0, inr found.1, found.2)
 
 module _ {A B C : Type 0} (make : A → B → C) where
   -- what each thing of a list makes with each of another
@@ -62,9 +64,11 @@ module _ {A B C : Type 0} (make : A → B → C) where
   among_each_with [] others thing other among also = absurd among
   among_each_with (first ∷ things) others thing other (inl is) also =
       subst (λ (a : A). IsAmong (make a other) (each (make first) others ++ each_with things others)) is
-      ((among_both (make first other) (each (make first) others) (each_with things others)).1 (inl (among_each (make first) others other also)))
+      ((among_both (make first other) (each (make first) others) (each_with things others)).1
+      (inl (among_each (make first) others other also)))
   among_each_with (first ∷ things) others thing other (inr later) also =
-      (among_both (make thing other) (each (make first) others) (each_with things others)).1 (inr (among_each_with things others thing other later also))
+      (among_both (make thing other) (each (make first) others) (each_with things others)).1
+      (inr (among_each_with things others thing other later also))
 
   pub each_with_among :
       (things : List A) (others : List B) (made : C) → IsAmong made (each_with things others) →
@@ -73,8 +77,10 @@ module _ {A B C : Type 0} (make : A → B → C) where
   each_with_among [] others made among = absurd among
   each_with_among (first ∷ things) others made among =
       elim ((among_both made (each (make first) others) (each_with things others)).0 among) [
-        | inl here ↦ let found = each_among (make first) others made here in (first, found.0, inl refl, found.1, found.2)
-        | inr later ↦ let found = each_with_among things others made later in (found.0, found.1, inr found.2, found.3, found.4)
+        | inl here ↦ let found = each_among (make first) others made
+            here in (first, found.0, inl refl, found.1, found.2)
+        | inr later ↦ let found = each_with_among things others made
+            later in (found.0, found.1, inr found.2, found.3, found.4)
       ]
 
 module _ {A : Type 0} where
@@ -88,20 +94,24 @@ module _ {A : Type 0} where
   lists_of (suc count) things = [] ∷ each_with in_front things (lists_of count things)
 
   pub among_lists :
-      (count : ℕ) (things list : List A) → length list ≤ count → ((thing : A) → IsAmong thing list → IsAmong thing things) →
+      (count : ℕ) (things list : List A) → length list ≤ count
+      → ((thing : A) → IsAmong thing list → IsAmong thing things) →
       IsAmong list (lists_of count things)
   unfolding lists_of
   among_lists zero things [] few all = inl refl
   among_lists zero things (thing ∷ list) few all = absurd (omega arith)
   among_lists (suc count) things [] few all = inl refl
   among_lists (suc count) things (thing ∷ list) few all =
-      inr (among_each_with in_front things (lists_of count things) thing list (all thing (inl refl)) (among_lists count things list (omega arith) (λ other among. all other (inr among))))
+      inr (among_each_with in_front things (lists_of count things) thing list (all thing (inl refl))
+      (among_lists count things list (omega arith) (λ other among. all other (inr among))))
 
-  pub lists_among : (count : ℕ) (things list : List A) → IsAmong list (lists_of count things) → (thing : A) → IsAmong thing list → IsAmong thing things
+  pub lists_among : (count : ℕ) (things list : List A) → IsAmong list (lists_of count things) → (thing : A)
+      → IsAmong thing list → IsAmong thing things
   unfolding lists_of
   lists_among zero things list (inl is) thing among = absurd (subst (λ (l : List A). IsAmong thing l) (sym is) among)
   lists_among zero things list (inr none) thing among = absurd none
-  lists_among (suc count) things list (inl is) thing among = absurd (subst (λ (l : List A). IsAmong thing l) (sym is) among)
+  lists_among (suc count) things list (inl is) thing among =
+      absurd (subst (λ (l : List A). IsAmong thing l) (sym is) among)
   lists_among (suc count) things list (inr made) thing among =
       let found = each_with_among in_front things (lists_of count things) list made in
       elim (subst (λ (l : List A). IsAmong thing l) (sym found.4) among) [
@@ -116,7 +126,8 @@ module _ {A : Type 0} where
       pub such : P top
       pub most : (other : A) → IsAmong other things → P other → worth other ≤ worth top
 
-    pub top_of : (things : List A) → ((thing : A) → IsAmong thing things → Decided (P thing)) → (first : A) → P first → IsTop things
+    pub top_of : (things : List A) → ((thing : A) → IsAmong thing things → Decided (P thing)) → (first : A) → P first
+        → IsTop things
     top_of [] known first such = record { top = first; such = such; most = λ other among also. absurd among }
     top_of (thing ∷ things) known first such =
         by_thing (top_of things (λ other among. known other (inr among)) first such) (known thing (inl refl))

@@ -33,7 +33,8 @@ module _ (position : Position) (company : Company) (reached : List Stop) (revenu
       (node : Node) (marks : List Bool) (nodes : List Node) → ¬ IsLeaf node →
       over (node ∷ nodes) (true ∷ marks) ≡ over (children position company reached node ++ nodes) marks
   read_split node marks nodes trains =
-      ap (λ (b : Bool). if b then None else over (children position company reached node ++ nodes) marks) (no_leaf node.trains trains)
+      ap (λ (b : Bool). if b then None else over (children position company reached node ++ nodes) marks)
+      (no_leaf node.trains trains)
 
   pub read_cut :
       (node : Node) (marks : List Bool) (nodes : List Node) → bound position reached node ≤ revenue →
@@ -48,7 +49,8 @@ module _ (position : Position) (company : Company) (reached : List Stop) (revenu
         over (node ∷ nodes) (marks ++ rest) ≡ over nodes rest
     read_at _ _ (cut node within) nodes rest = read_cut node rest nodes within
     read_at _ _ (split node inner trains holds) nodes rest =
-        read_split node (inner ++ rest) nodes trains ∙ read_in_turn (children position company reached node) inner holds nodes rest
+        read_split node (inner ++ rest) nodes trains ∙ read_in_turn (children position company reached node) inner
+        holds nodes rest
 
     pub read_in_turn :
         (ahead : List Node) (marks : List Bool) → HoldAhead ahead marks → (nodes : List Node) (rest : List Bool) →
@@ -79,9 +81,11 @@ module _ (position : Position) (company : Company) (reached : List Stop) (revenu
 
   pub opened : (nodes : List Node) (marks : List Bool) → HoldAhead nodes marks → AreOpened nodes marks
   opened _ _ none = refl
-  opened _ _ (more node nodes first later holds hold) = record { ours = first; theirs = later; parts = refl; hold = holds; rest = hold }
+  opened _ _ (more node nodes first later holds hold) =
+      record { ours = first; theirs = later; parts = refl; hold = holds; rest = hold }
 
-  pub parted : (first later : List Node) (marks : List Bool) → HoldAhead (first ++ later) marks → ArePartly first later marks
+  pub parted : (first later : List Node) (marks : List Bool) → HoldAhead (first ++ later) marks
+      → ArePartly first later marks
   parted [] later marks hold = record { ours = []; theirs = marks; parts = refl; hold = none; rest = hold }
   parted (node ∷ first) later marks hold =
       let here : ArePartlyOf node (first ++ later) marks = opened (node ∷ (first ++ later)) marks hold in
@@ -89,7 +93,8 @@ module _ (position : Position) (company : Company) (reached : List Stop) (revenu
       record {
         ours = here.ours ++ rest.ours;
         theirs = rest.theirs;
-        parts = here.parts ∙ (ap (λ (m : List Bool). here.ours ++ m) rest.parts ∙ sym (append_assoc here.ours rest.ours rest.theirs));
+        parts = here.parts ∙ (ap (λ (m : List Bool). here.ours ++ m) rest.parts
+            ∙ sym (append_assoc here.ours rest.ours rest.theirs));
         hold = more node first here.ours rest.ours here.hold rest.hold;
         rest = rest.rest;
       }
@@ -101,7 +106,8 @@ module _ (position : Position) (company : Company) (reached : List Stop) (revenu
     pub hold : HoldAhead nodes read
 
   cut_held :
-      (node : Node) (nodes : List Node) (marks left : List Bool) → bound position reached node ≤ revenue → AreHeld nodes marks left →
+      (node : Node) (nodes : List Node) (marks left : List Bool) → bound position reached node ≤ revenue
+      → AreHeld nodes marks left →
       AreHeld (node ∷ nodes) (false ∷ marks) left
   cut_held node nodes marks left within rest =
       record {
@@ -114,7 +120,8 @@ module _ (position : Position) (company : Company) (reached : List Stop) (revenu
       (node : Node) (nodes : List Node) (marks left : List Bool) → ¬ IsLeaf node →
       AreHeld (children position company reached node ++ nodes) marks left → AreHeld (node ∷ nodes) (true ∷ marks) left
   split_held node nodes marks left trains rest =
-      let both : ArePartly (children position company reached node) nodes rest.read = parted (children position company reached node) nodes rest.read rest.hold in
+      let both : ArePartly (children position company reached node) nodes rest.read =
+      parted (children position company reached node) nodes rest.read rest.hold in
       record {
         read = (true ∷ both.ours) ++ both.theirs;
         parts = ap (λ (m : List Bool). true ∷ m) (rest.parts ∙ ap (λ (m : List Bool). m ++ left) both.parts);
@@ -124,32 +131,41 @@ module _ (position : Position) (company : Company) (reached : List Stop) (revenu
   pub held : (nodes : List Node) (marks left : List Bool) → over nodes marks ≡ Some left → AreHeld nodes marks left
   held [] marks left is = record { read = []; parts = cc; hold = none }
   held (node ∷ nodes) [] left is = absurd cc
-  held (node ∷ nodes) (false ∷ marks) left is = by_test (leb (bound position reached node) revenue) refl (λ reads. held nodes marks left reads) is
+  held (node ∷ nodes) (false ∷ marks) left is = by_test (leb (bound position reached node) revenue) refl
+      (λ reads. held nodes marks left reads) is
     where
       by_test :
-          (b : Bool) → leb (bound position reached node) revenue ≡ b → (over nodes marks ≡ Some left → AreHeld nodes marks left) →
+          (b : Bool) → leb (bound position reached node) revenue ≡ b
+          → (over nodes marks ≡ Some left → AreHeld nodes marks left) →
           (if b then over nodes marks else None) ≡ Some left → AreHeld (node ∷ nodes) (false ∷ marks) left
-      by_test true within rest reads = cut_held node nodes marks left (leb-true (bound position reached node) revenue within) (rest reads)
+      by_test true within rest reads = cut_held node nodes marks left
+          (leb-true (bound position reached node) revenue within) (rest reads)
       by_test false within rest reads = absurd cc
-  held (node ∷ nodes) (true ∷ marks) left is = by_trains (is_leaf node.trains) refl (λ reads. held (children position company reached node ++ nodes) marks left reads) is
+  held (node ∷ nodes) (true ∷ marks) left is = by_trains (is_leaf node.trains) refl
+      (λ reads. held (children position company reached node ++ nodes) marks left reads) is
     where
       by_trains :
           (b : Bool) → is_leaf node.trains ≡ b →
-          (over (children position company reached node ++ nodes) marks ≡ Some left → AreHeld (children position company reached node ++ nodes) marks left) →
-          (if b then None else over (children position company reached node ++ nodes) marks) ≡ Some left → AreHeld (node ∷ nodes) (true ∷ marks) left
+          (over (children position company reached node ++ nodes) marks ≡ Some left
+          → AreHeld (children position company reached node ++ nodes) marks left) →
+          (if b then None else over (children position company reached node ++ nodes) marks) ≡ Some left
+          → AreHeld (node ∷ nodes) (true ∷ marks) left
       by_trains true none_left rest reads = absurd cc
       by_trains false trains rest reads = split_held node nodes marks left (are_left node.trains trains) (rest reads)
 
   -- at a node, and nothing behind it
-  pub held_at : (node : Node) (marks left : List Bool) → over (node ∷ []) marks ≡ Some left → (read : List Bool) × (marks ≡ read ++ left) × HoldHere node read
+  pub held_at : (node : Node) (marks left : List Bool) → over (node ∷ []) marks ≡ Some left
+      → (read : List Bool) × (marks ≡ read ++ left) × HoldHere node read
   held_at node marks left is =
       let found : AreHeld (node ∷ []) marks left = held (node ∷ []) marks left is in
       let here : ArePartlyOf node [] found.read = opened (node ∷ []) found.read found.hold in
       let empty : here.theirs ≡ [] = opened [] here.theirs here.rest in
-      let whole : found.read ≡ here.ours = here.parts ∙ (ap (λ (m : List Bool). here.ours ++ m) empty ∙ append-nil here.ours) in
+      let whole : found.read ≡ here.ours = here.parts
+      ∙ (ap (λ (m : List Bool). here.ours ++ m) empty ∙ append-nil here.ours) in
       (found.read, found.parts, subst (λ (m : List Bool). HoldHere node m) (sym whole) here.hold)
 
-  pub read_whole : (node : Node) (marks rest : List Bool) → HoldHere node marks → over (node ∷ []) (marks ++ rest) ≡ Some rest
+  pub read_whole : (node : Node) (marks rest : List Bool) → HoldHere node marks
+      → over (node ∷ []) (marks ++ rest) ≡ Some rest
   read_whole node marks rest holds = read_at node marks holds [] rest
 
 pub hold_where_read : MarksHoldWhereRead
@@ -159,5 +175,6 @@ hold_where_read position company reached revenue node marks = (
       (read_whole position company reached revenue node marks [] hold),
   λ reads.
       let found = held_at position company reached revenue node marks [] reads in
-      subst (λ (m : List Bool). Hold position company reached revenue node m) (sym (found.1 ∙ append-nil found.0)) found.2,
+      subst (λ (m : List Bool). Hold position company reached revenue node m) (sym (found.1 ∙ append-nil found.0))
+      found.2,
 )

@@ -41,56 +41,73 @@ number_half a b x y same is = omega arith
 
 pub stop_is : (a b : Stop) → (stop_order a == stop_order b) ≡ true → a ≡ b
 stop_is a b same =
-    let order : 2 * index_of a.hex + stop_index_of a.number ≡ 2 * index_of b.hex + stop_index_of b.number = eqb-true (stop_order a) (stop_order b) same in
-    let place : index_of a.hex ≡ index_of b.hex = index_half (index_of a.hex) (index_of b.hex) (stop_index_of a.number) (stop_index_of b.number) order (stop_index_low a.number) (stop_index_low b.number) in
+    let order : 2 * index_of a.hex + stop_index_of a.number ≡ 2 * index_of b.hex + stop_index_of b.number =
+    eqb-true (stop_order a) (stop_order b) same in
+    let place : index_of a.hex ≡ index_of b.hex = index_half (index_of a.hex) (index_of b.hex)
+    (stop_index_of a.number) (stop_index_of b.number) order (stop_index_low a.number) (stop_index_low b.number) in
     ap (λ (h : Hex). let s : Stop = record { hex = h; number = a.number } in s) (same_index a.hex b.hex place)
-    ∙ ap (λ (n : StopNumber). let s : Stop = record { hex = b.hex; number = n } in s) (same_stop_index a.number b.number (number_half (index_of a.hex) (index_of b.hex) (stop_index_of a.number) (stop_index_of b.number) order place))
+    ∙ ap (λ (n : StopNumber). let s : Stop = record { hex = b.hex; number = n } in s)
+    (same_stop_index a.number b.number (number_half (index_of a.hex) (index_of b.hex) (stop_index_of a.number)
+    (stop_index_of b.number) order place))
 
 is_stop : (a b : Stop) → a ≡ b → (stop_order a == stop_order b) ≡ true
 is_stop a b is = eq-eqb (stop_order a) (stop_order b) (ap stop_order is)
 
 -- the test of a stop among stops
 pub has_stop_is : (stop : Stop) (stops : List Stop) → (has_stop stop stops ≡ true) ↔ IsAmong stop stops
-has_stop_is stop stops =
-    (among_found (λ a b. stop_order a == stop_order b) stop_is stops stop, found_among (λ a b. stop_order a == stop_order b) is_stop stops stop)
+has_stop_is stop stops = (
+  among_found (λ a b. stop_order a == stop_order b) stop_is stops stop,
+  found_among
+      (λ a b. stop_order a == stop_order b) is_stop stops stop,
+)
 
 -- no stop twice
 pub stops_distinct : (stops : List Stop) → has_stop_twice stops ≡ false → AreDistinct stops
 stops_distinct [] h = tt
 stops_distinct (stop ∷ stops) h =
-    let parts : (has_stop_twice stops ≡ false) × (has_stop stop stops ≡ false) = neither (has_stop_twice stops) (has_stop stop stops) h in
+    let parts : (has_stop_twice stops ≡ false) × (has_stop stop stops ≡ false) =
+    neither (has_stop_twice stops) (has_stop stop stops) h in
     ((fails (has_stop stop stops) (has_stop_is stop stops)).0 parts.1, stops_distinct stops parts.0)
 
 pub distinct_stops : (stops : List Stop) → AreDistinct stops → has_stop_twice stops ≡ false
 distinct_stops [] h = refl
 distinct_stops (stop ∷ stops) h =
-    both_fail (has_stop_twice stops) (has_stop stop stops) (distinct_stops stops h.1) ((fails (has_stop stop stops) (has_stop_is stop stops)).1 h.0)
+    both_fail (has_stop_twice stops) (has_stop stop stops) (distinct_stops stops h.1)
+    ((fails (has_stop stop stops) (has_stop_is stop stops)).1 h.0)
 
 -- the test of a border among borders fails
 not_among_is : (border : ℕ) (borders : List ℕ) → (has_border border borders ≡ false) ↔ (¬ IsAmong border borders)
 not_among_is border borders = fails (has_border border borders) (among_is border borders)
 
 -- no border twice, and none that was used
-pub borders_distinct : (used : List ℕ) (borders : List ℕ) → has_border_twice used borders ≡ false → AreDistinct borders × AllByRecursion (λ border. ¬ IsAmong border used) borders
+pub borders_distinct : (used : List ℕ) (borders : List ℕ) → has_border_twice used borders ≡ false
+    → AreDistinct borders × AllByRecursion (λ border. ¬ IsAmong border used) borders
 borders_distinct used [] h = (tt, tt)
 borders_distinct used (border ∷ borders) h =
-    let parts : (has_border_twice used borders ≡ false) × (is_taken used borders border ≡ false) = neither (has_border_twice used borders) (is_taken used borders border) h in
-    let free : (has_border border used ≡ false) × (has_border border borders ≡ false) = neither (has_border border used) (has_border border borders) parts.1 in
-    let rest : AreDistinct borders × AllByRecursion (λ b. ¬ IsAmong b used) borders = borders_distinct used borders parts.0 in
+    let parts : (has_border_twice used borders ≡ false) × (is_taken used borders border ≡ false) =
+    neither (has_border_twice used borders) (is_taken used borders border) h in
+    let free : (has_border border used ≡ false) × (has_border border borders ≡ false) =
+    neither (has_border border used) (has_border border borders) parts.1 in
+    let rest : AreDistinct borders × AllByRecursion (λ b. ¬ IsAmong b used) borders =
+    borders_distinct used borders parts.0 in
     (((not_among_is border borders).0 free.1, rest.0), ((not_among_is border used).0 free.0, rest.1))
 
-pub distinct_borders : (used : List ℕ) (borders : List ℕ) → AreDistinct borders → AllByRecursion (λ border. ¬ IsAmong border used) borders → has_border_twice used borders ≡ false
+pub distinct_borders : (used : List ℕ) (borders : List ℕ) → AreDistinct borders
+    → AllByRecursion (λ border. ¬ IsAmong border used) borders → has_border_twice used borders ≡ false
 distinct_borders used [] once free = refl
 distinct_borders used (border ∷ borders) once free =
-    both_fail (has_border_twice used borders) (is_taken used borders border) (distinct_borders used borders once.1 free.1)
-    (both_fail (has_border border used) (has_border border borders) ((not_among_is border used).1 free.0) ((not_among_is border borders).1 once.0))
+    both_fail (has_border_twice used borders) (is_taken used borders border)
+    (distinct_borders used borders once.1 free.1)
+    (both_fail (has_border border used) (has_border border borders) ((not_among_is border used).1 free.0)
+    ((not_among_is border borders).1 once.0))
 
 module _ (P : Stop → Type 0) (test : Stop → Bool) (exact : (stop : Stop) → (test stop ≡ true) ↔ P stop) where
   such_none : (stop : Option Stop) → (is_such test stop ≡ false) ↔ IfSome stop (λ s. ¬ P s)
   such_none None = (λ h. tt, λ h. refl)
   such_none (Some stop) = fails (test stop) (exact stop)
 
-  by_none : (before : List Step) (step : Step) → (goes_through test before step ≡ false) ↔ PassesBy (λ s. ¬ P s) before step
+  by_none : (before : List Step) (step : Step) → (goes_through test before step ≡ false)
+      ↔ PassesBy (λ s. ¬ P s) before step
   by_none [] step = (λ h. tt, λ h. refl)
   by_none (earlier ∷ before) step = such_none (stop_of (entered_at step))
 
@@ -98,13 +115,15 @@ module _ (P : Stop → Type 0) (test : Stop → Bool) (exact : (stop : Stop) →
   pub passes_none : (steps : List Step) → passes test steps ≡ false → PassesOnly (λ s. ¬ P s) steps
   passes_none [] h = tt
   passes_none (step ∷ before) h =
-      let parts : (passes test before ≡ false) × (goes_through test before step ≡ false) = neither (passes test before) (goes_through test before step) h in
+      let parts : (passes test before ≡ false) × (goes_through test before step ≡ false) =
+      neither (passes test before) (goes_through test before step) h in
       ((by_none before step).0 parts.1, passes_none before parts.0)
 
   pub none_passes : (steps : List Step) → PassesOnly (λ s. ¬ P s) steps → passes test steps ≡ false
   none_passes [] h = refl
   none_passes (step ∷ before) h =
-      both_fail (passes test before) (goes_through test before step) (none_passes before h.1) ((by_none before step).1 h.0)
+      both_fail (passes test before) (goes_through test before step) (none_passes before h.1)
+      ((by_none before step).1 h.0)
 
   first_of_or : (a b : Bool) → (a || b) ≡ true → (a ≡ true) ⊎ (b ≡ true)
   first_of_or true b h = inl refl
@@ -118,7 +137,8 @@ module _ (P : Stop → Type 0) (test : Stop → Bool) (exact : (stop : Stop) →
   pub has_such : (stops : List Stop) → list_any test stops ≡ true → HasSuch P stops
   has_such [] h = cc
   has_such (stop ∷ stops) h =
-      elim (first_of_or (test stop) (list_any test stops) h) [ inl here ↦ inl ((exact stop).0 here) | inr later ↦ inr (has_such stops later) ]
+      elim (first_of_or (test stop) (list_any test stops) h)
+      [ inl here ↦ inl ((exact stop).0 here) | inr later ↦ inr (has_such stops later) ]
 
   pub such_has : (stops : List Stop) → HasSuch P stops → list_any test stops ≡ true
   such_has [] h = absurd h
@@ -137,11 +157,15 @@ most_is : (most : Option ℕ) (count : ℕ) → (are_over most count ≡ false) 
 most_is None count = (λ h. tt, λ h. refl)
 most_is (Some most) count = (λ h. ltb-false most count h, λ h. not_less most count h)
 
-pub number_is : (kind : Kind) (count : ℕ) → is_wrong_number kind count ≡ false → (2 ≤ count) × AreAtMost (stops_of kind) count
+pub number_is : (kind : Kind) (count : ℕ) → is_wrong_number kind count ≡ false
+    → (2 ≤ count) × AreAtMost (stops_of kind) count
 number_is kind count h =
-    let parts : (ltb count 2 ≡ false) × (are_over (stops_of kind) count ≡ false) = neither (ltb count 2) (are_over (stops_of kind) count) h in
+    let parts : (ltb count 2 ≡ false) × (are_over (stops_of kind) count ≡ false) =
+    neither (ltb count 2) (are_over (stops_of kind) count) h in
     (ltb-false count 2 parts.0, (most_is (stops_of kind) count).0 parts.1)
 
-pub is_number : (kind : Kind) (count : ℕ) → 2 ≤ count → AreAtMost (stops_of kind) count → is_wrong_number kind count ≡ false
+pub is_number : (kind : Kind) (count : ℕ) → 2 ≤ count → AreAtMost (stops_of kind) count
+    → is_wrong_number kind count ≡ false
 is_number kind count least most =
-    both_fail (ltb count 2) (are_over (stops_of kind) count) (not_less count 2 least) ((most_is (stops_of kind) count).1 most)
+    both_fail (ltb count 2) (are_over (stops_of kind) count) (not_less count 2 least)
+    ((most_is (stops_of kind) count).1 most)

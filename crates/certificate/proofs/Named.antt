@@ -26,12 +26,14 @@ use Rattle.certificate.specs.Named.{arrived, is_hex, leg_by_stop, leg_from, leg_
 use Rattle.certificate.specs.declared.leg.Leg.{Leg}
 
 -- what a search finds passes its test
-by_first : {A : Type 0} (test : A → Bool) (first thing : A) (rest : Option A) (b : Bool) → test first ≡ b → (rest ≡ Some thing → test thing ≡ true) → (if b then Some first else rest) ≡ Some thing → test thing ≡ true
+by_first : {A : Type 0} (test : A → Bool) (first thing : A) (rest : Option A) (b : Bool) → test first ≡ b
+    → (rest ≡ Some thing → test thing ≡ true) → (if b then Some first else rest) ≡ Some thing → test thing ≡ true
 by_first {A = A} test first thing rest true passes later is =
     let same : first ≡ thing = cc in subst (λ (x : A). test x ≡ true) same passes
 by_first test first thing rest false passes later is = later is
 
-pub found_passes : {A : Type 0} (test : A → Bool) (things : List A) (thing : A) → find test things ≡ Some thing → test thing ≡ true
+pub found_passes : {A : Type 0} (test : A → Bool) (things : List A) (thing : A) → find test things ≡ Some thing
+    → test thing ≡ true
 found_passes test [] thing is = cc
 found_passes test (first ∷ rest) thing is =
     by_first test first thing (find test rest) (test first) refl (found_passes test rest thing) is
@@ -62,10 +64,16 @@ three true true false h = cc
 -- links that pass for one are one
 link_is : (link other : Link) → same_link link other ≡ true → link ≡ other
 link_is link other same =
-    let parts : (same_hex link.hex other.hex ≡ true) × ((end_order link.a == end_order other.a) ≡ true) × ((end_order link.b == end_order other.b) ≡ true) = three (same_hex link.hex other.hex) (end_order link.a == end_order other.a) (end_order link.b == end_order other.b) same in
-    ap (λ (h : Hex). let l : Link = record { hex = h; a = link.a; b = link.b } in l) (same_index link.hex other.hex (eqb-true (index_of link.hex) (index_of other.hex) parts.0))
-    ∙ ap (λ (e : End). let l : Link = record { hex = other.hex; a = e; b = link.b } in l) (same_end link.a other.a (eqb-true (end_order link.a) (end_order other.a) parts.1))
-    ∙ ap (λ (e : End). let l : Link = record { hex = other.hex; a = other.a; b = e } in l) (same_end link.b other.b (eqb-true (end_order link.b) (end_order other.b) parts.2))
+    let parts : (same_hex link.hex other.hex ≡ true) × ((end_order link.a == end_order other.a) ≡ true)
+    × ((end_order link.b == end_order other.b) ≡ true) =
+    three (same_hex link.hex other.hex) (end_order link.a == end_order other.a)
+    (end_order link.b == end_order other.b) same in
+    ap (λ (h : Hex). let l : Link = record { hex = h; a = link.a; b = link.b } in l)
+    (same_index link.hex other.hex (eqb-true (index_of link.hex) (index_of other.hex) parts.0))
+    ∙ ap (λ (e : End). let l : Link = record { hex = other.hex; a = e; b = link.b } in l)
+    (same_end link.a other.a (eqb-true (end_order link.a) (end_order other.a) parts.1))
+    ∙ ap (λ (e : End). let l : Link = record { hex = other.hex; a = other.a; b = e } in l)
+    (same_end link.b other.b (eqb-true (end_order link.b) (end_order other.b) parts.2))
 
 -- the step between two ends leads from the one to the other, by the link
 record Joins (position : Position) (hex : Hex) (from to : End) (step : Step) : Type 0 where
@@ -73,21 +81,28 @@ record Joins (position : Position) (hex : Hex) (from to : End) (step : Step) : T
   entered : entered_at step ≡ spot_at hex from
   left : left_at step ≡ spot_at hex to
 
-over_by : (position : Position) (hex : Hex) (from to : End) (turned : Bool) → let step : Step = if turned then record { link = record { hex = hex; a = to; b = from }; turned = true } else record { link = record { hex = hex; a = from; b = to }; turned = false } in list_any (λ link. same_link link step.link) (links_of position hex) ≡ true → Joins position hex from to step
+over_by : (position : Position) (hex : Hex) (from to : End) (turned : Bool) → let step : Step =
+    if turned then record { link = record { hex = hex; a = to; b = from }; turned = true } else record
+    { link = record { hex = hex; a = from; b = to }; turned = false } in list_any (λ link. same_link link step.link)
+    (links_of position hex) ≡ true → Joins position hex from to step
 over_by position hex from to true found =
     record { track = among_found same_link link_is (links_of position hex) _ found; entered = refl; left = refl }
 over_by position hex from to false found =
     record { track = among_found same_link link_is (links_of position hex) _ found; entered = refl; left = refl }
 
-joined_by : (position : Position) (hex : Hex) (from to : End) (over step : Step) (found : Bool) → (found ≡ true → Joins position hex from to over) → (if found then Some over else None) ≡ Some step → Joins position hex from to step
+joined_by : (position : Position) (hex : Hex) (from to : End) (over step : Step) (found : Bool)
+    → (found ≡ true → Joins position hex from to over) → (if found then Some over else None) ≡ Some step
+    → Joins position hex from to step
 joined_by position hex from to over step true joins is =
     let same : over ≡ step = cc in subst (λ (s : Step). Joins position hex from to s) same (joins refl)
 joined_by position hex from to over step false joins is = cc
 
-joins : (position : Position) (hex : Hex) (from to : End) (step : Step) → step_between position hex from to ≡ Some step → Joins position hex from to step
+joins : (position : Position) (hex : Hex) (from to : End) (step : Step)
+    → step_between position hex from to ≡ Some step → Joins position hex from to step
 unfolding step_between
 joins position hex from to step is =
-    joined_by position hex from to (step_over hex from to) step (list_any (λ link. same_link link (step_over hex from to).link) (links_of position hex))
+    joined_by position hex from to (step_over hex from to) step
+    (list_any (λ link. same_link link (step_over hex from to).link) (links_of position hex))
     (over_by position hex from to (ltb (end_order to) (end_order from))) is
 
 -- a train stands where its last step led: at the stop where it was left, or over the border there
@@ -117,12 +132,14 @@ joined_there left hex (AtSide side) stands = inr stands
 joined_there left hex (AtStop number) stands =
     inl (joined_stop_of (stop_at hex number), ap stop_of stands, refl)
 
-goes_on : (before : List Step) (step : Step) (hex : Hex) (end : End) → StandsAfter before hex end → entered_at step ≡ spot_at hex end → GoesOn before step
+goes_on : (before : List Step) (step : Step) (hex : Hex) (end : End) → StandsAfter before hex end
+    → entered_at step ≡ spot_at hex end → GoesOn before step
 goes_on [] step hex end stands entered = tt
 goes_on (earlier ∷ before) step hex end stands entered =
     subst (λ (s : Spot). AreJoined (left_at earlier) s) (sym entered) (joined_there (left_at earlier) hex end stands)
 
-begins_well : (before : List Step) (step : Step) (hex : Hex) (end : End) → BeginsWell before → StandsAfter before hex end → entered_at step ≡ spot_at hex end → BeginsAt (λ stop. Unit {0}) (step ∷ before)
+begins_well : (before : List Step) (step : Step) (hex : Hex) (end : End) → BeginsWell before
+    → StandsAfter before hex end → entered_at step ≡ spot_at hex end → BeginsAt (λ stop. Unit {0}) (step ∷ before)
 begins_well [] step hex end begins stands entered = (stands.0, ap stop_of entered ∙ stands.1, tt)
 begins_well (earlier ∷ before) step hex end begins stands entered = begins
 
@@ -139,7 +156,9 @@ IsWhole position (step ∷ before) = StopToStop position (step ∷ before)
 
 module _ (position : Position) where
   -- a step further
-  one_step : (before : List Step) (step : Step) (hex : Hex) (from to : End) (at : Spot) → Joins position hex from to step → IsWalk position before → BeginsWell before → StandsAfter before hex from → StandsBy (spot_at hex to) at.hex at.end → Goes position (step ∷ before) at
+  one_step : (before : List Step) (step : Step) (hex : Hex) (from to : End) (at : Spot)
+      → Joins position hex from to step → IsWalk position before → BeginsWell before → StandsAfter before hex from
+      → StandsBy (spot_at hex to) at.hex at.end → Goes position (step ∷ before) at
   one_step before step hex from to at joins walk begins stands next = record {
     walk = (joins.track, goes_on before step hex from stands joins.entered, walk);
     begins = begins_well before step hex from begins stands joins.entered;
@@ -147,38 +166,60 @@ module _ (position : Position) where
   }
 
   -- over the border to the next place, and on to its stop
-  on_by_stop : (steps : List Step) (first : Step) (hex : Hex) (side : Side) (stop : Option StopNumber) (leg : Leg) → Goes position (first ∷ steps) (spot_at hex (AtSide side)) → leg_by_stop position first hex side stop ≡ Some leg → Goes position (with_leg taken steps leg) leg.at
+  on_by_stop : (steps : List Step) (first : Step) (hex : Hex) (side : Side) (stop : Option StopNumber) (leg : Leg)
+      → Goes position (first ∷ steps) (spot_at hex (AtSide side))
+      → leg_by_stop position first hex side stop ≡ Some leg → Goes position (with_leg taken steps leg) leg.at
   on_by_stop steps first hex side None leg goes is =
-      let same : (let made : Leg = record { first = first; second = None; at = spot_at hex (AtSide side) } in made) ≡ leg = cc in
+      let same : (let made : Leg = record { first = first; second = None; at = spot_at hex (AtSide side) } in made)
+      ≡ leg = cc in
       subst (λ (l : Leg). Goes position (with_leg taken steps l) l.at) same goes
-  on_by_stop steps first hex side (Some number) leg goes is = by_second (step_between position hex (AtSide side) (AtStop number)) refl is
+  on_by_stop steps first hex side (Some number) leg goes is =
+      by_second (step_between position hex (AtSide side) (AtStop number)) refl is
     where
-      by_second : (found : Option Step) → step_between position hex (AtSide side) (AtStop number) ≡ found → option_map (λ second. let made : Leg = record { first = first; second = Some second; at = spot_at hex (AtStop number) } in made) found ≡ Some leg → Goes position (with_leg taken steps leg) leg.at
+      by_second : (found : Option Step) → step_between position hex (AtSide side) (AtStop number) ≡ found
+          → option_map (λ second. let made : Leg = record
+          { first = first; second = Some second; at = spot_at hex (AtStop number) } in made) found ≡ Some leg
+          → Goes position (with_leg taken steps leg) leg.at
       by_second None found is = cc
       by_second (Some second) found is =
-          let same : (let made : Leg = record { first = first; second = Some second; at = spot_at hex (AtStop number) } in made) ≡ leg = cc in
+          let same : (let made : Leg = record {
+            first = first;
+            second = Some second;
+            at =
+                spot_at hex (AtStop number);
+          } in made) ≡ leg = cc in
           subst (λ (l : Leg). Goes position (with_leg taken steps l) l.at) same
-          (one_step (first ∷ steps) second hex (AtSide side) (AtStop number) (spot_at hex (AtStop number)) (joins position hex (AtSide side) (AtStop number) second found) goes.walk goes.begins goes.stands refl)
+          (one_step (first ∷ steps) second hex (AtSide side) (AtStop number) (spot_at hex (AtStop number))
+          (joins position hex (AtSide side) (AtStop number) second found) goes.walk goes.begins goes.stands refl)
 
-  on_from : (steps : List Step) (at : Spot) (side : Side) (place : Place) (first : Option Step) (leg : Leg) → Goes position steps at → neighbour_of at.hex side ≡ Some place.hex → step_between position at.hex at.end (AtSide side) ≡ first → leg_from position side place first ≡ Some leg → Goes position (with_leg taken steps leg) leg.at
+  on_from : (steps : List Step) (at : Spot) (side : Side) (place : Place) (first : Option Step) (leg : Leg)
+      → Goes position steps at → neighbour_of at.hex side ≡ Some place.hex
+      → step_between position at.hex at.end (AtSide side) ≡ first → leg_from position side place first ≡ Some leg
+      → Goes position (with_leg taken steps leg) leg.at
   on_from steps at side place None leg goes beside found is = cc
   on_from steps at side place (Some first) leg goes beside found is =
       on_by_stop steps first place.hex (facing_of side) place.stop leg
-      (one_step steps first at.hex at.end (AtSide side) (spot_at place.hex (AtSide (facing_of side))) (joins position at.hex at.end (AtSide side) first found) goes.walk goes.begins goes.stands
+      (one_step steps first at.hex at.end (AtSide side) (spot_at place.hex (AtSide (facing_of side)))
+      (joins position at.hex at.end (AtSide side) first found) goes.walk goes.begins goes.stands
       (ap (option_map (λ other. spot_at other (AtSide (facing_of side)))) beside))
       is
 
-  on_over : (steps : List Step) (at : Spot) (place : Place) (side : Option Side) (leg : Leg) → Goes position steps at → side_towards at.hex place.hex ≡ side → leg_over position at place side ≡ Some leg → Goes position (with_leg taken steps leg) leg.at
+  on_over : (steps : List Step) (at : Spot) (place : Place) (side : Option Side) (leg : Leg) → Goes position steps at
+      → side_towards at.hex place.hex ≡ side → leg_over position at place side ≡ Some leg
+      → Goes position (with_leg taken steps leg) leg.at
   on_over steps at place None leg goes found is = cc
   on_over steps at place (Some side) leg goes found is =
-      on_from steps at side place (step_between position at.hex at.end (AtSide side)) leg goes (towards at.hex place.hex side found) refl is
+      on_from steps at side place (step_between position at.hex at.end (AtSide side)) leg goes
+      (towards at.hex place.hex side found) refl is
 
   -- a leg further
-  on_leg : (steps : List Step) (at : Spot) (place : Place) (leg : Leg) → Goes position steps at → leg_to position at place ≡ Some leg → Goes position (with_leg taken steps leg) leg.at
+  on_leg : (steps : List Step) (at : Spot) (place : Place) (leg : Leg) → Goes position steps at
+      → leg_to position at place ≡ Some leg → Goes position (with_leg taken steps leg) leg.at
   unfolding leg_to
   on_leg steps at place leg goes is = on_over steps at place (side_towards at.hex place.hex) leg goes refl is
 
-  whole_there : (steps : List Step) (hex : Hex) (end : End) → IsWalk position steps → BeginsWell steps → StandsAfter steps hex end → (all : List Step) → arrived end steps ≡ Some all → IsWhole position all
+  whole_there : (steps : List Step) (hex : Hex) (end : End) → IsWalk position steps → BeginsWell steps
+      → StandsAfter steps hex end → (all : List Step) → arrived end steps ≡ Some all → IsWhole position all
   whole_there steps hex (AtSide side) walk begins stands all is = cc
   whole_there [] hex (AtStop number) walk begins stands all is =
       let same : [] ≡ all = cc in subst (λ (a : List Step). IsWhole position a) same tt
@@ -188,21 +229,29 @@ module _ (position : Position) where
       (record { walk = walk; begins = begins; ends = (joined_stop_of (stop_at hex number), ap stop_of stands) })
 
   -- all the way
-  all_the_way : (steps : List Step) (at : Spot) (places : List Place) (all : List Step) → Goes position steps at → travelled taken position at steps places ≡ Some all → IsWhole position all
+  all_the_way : (steps : List Step) (at : Spot) (places : List Place) (all : List Step) → Goes position steps at
+      → travelled taken position at steps places ≡ Some all → IsWhole position all
   all_the_way steps at [] all goes is = whole_there steps at.hex at.end goes.walk goes.begins goes.stands all is
   all_the_way steps at (place ∷ places) all goes is =
-      by_leg (leg_to position at place) (λ leg found. all_the_way (with_leg taken steps leg) leg.at places all (on_leg steps at place leg goes found)) refl is
+      by_leg (leg_to position at place) (λ leg found. all_the_way (with_leg taken steps leg) leg.at places all
+      (on_leg steps at place leg goes found)) refl is
     where
-      by_leg : (found : Option Leg) → ((leg : Leg) → leg_to position at place ≡ Some leg → travelled taken position leg.at (with_leg taken steps leg) places ≡ Some all → IsWhole position all) → leg_to position at place ≡ found → option_and_then (λ leg. travelled taken position leg.at (with_leg taken steps leg) places) found ≡ Some all → IsWhole position all
+      by_leg : (found : Option Leg) → ((leg : Leg) → leg_to position at place ≡ Some leg
+          → travelled taken position leg.at (with_leg taken steps leg) places ≡ Some all → IsWhole position all)
+          → leg_to position at place ≡ found → option_and_then
+          (λ leg. travelled taken position leg.at (with_leg taken steps leg) places) found ≡ Some all
+          → IsWhole position all
       by_leg None later found is = cc
       by_leg (Some leg) later found is = later leg found is
 
   -- the walk that places name is a walk from a stop to a stop, or has no steps
-  pub named_is_whole : (places : List Place) (all : List Step) → walk_named position places ≡ Some all → IsWhole position all
+  pub named_is_whole : (places : List Place) (all : List Step) → walk_named position places ≡ Some all
+      → IsWhole position all
   named_is_whole [] all is = cc
   named_is_whole (place ∷ places) all is = by_stop place.stop is
     where
-      by_stop : (stop : Option StopNumber) → option_and_then (λ at. travelled taken position at [] places) (option_map (λ number. spot_at place.hex (AtStop number)) stop) ≡ Some all → IsWhole position all
+      by_stop : (stop : Option StopNumber) → option_and_then (λ at. travelled taken position at [] places)
+          (option_map (λ number. spot_at place.hex (AtStop number)) stop) ≡ Some all → IsWhole position all
       by_stop None is = cc
       by_stop (Some number) is =
           all_the_way [] (spot_at place.hex (AtStop number)) places all

@@ -35,7 +35,8 @@ HasRoom kind count (AtSide side) = AreAtMost (stops_of kind) (suc count)
 HasRoom kind count (AtStop number) = AreAtMost (stops_of kind) count
 
 -- a run that is begun keeps all that a legal run must keep, so far
-pub record IsRunBegun (position : Position) (company : Company) (kind : Kind) (borders : List ℕ) (step : Step) (before : List Step) : Type 0 where
+pub record IsRunBegun (position : Position) (company : Company) (kind : Kind) (borders : List ℕ) (step : Step)
+    (before : List Step) : Type 0 where
   pub walk : IsWalk position (step ∷ before)
   pub begins : BeginsAt (λ stop. Unit {0}) (step ∷ before)
   pub stops : AreDistinct (visited (step ∷ before))
@@ -54,7 +55,8 @@ IsInHand position company borders begun [] = begun ≡ []
 IsInHand position company borders begun (kind ∷ later) = IsBegun position company kind borders begun
 
 -- what holds at a node, where these are all trains
-pub record IsGood (position : Position) (company : Company) (all : List Kind) (settled : List TrainRun) (begun : List Step) (trains : List Kind) : Type 0 where
+pub record IsGood (position : Position) (company : Company) (all : List Kind) (settled : List TrainRun)
+    (begun : List Step) (trains : List Kind) : Type 0 where
   pub legal : AllByRecursion (RunsLegally position company) settled
   pub apart : AreApart settled
   pub taken : (kind : Kind) → in_number kind (trains_that_run settled) + in_number kind trains ≤ in_number kind all
@@ -94,28 +96,33 @@ stop_none : (hex : Hex) (end : End) (borders : List ℕ) → LeadsOver borders h
 stop_none hex end borders over = ap (stop_at_end hex) over.at_side
 
 room_over :
-    (kind : Kind) (count : ℕ) (hex : Hex) (end : End) (borders : List ℕ) → LeadsOver borders hex end → AreAtMost (stops_of kind) (suc count) →
+    (kind : Kind) (count : ℕ) (hex : Hex) (end : End) (borders : List ℕ) → LeadsOver borders hex end
+    → AreAtMost (stops_of kind) (suc count) →
     HasRoom kind count end
 room_over kind count hex end borders over fit = subst (HasRoom kind count) (sym over.at_side) fit
 
 room_at_stop :
-    (kind : Kind) (count : ℕ) (hex : Hex) (end : End) (stop : Stop) → stop_at_end hex end ≡ Some stop → AreAtMost (stops_of kind) count →
+    (kind : Kind) (count : ℕ) (hex : Hex) (end : End) (stop : Stop) → stop_at_end hex end ≡ Some stop
+    → AreAtMost (stops_of kind) count →
     HasRoom kind count end
 room_at_stop kind count hex (AtSide side) stop is fit = absurd cc
 room_at_stop kind count hex (AtStop number) stop is fit = fit
 
 stop_had_room :
-    (kind : Kind) (count : ℕ) (hex : Hex) (end : End) (stop : Stop) → stop_at_end hex end ≡ Some stop → HasRoom kind count end →
+    (kind : Kind) (count : ℕ) (hex : Hex) (end : End) (stop : Stop) → stop_at_end hex end ≡ Some stop
+    → HasRoom kind count end →
     AreAtMost (stops_of kind) count
 stop_had_room kind count hex (AtSide side) stop is room = absurd cc
 stop_had_room kind count hex (AtStop number) stop is room = room
 
-side_had_room : (kind : Kind) (count : ℕ) (hex : Hex) (end : End) → stop_at_end hex end ≡ None → HasRoom kind count end → AreAtMost (stops_of kind) (suc count)
+side_had_room : (kind : Kind) (count : ℕ) (hex : Hex) (end : End) → stop_at_end hex end ≡ None
+    → HasRoom kind count end → AreAtMost (stops_of kind) (suc count)
 side_had_room kind count hex (AtSide side) is room = room
 side_had_room kind count hex (AtStop number) is room = absurd cc
 
 -- the border at an end that leads over it
-over_border : (hex : Hex) (end : End) (borders : List ℕ) (over : LeadsOver borders hex end) → border_at hex end ≡ border_of hex over.side ∷ []
+over_border : (hex : Hex) (end : End) (borders : List ℕ) (over : LeadsOver borders hex end)
+    → border_at hex end ≡ border_of hex over.side ∷ []
 over_border hex end borders over = ap (border_at hex) over.at_side
 
 either : (a b : Bool) → (a || b) ≡ true → (a ≡ true) ⊎ (b ≡ true)
@@ -140,37 +147,51 @@ new_stop :
     (stop : Stop) × (found ≡ Some stop) × IsNew reached stops stop
 new_stop reached stops None is = absurd cc
 new_stop reached stops (Some stop) is =
-    let parts = both (has_stop stop reached) (not (has_stop stop stops)) is in
-    (stop, refl, record { there = (has_stop_is stop reached).0 parts.0; no_other = not_true (has_stop stop stops) parts.1 })
+    let parts = both (has_stop stop reached) (not (has_stop stop stops)) is in (
+      stop,
+      refl,
+      record {
+        there = (has_stop_is stop reached).0 parts.0;
+        no_other =
+            not_true (has_stop stop stops) parts.1;
+      },
+    )
 
 -- what trains may earn that have not begun
-none_in_hand : (position : Position) (reached : List Stop) (trains : List Kind) → may_come position reached [] trains ≡ may_all_earn position reached trains
+none_in_hand : (position : Position) (reached : List Stop) (trains : List Kind)
+    → may_come position reached [] trains ≡ may_all_earn position reached trains
 none_in_hand position reached [] = refl
 none_in_hand position reached (kind ∷ later) = omega arith
 
-pub none_begun : (position : Position) (company : Company) (borders : List ℕ) (trains : List Kind) → IsInHand position company borders [] trains
+pub none_begun : (position : Position) (company : Company) (borders : List ℕ) (trains : List Kind)
+    → IsInHand position company borders [] trains
 none_begun position company borders [] = refl
 none_begun position company borders (kind ∷ later) = tt
 
 -- a run shares no border with settled ones whose borders are free of its own
 shares_none :
-    (steps : List Step) (runs : List TrainRun) → ((border : ℕ) → IsAmong border (crossed steps) → ¬ IsAmong border (run_borders runs)) →
+    (steps : List Step) (runs : List TrainRun) → ((border : ℕ) → IsAmong border (crossed steps)
+    → ¬ IsAmong border (run_borders runs)) →
     AllByRecursion (λ (other : TrainRun). ShareNoBorder steps other.steps) runs
 shares_none steps [] free = tt
 shares_none steps (run ∷ runs) free = (
   λ border among here. free border among ((among_both border (crossed run.steps) (run_borders runs)).1 (inl here)),
-  shares_none steps runs (λ border among later. free border among ((among_both border (crossed run.steps) (run_borders runs)).1 (inr later))),
+  shares_none steps runs (λ border among later. free border among
+      ((among_both border (crossed run.steps) (run_borders runs)).1 (inr later))),
 )
 
-module _ (position : Position) (lawful : IsLawful position) (company : Company) (reached : List Stop) (named : (stop : Stop) → IsAmong stop reached → joined_stop_of stop ≡ stop) (all : List Kind) where
+module _ (position : Position) (lawful : IsLawful position) (company : Company) (reached : List Stop)
+    (named : (stop : Stop) → IsAmong stop reached → joined_stop_of stop ≡ stop) (all : List Kind) where
   -- a choice is good, and its bound no greater
-  pub record IsGoodChoice (settled : List TrainRun) (begun : List Step) (trains : List Kind) (child : Node) : Type 0 where
+  pub record IsGoodChoice (settled : List TrainRun) (begun : List Step) (trains : List Kind) (child : Node) : Type
+      0 where
     pub good : IsGoodNode position company all child
     pub falls : bound position reached child ≤ bound position reached (node_of settled begun trains)
 
   module _ (settled : List TrainRun) (kind : Kind) (later : List Kind) where
     -- no run for this train
-    no_run : IsGood position company all settled [] (kind ∷ later) → IsGoodChoice settled [] (kind ∷ later) (node_of settled [] later)
+    no_run : IsGood position company all settled [] (kind ∷ later)
+        → IsGoodChoice settled [] (kind ∷ later) (node_of settled [] later)
     no_run good =
         record {
           good = record {
@@ -183,26 +204,32 @@ module _ (position : Position) (lawful : IsLawful position) (company : Company) 
         }
 
     -- a run that leaves a stop
-    first_visited : (stop : Stop) (step : Step) → stop_of (entered_at step) ≡ Some stop → stop_of (left_at step) ≡ None → visited (step ∷ []) ≡ stop ∷ []
+    first_visited : (stop : Stop) (step : Step) → stop_of (entered_at step) ≡ Some stop
+        → stop_of (left_at step) ≡ None → visited (step ∷ []) ≡ stop ∷ []
     first_visited stop step enters leaves =
-        ap (λ (l : Option Stop). listed l ++ (listed (stop_of (entered_at step)) ++ [])) leaves ∙ ap (λ (e : Option Stop). listed e ++ []) enters
+        ap (λ (l : Option Stop). listed l ++ (listed (stop_of (entered_at step)) ++ [])) leaves
+        ∙ ap (λ (e : Option Stop). listed e ++ []) enters
 
     first_gone :
         (stop : Stop) (step : Step) → stop_of (entered_at step) ≡ Some stop →
         (over : LeadsOver (taken_borders (node_of settled [] (kind ∷ later))) (left_at step).hex (left_at step).end) →
         gone_over (step ∷ []) ≡ border_of (left_at step).hex over.side ∷ []
     first_gone stop step enters over =
-        ap (λ (l : List ℕ). l ++ (border_at (entered_at step).hex (entered_at step).end ++ [])) (over_border (left_at step).hex (left_at step).end _ over)
-        ∙ ap (λ (e : List ℕ). border_of (left_at step).hex over.side ∷ (e ++ [])) (no_border (entered_at step).hex (entered_at step).end stop enters)
+        ap (λ (l : List ℕ). l ++ (border_at (entered_at step).hex (entered_at step).end ++ []))
+        (over_border (left_at step).hex (left_at step).end _ over)
+        ∙ ap (λ (e : List ℕ). border_of (left_at step).hex over.side ∷ (e ++ []))
+        (no_border (entered_at step).hex (entered_at step).end stop enters)
 
     set_out :
         IsGood position company all settled [] (kind ∷ later) → (stop : Stop) → IsAmong stop reached → (step : Step) →
         Leaves position lawful stop step → LeadsOver (run_borders settled) (left_at step).hex (left_at step).end →
         IsGoodChoice settled [] (kind ∷ later) (node_of settled (step ∷ []) (kind ∷ later))
     set_out good stop there step leaves over =
-        let none : stop_of (left_at step) ≡ None = stop_none (left_at step).hex (left_at step).end (run_borders settled) over in
+        let none : stop_of (left_at step) ≡ None = stop_none (left_at step).hex (left_at step).end
+        (run_borders settled) over in
         let stops : visited (step ∷ []) ≡ stop ∷ [] = first_visited stop step leaves.from_stop none in
-        let gone : gone_over (step ∷ []) ≡ border_of (left_at step).hex over.side ∷ [] = first_gone stop step leaves.from_stop over in
+        let gone : gone_over (step ∷ []) ≡ border_of (left_at step).hex over.side ∷ [] =
+        first_gone stop step leaves.from_stop over in
         record {
           good = record {
             legal = good.legal;
@@ -219,25 +246,36 @@ module _ (position : Position) (lawful : IsLawful position) (company : Company) 
               ];
               no_red = (tt, tt);
               no_full = (tt, tt);
-              room = subst (λ (l : List Stop). HasRoom kind (length l) (left_at step).end) (sym stops) (room_over kind 1 (left_at step).hex (left_at step).end (run_borders settled) over (two_fit kind));
+              room = subst (λ (l : List Stop). HasRoom kind (length l) (left_at step).end) (sym stops)
+                  (room_over kind 1 (left_at step).hex (left_at step).end (run_borders settled) over (two_fit kind));
             };
           };
           falls =
-              subst (λ (l : List Stop). revenue_of position settled + (worth position l + (may_earn position reached kind l + may_all_earn position reached later)) ≤ bound position reached (node_of settled [] (kind ∷ later))) (sym stops)
-              (omega (arith, one_stop_more position stop [] kind reached refl there (fewer_fit (stops_of kind) 1 (two_fit kind))));
+              subst (λ (l : List Stop). revenue_of position settled
+              + (worth position l + (may_earn position reached kind l + may_all_earn position reached later))
+              ≤ bound position reached (node_of settled [] (kind ∷ later))) (sym stops)
+              (omega (
+                arith,
+                one_stop_more position stop [] kind reached refl there
+                    (fewer_fit (stops_of kind) 1 (two_fit kind)),
+              ));
         }
 
     setting_out_good :
         IsGood position company all settled [] (kind ∷ later) → (child : Node) →
-        IsAmong child (setting_out position company reached (node_of settled [] (kind ∷ later))) → IsGoodChoice settled [] (kind ∷ later) child
+        IsAmong child (setting_out position company reached (node_of settled [] (kind ∷ later)))
+        → IsGoodChoice settled [] (kind ∷ later) child
     setting_out_good good child among =
         let node = node_of settled [] (kind ∷ later) in
-        let found = with_steps_among (goes_over (taken_borders node)) node (for_each (ways_from position) reached) child among in
+        let found = with_steps_among (goes_over (taken_borders node)) node (for_each (ways_from position) reached)
+        child among in
         let from = for_each_among (ways_from position) reached found.0 found.1 in
         subst (IsGoodChoice settled [] (kind ∷ later)) found.3
-        (set_out good from.0 from.1 found.0 (leaves_stop position lawful from.0 (named from.0 from.1) found.0 from.2) (leads_over (run_borders settled) (left_at found.0).hex (left_at found.0).end found.2))
+        (set_out good from.0 from.1 found.0 (leaves_stop position lawful from.0 (named from.0 from.1) found.0 from.2)
+        (leads_over (run_borders settled) (left_at found.0).hex (left_at found.0).end found.2))
 
-    module _ (step : Step) (before : List Step) (good : IsGood position company all settled (step ∷ before) (kind ∷ later)) where
+    module _ (step : Step) (before : List Step) (good : IsGood position company all settled (step ∷ before)
+        (kind ∷ later)) where
       abbrev run : List Step
       run = step ∷ before
 
@@ -255,13 +293,15 @@ module _ (position : Position) (lawful : IsLawful position) (company : Company) 
 
       -- over a border
       went_over :
-          (next : Step) → GoesFurther next → LeadsOver (gone_over run ++ run_borders settled) (left_at next).hex (left_at next).end →
+          (next : Step) → GoesFurther next → LeadsOver (gone_over run ++ run_borders settled) (left_at next).hex
+          (left_at next).end →
           IsGoodChoice settled run (kind ∷ later) (node_of settled (next ∷ run) (kind ∷ later))
       went_over next on over =
           let none : stop_of (left_at next) ≡ None = stop_none (left_at next).hex (left_at next).end _ over in
           let stops : visited (next ∷ run) ≡ visited run = ap (λ (l : Option Stop). listed l ++ visited run) none in
           let gone : gone_over (next ∷ run) ≡ border_of (left_at next).hex over.side ∷ gone_over run =
-          ap (λ (l : List ℕ). l ++ crossed (next ∷ run)) (over_border (left_at next).hex (left_at next).end _ over) ∙ ap (λ (l : List ℕ). border_of (left_at next).hex over.side ∷ l) on.over in
+          ap (λ (l : List ℕ). l ++ crossed (next ∷ run)) (over_border (left_at next).hex (left_at next).end _ over)
+          ∙ ap (λ (l : List ℕ). border_of (left_at next).hex over.side ∷ l) on.over in
           let parts = among_both (border_of (left_at next).hex over.side) (gone_over run) (run_borders settled) in
           record {
             good = record {
@@ -272,29 +312,37 @@ module _ (position : Position) (lawful : IsLawful position) (company : Company) 
                 walk = (on.track, on.joined, so_far.walk);
                 begins = so_far.begins;
                 stops = subst (λ (l : List Stop). AreDistinct l) (sym stops) so_far.stops;
-                once = subst (λ (l : List ℕ). AreDistinct l) (sym gone) (λ here. over.free (parts.1 (inl here)), so_far.once);
+                once = subst (λ (l : List ℕ). AreDistinct l) (sym gone)
+                    (λ here. over.free (parts.1 (inl here)), so_far.once);
                 free = λ border among. elim (subst (λ (l : List ℕ). IsAmong border l) gone among) [
-                  | inl is ↦ subst (λ (b : ℕ). ¬ IsAmong b (run_borders settled)) is (λ here. over.free (parts.1 (inr here)))
+                  | inl is ↦ subst (λ (b : ℕ). ¬ IsAmong b (run_borders settled)) is
+                      (λ here. over.free (parts.1 (inr here)))
                   | inr earlier ↦ so_far.free border earlier
                 ];
                 no_red = (on.past_red, so_far.no_red);
                 no_full = (on.past_full, so_far.no_full);
-                room = subst (λ (l : List Stop). HasRoom kind (length l) (left_at next).end) (sym stops) (room_over kind (length (visited run)) (left_at next).hex (left_at next).end _ over on.room);
+                room = subst (λ (l : List Stop). HasRoom kind (length l) (left_at next).end) (sym stops)
+                    (room_over kind (length (visited run)) (left_at next).hex (left_at next).end _ over on.room);
               };
             };
             falls =
-                subst (λ (l : List Stop). revenue_of position settled + (worth position l + (may_earn position reached kind l + may_all_earn position reached later)) ≤ bound position reached (node_of settled run (kind ∷ later))) (sym stops)
+                subst (λ (l : List Stop). revenue_of position settled
+                + (worth position l + (may_earn position reached kind l + may_all_earn position reached later))
+                ≤ bound position reached (node_of settled run (kind ∷ later))) (sym stops)
                 (omega arith);
           }
 
       -- to a new stop
       came_to :
-          (next : Step) → GoesFurther next → (stop : Stop) → stop_of (left_at next) ≡ Some stop → IsNew reached (visited run) stop →
+          (next : Step) → GoesFurther next → (stop : Stop) → stop_of (left_at next) ≡ Some stop
+          → IsNew reached (visited run) stop →
           IsGoodChoice settled run (kind ∷ later) (node_of settled (next ∷ run) (kind ∷ later))
       came_to next on stop is new =
-          let stops : visited (next ∷ run) ≡ stop ∷ visited run = ap (λ (l : Option Stop). listed l ++ visited run) is in
+          let stops : visited (next ∷ run) ≡ stop ∷ visited run =
+          ap (λ (l : Option Stop). listed l ++ visited run) is in
           let gone : gone_over (next ∷ run) ≡ gone_over run =
-          ap (λ (l : List ℕ). l ++ crossed (next ∷ run)) (no_border (left_at next).hex (left_at next).end stop is) ∙ on.over in
+          ap (λ (l : List ℕ). l ++ crossed (next ∷ run)) (no_border (left_at next).hex (left_at next).end stop is)
+          ∙ on.over in
           record {
             good = record {
               legal = good.legal;
@@ -303,16 +351,23 @@ module _ (position : Position) (lawful : IsLawful position) (company : Company) 
               in_hand = record {
                 walk = (on.track, on.joined, so_far.walk);
                 begins = so_far.begins;
-                stops = subst (λ (l : List Stop). AreDistinct l) (sym stops) ((fails (has_stop stop (visited run)) (has_stop_is stop (visited run))).0 new.no_other, so_far.stops);
+                stops = subst (λ (l : List Stop). AreDistinct l) (sym stops) (
+                  (fails (has_stop stop (visited run)) (has_stop_is stop (visited run))).0 new.no_other,
+                  so_far.stops,
+                );
                 once = subst (λ (l : List ℕ). AreDistinct l) (sym gone) so_far.once;
                 free = λ border among. so_far.free border (subst (λ (l : List ℕ). IsAmong border l) gone among);
                 no_red = (on.past_red, so_far.no_red);
                 no_full = (on.past_full, so_far.no_full);
-                room = subst (λ (l : List Stop). HasRoom kind (length l) (left_at next).end) (sym stops) (room_at_stop kind (suc (length (visited run))) (left_at next).hex (left_at next).end stop is on.room);
+                room = subst (λ (l : List Stop). HasRoom kind (length l) (left_at next).end) (sym stops)
+                    (room_at_stop kind (suc (length (visited run))) (left_at next).hex (left_at next).end stop is
+                    on.room);
               };
             };
             falls =
-                subst (λ (l : List Stop). revenue_of position settled + (worth position l + (may_earn position reached kind l + may_all_earn position reached later)) ≤ bound position reached (node_of settled run (kind ∷ later))) (sym stops)
+                subst (λ (l : List Stop). revenue_of position settled
+                + (worth position l + (may_earn position reached kind l + may_all_earn position reached later))
+                ≤ bound position reached (node_of settled run (kind ∷ later))) (sym stops)
                 (omega (arith, one_stop_more position stop (visited run) kind reached new.no_other new.there on.room));
           }
 
@@ -321,14 +376,16 @@ module _ (position : Position) (lawful : IsLawful position) (company : Company) 
           (spot : Spot) → stop_of (left_at step) ≡ None → across (left_at step) ≡ Some spot → (next : Step) →
           IsWay position lawful spot.hex spot.end next → GoesFurther next
       from_side spot none is next way =
-          let there : (across spot ≡ Some (left_at step)) × (stop_of spot ≡ None) = back position lawful (left_at step) spot is in
+          let there : (across spot ≡ Some (left_at step)) × (stop_of spot ≡ None) =
+          back position lawful (left_at step) spot is in
           let no_stop : stop_of (entered_at next) ≡ None = ap stop_of way.enters ∙ there.1 in
           record {
             track = way.track;
             joined = inr (is ∙ ap Some (sym way.enters));
             over =
                 ap (λ (s : Spot). border_at s.hex s.end ++ crossed run) way.enters
-                ∙ ap (λ (l : List ℕ). l ++ crossed run) (sym (border_both position lawful (left_at step).hex (left_at step).end spot is));
+                ∙ ap (λ (l : List ℕ). l ++ crossed run) (sym (border_both position lawful (left_at step).hex
+                (left_at step).end spot is));
             past_red = subst (λ (s : Option Stop). IfSome s (λ stop. ¬ (is_red position stop ≡ true))) (sym no_stop) tt;
             past_full = subst (λ (s : Option Stop). IfSome s (λ stop. ¬ IsFull position stop company)) (sym no_stop) tt;
             room = side_had_room kind (length (visited run)) (left_at step).hex (left_at step).end none so_far.room;
@@ -342,26 +399,36 @@ module _ (position : Position) (lawful : IsLawful position) (company : Company) 
       border_good none (Some spot) is child among =
           let node = node_of settled run (kind ∷ later) in
           let found = with_steps_among (leads_on reached node) node (ways_at position spot.hex spot.end) child among in
-          let on : GoesFurther found.0 = from_side spot none is found.0 (way_is position lawful spot.hex spot.end found.0 found.1) in
+          let on : GoesFurther found.0 = from_side spot none is found.0
+          (way_is position lawful spot.hex spot.end found.0 found.1) in
           subst (IsGoodChoice settled run (kind ∷ later)) found.3
-          (elim (either (is_new_stop reached (visited run) (stop_of (left_at found.0))) (goes_over (taken_borders node) found.0) found.2) [
-            | inl new ↦ let stop = new_stop reached (visited run) (stop_of (left_at found.0)) new in came_to found.0 on stop.0 stop.1 stop.2
-            | inr over ↦ went_over found.0 on (leads_over (gone_over run ++ run_borders settled) (left_at found.0).hex (left_at found.0).end over)
+          (elim (either (is_new_stop reached (visited run) (stop_of (left_at found.0)))
+          (goes_over (taken_borders node) found.0) found.2) [
+            | inl new ↦ let stop = new_stop reached (visited run) (stop_of (left_at found.0)) new in came_to found.0
+                on stop.0 stop.1 stop.2
+            | inr over ↦ went_over found.0 on (leads_over (gone_over run ++ run_borders settled) (left_at found.0).hex
+                (left_at found.0).end over)
           ])
 
       -- from a stop
       past_stop :
-          (stop : Stop) → stop_of (left_at step) ≡ Some stop → is_red position stop ≡ false → is_full position company stop ≡ false →
-          is_used_up (stops_of kind) (length (visited run)) ≡ false → (next : Step) → Leaves position lawful stop next → GoesFurther next
+          (stop : Stop) → stop_of (left_at step) ≡ Some stop → is_red position stop ≡ false
+          → is_full position company stop ≡ false →
+          is_used_up (stops_of kind) (length (visited run)) ≡ false → (next : Step) → Leaves position lawful stop next
+          → GoesFurther next
       past_stop stop is not_red not_full used next leaves =
           record {
             track = leaves.track;
             joined = inl (stop, is, leaves.from_stop);
             over =
-                ap (λ (l : List ℕ). l ++ crossed run) (no_border (entered_at next).hex (entered_at next).end stop leaves.from_stop)
+                ap (λ (l : List ℕ). l ++ crossed run) (no_border (entered_at next).hex (entered_at next).end stop
+                leaves.from_stop)
                 ∙ ap (λ (l : List ℕ). l ++ crossed run) (sym (no_border (left_at step).hex (left_at step).end stop is));
-            past_red = subst (λ (s : Option Stop). IfSome s (λ stop. ¬ (is_red position stop ≡ true))) (sym leaves.from_stop) (λ red. let wrong : false ≡ true = sym not_red ∙ red in absurd cc);
-            past_full = subst (λ (s : Option Stop). IfSome s (λ stop. ¬ IsFull position stop company)) (sym leaves.from_stop) ((fails (is_full position company stop) (is_full_is position company stop)).0 not_full);
+            past_red = subst (λ (s : Option Stop). IfSome s (λ stop. ¬ (is_red position stop ≡ true)))
+                (sym leaves.from_stop) (λ red. let wrong : false ≡ true = sym not_red ∙ red in absurd cc);
+            past_full = subst (λ (s : Option Stop). IfSome s (λ stop. ¬ IsFull position stop company))
+                (sym leaves.from_stop) ((fails (is_full position company stop) (is_full_is position company stop)).0
+                not_full);
             room = room_left (stops_of kind) (length (visited run)) used;
           }
 
@@ -372,26 +439,35 @@ module _ (position : Position) (lawful : IsLawful position) (company : Company) 
           IsGoodChoice settled run (kind ∷ later) child
       stop_good stop is true last child among =
           let node = node_of settled run (kind ∷ later) in
-          let none : IsAmong child [] = subst (λ (b : Bool). IsAmong child (if b then [] else with_steps (goes_over (taken_borders node)) node (ways_from position stop))) last among in absurd none
+          let none : IsAmong child [] = subst (λ (b : Bool). IsAmong child
+          (if b then [] else with_steps (goes_over (taken_borders node)) node (ways_from position stop))) last
+          among in absurd none
       stop_good stop is false last child among =
           let node = node_of settled run (kind ∷ later) in
-          let some = subst (λ (b : Bool). IsAmong child (if b then [] else with_steps (goes_over (taken_borders node)) node (ways_from position stop))) last among in
+          let some = subst (λ (b : Bool). IsAmong child (if b then [] else with_steps (goes_over (taken_borders node))
+          node (ways_from position stop))) last among in
           let found = with_steps_among (goes_over (taken_borders node)) node (ways_from position stop) child some in
-          let first = neither (is_red position stop) (is_full position company stop || is_used_up (stops_of kind) (length (visited run))) last in
-          let second = neither (is_full position company stop) (is_used_up (stops_of kind) (length (visited run))) first.1 in
-          let on : GoesFurther found.0 = past_stop stop is first.0 second.0 second.1 found.0 (leaves_stop position lawful stop (names_itself (left_at step) stop is) found.0 found.1) in
+          let first = neither (is_red position stop) (is_full position company stop
+          || is_used_up (stops_of kind) (length (visited run))) last in
+          let second = neither (is_full position company stop) (is_used_up (stops_of kind) (length (visited run)))
+          first.1 in
+          let on : GoesFurther found.0 = past_stop stop is first.0 second.0 second.1 found.0
+          (leaves_stop position lawful stop (names_itself (left_at step) stop is) found.0 found.1) in
           subst (IsGoodChoice settled run (kind ∷ later)) found.3
-          (went_over found.0 on (leads_over (gone_over run ++ run_borders settled) (left_at found.0).hex (left_at found.0).end found.2))
+          (went_over found.0 on (leads_over (gone_over run ++ run_borders settled) (left_at found.0).hex
+          (left_at found.0).end found.2))
 
       -- the finished run
       all_gone : (stop : Stop) → stop_of (left_at step) ≡ Some stop → gone_over run ≡ crossed run
       all_gone stop is = ap (λ (l : List ℕ). l ++ crossed run) (no_border (left_at step).hex (left_at step).end stop is)
 
       done :
-          (stop : Stop) → stop_of (left_at step) ≡ Some stop → is_finished position company reached (visited run) ≡ true →
+          (stop : Stop) → stop_of (left_at step) ≡ Some stop
+          → is_finished position company reached (visited run) ≡ true →
           IsGoodChoice settled run (kind ∷ later) (node_of (record { kind = kind; steps = run } ∷ settled) [] later)
       done stop is finished =
-          let parts = both (not (ltb (length (visited run)) 2)) (list_any (has_token position company) (visited run)) finished in
+          let parts = both (not (ltb (length (visited run)) 2)) (list_any (has_token position company) (visited run))
+          finished in
           let gone : gone_over run ≡ crossed run = all_gone stop is in
           record {
             good = record {
@@ -401,9 +477,11 @@ module _ (position : Position) (lawful : IsLawful position) (company : Company) 
                   begins = so_far.begins;
                   ends = (stop, is);
                   two = ltb-false (length (visited run)) 2 (not_true (ltb (length (visited run)) 2) parts.0);
-                  most = stop_had_room kind (length (visited run)) (left_at step).hex (left_at step).end stop is so_far.room;
+                  most = stop_had_room kind (length (visited run)) (left_at step).hex (left_at step).end stop is
+                      so_far.room;
                   no_stop_twice = so_far.stops;
-                  own_token = has_such (λ s. HasToken position s company) (has_token position company) (has_token_is position company) (visited run) parts.1;
+                  own_token = has_such (λ s. HasToken position s company) (has_token position company)
+                      (has_token_is position company) (visited run) parts.1;
                   no_border_twice = subst (λ (l : List ℕ). AreDistinct l) gone so_far.once;
                   no_used_border = none_used (crossed run);
                   no_red_inside = so_far.no_red;
@@ -411,7 +489,11 @@ module _ (position : Position) (lawful : IsLawful position) (company : Company) 
                 },
                 good.legal,
               );
-              apart = (shares_none run settled (λ border among. so_far.free border (subst (λ (l : List ℕ). IsAmong border l) (sym gone) among)), good.apart);
+              apart = (
+                shares_none run settled (λ border among. so_far.free border
+                    (subst (λ (l : List ℕ). IsAmong border l) (sym gone) among)),
+                good.apart,
+              );
               taken = λ k. omega (arith, good.taken k);
               in_hand = none_begun position company (crossed run ++ run_borders settled) later;
             };
@@ -420,23 +502,29 @@ module _ (position : Position) (lawful : IsLawful position) (company : Company) 
 
       head_good :
           (found : Option Stop) → stop_of (left_at step) ≡ found → (child : Node) →
-          IsAmong child (from_head position company reached (node_of settled run (kind ∷ later)) kind later (left_at step) found) →
+          IsAmong child (from_head position company reached (node_of settled run (kind ∷ later)) kind later
+          (left_at step) found) →
           IsGoodChoice settled run (kind ∷ later) child
       head_good None is child among = border_good is (across (left_at step)) refl child among
       head_good (Some stop) is child among =
           let node = node_of settled run (kind ∷ later) in
-          elim ((among_both child (finishing position company reached node kind later) (from_stop position company reached node kind stop)).0 among) [
+          elim ((among_both child (finishing position company reached node kind later)
+          (from_stop position company reached node kind stop)).0 among) [
             | inl finished ↦
-                let found = node_if_among (is_finished position company reached (visited run)) (node_of (record { kind = kind; steps = run } ∷ settled) [] later) child finished in
+                let found = node_if_among (is_finished position company reached (visited run))
+                (node_of (record { kind = kind; steps = run } ∷ settled) [] later) child finished in
                 subst (IsGoodChoice settled run (kind ∷ later)) found.1 (done stop is found.0)
             | inr on ↦ stop_good stop is (is_last_stop position company reached node kind stop) refl child on
           ]
 
   -- each choice at a good node is good
   pub choice_good :
-      (settled : List TrainRun) (begun : List Step) (trains : List Kind) → IsGood position company all settled begun trains → (child : Node) →
+      (settled : List TrainRun) (begun : List Step) (trains : List Kind)
+      → IsGood position company all settled begun trains → (child : Node) →
       IsAmong child (choices_at position company reached settled begun trains) → IsGoodChoice settled begun trains child
   choice_good settled begun [] good child among = absurd among
-  choice_good settled [] (kind ∷ later) good child (inl is) = subst (IsGoodChoice settled [] (kind ∷ later)) is (no_run settled kind later good)
+  choice_good settled [] (kind ∷ later) good child (inl is) =
+      subst (IsGoodChoice settled [] (kind ∷ later)) is (no_run settled kind later good)
   choice_good settled [] (kind ∷ later) good child (inr among) = setting_out_good settled kind later good child among
-  choice_good settled (step ∷ before) (kind ∷ later) good child among = head_good settled kind later step before good (stop_of (left_at step)) refl child among
+  choice_good settled (step ∷ before) (kind ∷ later) good child among =
+      head_good settled kind later step before good (stop_of (left_at step)) refl child among

@@ -15,29 +15,38 @@ use Rattle.certificate.specs.declared.tree.Group.{Group}
 use Rattle.certificate.proofs.Relabelled.{kind_is as same_kind_is}
 
 -- behind so many things
-drop_past : {A : Type 0} (thing : A) (rest : List A) (count place : ℕ) → count ≤ place → drop place (replicate count thing ++ rest) ≡ drop (place - count) rest
+drop_past : {A : Type 0} (thing : A) (rest : List A) (count place : ℕ) → count ≤ place
+    → drop place (replicate count thing ++ rest) ≡ drop (place - count) rest
 drop_past thing rest zero place low = let e : place ≡ place - 0 = omega arith in ap (λ (n : ℕ). drop n rest) e
 drop_past thing rest (suc count) zero low = absurd (omega arith)
 drop_past thing rest (suc count) (suc place) low =
     let e : place - count ≡ suc place - suc count = omega arith in
     drop_past thing rest count place (omega arith) ∙ ap (λ (n : ℕ). drop n rest) e
 
-among_first : (kind other : Kind) (rest : List Kind) (count place : ℕ) → place < count → drop place (replicate count kind ++ rest) ≡ kind ∷ drop (place + 1) (replicate count kind ++ rest)
+among_first : (kind other : Kind) (rest : List Kind) (count place : ℕ) → place < count
+    → drop place (replicate count kind ++ rest) ≡ kind ∷ drop (place + 1) (replicate count kind ++ rest)
 among_first kind other rest count place low =
     let all : List Kind = replicate count kind ++ rest in
-    let long : length all ≡ count + length rest = length-append (replicate count kind) rest ∙ ap (λ (n : ℕ). n + length rest) (length-replicate count kind) in
+    let long : length all ≡ count + length rest = length-append (replicate count kind) rest
+    ∙ ap (λ (n : ℕ). n + length rest) (length-replicate count kind) in
     let few : place < length (replicate count kind) = omega (arith, length-replicate count kind) in
-    let here : get_or all place other ≡ kind = get_or_append_left (replicate count kind) rest other place few ∙ get_or-replicate count place kind other low in
+    let here : get_or all place other ≡ kind = get_or_append_left (replicate count kind) rest other place few
+    ∙ get_or-replicate count place kind other low in
     drop_more all place other (omega arith) ∙ ap (λ (k : Kind). k ∷ drop (place + 1) all) here
 
 -- the train at a place is the first of those from there on
-pub kind_is : (groups : List Group) (place : ℕ) (kind : Kind) → kind_from groups place ≡ Some kind → drop place (trains_in groups) ≡ kind ∷ drop (place + 1) (trains_in groups)
+pub kind_is : (groups : List Group) (place : ℕ) (kind : Kind) → kind_from groups place ≡ Some kind
+    → drop place (trains_in groups) ≡ kind ∷ drop (place + 1) (trains_in groups)
 kind_is [] place kind is = absurd cc
-kind_is (group ∷ groups) place kind is = by_test (kind_is groups (place - group.count) kind) (nat_lt place group.count) refl is
+kind_is (group ∷ groups) place kind is = by_test (kind_is groups (place - group.count) kind)
+    (nat_lt place group.count) refl is
   where
     by_test :
-        (kind_from groups (place - group.count) ≡ Some kind → drop (place - group.count) (trains_in groups) ≡ kind ∷ drop ((place - group.count) + 1) (trains_in groups)) →
-        (b : Bool) → nat_lt place group.count ≡ b → (if b then Some group.kind else kind_from groups (place - group.count)) ≡ Some kind →
+        (kind_from groups (place - group.count) ≡ Some kind
+        → drop (place - group.count) (trains_in groups)
+        ≡ kind ∷ drop ((place - group.count) + 1) (trains_in groups)) →
+        (b : Bool) → nat_lt place group.count ≡ b → (if b then Some group.kind else kind_from groups
+        (place - group.count)) ≡ Some kind →
         drop place (trains_in (group ∷ groups)) ≡ kind ∷ drop (place + 1) (trains_in (group ∷ groups))
     by_test later true low found =
         let same : group.kind ≡ kind = cc in
@@ -49,7 +58,8 @@ kind_is (group ∷ groups) place kind is = by_test (kind_is groups (place - grou
         drop_past group.kind (trains_in groups) group.count place past
         ∙ (later found
         ∙ (ap (λ (n : ℕ). kind ∷ drop n (trains_in groups)) e
-        ∙ ap (λ (l : List Kind). kind ∷ l) (sym (drop_past group.kind (trains_in groups) group.count (place + 1) (omega arith)))))
+        ∙ ap (λ (l : List Kind). kind ∷ l) (sym (drop_past group.kind (trains_in groups) group.count (place + 1)
+        (omega arith)))))
 
 -- past the last train there is none
 pub none_is : (groups : List Group) (place : ℕ) → kind_from groups place ≡ None → length (trains_in groups) ≤ place
@@ -58,19 +68,27 @@ none_is (group ∷ groups) place is = by_test (none_is groups (place - group.cou
   where
     by_test :
         (kind_from groups (place - group.count) ≡ None → length (trains_in groups) ≤ place - group.count) →
-        (b : Bool) → nat_lt place group.count ≡ b → (if b then Some group.kind else kind_from groups (place - group.count)) ≡ None →
+        (b : Bool) → nat_lt place group.count ≡ b → (if b then Some group.kind else kind_from groups
+        (place - group.count)) ≡ None →
         length (trains_in (group ∷ groups)) ≤ place
     by_test later true low found = absurd cc
     by_test later false high found =
         let past : group.count ≤ place = ltb-false place group.count high in
         let rest = later found in
-        omega (arith, length-append (replicate group.count group.kind) (trains_in groups), length-replicate group.count group.kind, rest)
+        omega (
+          arith,
+          length-append (replicate group.count group.kind) (trains_in groups),
+          length-replicate
+              group.count group.kind,
+          rest,
+        )
 
 module _ (position : Position) (reached : List Stop) where
   abbrev earn : List Kind → ℕ
   earn trains = may_all_earn position reached trains
 
-  alike : (kind : Kind) (rest : List Kind) (amount count : ℕ) → amount ≡ may_earn position reached kind [] → earn (replicate count kind ++ rest) ≡ count * amount + earn rest
+  alike : (kind : Kind) (rest : List Kind) (amount count : ℕ) → amount ≡ may_earn position reached kind []
+      → earn (replicate count kind ++ rest) ≡ count * amount + earn rest
   alike kind rest amount zero is = omega arith
   alike kind rest amount (suc count) is =
       let more = alike kind rest amount count is in
@@ -84,21 +102,25 @@ module _ (position : Position) (reached : List Stop) where
       let e : count - 0 ≡ count = omega arith in
       let f : 0 - count ≡ 0 = omega arith in
       alike kind rest amount count is
-      ∙ (ap (λ (n : ℕ). n * amount + earn rest) (sym e) ∙ ap (λ (n : ℕ). (count - 0) * amount + earn (drop n rest)) (sym f))
+      ∙ (ap (λ (n : ℕ). n * amount + earn rest) (sym e)
+      ∙ ap (λ (n : ℕ). (count - 0) * amount + earn (drop n rest)) (sym f))
   from_place kind rest amount zero (suc place) is =
       let e : 0 - suc place ≡ 0 = omega arith in
       let f : suc place - 0 ≡ suc place = omega arith in
       let none : 0 ≡ (0 - suc place) * amount = grind arith in
       let added : earn (drop (suc place) rest) ≡ 0 + earn (drop (suc place) rest) = omega arith in
-      added ∙ (ap (λ (n : ℕ). n + earn (drop (suc place) rest)) none ∙ ap (λ (n : ℕ). (0 - suc place) * amount + earn (drop n rest)) (sym f))
+      added ∙ (ap (λ (n : ℕ). n + earn (drop (suc place) rest)) none
+      ∙ ap (λ (n : ℕ). (0 - suc place) * amount + earn (drop n rest)) (sym f))
   from_place kind rest amount (suc count) (suc place) is =
       let e : count - place ≡ suc count - suc place = omega arith in
       let f : place - count ≡ suc place - suc count = omega arith in
       from_place kind rest amount count place is
-      ∙ (ap (λ (n : ℕ). n * amount + earn (drop (place - count) rest)) e ∙ ap (λ (n : ℕ). (suc count - suc place) * amount + earn (drop n rest)) f)
+      ∙ (ap (λ (n : ℕ). n * amount + earn (drop (place - count) rest)) e
+      ∙ ap (λ (n : ℕ). (suc count - suc place) * amount + earn (drop n rest)) f)
 
   -- what the trains from a place on may earn
-  pub earned_is : (groups : List Group) → TellEarnings position reached groups → (place : ℕ) → earn (drop place (trains_in groups)) ≡ earned_from groups place
+  pub earned_is : (groups : List Group) → TellEarnings position reached groups → (place : ℕ)
+      → earn (drop place (trains_in groups)) ≡ earned_from groups place
   earned_is [] told zero = refl
   earned_is [] told (suc place) = refl
   earned_is (group ∷ groups) told place =
@@ -109,20 +131,28 @@ module _ (position : Position) (reached : List Stop) where
 one_more : (n : ℕ) → suc n ≡ 1 + n
 one_more n = omega arith
 
-pub kind_counted : (kind : Kind) (trains : List Kind) → in_number kind trains ≡ count_by (λ train. same_kind train kind) trains
-kind_counted kind trains = is_sum_by (in_number kind) (λ train. cond (same_kind train kind) 1 0) refl (λ train rest. refl) trains
+pub kind_counted : (kind : Kind) (trains : List Kind)
+    → in_number kind trains ≡ count_by (λ train. same_kind train kind) trains
+kind_counted kind trains = is_sum_by (in_number kind) (λ train. cond (same_kind train kind) 1 0) refl
+    (λ train rest. refl) trains
 
-pub only_kind : (kind : Kind) (trains : List Kind) → replicate (in_number kind trains) kind ≡ for_each (λ train. if same_kind train kind then train ∷ [] else []) trains
+pub only_kind : (kind : Kind) (trains : List Kind)
+    → replicate (in_number kind trains) kind ≡ for_each (λ train. if same_kind train kind then train ∷ [] else [])
+    trains
 only_kind kind [] = refl
 only_kind kind (train ∷ trains) = by_test (same_kind train kind) refl (only_kind kind trains)
   where
     by_test :
-        (b : Bool) → same_kind train kind ≡ b → replicate (in_number kind trains) kind ≡ for_each (λ train. if same_kind train kind then train ∷ [] else []) trains →
-        replicate ((if b then 1 else 0) + in_number kind trains) kind ≡ (if b then train ∷ [] else []) ++ for_each (λ train. if same_kind train kind then train ∷ [] else []) trains
+        (b : Bool) → same_kind train kind ≡ b → replicate (in_number kind trains) kind
+        ≡ for_each (λ train. if same_kind train kind then train ∷ [] else []) trains →
+        replicate ((if b then 1 else 0) + in_number kind trains) kind
+        ≡ (if b then train ∷ [] else []) ++ for_each (λ train. if same_kind train kind then train ∷ [] else [])
+        trains
     by_test true is rest =
         ap (λ (n : ℕ). replicate n kind) (sym (one_more (in_number kind trains)))
         ∙ (ap (λ (l : List Kind). kind ∷ l) rest
-        ∙ ap (λ (k : Kind). k ∷ for_each (λ train. if same_kind train kind then train ∷ [] else []) trains) (sym (same_kind_is train kind is)))
+        ∙ ap (λ (k : Kind). k ∷ for_each (λ train. if same_kind train kind then train ∷ [] else []) trains)
+        (sym (same_kind_is train kind is)))
     by_test false is rest =
         let none : 0 + in_number kind trains ≡ in_number kind trains = omega arith in
         ap (λ (n : ℕ). replicate n kind) none ∙ rest
@@ -139,7 +169,9 @@ group_is trains kind group is =
     ap (λ (k : Kind). replicate group.count k) is.its_kind
     ∙ (ap (λ (n : ℕ). replicate n kind) (is.its_count ∙ sym (kind_counted kind trains)) ∙ only_kind kind trains)
 
-sizes : (trains : List Kind) → in_number Diesel trains + (in_number Six trains + (in_number Five trains + (in_number Four trains + (in_number Three trains + in_number Two trains)))) ≡ length trains
+sizes : (trains : List Kind) → in_number Diesel trains
+    + (in_number Six trains + (in_number Five trains
+    + (in_number Four trains + (in_number Three trains + in_number Two trains)))) ≡ length trains
 sizes [] = refl
 sizes (Two ∷ trains) = omega (arith, sizes trains)
 sizes (Three ∷ trains) = omega (arith, sizes trains)
@@ -148,11 +180,15 @@ sizes (Five ∷ trains) = omega (arith, sizes trains)
 sizes (Six ∷ trains) = omega (arith, sizes trains)
 sizes (Diesel ∷ trains) = omega (arith, sizes trains)
 
-group_size : (group : Group) (groups : List Group) → length (trains_in (group ∷ groups)) ≡ group.count + length (trains_in groups)
+group_size : (group : Group) (groups : List Group)
+    → length (trains_in (group ∷ groups)) ≡ group.count + length (trains_in groups)
 group_size group groups =
-    length-append (replicate group.count group.kind) (trains_in groups) ∙ ap (λ (n : ℕ). n + length (trains_in groups)) (length-replicate group.count group.kind)
+    length-append (replicate group.count group.kind) (trains_in groups)
+    ∙ ap (λ (n : ℕ). n + length (trains_in groups)) (length-replicate group.count group.kind)
 
-module _ (trains : List Kind) (d six five four three two : Group) (is_d : IsGroup trains Diesel d) (is_six : IsGroup trains Six six) (is_five : IsGroup trains Five five) (is_four : IsGroup trains Four four) (is_three : IsGroup trains Three three) (is_two : IsGroup trains Two two) where
+module _ (trains : List Kind) (d six five four three two : Group) (is_d : IsGroup trains Diesel d)
+    (is_six : IsGroup trains Six six) (is_five : IsGroup trains Five five) (is_four : IsGroup trains Four four)
+    (is_three : IsGroup trains Three three) (is_two : IsGroup trains Two two) where
   abbrev pub all_groups : List Group
   all_groups = d ∷ six ∷ five ∷ four ∷ three ∷ two ∷ []
 
@@ -165,11 +201,16 @@ module _ (trains : List Kind) (d six five four three two : Group) (is_d : IsGrou
   pub groups_in_order : trains_in all_groups ≡ greatest_first trains
   groups_in_order =
       ap (λ (l : List Kind). l ++ trains_in (six ∷ five ∷ four ∷ three ∷ two ∷ [])) (group_is trains Diesel d is_d)
-      ∙ (ap (λ (l : List Kind). only Diesel ++ (l ++ trains_in (five ∷ four ∷ three ∷ two ∷ []))) (group_is trains Six six is_six)
-      ∙ (ap (λ (l : List Kind). only Diesel ++ (only Six ++ (l ++ trains_in (four ∷ three ∷ two ∷ [])))) (group_is trains Five five is_five)
-      ∙ (ap (λ (l : List Kind). only Diesel ++ (only Six ++ (only Five ++ (l ++ trains_in (three ∷ two ∷ []))))) (group_is trains Four four is_four)
-      ∙ (ap (λ (l : List Kind). only Diesel ++ (only Six ++ (only Five ++ (only Four ++ (l ++ trains_in (two ∷ [])))))) (group_is trains Three three is_three)
-      ∙ ap (λ (l : List Kind). only Diesel ++ (only Six ++ (only Five ++ (only Four ++ (only Three ++ (l ++ [])))))) (group_is trains Two two is_two)))))
+      ∙ (ap (λ (l : List Kind). only Diesel ++ (l ++ trains_in (five ∷ four ∷ three ∷ two ∷ [])))
+      (group_is trains Six six is_six)
+      ∙ (ap (λ (l : List Kind). only Diesel ++ (only Six ++ (l ++ trains_in (four ∷ three ∷ two ∷ []))))
+      (group_is trains Five five is_five)
+      ∙ (ap (λ (l : List Kind). only Diesel ++ (only Six ++ (only Five ++ (l ++ trains_in (three ∷ two ∷ [])))))
+      (group_is trains Four four is_four)
+      ∙ (ap (λ (l : List Kind). only Diesel ++ (only Six
+      ++ (only Five ++ (only Four ++ (l ++ trains_in (two ∷ [])))))) (group_is trains Three three is_three)
+      ∙ ap (λ (l : List Kind). only Diesel ++ (only Six ++ (only Five ++ (only Four ++ (only Three ++ (l ++ []))))))
+      (group_is trains Two two is_two)))))
 
   size_of : (kind : Kind) (group : Group) → IsGroup trains kind group → group.count ≡ in_number kind trains
   size_of kind group is = is.its_count ∙ sym (kind_counted kind trains)

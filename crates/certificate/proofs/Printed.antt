@@ -15,12 +15,46 @@ abbrev IsPrinted : ℕ → Type 0
 IsPrinted byte = (rest : List Bool) → digits_of (bits_of_digit byte ++ rest) ≡ byte ∷ digits_of rest
 
 each_printed : AllByRecursion IsPrinted lower_digits
-each_printed = (λ rest. refl, (λ rest. refl, (λ rest. refl, (λ rest. refl, (λ rest. refl, (λ rest. refl, (λ rest. refl, (λ rest. refl, (λ rest. refl, (λ rest. refl, (λ rest. refl, (λ rest. refl, (λ rest. refl, (λ rest. refl, (λ rest. refl, (λ rest. refl, tt))))))))))))))))
+each_printed = (
+  λ rest. refl,
+  (
+    λ rest. refl,
+    (
+      λ rest. refl,
+      (
+        λ rest. refl,
+        (
+          λ rest. refl,
+          (
+            λ rest. refl,
+            (
+              λ rest. refl,
+              (
+                λ rest. refl,
+                (
+                  λ rest. refl,
+                  (
+                    λ rest. refl,
+                    (
+                      λ rest. refl,
+                      (λ rest. refl, (λ rest. refl, (λ rest. refl, (λ rest. refl, (λ rest. refl, tt))))),
+                    ),
+                  ),
+                ),
+              ),
+            ),
+          ),
+        ),
+      ),
+    ),
+  ),
+)
 
 pub prints_what_was_read : PrintsWhatWasRead
 prints_what_was_read [] lower = refl
 prints_what_was_read (byte ∷ text) lower =
-    each_among IsPrinted lower_digits each_printed byte lower.0 (bits_of_digits text) ∙ ap (λ (t : List ℕ). byte ∷ t) (prints_what_was_read text lower.1)
+    each_among IsPrinted lower_digits each_printed byte lower.0 (bits_of_digits text)
+    ∙ ap (λ (t : List ℕ). byte ∷ t) (prints_what_was_read text lower.1)
 
 bit_low : (bit : Bool) → bit_number bit ≤ 1
 bit_low true = omega arith
@@ -28,7 +62,8 @@ bit_low false = omega arith
 
 digit_lower : (a b c d : Bool) → IsAmong (digit_of a b c d) lower_digits
 digit_lower a b c d =
-    let low : 8 * bit_number a + 4 * bit_number b + 2 * bit_number c + bit_number d < 16 = omega (arith, bit_low a, bit_low b, bit_low c, bit_low d) in
+    let low : 8 * bit_number a + 4 * bit_number b + 2 * bit_number c + bit_number d < 16 =
+    omega (arith, bit_low a, bit_low b, bit_low c, bit_low d) in
     among_at lower_digits (8 * bit_number a + 4 * bit_number b + 2 * bit_number c + bit_number d) 0 low
 
 pub prints_in_lower_case : PrintsInLowerCase
@@ -62,12 +97,23 @@ digit_back a b c d = ap (λ (b : List Bool). b ++ []) (read_back a b c d)
 
 pub reads_what_was_printed : ReadsWhatWasPrinted
 reads_what_was_printed [] = ([], refl, (omega arith, tt))
-reads_what_was_printed (a ∷ []) = (false ∷ false ∷ false ∷ [], digit_back a false false false, (omega arith, (refl, (refl, (refl, tt)))))
-reads_what_was_printed (a ∷ b ∷ []) = (false ∷ false ∷ [], digit_back a b false false, (omega arith, (refl, (refl, tt))))
+reads_what_was_printed (a ∷ []) = (
+  false ∷ false ∷ false
+      ∷ [],
+  digit_back a false false false,
+  (omega arith, (refl, (refl, (refl, tt)))),
+)
+reads_what_was_printed (a ∷ b ∷ []) = (
+  false ∷ false
+      ∷ [],
+  digit_back a b false false,
+  (omega arith, (refl, (refl, tt))),
+)
 reads_what_was_printed (a ∷ b ∷ c ∷ []) = (false ∷ [], digit_back a b c false, (omega arith, (refl, tt)))
 reads_what_was_printed (a ∷ b ∷ c ∷ d ∷ bits) =
     let rest = reads_what_was_printed bits in (
       rest.0,
-      ap (λ (four : List Bool). four ++ bits_of_digits (digits_of bits)) (read_back a b c d) ∙ ap (λ (more : List Bool). a ∷ b ∷ c ∷ d ∷ more) rest.1,
+      ap (λ (four : List Bool). four ++ bits_of_digits (digits_of bits)) (read_back a b c d)
+          ∙ ap (λ (more : List Bool). a ∷ b ∷ c ∷ d ∷ more) rest.1,
       rest.2,
     )

@@ -30,19 +30,22 @@ abbrev relabelled : Kind → Kind → List TrainRun → List TrainRun
 relabelled kind other [] = []
 relabelled kind other (run ∷ runs) = replaced (same_kind run.kind kind) other run runs (relabelled kind other runs)
 
-earns_same : (position : Position) (kind other : Kind) (runs : List TrainRun) → revenue_of position (relabelled kind other runs) ≡ revenue_of position runs
+earns_same : (position : Position) (kind other : Kind) (runs : List TrainRun)
+    → revenue_of position (relabelled kind other runs) ≡ revenue_of position runs
 earns_same position kind other [] = refl
 earns_same position kind other (run ∷ runs) = by_test (same_kind run.kind kind) (earns_same position kind other runs)
   where
     by_test :
         (b : Bool) → revenue_of position (relabelled kind other runs) ≡ revenue_of position runs →
-        revenue_of position (replaced b other run runs (relabelled kind other runs)) ≡ earned position run.steps + revenue_of position runs
+        revenue_of position (replaced b other run runs (relabelled kind other runs))
+        ≡ earned position run.steps + revenue_of position runs
     by_test true same = refl
     by_test false same = ap (λ n. earned position run.steps + n) same
 
 -- what holds of the walks of runs holds of them then
 all_steps :
-    (P : List Step → Type 0) (kind other : Kind) (runs : List TrainRun) → AllByRecursion (λ (run : TrainRun). P run.steps) runs →
+    (P : List Step → Type 0) (kind other : Kind) (runs : List TrainRun)
+    → AllByRecursion (λ (run : TrainRun). P run.steps) runs →
     AllByRecursion (λ (run : TrainRun). P run.steps) (relabelled kind other runs)
 all_steps P kind other [] holds = tt
 all_steps P kind other (run ∷ runs) holds = by_test (same_kind run.kind kind) (all_steps P kind other runs holds.1)
@@ -56,7 +59,8 @@ all_steps P kind other (run ∷ runs) holds = by_test (same_kind run.kind kind) 
 still_apart : (kind other : Kind) (runs : List TrainRun) → AreApart runs → AreApart (relabelled kind other runs)
 still_apart kind other [] apart = tt
 still_apart kind other (run ∷ runs) apart =
-    by_test (same_kind run.kind kind) (all_steps (ShareNoBorder run.steps) kind other runs apart.0) (still_apart kind other runs apart.1)
+    by_test (same_kind run.kind kind) (all_steps (ShareNoBorder run.steps) kind other runs apart.0)
+    (still_apart kind other runs apart.1)
   where
     by_test :
         (b : Bool) → AllByRecursion (λ (r : TrainRun). ShareNoBorder run.steps r.steps) (relabelled kind other runs) →
@@ -78,11 +82,13 @@ kind_is a b same =
     sym (kind_at a) ∙ ap (λ n. get_or kinds n Two) (eqb-true (place_of_kind a) (place_of_kind b) same) ∙ kind_at b
 
 -- trains of one kind may visit as many stops
-most_of : (a b : Kind) → same_kind a b ≡ true → (count : ℕ) → AreAtMost (stops_of a) count → AreAtMost (stops_of b) count
+most_of : (a b : Kind) → same_kind a b ≡ true → (count : ℕ) → AreAtMost (stops_of a) count
+    → AreAtMost (stops_of b) count
 most_of a b same count few = subst (λ (k : Kind). AreAtMost (stops_of k) count) (kind_is a b same) few
 
 module _ (position : Position) (company : Company) (kind other : Kind) (as_many : VisitsAsMany kind other) where
-  run_still : (run : TrainRun) → same_kind run.kind kind ≡ true → RunsLegally position company run → RunsLegally position company (run_of other run.steps)
+  run_still : (run : TrainRun) → same_kind run.kind kind ≡ true → RunsLegally position company run
+      → RunsLegally position company (run_of other run.steps)
   run_still run same legal = record {
     walk = legal.walk;
     begins = legal.begins;
@@ -104,7 +110,8 @@ module _ (position : Position) (company : Company) (kind other : Kind) (as_many 
   legal_still (run ∷ runs) legal = by_test (same_kind run.kind kind) refl (legal_still runs legal.1)
     where
       by_test :
-          (b : Bool) → same_kind run.kind kind ≡ b → AllByRecursion (RunsLegally position company) (relabelled kind other runs) →
+          (b : Bool) → same_kind run.kind kind ≡ b → AllByRecursion (RunsLegally position company)
+          (relabelled kind other runs) →
           AllByRecursion (RunsLegally position company) (replaced b other run runs (relabelled kind other runs))
       by_test true is later = (run_still run is legal.0, legal.1)
       by_test false is later = (legal.0, later)
@@ -112,46 +119,57 @@ module _ (position : Position) (company : Company) (kind other : Kind) (as_many 
 -- of the kind none ran, and all is as before; or one ran, and is of the other kind now
 abbrev Counted : Kind → Kind → List TrainRun → Type 0
 Counted kind other runs =
-    ((k : Kind) → (same_kind kind k ≡ true → in_number k (trains_that_run runs) ≡ 0) × (in_number k (trains_that_run (relabelled kind other runs)) ≡ in_number k (trains_that_run runs)))
-    ⊎ ((k : Kind) → in_number k (trains_that_run (relabelled kind other runs)) + of_kind k kind ≡ in_number k (trains_that_run runs) + of_kind k other)
+    ((k : Kind) → (same_kind kind k ≡ true → in_number k (trains_that_run runs) ≡ 0)
+    × (in_number k (trains_that_run (relabelled kind other runs)) ≡ in_number k (trains_that_run runs)))
+    ⊎ ((k : Kind) → in_number k (trains_that_run (relabelled kind other runs)) + of_kind k kind
+    ≡ in_number k (trains_that_run runs) + of_kind k other)
 
 -- trains of one kind are as many of each
 alike : (a b k : Kind) → same_kind a b ≡ true → of_kind k a ≡ of_kind k b
-alike a b k same = ap (λ (n : ℕ). if eqb n (place_of_kind k) then 1 else 0) (eqb-true (place_of_kind a) (place_of_kind b) same)
+alike a b k same = ap (λ (n : ℕ). if eqb n (place_of_kind k) then 1 else 0)
+    (eqb-true (place_of_kind a) (place_of_kind b) same)
 
 not_alike : (a b k : Kind) → same_kind a b ≡ false → same_kind b k ≡ true → of_kind k a ≡ 0
 not_alike a b k apart same =
-    let differ : eqb (place_of_kind a) (place_of_kind k) ≡ false = subst (λ (n : ℕ). eqb (place_of_kind a) n ≡ false) (eqb-true (place_of_kind b) (place_of_kind k) same) apart in
+    let differ : eqb (place_of_kind a) (place_of_kind k) ≡ false =
+    subst (λ (n : ℕ). eqb (place_of_kind a) n ≡ false) (eqb-true (place_of_kind b) (place_of_kind k) same) apart in
     ap (λ (b : Bool). if b then 1 else 0) differ
 
 -- so once a test says whether a run is that of the train
 abbrev CountedBy : Kind → Kind → TrainRun → List TrainRun → Bool → Type 0
 CountedBy kind other run runs b =
-    ((k : Kind) → (same_kind kind k ≡ true → of_kind k run.kind + in_number k (trains_that_run runs) ≡ 0) × (in_number k (trains_that_run (replaced b other run runs (relabelled kind other runs))) ≡ of_kind k run.kind + in_number k (trains_that_run runs)))
-    ⊎ ((k : Kind) → in_number k (trains_that_run (replaced b other run runs (relabelled kind other runs))) + of_kind k kind ≡ (of_kind k run.kind + in_number k (trains_that_run runs)) + of_kind k other)
+    ((k : Kind) → (same_kind kind k ≡ true → of_kind k run.kind + in_number k (trains_that_run runs) ≡ 0)
+    × (in_number k (trains_that_run (replaced b other run runs (relabelled kind other runs)))
+    ≡ of_kind k run.kind + in_number k (trains_that_run runs)))
+    ⊎ ((k : Kind) → in_number k (trains_that_run (replaced b other run runs (relabelled kind other runs)))
+    + of_kind k kind ≡ (of_kind k run.kind + in_number k (trains_that_run runs)) + of_kind k other)
 
 counted_still : (kind other : Kind) (runs : List TrainRun) → Counted kind other runs
 counted_still kind other [] = inl (λ k. (λ same. refl, refl))
 counted_still kind other (run ∷ runs) = by_test (same_kind run.kind kind) refl (counted_still kind other runs)
   where
     by_test : (b : Bool) → same_kind run.kind kind ≡ b → Counted kind other runs → CountedBy kind other run runs b
-    by_test true is rest = inr (λ k. let same : of_kind k run.kind ≡ of_kind k kind = alike run.kind kind k is in omega arith)
+    by_test true is rest = inr (λ k. let same : of_kind k run.kind ≡ of_kind k kind =
+        alike run.kind kind k is in omega arith)
     by_test false is (inl none) =
         inl (λ k. (
-          λ same. let not_it : of_kind k run.kind ≡ 0 = not_alike run.kind kind k is same in let rest : in_number k (trains_that_run runs) ≡ 0 = (none k).0 same in omega arith,
+          λ same. let not_it : of_kind k run.kind ≡ 0 = not_alike run.kind kind k is same in let rest : in_number k
+              (trains_that_run runs) ≡ 0 = (none k).0 same in omega arith,
           ap (λ n. of_kind k run.kind + n) (none k).1,
         ))
     by_test false is (inr one) = inr (λ k. let rest = one k in omega arith)
 
 taken_still :
-    (kind other : Kind) (trains : List Kind) (runs : List TrainRun) → AreTakenFrom (kind ∷ trains) (trains_that_run runs) →
+    (kind other : Kind) (trains : List Kind) (runs : List TrainRun)
+    → AreTakenFrom (kind ∷ trains) (trains_that_run runs) →
     AreTakenFrom (other ∷ trains) (trains_that_run (relabelled kind other runs))
 taken_still kind other trains runs taken k = by_count (counted_still kind other runs) (same_kind kind k) refl
   where
     by_count :
         Counted kind other runs → (b : Bool) → same_kind kind k ≡ b →
         in_number k (trains_that_run (relabelled kind other runs)) ≤ of_kind k other + in_number k trains
-    by_count (inl none) true is = let zero : in_number k (trains_that_run runs) ≡ 0 = (none k).0 is in let same = (none k).1 in omega arith
+    by_count (inl none) true is = let zero : in_number k (trains_that_run runs) ≡ 0 = (none k).0 is in let same =
+        (none k).1 in omega arith
     by_count (inl none) false is =
         let not_it : of_kind k kind ≡ 0 = ap (λ (b : Bool). if b then 1 else 0) is in
         let same = (none k).1 in omega (arith, taken k)

@@ -33,23 +33,32 @@ use Rattle.certificate.proofs.Written.{ordered, stop_to_stop}
 
 -- a child is below what its node is below
 pub one_below :
-    (position : Position) (company : Company) (reached : List Stop) (start node child : Node) → IsBelow position company reached start node →
+    (position : Position) (company : Company) (reached : List Stop) (start node child : Node)
+    → IsBelow position company reached start node →
     IsAmong child (children position company reached node) → IsBelow position company reached start child
-one_below position company reached start node child below among =
-    (child ∷ below.0, (subst (λ (n : Node). IsAmong child (children position company reached n)) (sym below.2) among, below.1), refl)
+one_below position company reached start node child below among = (
+  child ∷ below.0,
+  (
+    subst (λ (n : Node). IsAmong child (children position company reached n)) (sym below.2) among,
+    below.1,
+  ),
+  refl,
+)
 
 -- what comes after a stop that is listed, and after a border
 distinct_after : (found : Option Stop) (stops : List Stop) → AreDistinct (listed found ++ stops) → AreDistinct stops
 distinct_after None stops distinct = distinct
 distinct_after (Some stop) stops distinct = distinct.1
 
-distinct_over : (hex : Hex) (end : End) (borders : List ℕ) → AreDistinct (border_at hex end ++ borders) → AreDistinct borders
+distinct_over : (hex : Hex) (end : End) (borders : List ℕ) → AreDistinct (border_at hex end ++ borders)
+    → AreDistinct borders
 distinct_over hex (AtSide side) borders distinct = distinct.1
 distinct_over hex (AtStop number) borders distinct = distinct
 
 -- a train that has visited a listed stop and others has room for one more than the others
 fit_after :
-    (kind : Kind) (hex : Hex) (end : End) (stops : List Stop) → HasRoom kind (length (listed (stop_at_end hex end) ++ stops)) end →
+    (kind : Kind) (hex : Hex) (end : End) (stops : List Stop)
+    → HasRoom kind (length (listed (stop_at_end hex end) ++ stops)) end →
     AreAtMost (stops_of kind) (suc (length stops))
 fit_after kind hex (AtSide side) stops room = room
 fit_after kind hex (AtStop number) stops room = room
@@ -80,7 +89,8 @@ not_passed : (b : Bool) → (b ≡ true → ⊥) → b ≡ false
 not_passed true none = absurd (none refl)
 not_passed false none = refl
 
-module _ (position : Position) (lawful : IsLawful position) (company : Company) (reached : List Stop) (settled : List TrainRun) (kind : Kind) (later : List Kind) where
+module _ (position : Position) (lawful : IsLawful position) (company : Company) (reached : List Stop)
+    (settled : List TrainRun) (kind : Kind) (later : List Kind) where
   abbrev base : Node
   base = node_of settled [] (kind ∷ later)
 
@@ -110,23 +120,31 @@ module _ (position : Position) (lawful : IsLawful position) (company : Company) 
   shorter step earlier more prefix =
       let begun = prefix.begun in
       let joined : AreJoined (left_at earlier) (entered_at step) = begun.walk.1 in
-      let gone : gone_over (step ∷ earlier ∷ more) ≡ border_at (left_at step).hex (left_at step).end ++ gone_over (earlier ∷ more) = ap (λ (l : List ℕ). border_at (left_at step).hex (left_at step).end ++ l) (joint_crossed step earlier more joined) in
+      let gone : gone_over (step ∷ earlier ∷ more) ≡ border_at (left_at step).hex (left_at step).end
+      ++ gone_over (earlier ∷ more) = ap (λ (l : List ℕ). border_at (left_at step).hex (left_at step).end ++ l)
+      (joint_crossed step earlier more joined) in
       record {
         begun = record {
           walk = begun.walk.2;
           begins = begun.begins;
           stops = distinct_after (stop_of (left_at step)) (visited (earlier ∷ more)) begun.stops;
-          once = distinct_over (left_at step).hex (left_at step).end (gone_over (earlier ∷ more)) (subst (λ (l : List ℕ). AreDistinct l) gone begun.once);
-          free = λ border among. begun.free border (subst (λ (l : List ℕ). IsAmong border l) (sym gone) ((among_both border (border_at (left_at step).hex (left_at step).end) (gone_over (earlier ∷ more))).1 (inr among)));
+          once = distinct_over (left_at step).hex (left_at step).end (gone_over (earlier ∷ more))
+              (subst (λ (l : List ℕ). AreDistinct l) gone begun.once);
+          free = λ border among. begun.free border (subst (λ (l : List ℕ). IsAmong border l) (sym gone)
+              ((among_both border (border_at (left_at step).hex (left_at step).end) (gone_over (earlier ∷ more))).1
+              (inr among)));
           no_red = begun.no_red.1;
           no_full = begun.no_full.1;
-          room = room_for kind (length (visited (earlier ∷ more))) (left_at earlier).end (fit_after kind (left_at step).hex (left_at step).end (visited (earlier ∷ more)) begun.room);
+          room = room_for kind (length (visited (earlier ∷ more))) (left_at earlier).end
+              (fit_after kind (left_at step).hex (left_at step).end (visited (earlier ∷ more)) begun.room);
         };
         onward = goes_on joined;
-        there = λ stop among. prefix.there stop ((among_both stop (listed (stop_of (left_at step))) (visited (earlier ∷ more))).1 (inr among));
+        there = λ stop among. prefix.there stop ((among_both stop (listed (stop_of (left_at step)))
+            (visited (earlier ∷ more))).1 (inr among));
       }
     where
-      goes_on : AreJoined (left_at earlier) (entered_at step) → stop_of (left_at earlier) ≡ None → (spot : Spot) × (across (left_at earlier) ≡ Some spot)
+      goes_on : AreJoined (left_at earlier) (entered_at step) → stop_of (left_at earlier) ≡ None
+          → (spot : Spot) × (across (left_at earlier) ≡ Some spot)
       goes_on (inl joint) none = let wrong : None ≡ Some joint.0 = sym none ∙ joint.1 in absurd cc
       goes_on (inr over) none = (entered_at step, over)
 
@@ -138,10 +156,12 @@ module _ (position : Position) (lawful : IsLawful position) (company : Company) 
     beside : neighbour_of hex side ≡ Some next
 
   over_found :
-      (found : Option Hex) (hex : Hex) (side : Side) → neighbour_of hex side ≡ found → (spot : Spot) → across_end hex (AtSide side) ≡ Some spot →
+      (found : Option Hex) (hex : Hex) (side : Side) → neighbour_of hex side ≡ found → (spot : Spot)
+      → across_end hex (AtSide side) ≡ Some spot →
       Over hex (AtSide side)
   over_found None hex side beside spot is =
-      let none : across_end hex (AtSide side) ≡ None = across_none hex side beside in let wrong : None ≡ Some spot = sym none ∙ is in absurd cc
+      let none : across_end hex (AtSide side) ≡ None = across_none hex side beside in let wrong : None ≡ Some spot =
+      sym none ∙ is in absurd cc
     where
       across_none : (hex : Hex) (side : Side) → neighbour_of hex side ≡ None → across_end hex (AtSide side) ≡ None
       across_none hex side beside = rw beside refl
@@ -154,15 +174,21 @@ module _ (position : Position) (lawful : IsLawful position) (company : Company) 
   -- and the border is free
   over_free :
       (step : Step) (before : List Step) → IsPrefix step before → (borders : List ℕ) →
-      ((border : ℕ) → IsAmong border borders → IsAmong border (crossed (step ∷ before)) ⊎ IsAmong border (run_borders settled)) →
+      ((border : ℕ) → IsAmong border borders → IsAmong border (crossed (step ∷ before))
+      ⊎ IsAmong border (run_borders settled)) →
       stop_of (left_at step) ≡ None → LeadsOver borders (left_at step).hex (left_at step).end
   over_free step before prefix borders parts none =
       let spot = prefix.onward none in
-      let over : Over (left_at step).hex (left_at step).end = over_by (left_at step).hex (left_at step).end spot.0 spot.1 in
+      let over : Over (left_at step).hex (left_at step).end =
+      over_by (left_at step).hex (left_at step).end spot.0 spot.1 in
       let begun = prefix.begun in
-      let gone : gone_over (step ∷ before) ≡ border_of (left_at step).hex over.side ∷ crossed (step ∷ before) = ap (λ (e : End). border_at (left_at step).hex e ++ crossed (step ∷ before)) over.at_side in
-      let once : AreDistinct (border_of (left_at step).hex over.side ∷ crossed (step ∷ before)) = subst (λ (l : List ℕ). AreDistinct l) gone begun.once in
-      let free : ¬ IsAmong (border_of (left_at step).hex over.side) (run_borders settled) = begun.free (border_of (left_at step).hex over.side) (subst (λ (l : List ℕ). IsAmong (border_of (left_at step).hex over.side) l) (sym gone) (inl refl)) in
+      let gone : gone_over (step ∷ before) ≡ border_of (left_at step).hex over.side ∷ crossed (step ∷ before) =
+      ap (λ (e : End). border_at (left_at step).hex e ++ crossed (step ∷ before)) over.at_side in
+      let once : AreDistinct (border_of (left_at step).hex over.side ∷ crossed (step ∷ before)) =
+      subst (λ (l : List ℕ). AreDistinct l) gone begun.once in
+      let free : ¬ IsAmong (border_of (left_at step).hex over.side) (run_borders settled) =
+      begun.free (border_of (left_at step).hex over.side)
+      (subst (λ (l : List ℕ). IsAmong (border_of (left_at step).hex over.side) l) (sym gone) (inl refl)) in
       record {
         side = over.side;
         next = over.next;
@@ -175,15 +201,18 @@ module _ (position : Position) (lawful : IsLawful position) (company : Company) 
       }
 
   -- a step that enters at a stop leads over a border
-  from_stop_over : (step : Step) → IsTrack position step → (stop : Stop) → stop_of (entered_at step) ≡ Some stop → stop_of (left_at step) ≡ None
+  from_stop_over : (step : Step) → IsTrack position step → (stop : Stop) → stop_of (entered_at step) ≡ Some stop
+      → stop_of (left_at step) ≡ None
   from_stop_over step track stop is = by_ends (entered_at step).end (left_at step).end refl refl is
     where
       by_ends :
-          (enters leaves : End) → (entered_at step).end ≡ enters → (left_at step).end ≡ leaves → stop_at_end step.link.hex enters ≡ Some stop →
+          (enters leaves : End) → (entered_at step).end ≡ enters → (left_at step).end ≡ leaves
+          → stop_at_end step.link.hex enters ≡ Some stop →
           stop_at_end step.link.hex (left_at step).end ≡ None
       by_ends (AtSide side) leaves e l is = absurd cc
       by_ends (AtStop n) (AtSide side) e l is = ap (stop_at_end step.link.hex) l
-      by_ends (AtStop n) (AtStop m) e l is = absurd (stop_to_stop step.link step.turned n m (ordered position lawful step track) e l)
+      by_ends (AtStop n) (AtStop m) e l is = absurd (stop_to_stop step.link step.turned n m
+          (ordered position lawful step track) e l)
 
   -- the first step
   first_child : (step : Step) → IsPrefix step [] → IsAmong (at (step ∷ [])) (children position company reached base)
@@ -192,10 +221,15 @@ module _ (position : Position) (lawful : IsLawful position) (company : Company) 
       let stop : Stop = begun.begins.0 in
       let enters : stop_of (entered_at step) ≡ Some stop = begun.begins.1 in
       let none : stop_of (left_at step) ≡ None = from_stop_over step begun.walk.0 stop enters in
-      let among : IsAmong stop reached = prefix.there stop ((among_both stop (listed (stop_of (left_at step))) (listed (stop_of (entered_at step)) ++ [])).1 (inr ((among_both stop (listed (stop_of (entered_at step))) []).1 (inl (subst (λ (s : Option Stop). IsAmong stop (listed s)) (sym enters) (inl refl)))))) in
+      let among : IsAmong stop reached = prefix.there stop
+      ((among_both stop (listed (stop_of (left_at step))) (listed (stop_of (entered_at step)) ++ [])).1
+      (inr ((among_both stop (listed (stop_of (entered_at step))) []).1
+      (inl (subst (λ (s : Option Stop). IsAmong stop (listed s)) (sym enters) (inl refl)))))) in
       inr (among_with_steps (goes_over (taken_borders base)) base (for_each (ways_from position) reached) step
-      (among_for_each (ways_from position) reached stop step among (stop_left position lawful stop step begun.walk.0 enters))
-      (over_leads (taken_borders base) (left_at step).hex (left_at step).end (over_free step [] prefix (run_borders settled) (λ border here. inr here) none)))
+      (among_for_each (ways_from position) reached stop step among
+      (stop_left position lawful stop step begun.walk.0 enters))
+      (over_leads (taken_borders base) (left_at step).hex (left_at step).end
+      (over_free step [] prefix (run_borders settled) (λ border here. inr here) none)))
 
   -- a later one
   module _ (step earlier : Step) (more : List Step) (prefix : IsPrefix step (earlier ∷ more)) where
@@ -209,30 +243,43 @@ module _ (position : Position) (lawful : IsLawful position) (company : Company) 
     taken_before border among =
         let begun = prefix.begun in
         elim ((among_both border (gone_over run) (run_borders settled)).0 among) [
-          | inl here ↦ inl (subst (λ (l : List ℕ). IsAmong border l) (sym (joint_crossed step earlier more begun.walk.1)) here)
+          | inl here ↦ inl (subst (λ (l : List ℕ). IsAmong border l)
+              (sym (joint_crossed step earlier more begun.walk.1)) here)
           | inr there ↦ inr there
         ]
 
     leads_further : (found : Option Stop) → stop_of (left_at step) ≡ found → leads_on reached (at run) step ≡ true
     leads_further None is =
-        or_right (is_new_stop reached (visited run) (stop_of (left_at step))) (goes_over (gone_over run ++ run_borders settled) step)
-        (over_leads (gone_over run ++ run_borders settled) (left_at step).hex (left_at step).end (over_free step run prefix (gone_over run ++ run_borders settled) taken_before is))
+        or_right (is_new_stop reached (visited run) (stop_of (left_at step)))
+        (goes_over (gone_over run ++ run_borders settled) step)
+        (over_leads (gone_over run ++ run_borders settled) (left_at step).hex (left_at step).end
+        (over_free step run prefix (gone_over run ++ run_borders settled) taken_before is))
     leads_further (Some stop) is =
         let begun = prefix.begun in
-        let stops : AreDistinct (stop ∷ visited run) = subst (λ (s : Option Stop). AreDistinct (listed s ++ visited run)) is begun.stops in
-        let among : IsAmong stop reached = prefix.there stop (subst (λ (s : Option Stop). IsAmong stop (listed s ++ visited run)) (sym is) (inl refl)) in
-        or_left (is_new_stop reached (visited run) (stop_of (left_at step))) (goes_over (gone_over run ++ run_borders settled) step)
+        let stops : AreDistinct (stop ∷ visited run) =
+        subst (λ (s : Option Stop). AreDistinct (listed s ++ visited run)) is begun.stops in
+        let among : IsAmong stop reached = prefix.there stop
+        (subst (λ (s : Option Stop). IsAmong stop (listed s ++ visited run)) (sym is) (inl refl)) in
+        or_left (is_new_stop reached (visited run) (stop_of (left_at step)))
+        (goes_over (gone_over run ++ run_borders settled) step)
         (subst (λ (s : Option Stop). is_new_stop reached (visited run) s ≡ true) (sym is)
-        (true_both (has_stop stop reached) (not (has_stop stop (visited run))) ((has_stop_is stop reached).1 among) (ap not ((fails (has_stop stop (visited run)) (has_stop_is stop (visited run))).1 stops.0))))
+        (true_both (has_stop stop reached) (not (has_stop stop (visited run))) ((has_stop_is stop reached).1 among)
+        (ap not ((fails (has_stop stop (visited run)) (has_stop_is stop (visited run))).1 stops.0))))
 
-    over_side : across (left_at earlier) ≡ Some (entered_at step) → IsAmong (at (step ∷ run)) (children position company reached (at run))
+    over_side : across (left_at earlier) ≡ Some (entered_at step)
+        → IsAmong (at (step ∷ run)) (children position company reached (at run))
     over_side over =
         let begun = prefix.begun in
-        let there : (across (entered_at step) ≡ Some (left_at earlier)) × (stop_of (entered_at step) ≡ None) = back position lawful (left_at earlier) (entered_at step) over in
-        let here : (across (left_at earlier) ≡ Some (entered_at step)) × (stop_of (left_at earlier) ≡ None) = back position lawful (entered_at step) (left_at earlier) there.0 in
-        subst (λ (s : Option Stop). IsAmong (at (step ∷ run)) (from_head position company reached (at run) kind later (left_at earlier) s)) (sym here.1)
-        (subst (λ (s : Option Spot). IsAmong (at (step ∷ run)) (from_border position company reached (at run) s)) (sym over)
-        (among_with_steps (leads_on reached (at run)) (at run) (ways_at position (entered_at step).hex (entered_at step).end) step
+        let there : (across (entered_at step) ≡ Some (left_at earlier)) × (stop_of (entered_at step) ≡ None) =
+        back position lawful (left_at earlier) (entered_at step) over in
+        let here : (across (left_at earlier) ≡ Some (entered_at step)) × (stop_of (left_at earlier) ≡ None) =
+        back position lawful (entered_at step) (left_at earlier) there.0 in
+        subst (λ (s : Option Stop). IsAmong (at (step ∷ run))
+        (from_head position company reached (at run) kind later (left_at earlier) s)) (sym here.1)
+        (subst (λ (s : Option Spot). IsAmong (at (step ∷ run)) (from_border position company reached (at run) s))
+        (sym over)
+        (among_with_steps (leads_on reached (at run)) (at run)
+        (ways_at position (entered_at step).hex (entered_at step).end) step
         (way_there position lawful step begun.walk.0) (leads_further (stop_of (left_at step)) refl)))
 
     past_stop :
@@ -241,32 +288,47 @@ module _ (position : Position) (lawful : IsLawful position) (company : Company) 
     past_stop stop is enters =
         let begun = prefix.begun in
         let none : stop_of (left_at step) ≡ None = from_stop_over step begun.walk.0 stop enters in
-        let not_red : is_red position stop ≡ false = not_passed (is_red position stop) (subst (λ (s : Option Stop). IfSome s (λ t. ¬ (is_red position t ≡ true))) enters begun.no_red.0) in
-        let not_full : is_full position company stop ≡ false = (fails (is_full position company stop) (is_full_is position company stop)).1 (subst (λ (s : Option Stop). IfSome s (λ t. ¬ IsFull position t company)) enters begun.no_full.0) in
-        let room : is_used_up (stops_of kind) (length (visited run)) ≡ false = not_used_up (stops_of kind) (length (visited run)) (fit_after kind (left_at step).hex (left_at step).end (visited run) begun.room) in
-        let goes : is_last_stop position company reached (at run) kind stop ≡ false = all_false (is_red position stop) (is_full position company stop) (is_used_up (stops_of kind) (length (visited run))) not_red not_full room in
+        let not_red : is_red position stop ≡ false = not_passed (is_red position stop)
+        (subst (λ (s : Option Stop). IfSome s (λ t. ¬ (is_red position t ≡ true))) enters begun.no_red.0) in
+        let not_full : is_full position company stop ≡ false =
+        (fails (is_full position company stop) (is_full_is position company stop)).1
+        (subst (λ (s : Option Stop). IfSome s (λ t. ¬ IsFull position t company)) enters begun.no_full.0) in
+        let room : is_used_up (stops_of kind) (length (visited run)) ≡ false =
+        not_used_up (stops_of kind) (length (visited run))
+        (fit_after kind (left_at step).hex (left_at step).end (visited run) begun.room) in
+        let goes : is_last_stop position company reached (at run) kind stop ≡ false =
+        all_false (is_red position stop) (is_full position company stop)
+        (is_used_up (stops_of kind) (length (visited run))) not_red not_full room in
         let steps : List Node = with_steps (goes_over (taken_borders (at run))) (at run) (ways_from position stop) in
-        subst (λ (s : Option Stop). IsAmong (at (step ∷ run)) (from_head position company reached (at run) kind later (left_at earlier) s)) (sym is)
-        ((among_both (at (step ∷ run)) (finishing position company reached (at run) kind later) (from_stop position company reached (at run) kind stop)).1
+        subst (λ (s : Option Stop). IsAmong (at (step ∷ run))
+        (from_head position company reached (at run) kind later (left_at earlier) s)) (sym is)
+        ((among_both (at (step ∷ run)) (finishing position company reached (at run) kind later)
+        (from_stop position company reached (at run) kind stop)).1
         (inr (subst (λ (b : Bool). IsAmong (at (step ∷ run)) (if b then [] else steps)) (sym goes)
-        (among_with_steps (goes_over (taken_borders (at run))) (at run) (ways_from position stop) step (stop_left position lawful stop step begun.walk.0 enters)
-        (over_leads (gone_over run ++ run_borders settled) (left_at step).hex (left_at step).end (over_free step run prefix (gone_over run ++ run_borders settled) taken_before none))))))
+        (among_with_steps (goes_over (taken_borders (at run))) (at run) (ways_from position stop) step
+        (stop_left position lawful stop step begun.walk.0 enters)
+        (over_leads (gone_over run ++ run_borders settled) (left_at step).hex (left_at step).end
+        (over_free step run prefix (gone_over run ++ run_borders settled) taken_before none))))))
 
-    later_child : AreJoined (left_at earlier) (entered_at step) → IsAmong (at (step ∷ run)) (children position company reached (at run))
+    later_child : AreJoined (left_at earlier) (entered_at step)
+        → IsAmong (at (step ∷ run)) (children position company reached (at run))
     later_child (inl joint) = past_stop joint.0 joint.1 joint.2
     later_child (inr over) = over_side over
 
   -- all the way
   run_begun :
-      (start : Node) → IsBelow position company reached start base → (step : Step) (before : List Step) → IsPrefix step before →
+      (start : Node) → IsBelow position company reached start base → (step : Step) (before : List Step)
+      → IsPrefix step before →
       IsBelow position company reached start (at (step ∷ before))
   run_begun start below step [] prefix =
       one_below position company reached start base (at (step ∷ [])) below (first_child step prefix)
   run_begun start below step (earlier ∷ more) prefix =
-      one_below position company reached start (at (earlier ∷ more)) (at (step ∷ earlier ∷ more)) (run_begun start below earlier more (shorter step earlier more prefix))
+      one_below position company reached start (at (earlier ∷ more)) (at (step ∷ earlier ∷ more))
+      (run_begun start below earlier more (shorter step earlier more prefix))
       (later_child step earlier more prefix (joint step earlier more prefix))
     where
-      joint : (step earlier : Step) (more : List Step) → IsPrefix step (earlier ∷ more) → AreJoined (left_at earlier) (entered_at step)
+      joint : (step earlier : Step) (more : List Step) → IsPrefix step (earlier ∷ more)
+          → AreJoined (left_at earlier) (entered_at step)
       joint step earlier more prefix = let begun = prefix.begun in begun.walk.1
 
   -- and settled
@@ -276,9 +338,12 @@ module _ (position : Position) (lawful : IsLawful position) (company : Company) 
   module _ (exactly : (stop : Stop) → ReachesStop position company stop → IsAmong stop reached) where
     whole :
         (step : Step) (before : List Step) → IsLegalRun position company kind [] (step ∷ before) →
-        ((border : ℕ) → IsAmong border (crossed (step ∷ before)) → ¬ IsAmong border (run_borders settled)) → IsPrefix step before
+        ((border : ℕ) → IsAmong border (crossed (step ∷ before)) → ¬ IsAmong border (run_borders settled))
+        → IsPrefix step before
     whole step before legal free =
-        let gone : gone_over (step ∷ before) ≡ crossed (step ∷ before) = ap (λ (l : List ℕ). l ++ crossed (step ∷ before)) (no_border (left_at step).hex (left_at step).end legal.ends.0 legal.ends.1) in
+        let gone : gone_over (step ∷ before) ≡ crossed (step ∷ before) =
+        ap (λ (l : List ℕ). l ++ crossed (step ∷ before))
+        (no_border (left_at step).hex (left_at step).end legal.ends.0 legal.ends.1) in
         record {
           begun = record {
             walk = legal.walk;
@@ -291,22 +356,31 @@ module _ (position : Position) (lawful : IsLawful position) (company : Company) 
             room = at_its_end (left_at step).end legal.ends.1;
           };
           onward = λ none. let wrong : None ≡ Some legal.ends.0 = sym none ∙ legal.ends.1 in absurd cc;
-          there = λ stop among. exactly stop (all_reached position lawful company (step ∷ before) legal.walk legal.no_full_inside legal.own_token stop among);
+          there = λ stop among. exactly stop (all_reached position lawful company (step ∷ before) legal.walk
+              legal.no_full_inside legal.own_token stop among);
         }
       where
-        at_its_end : (end : End) → stop_at_end step.link.hex end ≡ Some legal.ends.0 → HasRoom kind (length (visited (step ∷ before))) end
+        at_its_end : (end : End) → stop_at_end step.link.hex end ≡ Some legal.ends.0
+            → HasRoom kind (length (visited (step ∷ before))) end
         at_its_end (AtSide side) is = absurd cc
         at_its_end (AtStop number) is = legal.most
 
     pub run_below :
-        (start : Node) → IsBelow position company reached start base → (steps : List Step) → IsLegalRun position company kind [] steps →
-        ((border : ℕ) → IsAmong border (crossed steps) → ¬ IsAmong border (run_borders settled)) → IsBelow position company reached start (done steps)
+        (start : Node) → IsBelow position company reached start base → (steps : List Step)
+        → IsLegalRun position company kind [] steps →
+        ((border : ℕ) → IsAmong border (crossed steps) → ¬ IsAmong border (run_borders settled))
+        → IsBelow position company reached start (done steps)
     run_below start below [] legal free = absurd legal.begins
     run_below start below (step ∷ before) legal free =
-        one_below position company reached start (at (step ∷ before)) (done (step ∷ before)) (run_begun start below step before (whole step before legal free))
-        (subst (λ (s : Option Stop). IsAmong (done (step ∷ before)) (from_head position company reached (at (step ∷ before)) kind later (left_at step) s)) (sym legal.ends.1)
-        ((among_both (done (step ∷ before)) (finishing position company reached (at (step ∷ before)) kind later) (from_stop position company reached (at (step ∷ before)) kind legal.ends.0)).1
+        one_below position company reached start (at (step ∷ before)) (done (step ∷ before))
+        (run_begun start below step before (whole step before legal free))
+        (subst (λ (s : Option Stop). IsAmong (done (step ∷ before))
+        (from_head position company reached (at (step ∷ before)) kind later (left_at step) s)) (sym legal.ends.1)
+        ((among_both (done (step ∷ before)) (finishing position company reached (at (step ∷ before)) kind later)
+        (from_stop position company reached (at (step ∷ before)) kind legal.ends.0)).1
         (inl (among_node_if (is_finished position company reached (visited (step ∷ before))) (done (step ∷ before))
-        (true_both (not (ltb (length (visited (step ∷ before))) 2)) (list_any (has_token position company) (visited (step ∷ before)))
+        (true_both (not (ltb (length (visited (step ∷ before))) 2))
+        (list_any (has_token position company) (visited (step ∷ before)))
         (ap not (not_less (length (visited (step ∷ before))) 2 legal.two))
-        (such_has (λ stop. HasToken position stop company) (has_token position company) (has_token_is position company) (visited (step ∷ before)) legal.own_token))))))
+        (such_has (λ stop. HasToken position stop company) (has_token position company)
+        (has_token_is position company) (visited (step ∷ before)) legal.own_token))))))

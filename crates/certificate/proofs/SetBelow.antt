@@ -26,18 +26,22 @@ TakenOut run [] rest = ⊥
 TakenOut run (first ∷ others) rest =
     ((first ≡ run) × (others ≡ rest)) ⊎ ((more : List TrainRun) × TakenOut run others more × ((first ∷ more) ≡ rest))
 
-all_out : (P : TrainRun → Type 0) (run : TrainRun) (runs rest : List TrainRun) → TakenOut run runs rest → AllByRecursion P runs → P run × AllByRecursion P rest
+all_out : (P : TrainRun → Type 0) (run : TrainRun) (runs rest : List TrainRun) → TakenOut run runs rest
+    → AllByRecursion P runs → P run × AllByRecursion P rest
 all_out P run [] rest out holds = absurd out
-all_out P run (first ∷ others) rest (inl is) holds = (subst P is.0 holds.0, subst (λ (l : List TrainRun). AllByRecursion P l) is.1 holds.1)
+all_out P run (first ∷ others) rest (inl is) holds =
+    (subst P is.0 holds.0, subst (λ (l : List TrainRun). AllByRecursion P l) is.1 holds.1)
 all_out P run (first ∷ others) rest (inr later) holds =
     let found = all_out P run others later.0 later.1 holds.1 in
     (found.0, subst (λ (l : List TrainRun). AllByRecursion P l) later.2 (holds.0, found.1))
 
-among_out : (other run : TrainRun) (runs rest : List TrainRun) → TakenOut run runs rest → IsAmong other runs ↔ ((run ≡ other) ⊎ IsAmong other rest)
+among_out : (other run : TrainRun) (runs rest : List TrainRun) → TakenOut run runs rest
+    → IsAmong other runs ↔ ((run ≡ other) ⊎ IsAmong other rest)
 among_out other run [] rest out = absurd out
 among_out other run (first ∷ others) rest (inl is) =
     subst (λ (l : List TrainRun). IsAmong other (first ∷ others) ↔ ((run ≡ other) ⊎ IsAmong other l)) is.1
-    (subst (λ (r : TrainRun). ((first ≡ other) ⊎ IsAmong other others) ↔ ((r ≡ other) ⊎ IsAmong other others)) is.0 (λ h. h, λ h. h))
+    (subst (λ (r : TrainRun). ((first ≡ other) ⊎ IsAmong other others) ↔ ((r ≡ other) ⊎ IsAmong other others)) is.0
+    (λ h. h, λ h. h))
 among_out other run (first ∷ others) rest (inr later) =
     let found = among_out other run others later.0 later.1 in
     subst (λ (l : List TrainRun). IsAmong other (first ∷ others) ↔ ((run ≡ other) ⊎ IsAmong other l)) later.2 (
@@ -56,11 +60,13 @@ earns_out :
     revenue_of position runs ≡ earned position run.steps + revenue_of position rest
 earns_out position run [] rest out = absurd out
 earns_out position run (first ∷ others) rest (inl is) =
-    subst (λ (l : List TrainRun). earned position first.steps + revenue_of position others ≡ earned position run.steps + revenue_of position l) is.1
+    subst (λ (l : List TrainRun). earned position first.steps + revenue_of position others
+    ≡ earned position run.steps + revenue_of position l) is.1
     (ap (λ (r : TrainRun). earned position r.steps + revenue_of position others) is.0)
 earns_out position run (first ∷ others) rest (inr later) =
     let found = earns_out position run others later.0 later.1 in
-    subst (λ (l : List TrainRun). earned position first.steps + revenue_of position others ≡ earned position run.steps + revenue_of position l) later.2
+    subst (λ (l : List TrainRun). earned position first.steps + revenue_of position others
+    ≡ earned position run.steps + revenue_of position l) later.2
     (omega (arith, found))
 
 number_out :
@@ -68,11 +74,13 @@ number_out :
     in_number k (trains_that_run runs) ≡ of_kind k run.kind + in_number k (trains_that_run rest)
 number_out k run [] rest out = absurd out
 number_out k run (first ∷ others) rest (inl is) =
-    subst (λ (l : List TrainRun). of_kind k first.kind + in_number k (trains_that_run others) ≡ of_kind k run.kind + in_number k (trains_that_run l)) is.1
+    subst (λ (l : List TrainRun). of_kind k first.kind + in_number k (trains_that_run others)
+    ≡ of_kind k run.kind + in_number k (trains_that_run l)) is.1
     (ap (λ (r : TrainRun). of_kind k r.kind + in_number k (trains_that_run others)) is.0)
 number_out k run (first ∷ others) rest (inr later) =
     let found = number_out k run others later.0 later.1 in
-    subst (λ (l : List TrainRun). of_kind k first.kind + in_number k (trains_that_run others) ≡ of_kind k run.kind + in_number k (trains_that_run l)) later.2
+    subst (λ (l : List TrainRun). of_kind k first.kind + in_number k (trains_that_run others)
+    ≡ of_kind k run.kind + in_number k (trains_that_run l)) later.2
     (omega (arith, found))
 
 turned_round : (steps others : List Step) → ShareNoBorder steps others → ShareNoBorder others steps
@@ -83,18 +91,25 @@ apart_out :
     AllByRecursion (λ (other : TrainRun). ShareNoBorder run.steps other.steps) rest × AreApart rest
 apart_out run [] rest out apart = absurd out
 apart_out run (first ∷ others) rest (inl is) apart =
-    subst (λ (l : List TrainRun). AllByRecursion (λ (other : TrainRun). ShareNoBorder run.steps other.steps) l × AreApart l) is.1
-    (subst (λ (r : TrainRun). AllByRecursion (λ (other : TrainRun). ShareNoBorder r.steps other.steps) others) is.0 apart.0, apart.1)
+    subst (λ (l : List TrainRun). AllByRecursion (λ (other : TrainRun). ShareNoBorder run.steps other.steps) l
+    × AreApart l) is.1 (
+      subst (λ (r : TrainRun). AllByRecursion (λ (other : TrainRun). ShareNoBorder r.steps other.steps) others) is.0
+          apart.0,
+      apart.1,
+    )
 apart_out run (first ∷ others) rest (inr later) apart =
     let found = apart_out run others later.0 later.1 apart.1 in
-    let parts = all_out (λ (other : TrainRun). ShareNoBorder first.steps other.steps) run others later.0 later.1 apart.0 in
-    subst (λ (l : List TrainRun). AllByRecursion (λ (other : TrainRun). ShareNoBorder run.steps other.steps) l × AreApart l) later.2
+    let parts = all_out (λ (other : TrainRun). ShareNoBorder first.steps other.steps) run others later.0 later.1
+    apart.0 in
+    subst (λ (l : List TrainRun). AllByRecursion (λ (other : TrainRun). ShareNoBorder run.steps other.steps) l
+    × AreApart l) later.2
     ((turned_round first.steps run.steps parts.0, found.0), (parts.1, found.1))
 
 -- a run of a train of a kind is found, or there is none
 abbrev Found : Kind → List TrainRun → Type 0
 Found kind runs =
-    ((steps : List Step) × (rest : List TrainRun) × TakenOut (record { kind = kind; steps = steps }) runs rest) ⊎ (in_number kind (trains_that_run runs) ≡ 0)
+    ((steps : List Step) × (rest : List TrainRun) × TakenOut (record { kind = kind; steps = steps }) runs rest)
+    ⊎ (in_number kind (trains_that_run runs) ≡ 0)
 
 found_run : (kind : Kind) (runs : List TrainRun) → Found kind runs
 found_run kind [] = inr refl
@@ -102,9 +117,18 @@ found_run kind (run ∷ runs) = by_test (same_kind run.kind kind) refl (found_ru
   where
     by_test : (b : Bool) → same_kind run.kind kind ≡ b → Found kind runs → Found kind (run ∷ runs)
     by_test true is later =
-        inl (run.steps, runs, inl (ap (λ (k : Kind). let r : TrainRun = record { kind = k; steps = run.steps } in r) (kind_is run.kind kind is), refl))
+        inl (
+          run.steps,
+          runs,
+          inl (
+            ap (λ (k : Kind). let r : TrainRun = record { kind = k; steps = run.steps } in r)
+                (kind_is run.kind kind is),
+            refl,
+          ),
+        )
     by_test false is (inl later) = inl (later.0, run ∷ later.1, inr (later.1, later.2, refl))
-    by_test false is (inr none) = inr (let not_it : of_kind kind run.kind ≡ 0 = ap (λ (b : Bool). if b then 1 else 0) is in omega arith)
+    by_test false is (inr none) = inr (let not_it : of_kind kind run.kind ≡ 0 =
+        ap (λ (b : Bool). if b then 1 else 0) is in omega arith)
 
 -- a train is of its own kind
 own_kind : (k : Kind) → of_kind k k ≡ 1
@@ -118,15 +142,18 @@ own_kind Diesel = refl
 -- where none of a kind is left the trains after it are enough
 enough :
     (kind k : Kind) (runs : List TrainRun) (later : List Kind) → in_number kind (trains_that_run runs) ≡ 0 →
-    in_number k (trains_that_run runs) ≤ of_kind k kind + in_number k later → in_number k (trains_that_run runs) ≤ in_number k later
+    in_number k (trains_that_run runs) ≤ of_kind k kind + in_number k later
+    → in_number k (trains_that_run runs) ≤ in_number k later
 enough kind k runs later none few = by_test (same_kind kind k) refl
   where
     by_test : (b : Bool) → same_kind kind k ≡ b → in_number k (trains_that_run runs) ≤ in_number k later
     by_test true is =
-        let zero : in_number k (trains_that_run runs) ≡ 0 = subst (λ (q : Kind). in_number q (trains_that_run runs) ≡ 0) (kind_is kind k is) none in omega arith
+        let zero : in_number k (trains_that_run runs) ≡ 0 =
+        subst (λ (q : Kind). in_number q (trains_that_run runs) ≡ 0) (kind_is kind k is) none in omega arith
     by_test false is = let not_it : of_kind k kind ≡ 0 = ap (λ (b : Bool). if b then 1 else 0) is in omega arith
 
-module _ (position : Position) (lawful : IsLawful position) (company : Company) (reached : List Stop) (exactly : (stop : Stop) → ReachesStop position company stop → IsAmong stop reached) (start : Node) where
+module _ (position : Position) (lawful : IsLawful position) (company : Company) (reached : List Stop)
+    (exactly : (stop : Stop) → ReachesStop position company stop → IsAmong stop reached) (start : Node) where
   -- a run crosses none of the borders of the settled ones
   abbrev IsFree : List TrainRun → TrainRun → Type 0
   IsFree settled run = (border : ℕ) → IsAmong border (crossed run.steps) → ¬ IsAmong border (run_borders settled)
@@ -148,7 +175,8 @@ module _ (position : Position) (lawful : IsLawful position) (company : Company) 
 
   -- with one run more settled
   still_free :
-      (run : TrainRun) (settled rest : List TrainRun) → AllByRecursion (λ (other : TrainRun). ShareNoBorder run.steps other.steps) rest →
+      (run : TrainRun) (settled rest : List TrainRun)
+      → AllByRecursion (λ (other : TrainRun). ShareNoBorder run.steps other.steps) rest →
       AllByRecursion (IsFree settled) rest → AllByRecursion (IsFree (run ∷ settled)) rest
   still_free run settled [] apart free = tt
   still_free run settled (other ∷ rest) apart free = (
@@ -159,7 +187,8 @@ module _ (position : Position) (lawful : IsLawful position) (company : Company) 
     still_free run settled rest apart.1 free.1,
   )
 
-  one_settled : (settled runs rest : List TrainRun) (run : TrainRun) → TakenOut run runs rest → IsLeafOf (run ∷ settled) rest → IsLeafOf settled runs
+  one_settled : (settled runs rest : List TrainRun) (run : TrainRun) → TakenOut run runs rest
+      → IsLeafOf (run ∷ settled) rest → IsLeafOf settled runs
   one_settled settled runs rest run out found =
       record {
         leaf = found.leaf;
@@ -167,19 +196,25 @@ module _ (position : Position) (lawful : IsLawful position) (company : Company) 
         is_leaf = found.is_leaf;
         same = λ other. (
           λ h. elim ((found.same other).0 h) [
-            | inl one ↦ elim one [ inl it ↦ inr ((among_out other run runs rest out).1 (inl it)) | inr there ↦ inl there ]
+            | inl one ↦ elim one [
+              | inl it ↦ inr ((among_out other run runs rest out).1 (inl it))
+              | inr there ↦ inl
+                  there
+            ]
             | inr left ↦ inr ((among_out other run runs rest out).1 (inr left))
           ],
           λ h. (found.same other).1 (elim h [
             | inl there ↦ inl (inr there)
-            | inr among ↦ elim ((among_out other run runs rest out).0 among) [ inl it ↦ inl (inl it) | inr left ↦ inr left ]
+            | inr among ↦ elim ((among_out other run runs rest out).0 among)
+                [ inl it ↦ inl (inl it) | inr left ↦ inr left ]
           ]),
         );
         earns = omega (arith, found.earns, earns_out position run runs rest out);
       }
 
   all_settled :
-      (trains : List Kind) (settled runs : List TrainRun) → IsBelow position company reached start (node_of settled [] trains) →
+      (trains : List Kind) (settled runs : List TrainRun)
+      → IsBelow position company reached start (node_of settled [] trains) →
       IsLeft settled runs trains → IsLeafOf settled runs
   all_settled [] settled [] below left =
       record {
@@ -196,11 +231,13 @@ module _ (position : Position) (lawful : IsLawful position) (company : Company) 
     where
       by_run :
           Found kind runs →
-          ((more rest : List TrainRun) → IsBelow position company reached start (node_of more [] later) → IsLeft more rest later → IsLeafOf more rest) →
+          ((more rest : List TrainRun) → IsBelow position company reached start (node_of more [] later)
+          → IsLeft more rest later → IsLeafOf more rest) →
           IsLeafOf settled runs
       by_run (inr none) go_on =
           go_on settled runs
-          (one_below position company reached start (node_of settled [] (kind ∷ later)) (node_of settled [] later) below (inl refl))
+          (one_below position company reached start (node_of settled [] (kind ∷ later)) (node_of settled [] later)
+          below (inl refl))
           (record {
             legal = left.legal;
             apart = left.apart;
@@ -225,15 +262,18 @@ module _ (position : Position) (lawful : IsLawful position) (company : Company) 
 -- nothing is settled at first
 free_at_first :
     (runs : List TrainRun) →
-    AllByRecursion (λ (run : TrainRun). (border : ℕ) → IsAmong border (crossed run.steps) → ¬ IsAmong border (run_borders [])) runs
+    AllByRecursion (λ (run : TrainRun). (border : ℕ) → IsAmong border (crossed run.steps)
+    → ¬ IsAmong border (run_borders [])) runs
 free_at_first [] = tt
 free_at_first (run ∷ runs) = (λ border among none. none, free_at_first runs)
 
 -- a leaf with the runs of a set, where none was settled before
 its_leaf :
-    (position : Position) (lawful : IsLawful position) (company : Company) (trains : List Kind) (reached : List Stop) (exactly : (stop : Stop) → ReachesStop position company stop → IsAmong stop reached) (runs : List TrainRun) →
+    (position : Position) (lawful : IsLawful position) (company : Company) (trains : List Kind) (reached : List Stop)
+    (exactly : (stop : Stop) → ReachesStop position company stop → IsAmong stop reached) (runs : List TrainRun) →
     IsLeafOf position lawful company reached exactly (root_of trains) [] runs →
-    (leaf : Node) × IsBelow position company reached (root_of trains) leaf × IsLeaf leaf × AreItsRuns position leaf.settled runs
+    (leaf : Node) × IsBelow position company reached (root_of trains) leaf × IsLeaf leaf
+    × AreItsRuns position leaf.settled runs
 its_leaf position lawful company trains reached exactly runs found = (
   found.leaf,
   found.below,
@@ -250,8 +290,10 @@ its_leaf position lawful company trains reached exactly runs found = (
 -- each legal set has one, where all stops are listed that are reached
 pub set_is_leaf :
     (position : Position) → IsLawful position → (company : Company) (trains : List Kind) (reached : List Stop) →
-    ((stop : Stop) → ReachesStop position company stop → IsAmong stop reached) → (runs : List TrainRun) → IsLegalSet position company trains runs →
-    (leaf : Node) × IsBelow position company reached (root_of trains) leaf × IsLeaf leaf × AreItsRuns position leaf.settled runs
+    ((stop : Stop) → ReachesStop position company stop → IsAmong stop reached) → (runs : List TrainRun)
+    → IsLegalSet position company trains runs →
+    (leaf : Node) × IsBelow position company reached (root_of trains) leaf × IsLeaf leaf
+    × AreItsRuns position leaf.settled runs
 set_is_leaf position lawful company trains reached exactly runs set =
     its_leaf position lawful company trains reached exactly runs
     (all_settled position lawful company reached exactly (root_of trains) (greatest_first trains) [] runs ([], tt, refl)

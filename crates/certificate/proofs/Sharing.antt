@@ -14,18 +14,21 @@ use Rattle.certificate.proofs.Marks.{among_both, used_is}
 -- borders that are none of some are none of others that are among these
 pub apart :
     (used others : List ℕ) → ((border : ℕ) → IsAmong border others → IsAmong border used) → (borders : List ℕ) →
-    AllByRecursion (λ border. ¬ IsAmong border used) borders → AllByRecursion (λ border. ¬ IsAmong border others) borders
+    AllByRecursion (λ border. ¬ IsAmong border used) borders
+    → AllByRecursion (λ border. ¬ IsAmong border others) borders
 apart used others makes [] free = tt
 apart used others makes (border ∷ borders) free =
     (λ among. free.0 (makes border among), apart used others makes borders free.1)
 
 pub share_none : RunsShareNoBorder
 share_none position company kind used first second run =
-    apart (crossed first ++ used) (crossed first) (λ border among. (among_both border (crossed first) used).1 (inl among)) (crossed second) run.no_used_border
+    apart (crossed first ++ used) (crossed first) (λ border among. (among_both border (crossed first) used).1
+    (inl among)) (crossed second) run.no_used_border
 
 -- a run that is legal where some borders are used is so where others are that are among these
 pub legal_over :
-    (position : Position) (company : Company) (kind : Kind) (used others : List ℕ) → ((border : ℕ) → IsAmong border others → IsAmong border used) →
+    (position : Position) (company : Company) (kind : Kind) (used others : List ℕ)
+    → ((border : ℕ) → IsAmong border others → IsAmong border used) →
     (steps : List Step) → IsLegalRun position company kind used steps → IsLegalRun position company kind others steps
 legal_over position company kind used others makes steps run = record {
   walk = run.walk;
@@ -43,6 +46,8 @@ legal_over position company kind used others makes steps run = record {
 
 pub legal_by_marks : LegalByMarks
 legal_by_marks position company kind used marks steps are = (
-  legal_over position company kind (borders_used marks) used (λ border among. (used_is marks border).0 ((are.exact border).1 among)) steps,
-  legal_over position company kind used (borders_used marks) (λ border among. (are.exact border).0 ((used_is marks border).1 among)) steps,
+  legal_over position company kind (borders_used marks) used
+      (λ border among. (used_is marks border).0 ((are.exact border).1 among)) steps,
+  legal_over position company kind used (borders_used marks)
+      (λ border among. (are.exact border).0 ((used_is marks border).1 among)) steps,
 )

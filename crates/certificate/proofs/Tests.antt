@@ -17,7 +17,8 @@ tests_agree true false first second = sym (second.1 (first.0 refl))
 tests_agree false true first second = first.1 (second.0 refl)
 
 -- the test of a token is exact
-pub has_token_is : (position : Position) (company : Company) (stop : Stop) → (has_token position company stop ≡ true) ↔ HasToken position stop company
+pub has_token_is : (position : Position) (company : Company) (stop : Stop)
+    → (has_token position company stop ≡ true) ↔ HasToken position stop company
 has_token_is position company stop = (
   among_found same_company company_is (at_stop position stop).tokens company,
   found_among same_company company_is_same (at_stop position stop).tokens company,
@@ -48,13 +49,15 @@ less_not : (m n : ℕ) → n ≤ m → ltb m n ≡ true → ⊥
 less_not m n le less = let lt : m < n = ltb-true m n less in omega arith
 
 -- the test of a full city is exact
-pub is_full_is : (position : Position) (company : Company) (stop : Stop) → (is_full position company stop ≡ true) ↔ IsFull position stop company
+pub is_full_is : (position : Position) (company : Company) (stop : Stop)
+    → (is_full position company stop ≡ true) ↔ IsFull position stop company
 is_full_is position company stop =
     let slots : ℕ = (at_stop position stop).slots in
     let tokens : List Company = (at_stop position stop).tokens in
     let own : Bool = has_token position company stop in (
       λ h.
-          let parts : (ltb 0 slots ≡ true) × (not (ltb (length tokens) slots) ≡ true) × (not own ≡ true) = three (ltb 0 slots) (not (ltb (length tokens) slots)) (not own) h in
+          let parts : (ltb 0 slots ≡ true) × (not (ltb (length tokens) slots) ≡ true) × (not own ≡ true) =
+          three (ltb 0 slots) (not (ltb (length tokens) slots)) (not own) h in
           record {
             is_city = ltb-true 0 slots parts.0;
             all_taken = ltb-false (length tokens) slots (is_false (ltb (length tokens) slots) parts.1);

@@ -22,27 +22,34 @@ end_rank (AtSide side) = 50
 end_rank (AtStop number) = 0
 
 -- a mark more
-set_at : (marks : List Bool) (n k : ℕ) → n < length marks → get_or (set marks n true) k false ≡ (eqb n k || get_or marks k false)
+set_at : (marks : List Bool) (n k : ℕ) → n < length marks
+    → get_or (set marks n true) k false ≡ (eqb n k || get_or marks k false)
 set_at marks n k low = by_test (eqb n k) refl
   where
     by_test : (b : Bool) → eqb n k ≡ b → get_or (set marks n true) k false ≡ (b || get_or marks k false)
     by_test true is =
-        ap (λ (m : ℕ). get_or (set marks n true) m false) (sym (eqb-true n k is)) ∙ get_or-set_same marks n true false low
+        ap (λ (m : ℕ). get_or (set marks n true) m false) (sym (eqb-true n k is))
+        ∙ get_or-set_same marks n true false low
     by_test false is =
-        get_or-set_other marks n k true false (λ same. let wrong : true ≡ false = sym (eq-eqb n k (sym same)) ∙ is in cc)
+        get_or-set_other marks n k true false (λ same. let wrong : true ≡ false =
+        sym (eq-eqb n k (sym same)) ∙ is in cc)
 
 pub crossed_more :
     (marks : List Bool) (border : ℕ) (borders : List ℕ) → border < length marks → AreCrossed marks borders →
     AreCrossed (set marks border true) (border ∷ borders)
-crossed_more marks border borders low are =
-    (length-set marks border true ∙ are.0, λ k. set_at marks border k low ∙ ap (λ (b : Bool). eqb border k || b) (are.1 k))
+crossed_more marks border borders low are = (
+  length-set marks border true ∙ are.0,
+  λ k. set_at marks border k low
+      ∙ ap (λ (b : Bool). eqb border k || b) (are.1 k),
+)
 
 pub visited_more :
     (marks : List Bool) (stop : Stop) (stops : List Stop) → stop_order stop < length marks → AreVisited marks stops →
     AreVisited (set marks (stop_order stop) true) (stop ∷ stops)
 visited_more marks stop stops low are = (
   length-set marks (stop_order stop) true ∙ are.0,
-  λ other. set_at marks (stop_order stop) (stop_order other) low ∙ ap (λ (b : Bool). eqb (stop_order stop) (stop_order other) || b) (are.1 other),
+  λ other. set_at marks (stop_order stop) (stop_order other) low
+      ∙ ap (λ (b : Bool). eqb (stop_order stop) (stop_order other) || b) (are.1 other),
 )
 
 -- a mark more, and taken away again
@@ -63,11 +70,13 @@ pub none_crossed : AreCrossed (replicate 279 false) []
 none_crossed = (refl, λ border. none_marked 279 border)
 
 -- how many stops are left
-pub still_is : (most : Option ℕ) (count : ℕ) (values : List ℕ) → still_to_come most count values ≡ most_of (still_left most count) values
+pub still_is : (most : Option ℕ) (count : ℕ) (values : List ℕ)
+    → still_to_come most count values ≡ most_of (still_left most count) values
 still_is (Some most) count values = refl
 still_is None count values = refl
 
-pub one_fewer : (most : Option ℕ) (count : ℕ) → option_map (λ n. n - 1) (still_left most count) ≡ still_left most (suc count)
+pub one_fewer : (most : Option ℕ) (count : ℕ) → option_map (λ n. n - 1) (still_left most count)
+    ≡ still_left most (suc count)
 one_fewer (Some most) count =
     let e : (most - count) - 1 ≡ most - suc count = omega arith in ap (λ (n : ℕ). Some n) e
 one_fewer None count = refl
@@ -97,7 +106,8 @@ pub bound_is :
     capped (capped (value + still) + later) ≡ capped (settled + (here + (may + all)))
 bound_is value still later settled here may all is also too = omega arith
 
-pub value_more : (value stop settled here : ℕ) → value ≡ capped (settled + here) → capped (value + stop) ≡ capped (settled + (here + stop))
+pub value_more : (value stop settled here : ℕ) → value ≡ capped (settled + here)
+    → capped (value + stop) ≡ capped (settled + (here + stop))
 value_more value stop settled here is = omega arith
 
 -- the places of stops and of borders
@@ -109,7 +119,8 @@ stop_low stop = omega (arith, index_low stop.hex, number_low stop.number)
     number_low Second = omega arith
 
 -- what the trains of some groups may earn, group by group
-pub sum_start : (groups items : List Group) (place : ℕ) → items ≡ groups → capped (0 + earned_from (drop 0 items) place) ≡ capped (earned_from groups place)
+pub sum_start : (groups items : List Group) (place : ℕ) → items ≡ groups
+    → capped (0 + earned_from (drop 0 items) place) ≡ capped (earned_from groups place)
 sum_start groups items place is =
     let e : 0 + earned_from items place ≡ earned_from items place = omega arith in
     ap capped e ∙ ap (λ (l : List Group). capped (earned_from l place)) is
@@ -117,7 +128,8 @@ sum_start groups items place is =
 pub sum_more :
     (items : List Group) (index : ℕ) (none : Group) (sum before count amount next rest all : ℕ) → index < length items →
     capped (sum + earned_from (drop index items) before) ≡ capped all →
-    count ≡ (get_or items index none).count - before → amount ≡ capped (count * (get_or items index none).may_earn) → next ≡ capped (sum + amount) → rest ≡ before - (get_or items index none).count →
+    count ≡ (get_or items index none).count - before → amount ≡ capped (count * (get_or items index none).may_earn)
+    → next ≡ capped (sum + amount) → rest ≡ before - (get_or items index none).count →
     capped (next + earned_from (drop (index + 1) items) rest) ≡ capped all
 sum_more items index none sum before count amount next rest all low told counted earned added left =
     let group : Group = get_or items index none in
@@ -129,13 +141,16 @@ sum_more items index none sum before count amount next rest all low told counted
     ∙ ap (λ (n : ℕ). product + earned_from (drop (index + 1) items) n) (sym left)) in
     summed sum product amount next later (earned_from (drop index items) before) all told earned added here
   where
-    summed : (sum product amount next later here all : ℕ) → capped (sum + here) ≡ capped all → amount ≡ capped product → next ≡ capped (sum + amount) → here ≡ product + later → capped (next + later) ≡ capped all
+    summed : (sum product amount next later here all : ℕ) → capped (sum + here) ≡ capped all → amount ≡ capped product
+        → next ≡ capped (sum + amount) → here ≡ product + later → capped (next + later) ≡ capped all
     summed sum product amount next later here all told earned added is = omega arith
 
 pub sum_end :
-    (items : List Group) (index sum before all : ℕ) → length items ≤ index → sum ≤ 18446744073709551615 → capped (sum + earned_from (drop index items) before) ≡ capped all → sum ≡ capped all
+    (items : List Group) (index sum before all : ℕ) → length items ≤ index → sum ≤ 18446744073709551615
+    → capped (sum + earned_from (drop index items) before) ≡ capped all → sum ≡ capped all
 sum_end items index sum before all high low told =
-    let none : earned_from (drop index items) before ≡ 0 = ap (λ (l : List Group). earned_from l before) (drop_all index items high) in
+    let none : earned_from (drop index items) before ≡ 0 =
+    ap (λ (l : List Group). earned_from l before) (drop_all index items high) in
     omega arith
 
 pub rank_low : (end : End) → end_rank end ≤ 50

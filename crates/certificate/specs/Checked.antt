@@ -12,7 +12,8 @@ use Rattle.certificate.specs.declared.runner.RunnerFault.{RunnerFault}
 use Rattle.certificate.specs.declared.runner.RunnerFault.TheVariants.{Memory, Refused}
 
 -- a group shows the best runs of a company's trains in a round
-pub record Shows (position : Position) (round : Round) (company : Company) (trains : List Kind) (group : Group) : Type 0 where
+pub record Shows (position : Position) (round : Round) (company : Company) (trains : List Kind) (group : Group) : Type
+    0 where
   pub round_is : group.round ≡ round
   pub company_is : group.company ≡ company
   pub accepted : IsAccepted position company trains group.claim group.bits
@@ -26,7 +27,8 @@ AnswersBy position round company trains (Some group) (Err Refused) = ¬ Shows po
 AnswersBy position round company trains (Some group) (Err Memory) = ⊥
 
 -- the answer by the next of some groups, and the groups that are left; a refusal once there is none
-abbrev pub AnswersByNext : List (Option Group) → Position → Round → Company → List Kind → Result ℤ RunnerFault → List (Option Group) → Type 0
+abbrev pub AnswersByNext : List (Option Group) → Position → Round → Company → List Kind → Result ℤ RunnerFault
+    → List (Option Group) → Type 0
 AnswersByNext [] position round company trains answer left = (answer ≡ Err Refused) × (left ≡ [])
 AnswersByNext (group ∷ groups) position round company trains answer left =
     AnswersBy position round company trains group answer × (left ≡ groups)

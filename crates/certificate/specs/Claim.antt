@@ -20,4 +20,5 @@ NameRuns position (claimed ∷ others) (run ∷ runs) =
 -- a claim holds
 abbrev pub ClaimHolds : Position → Company → List Kind → Claim → Type 0
 ClaimHolds position company trains claim =
-    (runs : List TrainRun) × NameRuns position claim.runs runs × IsLegalSet position company trains runs × (revenue_of position runs ≡ claim.revenue)
+    (runs : List TrainRun) × NameRuns position claim.runs runs × IsLegalSet position company trains runs
+    × (revenue_of position runs ≡ claim.revenue)

@@ -69,4 +69,5 @@ PrintsInLowerCase = (bits : List Bool) → AreLower (digits_of bits)
 -- reading what was printed adds at most three 0 bits
 abbrev pub ReadsWhatWasPrinted : Type 0
 ReadsWhatWasPrinted =
-    (bits : List Bool) → (filling : List Bool) × (bits_of_digits (digits_of bits) ≡ bits ++ filling) × AreFilling filling
+    (bits : List Bool) → (filling : List Bool) × (bits_of_digits (digits_of bits) ≡ bits ++ filling)
+    × AreFilling filling

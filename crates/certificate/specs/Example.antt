@@ -20,7 +20,8 @@ use Rattle.certificate.specs.Tree.{Node, bound, children, for_each, root_of}
 -- what lies in a hex
 unfoldable pub on_map : Hex → InHex
 on_map H10 = record {
-  links = record { hex = H10; a = AtSide West; b = AtStop First } ∷ record { hex = H10; a = AtSide East; b = AtStop First } ∷ [];
+  links = record { hex = H10; a = AtSide West; b = AtStop First }
+      ∷ record { hex = H10; a = AtSide East; b = AtStop First } ∷ [];
   stops = record { value = 20; red = false; slots = 1; tokens = [] } ∷ [];
 }
 on_map H12 = record {
@@ -49,13 +50,15 @@ over_bound (suc depth) revenue node =
 abbrev pub WorkedTree : Type 0
 WorkedTree =
     over_bound 8 30 (root_of (Two ∷ Two ∷ [])) ≡
-    true ∷ false ∷ true ∷ true ∷ true ∷ true ∷ true ∷ false ∷ true ∷ true ∷ true ∷ true ∷ true ∷ false ∷ true ∷ true ∷ true ∷ []
+    true ∷ false ∷ true ∷ true ∷ true ∷ true ∷ true ∷ false ∷ true ∷ true ∷ true ∷ true ∷ true ∷ false ∷ true ∷ true
+    ∷ true ∷ []
 
 -- the marks of the tree in hexadecimal digits: they are read over it for 30, three 0 bits being left over, and for no
 -- smaller revenue
 abbrev pub read_over_tree : ℕ → Option (List Bool)
 read_over_tree revenue =
-    left_over two_cities Pennsylvania both_cities revenue (root_of (Two ∷ Two ∷ []) ∷ []) (bits_of_digits (codes "befb8"))
+    left_over two_cities Pennsylvania both_cities revenue (root_of (Two ∷ Two ∷ []) ∷ [])
+    (bits_of_digits (codes "befb8"))
 
 abbrev pub WorkedMarks : Type 0
 WorkedMarks = (read_over_tree 30 ≡ Some (false ∷ false ∷ false ∷ [])) × (read_over_tree 20 ≡ None)

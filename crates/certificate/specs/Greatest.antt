@@ -25,7 +25,8 @@ OneGreatest =
 -- more trains never earn less
 abbrev pub MoreTrainsEarnNoLess : Type 0
 MoreTrainsEarnNoLess =
-    (position : Position) (company : Company) (trains more : List Kind) (revenue greater : ℕ) → AreTakenFrom more trains →
+    (position : Position) (company : Company) (trains more : List Kind) (revenue greater : ℕ)
+    → AreTakenFrom more trains →
     IsGreatest position company trains revenue → IsGreatest position company more greater → revenue ≤ greater
 
 -- a train of another kind may visit as many stops as one of this kind
@@ -35,8 +36,10 @@ VisitsAsMany kind other = (count : ℕ) → AreAtMost (stops_of kind) count → 
 -- a greater train in place of a smaller never earns less
 abbrev pub GreaterTrainsEarnNoLess : Type 0
 GreaterTrainsEarnNoLess =
-    (position : Position) (company : Company) (kind other : Kind) (trains : List Kind) (revenue greater : ℕ) → VisitsAsMany kind other →
-    IsGreatest position company (kind ∷ trains) revenue → IsGreatest position company (other ∷ trains) greater → revenue ≤ greater
+    (position : Position) (company : Company) (kind other : Kind) (trains : List Kind) (revenue greater : ℕ)
+    → VisitsAsMany kind other →
+    IsGreatest position company (kind ∷ trains) revenue → IsGreatest position company (other ∷ trains) greater
+    → revenue ≤ greater
 
 -- these are as many trains of each kind
 abbrev pub AreSameTrains : List Kind → List Kind → Type 0

@@ -33,7 +33,8 @@ module _ (position : Position) (company : Company) (reached : List Stop) (revenu
     pub data Hold : Node → List Bool → Type 0 where
       cut : (node : Node) → bound position reached node ≤ revenue → Hold node (false ∷ [])
       split :
-          (node : Node) (marks : List Bool) → ¬ IsLeaf node → HoldInTurn (children position company reached node) marks →
+          (node : Node) (marks : List Bool) → ¬ IsLeaf node
+          → HoldInTurn (children position company reached node) marks →
           Hold node (true ∷ marks)
 
     -- node by node, marks that hold
@@ -68,7 +69,8 @@ abbrev pub AreFilling : List Bool → Type 0
 AreFilling bits = (length bits ≤ 3) × AllByRecursion (λ bit. bit ≡ false) bits
 
 -- bits are marks that hold at the root for a revenue, then at most three 0 bits
-pub record AreMarks (position : Position) (company : Company) (trains : List Kind) (revenue : ℕ) (bits : List Bool) : Type 0 where
+pub record AreMarks (position : Position) (company : Company) (trains : List Kind) (revenue : ℕ)
+    (bits : List Bool) : Type 0 where
   pub reached : List Stop
   pub are_reached : AreReached position company reached
   pub marks : List Bool
@@ -78,12 +80,14 @@ pub record AreMarks (position : Position) (company : Company) (trains : List Kin
   pub fill : AreFilling filling
 
 -- the same by what is left over, at the stops that are reached
-pub record AreReadAsMarks (position : Position) (company : Company) (trains : List Kind) (reached : List Stop) (revenue : ℕ) (bits : List Bool) : Type 0 where
+pub record AreReadAsMarks (position : Position) (company : Company) (trains : List Kind) (reached : List Stop)
+    (revenue : ℕ) (bits : List Bool) : Type 0 where
   pub filling : List Bool
   pub left : left_over position company reached revenue (root_of trains ∷ []) bits ≡ Some filling
   pub fill : AreFilling filling
 
 -- a claim is accepted by some bits: it holds, and they are marks for its revenue
-pub record IsAccepted (position : Position) (company : Company) (trains : List Kind) (claim : Claim) (bits : List Bool) : Type 0 where
+pub record IsAccepted (position : Position) (company : Company) (trains : List Kind) (claim : Claim)
+    (bits : List Bool) : Type 0 where
   pub claim_holds : ClaimHolds position company trains claim
   pub are_marks : AreMarks position company trains claim.revenue bits

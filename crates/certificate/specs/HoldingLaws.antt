@@ -27,14 +27,16 @@ MarksHoldWhereRead =
 -- bits are marks exactly where they are read as such, at the stops that are reached
 abbrev pub MarksAreRead : Type 0
 MarksAreRead =
-    (position : Position) (company : Company) (trains : List Kind) (reached : List Stop) (revenue : ℕ) (bits : List Bool) →
+    (position : Position) (company : Company) (trains : List Kind) (reached : List Stop) (revenue : ℕ)
+    (bits : List Bool) →
     AreReached position company reached →
     AreMarks position company trains revenue bits ↔ AreReadAsMarks position company trains reached revenue bits
 
 -- what is written over the root for the greatest revenue are marks for it, with what fills up the last digit
 abbrev pub WrittenMarksHold : Type 0
 WrittenMarksHold =
-    (position : Position) (company : Company) (trains : List Kind) (reached : List Stop) (revenue : ℕ) (marks filling : List Bool) →
+    (position : Position) (company : Company) (trains : List Kind) (reached : List Stop) (revenue : ℕ)
+    (marks filling : List Bool) →
     IsLawful position → AreReached position company reached → IsGreatest position company trains revenue →
     Writes position company reached revenue (root_of trains ∷ []) marks → AreFilling filling →
     AreMarks position company trains revenue (marks ++ filling)

@@ -30,11 +30,13 @@ AreLegalInTurn position company used left [] = left ≡ 0
 AreLegalInTurn position company used left (claimed ∷ later) =
     NameLegalRun position company claimed.kind (borders_used used) claimed.run
     × (earned position (named_steps position claimed.run) ≤ left)
-    × AreLegalInTurn position company (marked used (crossed (named_steps position claimed.run))) (left - earned position (named_steps position claimed.run)) later
+    × AreLegalInTurn position company (marked used (crossed (named_steps position claimed.run)))
+    (left - earned position (named_steps position claimed.run)) later
 
 -- that is how it is looked whether a claim holds
 abbrev pub ClaimHoldsInTurn : Type 0
 ClaimHoldsInTurn =
     (position : Position) (company : Company) (trains : List Kind) (claim : Claim) →
     ClaimHolds position company trains claim
-    ↔ (AreTakenFrom trains (kinds_claimed claim.runs) × AreLegalInTurn position company none_used claim.revenue claim.runs)
+    ↔ (AreTakenFrom trains (kinds_claimed claim.runs)
+    × AreLegalInTurn position company none_used claim.revenue claim.runs)

@@ -41,7 +41,8 @@ abbrev pub BordersAreToldApart : Type 0
 BordersAreToldApart =
     (hex other next beyond : Hex) (side far : Side) →
     neighbour_of hex side ≡ Some next → neighbour_of other far ≡ Some beyond →
-    (border_of hex side ≡ border_of other far) ↔ AreSidesOfOneBorder (spot_at hex (AtSide side)) (spot_at other (AtSide far))
+    (border_of hex side ≡ border_of other far) ↔ AreSidesOfOneBorder (spot_at hex (AtSide side))
+    (spot_at other (AtSide far))
 
 -- after a run those borders are used that were used before it, and those that it crosses
 abbrev pub CrossedBordersAreUsed : Type 0
@@ -76,9 +77,11 @@ unused (mark ∷ marks) = if_unused mark + unused marks
 -- a run that breaks no rule earns at most 160 dollars for each border that it uses
 abbrev pub RunsEarnByBorders : Type 0
 RunsEarnByBorders =
-    (position : Position) (company : Company) (kind : Kind) (marks : List Bool) (places : List Place) → length marks ≡ 279 →
+    (position : Position) (company : Company) (kind : Kind) (marks : List Bool) (places : List Place)
+    → length marks ≡ 279 →
     IsLawful position → run_fault position company kind (borders_used marks) places ≡ None →
-    earned position (named_steps position places) + 160 * unused (marked marks (crossed (named_steps position places))) ≤ 160 * unused marks
+    earned position (named_steps position places) + 160 * unused
+    (marked marks (crossed (named_steps position places))) ≤ 160 * unused marks
 
 -- these places name a walk, and are as many as a run may have
 pub record AreItsPlaces (position : Position) (steps : List Step) (places : List Place) : Type 0 where

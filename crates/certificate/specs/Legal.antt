@@ -43,7 +43,8 @@ border_beyond number None = number
 
 unfoldable pub border_of : Hex → Side → ℕ
 border_of hex side =
-    if nat_lt (number_of side) 3 then 3 * index_of hex + number_of side else border_beyond (number_of side - 3) (neighbour_of hex side)
+    if nat_lt (number_of side) 3 then 3 * index_of hex
+    + number_of side else border_beyond (number_of side - 3) (neighbour_of hex side)
 
 -- the border that is crossed to a side of a hex; none is crossed at a stop
 abbrev pub border_at : Hex → End → List ℕ
@@ -76,7 +77,8 @@ abbrev pub EndsAtStop : List Step → Type 0
 EndsAtStop [] = ⊥
 EndsAtStop (step ∷ before) = (stop : Stop) × (stop_of (left_at step) ≡ Some stop)
 
-pub record IsLegalRun (position : Position) (company : Company) (kind : Kind) (used : List ℕ) (steps : List Step) : Type 0 where
+pub record IsLegalRun (position : Position) (company : Company) (kind : Kind) (used : List ℕ)
+    (steps : List Step) : Type 0 where
   pub walk : IsWalk position steps
   pub begins : BeginsAt (λ stop. Unit {0}) steps
   pub ends : EndsAtStop steps

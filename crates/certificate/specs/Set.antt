@@ -45,7 +45,8 @@ AreApart [] = Unit {0}
 AreApart (run ∷ runs) = AllByRecursion (λ other. ShareNoBorder run.steps other.steps) runs × AreApart runs
 
 -- a legal set of runs for the trains of a company
-pub record IsLegalSet (position : Position) (company : Company) (trains : List Kind) (runs : List TrainRun) : Type 0 where
+pub record IsLegalSet (position : Position) (company : Company) (trains : List Kind) (runs : List TrainRun) : Type
+    0 where
   pub legal : AllByRecursion (RunsLegally position company) runs
   pub each_once : AreTakenFrom trains (trains_that_run runs)
   pub apart : AreApart runs

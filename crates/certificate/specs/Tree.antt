@@ -141,16 +141,19 @@ module _ (position : Position) (company : Company) (reached : List Stop) where
 
   abbrev pub finishing : Node → Kind → List Kind → List Node
   finishing node kind later =
-      node_if (is_finished (visited node.begun)) (node_of (record { kind = kind; steps = node.begun } ∷ node.settled) [] later)
+      node_if (is_finished (visited node.begun)) (node_of (record { kind = kind; steps = node.begun } ∷ node.settled)
+      [] later)
 
   -- no run goes on from a stop
   abbrev pub is_last_stop : Node → Kind → Stop → Bool
   is_last_stop node kind stop =
-      is_red position stop || (is_full position company stop || is_used_up (stops_of kind) (length (visited node.begun)))
+      is_red position stop || (is_full position company stop
+      || is_used_up (stops_of kind) (length (visited node.begun)))
 
   abbrev pub from_stop : Node → Kind → Stop → List Node
   from_stop node kind stop =
-      if is_last_stop node kind stop then [] else with_steps (goes_over (taken_borders node)) node (ways_from position stop)
+      if is_last_stop node kind stop then [] else with_steps (goes_over (taken_borders node)) node
+      (ways_from position stop)
 
   -- the head is at a border
   abbrev pub from_border : Node → Option Spot → List Node
@@ -208,7 +211,8 @@ still_to_come None count values = total values
 abbrev pub new_values : Position → List Stop → List Stop → List ℕ
 new_values position stops [] = []
 new_values position stops (stop ∷ reached) =
-    if has_stop stop stops then new_values position stops reached else value_of position stop ∷ new_values position stops reached
+    if has_stop stop stops then new_values position stops reached else value_of position stop
+    ∷ new_values position stops reached
 
 -- what a train that has visited these stops may still earn at others
 abbrev pub may_earn : Position → List Stop → Kind → List Stop → ℕ
@@ -224,7 +228,8 @@ may_all_earn position reached (kind ∷ later) = may_earn position reached kind 
 abbrev pub may_come : Position → List Stop → List Step → List Kind → ℕ
 may_come position reached begun [] = 0
 may_come position reached begun (kind ∷ later) =
-    worth position (visited begun) + (may_earn position reached kind (visited begun) + may_all_earn position reached later)
+    worth position (visited begun) + (may_earn position reached kind (visited begun)
+    + may_all_earn position reached later)
 
 -- the bound of a node
 abbrev pub bound : Position → List Stop → Node → ℕ

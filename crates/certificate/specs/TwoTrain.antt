@@ -32,7 +32,9 @@ over_border marks hex (AtStop number) = marks
 abbrev pub Continues : Position → Stop → List Bool → Step → List Step → Type 0
 Continues position start marks step [] = (stop : Stop) × (stop_of (left_at step) ≡ Some stop) × ¬ (stop ≡ start)
 Continues position start marks step (next ∷ later) =
-    IsTrack position next × (across (left_at step) ≡ Some (entered_at next)) × IsFree marks (entered_at next).hex (entered_at next).end × Continues position start (over_border marks (entered_at next).hex (entered_at next).end) next later
+    IsTrack position next × (across (left_at step) ≡ Some (entered_at next))
+    × IsFree marks (entered_at next).hex (entered_at next).end
+    × Continues position start (over_border marks (entered_at next).hex (entered_at next).end) next later
 
 -- some steps do so
 abbrev pub LeadsOn : Position → Stop → List Bool → Step → Type 0
@@ -49,7 +51,8 @@ none_used = replicate 279 false
 -- a step leaves a stop with a token of the company, and leads on from there
 abbrev pub LeavesToken : Position → Company → Step → Type 0
 LeavesToken position company step =
-    (start : Stop) × (stop_of (entered_at step) ≡ Some start) × HasToken position start company × LeadsOn position start none_used step
+    (start : Stop) × (stop_of (entered_at step) ≡ Some start) × HasToken position start company
+    × LeadsOn position start none_used step
 
 -- the marks once the border at a spot is crossed, if it may be
 abbrev crossing_side : List Bool → ℕ → Option (List Bool)

@@ -19,7 +19,8 @@ abbrev pub has_no_train : List Kind → Bool
 has_no_train [] = true
 has_no_train (kind ∷ later) = false
 
-module _ {S : Type 0} (decides : S → ℕ → Bool → Decision → S → Type 0) (position : Position) (company : Company) (reached : List Stop) where
+module _ {S : Type 0} (decides : S → ℕ → Bool → Decision → S → Type 0) (position : Position) (company : Company)
+    (reached : List Stop) where
   -- a walk over some nodes, from the decider's value before it, whether it comes to its end, and the value after it
   pub data Walks : S → List Node → Bool → S → Type 0 where
     at_end : (s : S) → Walks s [] true s
@@ -33,7 +34,8 @@ module _ {S : Type 0} (decides : S → ℕ → Bool → Decision → S → Type 
         Walks t (children position company reached node ++ nodes) whole u → Walks s (node ∷ nodes) whole u
     ends :
         (s t : S) (node : Node) (nodes : List Node) →
-        decides s (capped (bound position reached node)) (has_no_train node.trains) End t → Walks s (node ∷ nodes) false t
+        decides s (capped (bound position reached node)) (has_no_train node.trains) End t
+        → Walks s (node ∷ nodes) false t
 
   -- whatever a walk makes of the nodes that are left, it makes of all nodes
   abbrev pub LeavesAhead : S → List Node → S → List Node → Type 0

@@ -89,7 +89,8 @@ pub record StandsBetween (position : Position) (tree : Tree) (value : ℕ) (sett
   pub earns : value ≡ capped (revenue_of position settled)
 
 -- a run is begun that has visited these stops, the first of them also before its first step
-pub record Stands (position : Position) (tree : Tree) (begun : Begun) (used marks : List Bool) (settled : List TrainRun) (steps : List Step) (stops : List Stop) : Type 0 where
+pub record Stands (position : Position) (tree : Tree) (begun : Begun) (used marks : List Bool)
+    (settled : List TrainRun) (steps : List Step) (stops : List Stop) : Type 0 where
   pub told : IsTree position tree
   pub crossed : AreCrossed used (gone_over steps ++ run_borders settled)
   pub seen : AreVisited marks stops
@@ -123,7 +124,8 @@ may_take reached node (AtStop number) step = goes_over (taken_borders node) step
 abbrev pub set_outs : Position → Tree → List TrainRun → ℕ → ℕ → List Node
 set_outs position tree settled first zero = []
 set_outs position tree settled first (suc count) =
-    setting_out position tree.company (reached_in tree) (node_from tree settled (first + count)) ++ set_outs position tree settled first count
+    setting_out position tree.company (reached_in tree) (node_from tree settled (first + count))
+    ++ set_outs position tree settled first count
 
 module _ {S : Type 0} (decides : S → ℕ → Bool → Decision → S → Type 0) (position : Position) (tree : Tree) where
   -- a walk over nodes of the tree

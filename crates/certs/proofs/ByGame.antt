@@ -16,16 +16,24 @@ use Rattle.tables.specs.declared.seat.Seat.{Seat}
 use Rattle.tables.specs.declared.squares.Square.{Square}
 
 -- as many certificates count by the holdings of a game as it stood as by its events
-pub counted_at : (past : GameView) (holdings : Holdings) (seat : Seat) → AreHoldingsAt past holdings → seat.0 < 6 → counted_in holdings seat ≡ counted_of past.events.now seat
+pub counted_at : (past : GameView) (holdings : Holdings) (seat : Seat) → AreHoldingsAt past holdings → seat.0 < 6
+    → counted_in holdings seat ≡ counted_of past.events.now seat
 counted_at past holdings seat are few =
     let events = past.events.now in
-    let by_table : Company → ℤ = λ company. certificates_of seat (square_in holdings company) (president_in holdings company) (tenths_in holdings company (OfSeat seat)) in
-    let by_list : Company → ℤ = λ company. certificates_of seat (square_of events company) (president_of events company) (shares_of events company (OfSeat seat)) in
+    let by_table : Company → ℤ = λ company. certificates_of seat (square_in holdings company)
+    (president_in holdings company) (tenths_in holdings company (OfSeat seat)) in
+    let by_list : Company → ℤ = λ company. certificates_of seat (square_of events company)
+    (president_of events company) (shares_of events company (OfSeat seat)) in
     let each : (company : Company) → by_table company ≡ by_list company =
     λ company.
-    ap (λ (square : Option Square). certificates_of seat square (president_in holdings company) (tenths_in holdings company (OfSeat seat))) (are.squares company)
-    ∙ ap (λ (president : Option Seat). certificates_of seat (square_of events company) president (tenths_in holdings company (OfSeat seat))) (are.presidents company)
-    ∙ ap (certificates_of seat (square_of events company) (president_of events company)) (are.tenths company (OfSeat seat) (omega (arith, few)))
+    ap (λ (square : Option Square). certificates_of seat square (president_in holdings company)
+    (tenths_in holdings company (OfSeat seat))) (are.squares company)
+    ∙ ap (λ (president : Option Seat). certificates_of seat (square_of events company) president
+    (tenths_in holdings company (OfSeat seat))) (are.presidents company)
+    ∙ ap (certificates_of seat (square_of events company) (president_of events company))
+    (are.tenths company (OfSeat seat) (omega (arith, few)))
     in
-    ap (λ (owner : Private → Option Holder). pos (privates_owned owner seat) +ℤ certificates_in by_table companies) (fun_ext are.owners)
-    ∙ ap (λ (of : Company → ℤ). pos (privates_owned (owner_of events) seat) +ℤ certificates_in of companies) (fun_ext each)
+    ap (λ (owner : Private → Option Holder). pos (privates_owned owner seat) +ℤ certificates_in by_table companies)
+    (fun_ext are.owners)
+    ∙ ap (λ (of : Company → ℤ). pos (privates_owned (owner_of events) seat) +ℤ certificates_in of companies)
+    (fun_ext each)

@@ -70,10 +70,13 @@ low_more count more i less low few =
     record { not_under = omega (arith, ints, sum, a, b, d, e); not_over = omega (arith, ints, sum, a, b, d, e) }
 
 -- one company more is counted
-pub counted_more : (f : Company → ℤ) (count more whole : ℤ) (i : ℕ) → i < 8 → IsLow count i → IsFew more → more ≡ f (get_or companies i Pennsylvania) → count +ℤ certificates_in f (drop i companies) ≡ whole → kept (count +ℤ kept more) +ℤ certificates_in f (drop (i + 1) companies) ≡ whole
+pub counted_more : (f : Company → ℤ) (count more whole : ℤ) (i : ℕ) → i < 8 → IsLow count i → IsFew more
+    → more ≡ f (get_or companies i Pennsylvania) → count +ℤ certificates_in f (drop i companies) ≡ whole
+    → kept (count +ℤ kept more) +ℤ certificates_in f (drop (i + 1) companies) ≡ whole
 counted_more f count more whole i less low few is before =
     let sum = sum_is count more i less low few in
-    let next : certificates_in f (drop i companies) ≡ f (get_or companies i Pennsylvania) +ℤ certificates_in f (drop (suc i) companies) =
+    let next : certificates_in f (drop i companies)
+    ≡ f (get_or companies i Pennsylvania) +ℤ certificates_in f (drop (suc i) companies) =
     ap (certificates_in f) (drop-cons companies i Pennsylvania less)
     in
     let one : certificates_in f (drop (suc i) companies) ≡ certificates_in f (drop (i + 1) companies) =
@@ -82,7 +85,9 @@ counted_more f count more whole i less low few is before =
     omega (arith, ints, sum, next, one, is, before)
 
 -- all companies are counted
-pub counted_all : (f : Company → ℤ) (count whole : ℤ) (i : ℕ) → i ≡ 8 → count +ℤ certificates_in f (drop i companies) ≡ whole → count ≡ whole
+pub counted_all : (f : Company → ℤ) (count whole : ℤ) (i : ℕ) → i ≡ 8
+    → count +ℤ certificates_in f (drop i companies) ≡ whole → count ≡ whole
 counted_all f count whole i eight before =
-    let none : certificates_in f (drop i companies) ≡ pos 0 = ap (λ (n : ℕ). certificates_in f (drop n companies)) eight in
+    let none : certificates_in f (drop i companies) ≡ pos 0 =
+    ap (λ (n : ℕ). certificates_in f (drop n companies)) eight in
     omega (arith, ints, none, before)

@@ -31,7 +31,8 @@ row_of_eight a b c d e f g h = a ∷ b ∷ c ∷ d ∷ e ∷ f ∷ g ∷ h ∷ [
 
 -- whose entries are moderate is so at each place
 moderate_at :
-    (a b c d e f g h : ℤ) → IsModerate a → IsModerate b → IsModerate c → IsModerate d → IsModerate e → IsModerate f → IsModerate g → IsModerate h → (i : ℕ) →
+    (a b c d e f g h : ℤ) → IsModerate a → IsModerate b → IsModerate c → IsModerate d → IsModerate e → IsModerate f
+    → IsModerate g → IsModerate h → (i : ℕ) →
     IsModerate (get_or (row_of_eight a b c d e f g h) i (pos 0))
 moderate_at a b c d e f g h of_a of_b of_c of_d of_e of_f of_g of_h zero = of_a
 moderate_at a b c d e f g h of_a of_b of_c of_d of_e of_f of_g of_h (suc zero) = of_b
@@ -40,16 +41,19 @@ moderate_at a b c d e f g h of_a of_b of_c of_d of_e of_f of_g of_h (suc (suc (s
 moderate_at a b c d e f g h of_a of_b of_c of_d of_e of_f of_g of_h (suc (suc (suc (suc zero)))) = of_e
 moderate_at a b c d e f g h of_a of_b of_c of_d of_e of_f of_g of_h (suc (suc (suc (suc (suc zero))))) = of_f
 moderate_at a b c d e f g h of_a of_b of_c of_d of_e of_f of_g of_h (suc (suc (suc (suc (suc (suc zero)))))) = of_g
-moderate_at a b c d e f g h of_a of_b of_c of_d of_e of_f of_g of_h (suc (suc (suc (suc (suc (suc (suc zero))))))) = of_h
+moderate_at a b c d e f g h of_a of_b of_c of_d of_e of_f of_g of_h (suc (suc (suc (suc (suc (suc (suc zero))))))) =
+    of_h
 moderate_at a b c d e f g h of_a of_b of_c of_d of_e of_f of_g of_h (suc (suc (suc (suc (suc (suc (suc (suc i)))))))) =
     record { not_under = omega (arith, ints); not_over = omega (arith, ints) }
 
 -- and bounded
 pub row_bounded :
-    (a b c d e f g h : ℤ) → IsModerate a → IsModerate b → IsModerate c → IsModerate d → IsModerate e → IsModerate f → IsModerate g → IsModerate h →
+    (a b c d e f g h : ℤ) → IsModerate a → IsModerate b → IsModerate c → IsModerate d → IsModerate e → IsModerate f
+    → IsModerate g → IsModerate h →
     IsBounded (row_of_eight a b c d e f g h)
 row_bounded a b c d e f g h of_a of_b of_c of_d of_e of_f of_g of_h =
-    bounded_of (row_of_eight a b c d e f g h) (omega arith) (moderate_at a b c d e f g h of_a of_b of_c of_d of_e of_f of_g of_h)
+    bounded_of (row_of_eight a b c d e f g h) (omega arith)
+    (moderate_at a b c d e f g h of_a of_b of_c of_d of_e of_f of_g of_h)
 
 -- the tenths of a company at a seat
 abbrev tenths_with : List Event → Company → ℕ → ℤ
@@ -57,8 +61,10 @@ tenths_with events company number = shares_of events company (OfSeat (seat_at nu
 
 -- seat by seat
 with_seat :
-    (events : List Event) (company : Company) (a b c d e f g h : ℤ) → c ≡ tenths_with events company 0 → d ≡ tenths_with events company 1 →
-    e ≡ tenths_with events company 2 → f ≡ tenths_with events company 3 → g ≡ tenths_with events company 4 → h ≡ tenths_with events company 5 → (number : ℕ) →
+    (events : List Event) (company : Company) (a b c d e f g h : ℤ) → c ≡ tenths_with events company 0
+    → d ≡ tenths_with events company 1 →
+    e ≡ tenths_with events company 2 → f ≡ tenths_with events company 3 → g ≡ tenths_with events company 4
+    → h ≡ tenths_with events company 5 → (number : ℕ) →
     number < 6 → get_or (row_of_eight a b c d e f g h) (2 + number) (pos 0) ≡ tenths_with events company number
 with_seat events company a b c d e f g h s0 s1 s2 s3 s4 s5 zero low = s0
 with_seat events company a b c d e f g h s0 s1 s2 s3 s4 s5 (suc zero) low = s1
@@ -66,13 +72,17 @@ with_seat events company a b c d e f g h s0 s1 s2 s3 s4 s5 (suc (suc zero)) low 
 with_seat events company a b c d e f g h s0 s1 s2 s3 s4 s5 (suc (suc (suc zero))) low = s3
 with_seat events company a b c d e f g h s0 s1 s2 s3 s4 s5 (suc (suc (suc (suc zero)))) low = s4
 with_seat events company a b c d e f g h s0 s1 s2 s3 s4 s5 (suc (suc (suc (suc (suc zero))))) low = s5
-with_seat events company a b c d e f g h s0 s1 s2 s3 s4 s5 (suc (suc (suc (suc (suc (suc number)))))) low = absurd (omega (arith, low))
+with_seat events company a b c d e f g h s0 s1 s2 s3 s4 s5 (suc (suc (suc (suc (suc (suc number)))))) low =
+    absurd (omega (arith, low))
 
 -- the row with the bank's tenths of a company and those of six seats
 pub row_is :
-    (events : List Event) (company : Company) (a b c d e f g h : ℤ) → a ≡ shares_of events company InitialOffering → b ≡ shares_of events company BankPool →
-    c ≡ tenths_with events company 0 → d ≡ tenths_with events company 1 → e ≡ tenths_with events company 2 → f ≡ tenths_with events company 3 →
-    g ≡ tenths_with events company 4 → h ≡ tenths_with events company 5 → IsRowOf events company (row_of_eight a b c d e f g h)
+    (events : List Event) (company : Company) (a b c d e f g h : ℤ) → a ≡ shares_of events company InitialOffering
+    → b ≡ shares_of events company BankPool →
+    c ≡ tenths_with events company 0 → d ≡ tenths_with events company 1 → e ≡ tenths_with events company 2
+    → f ≡ tenths_with events company 3 →
+    g ≡ tenths_with events company 4 → h ≡ tenths_with events company 5
+    → IsRowOf events company (row_of_eight a b c d e f g h)
 row_is events company a b c d e f g h ipo pool s0 s1 s2 s3 s4 s5 InitialOffering has = ipo
 row_is events company a b c d e f g h ipo pool s0 s1 s2 s3 s4 s5 BankPool has = pool
 row_is events company a b c d e f g h ipo pool s0 s1 s2 s3 s4 s5 (OfSeat seat) has =
@@ -80,8 +90,10 @@ row_is events company a b c d e f g h ipo pool s0 s1 s2 s3 s4 s5 (OfSeat seat) h
 
 -- the rows of all companies
 pub rows_are :
-    (events : List Event) (a b c d e f g h : List ℤ) → IsRowOf events Pennsylvania a → IsRowOf events NewYorkCentral b → IsRowOf events CanadianPacific c →
-    IsRowOf events BaltimoreOhio d → IsRowOf events ChesapeakeOhio e → IsRowOf events Erie f → IsRowOf events NewHaven g → IsRowOf events BostonMaine h →
+    (events : List Event) (a b c d e f g h : List ℤ) → IsRowOf events Pennsylvania a → IsRowOf events NewYorkCentral b
+    → IsRowOf events CanadianPacific c →
+    IsRowOf events BaltimoreOhio d → IsRowOf events ChesapeakeOhio e → IsRowOf events Erie f
+    → IsRowOf events NewHaven g → IsRowOf events BostonMaine h →
     AreTenthsOf events (a ∷ b ∷ c ∷ d ∷ e ∷ f ∷ g ∷ h ∷ [])
 rows_are events a b c d e f g h of_a of_b of_c of_d of_e of_f of_g of_h Pennsylvania = of_a
 rows_are events a b c d e f g h of_a of_b of_c of_d of_e of_f of_g of_h NewYorkCentral = of_b

@@ -7,35 +7,46 @@ use Rattle.tables.specs.Seat.{left_of, seats_from}
 use Rattle.tables.specs.declared.seat.Seat.{Seat}
 
 -- the first with most has no fewer than the one with which it is compared
-pub most_le : (tenths : Seat → ℤ) (best : Seat) (others : List Seat) → tenths best ≤ℤ tenths (with_most tenths best others)
+pub most_le : (tenths : Seat → ℤ) (best : Seat) (others : List Seat)
+    → tenths best ≤ℤ tenths (with_most tenths best others)
 most_le tenths best [] = omega (arith, ints)
 most_le tenths best (seat ∷ others) =
-    elim (lt_z (tenths best) (tenths seat)) as (λ (b : Bool). lt_z (tenths best) (tenths seat) ≡ b → tenths best ≤ℤ tenths (with_most tenths (if b then seat else best) others)) [
+    elim (lt_z (tenths best) (tenths seat)) as (λ (b : Bool). lt_z (tenths best) (tenths seat) ≡ b
+    → tenths best ≤ℤ tenths (with_most tenths (if b then seat else best) others)) [
       | true ↦ λ more. let rest = most_le tenths seat others in grind (arith, ints, rest)
       | false ↦ λ no_more. most_le tenths best others
     ]
     refl
 
 -- a seat in front of those among which another is the first with most
-in_front : (tenths : Seat → ℤ) (first best seat : Seat) (others : List Seat) → tenths seat ≤ℤ tenths best → IsFirstWithMost tenths first (best ∷ others) → IsFirstWithMost tenths first (best ∷ seat ∷ others)
+in_front : (tenths : Seat → ℤ) (first best seat : Seat) (others : List Seat) → tenths seat ≤ℤ tenths best
+    → IsFirstWithMost tenths first (best ∷ others) → IsFirstWithMost tenths first (best ∷ seat ∷ others)
 in_front tenths first best seat others no_more is =
     elim is [
-      | inl here ↦ let best_is : tenths best ≡ tenths first = ap tenths here.0 in inl (here.0, (omega (arith, ints, no_more, best_is), here.1))
+      | inl here ↦ let best_is : tenths best ≡ tenths first =
+          ap tenths here.0 in inl (here.0, (omega (arith, ints, no_more, best_is), here.1))
       | inr later ↦ let fewer = later.0 in inr (fewer, inr (omega (arith, ints, no_more, fewer), later.1))
     ]
 
 -- it is the first with most
-pub first_with_most : (tenths : Seat → ℤ) (best : Seat) (others : List Seat) → IsFirstWithMost tenths (with_most tenths best others) (best ∷ others)
+pub first_with_most : (tenths : Seat → ℤ) (best : Seat) (others : List Seat)
+    → IsFirstWithMost tenths (with_most tenths best others) (best ∷ others)
 first_with_most tenths best [] = inl (refl, tt)
 first_with_most tenths best (seat ∷ others) =
-    elim (lt_z (tenths best) (tenths seat)) as (λ (b : Bool). lt_z (tenths best) (tenths seat) ≡ b → IsFirstWithMost tenths (with_most tenths (if b then seat else best) others) (best ∷ seat ∷ others)) [
-      | true ↦ λ more. let rest = most_le tenths seat others in inr (grind (arith, ints, rest), first_with_most tenths seat others)
-      | false ↦ λ no_more. in_front tenths (with_most tenths best others) best seat others (grind (arith, ints)) (first_with_most tenths best others)
+    elim (lt_z (tenths best) (tenths seat)) as (λ (b : Bool). lt_z (tenths best) (tenths seat) ≡ b
+    → IsFirstWithMost tenths (with_most tenths (if b then seat else best) others) (best ∷ seat ∷ others)) [
+      | true ↦ λ more. let rest = most_le tenths seat others in inr
+          (grind (arith, ints, rest), first_with_most tenths seat others)
+      | false ↦ λ no_more. in_front tenths (with_most tenths best others) best seat others (grind (arith, ints))
+          (first_with_most tenths best others)
     ]
     refl
 
 -- one seat more to the left
-pub one_more : (tenths : Seat → ℤ) (seats counter : ℕ) (best seat next found : Seat) → counter < seats → next ≡ left_of seats seat → found ≡ better_of tenths best next → with_most tenths found (seats_from seats (seats - (counter + 1)) (left_of seats next)) ≡ with_most tenths best (seats_from seats (seats - counter) (left_of seats seat))
+pub one_more : (tenths : Seat → ℤ) (seats counter : ℕ) (best seat next found : Seat) → counter < seats
+    → next ≡ left_of seats seat → found ≡ better_of tenths best next
+    → with_most tenths found (seats_from seats (seats - (counter + 1)) (left_of seats next))
+    ≡ with_most tenths best (seats_from seats (seats - counter) (left_of seats seat))
 one_more tenths seats counter best seat next found fewer is_next is_found =
     let one : suc (seats - (counter + 1)) ≡ seats - counter = omega arith in
     let rest : Seat → List Seat = λ (from : Seat). seats_from seats (seats - (counter + 1)) (left_of seats from) in

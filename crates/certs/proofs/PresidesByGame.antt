@@ -27,10 +27,12 @@ module _ (a b : Seat → ℤ) (same : (seat : Seat) → seat.0 < 6 → a seat �
   -- it is one of six
   better_of_six : (best seat : Seat) → best.0 < 6 → seat.0 < 6 → (better_of b best seat).0 < 6
   better_of_six best seat first second =
-      elim (lt_z (b best) (b seat)) as (λ (more : Bool). (if more then seat else best).0 < 6) [ true ↦ second | false ↦ first ]
+      elim (lt_z (b best) (b seat)) as (λ (more : Bool). (if more then seat else best).0 < 6)
+      [ true ↦ second | false ↦ first ]
 
   -- so the same seat has most
-  same_most : (best : Seat) (others : List Seat) → best.0 < 6 → AreOfSix others → with_most a best others ≡ with_most b best others
+  same_most : (best : Seat) (others : List Seat) → best.0 < 6 → AreOfSix others
+      → with_most a best others ≡ with_most b best others
   same_most best [] first of_six = refl
   same_most best (seat ∷ others) first of_six =
       ap (λ (found : Seat). with_most a found others) (same_better best seat first of_six.0)
@@ -49,22 +51,29 @@ module _ (a b : Seat → ℤ) (same : (seat : Seat) → seat.0 < 6 → a seat �
   -- so the same seat succeeds
   same_successor : (seats : ℕ) (old : Seat) → seats ≤ 6 → old.0 < 6 → successor a seats old ≡ successor b seats old
   same_successor seats old few within =
-      same_most old (others_from seats old) within (seats_of_six seats _ (left_of seats old) few (left_of_six seats old few within))
+      same_most old (others_from seats old) within (seats_of_six seats _ (left_of seats old) few
+      (left_of_six seats old few within))
 
 -- the same seat presides, where this one presided, if one did
-same_presiding : (game : Game) (holdings : Holdings) (company : Company) (old : Option Seat) → AreHoldingsOf game holdings → game.seats ≤ 6 →
+same_presiding : (game : Game) (holdings : Holdings) (company : Company) (old : Option Seat)
+    → AreHoldingsOf game holdings → game.seats ≤ 6 →
     ((seat : Seat) → old ≡ Some seat → seat.0 < game.seats) →
-    option_map (successor (seat_tenths holdings company) game.seats) old ≡ option_map (successor (seat_tenths_of game.events company) game.seats) old
+    option_map (successor (seat_tenths holdings company) game.seats) old
+    ≡ option_map (successor (seat_tenths_of game.events company) game.seats) old
 same_presiding game holdings company None are few seated = refl
 same_presiding game holdings company (Some old) are few seated =
     let within = seated old refl in
     ap Some
-    (same_successor (seat_tenths holdings company) (seat_tenths_of game.events company) (λ seat of_six. are.tenths company (OfSeat seat) (omega (arith, of_six))) game.seats old few (omega (arith, within, few)))
+    (same_successor (seat_tenths holdings company) (seat_tenths_of game.events company)
+    (λ seat of_six. are.tenths company (OfSeat seat) (omega (arith, of_six))) game.seats old few
+    (omega (arith, within, few)))
 
 -- so the same seat presides by the holdings as by the events
-pub presides_by_game : (game : Game) (holdings : Holdings) (company : Company) → AreHoldingsOf game holdings → game.seats ≤ 6 →
+pub presides_by_game : (game : Game) (holdings : Holdings) (company : Company) → AreHoldingsOf game holdings
+    → game.seats ≤ 6 →
     PresidentIsSeated game company → presiding_in holdings company ≡ presiding_of game.seats game.events company
 presides_by_game game holdings company are few seated =
     ap (λ (n : ℕ). option_map (successor (seat_tenths holdings company) n) (president_in holdings company)) are.seats
-    ∙ ap (λ (old : Option Seat). option_map (successor (seat_tenths holdings company) game.seats) old) (are.presidents company)
+    ∙ ap (λ (old : Option Seat). option_map (successor (seat_tenths holdings company) game.seats) old)
+    (are.presidents company)
     ∙ same_presiding game holdings company (president_of game.events company) are few seated

@@ -28,7 +28,8 @@ bounded_of row short each =
     }
 
 -- the sum of entries that are not under a bound
-total_ge : (row : List ℤ) → ((i : ℕ) → neg_ℤ (pos (2 ^ 100)) ≤ℤ get_or row i (pos 0)) → neg_ℤ (pos (length row * 2 ^ 100)) ≤ℤ total row
+total_ge : (row : List ℤ) → ((i : ℕ) → neg_ℤ (pos (2 ^ 100)) ≤ℤ get_or row i (pos 0))
+    → neg_ℤ (pos (length row * 2 ^ 100)) ≤ℤ total row
 total_ge [] each = omega (arith, ints)
 total_ge (tenths ∷ others) each =
     let first = each 0 in
@@ -36,7 +37,8 @@ total_ge (tenths ∷ others) each =
     omega (arith, ints, first, rest)
 
 -- an entry beside the sum
-entry_le : (row : List ℤ) (i : ℕ) → ((i : ℕ) → neg_ℤ (pos (2 ^ 100)) ≤ℤ get_or row i (pos 0)) → get_or row i (pos 0) ≤ℤ (total row +ℤ pos (length row * 2 ^ 100))
+entry_le : (row : List ℤ) (i : ℕ) → ((i : ℕ) → neg_ℤ (pos (2 ^ 100)) ≤ℤ get_or row i (pos 0))
+    → get_or row i (pos 0) ≤ℤ (total row +ℤ pos (length row * 2 ^ 100))
 entry_le [] i each = omega (arith, ints)
 entry_le (tenths ∷ others) zero each =
     let first = each 0 in
@@ -56,7 +58,8 @@ entry_small row i bounded =
     omega (arith, ints, small, sum, short)
 
 -- the sum with one entry changed
-total_set : (row : List ℤ) (i : ℕ) (entry : ℤ) → i < length row → total (set row i entry) ≡ (total row +ℤ entry) -ℤ get_or row i (pos 0)
+total_set : (row : List ℤ) (i : ℕ) (entry : ℤ) → i < length row
+    → total (set row i entry) ≡ (total row +ℤ entry) -ℤ get_or row i (pos 0)
 total_set [] i entry within = absurd (omega arith)
 total_set (tenths ∷ others) zero entry within = omega (arith, ints)
 total_set (tenths ∷ others) (suc i) entry within =
@@ -70,22 +73,30 @@ part i k sum = if i == k then sum else pos 0
 -- two changes of an entry
 parts :
     (from to : Bool) (before between after tenths : ℤ) → between ≡ before +ℤ (if from then pos 0 -ℤ tenths else pos 0) →
-    after ≡ between +ℤ (if to then tenths else pos 0) → after ≡ (before +ℤ (if to then tenths else pos 0)) -ℤ (if from then tenths else pos 0)
+    after ≡ between +ℤ (if to then tenths else pos 0)
+    → after ≡ (before +ℤ (if to then tenths else pos 0)) -ℤ (if from then tenths else pos 0)
 parts true true before between after tenths first second = omega (arith, ints)
 parts true false before between after tenths first second = omega (arith, ints)
 parts false true before between after tenths first second = omega (arith, ints)
 parts false false before between after tenths first second = omega (arith, ints)
 
 -- where the giver has the tenths, no entry falls under the bound
-not_under_moved : (row : List ℤ) (from k : ℕ) (to : Bool) (tenths after : ℤ) → pos 0 ≤ℤ tenths → tenths ≤ℤ get_or row from (pos 0) → neg_ℤ (pos (2 ^ 100)) ≤ℤ get_or row k (pos 0) → after ≡ (get_or row k (pos 0) +ℤ (if to then tenths else pos 0)) -ℤ part from k tenths → neg_ℤ (pos (2 ^ 100)) ≤ℤ after
+not_under_moved : (row : List ℤ) (from k : ℕ) (to : Bool) (tenths after : ℤ) → pos 0 ≤ℤ tenths
+    → tenths ≤ℤ get_or row from (pos 0) → neg_ℤ (pos (2 ^ 100)) ≤ℤ get_or row k (pos 0)
+    → after ≡ (get_or row k (pos 0) +ℤ (if to then tenths else pos 0)) -ℤ part from k tenths
+    → neg_ℤ (pos (2 ^ 100)) ≤ℤ after
 not_under_moved row from k to tenths after some held under is =
     elim (cases_eq from k) [
-      | inl same ↦ let here : tenths ≤ℤ get_or row k (pos 0) = subst (λ (i : ℕ). tenths ≤ℤ get_or row i (pos 0)) same held in grind (arith, ints, nat_tests)
+      | inl same ↦ let here : tenths ≤ℤ get_or row k (pos 0) =
+          subst (λ (i : ℕ). tenths ≤ℤ get_or row i (pos 0)) same held in grind (arith, ints, nat_tests)
       | inr apart ↦ grind (arith, ints, nat_tests)
     ]
 
 -- an entry after tenths have gone from one place to another
-pub entry_moved : (row : List ℤ) (from to k : ℕ) (tenths less more : ℤ) → from < length row → to < length row → less ≡ get_or row from (pos 0) -ℤ tenths → more ≡ get_or (set row from less) to (pos 0) +ℤ tenths → get_or (set (set row from less) to more) k (pos 0) ≡ (get_or row k (pos 0) +ℤ part to k tenths) -ℤ part from k tenths
+pub entry_moved : (row : List ℤ) (from to k : ℕ) (tenths less more : ℤ) → from < length row → to < length row
+    → less ≡ get_or row from (pos 0) -ℤ tenths → more ≡ get_or (set row from less) to (pos 0) +ℤ tenths
+    → get_or (set (set row from less) to more) k (pos 0)
+    ≡ (get_or row k (pos 0) +ℤ part to k tenths) -ℤ part from k tenths
 entry_moved row from to k tenths less more from_in to_in is_less is_more =
     let first = entry_changed row from k (pos 0 -ℤ tenths) less from_in (omega (arith, ints, is_less)) in
     let length_same = length-set row from less in
@@ -93,25 +104,32 @@ entry_moved row from to k tenths less more from_in to_in is_less is_more =
     parts (from == k) (to == k) _ _ _ tenths first second
 
 -- tenths that go from a bounded row's place to another leave it bounded
-pub bounded_moved : (row : List ℤ) (from to : ℕ) (tenths less more : ℤ) → from < length row → to < length row → pos 0 ≤ℤ tenths → tenths ≤ℤ get_or row from (pos 0) → less ≡ get_or row from (pos 0) -ℤ tenths → more ≡ get_or (set row from less) to (pos 0) +ℤ tenths → IsBounded row → IsBounded (set (set row from less) to more)
+pub bounded_moved : (row : List ℤ) (from to : ℕ) (tenths less more : ℤ) → from < length row → to < length row
+    → pos 0 ≤ℤ tenths → tenths ≤ℤ get_or row from (pos 0) → less ≡ get_or row from (pos 0) -ℤ tenths
+    → more ≡ get_or (set row from less) to (pos 0) +ℤ tenths → IsBounded row
+    → IsBounded (set (set row from less) to more)
 bounded_moved row from to tenths less more from_in to_in some held is_less is_more bounded =
     let length_same = length-set row from less in
     let first = total_set row from less from_in in
     let second = total_set (set row from less) to more (omega (arith, to_in, length_same)) in
     let sum = bounded.not_over in
     record {
-      not_under = λ k. not_under_moved row from k (to == k) tenths _ some held (bounded.not_under k) (entry_moved row from to k tenths less more from_in to_in is_less is_more);
+      not_under = λ k. not_under_moved row from k (to == k) tenths _ some held (bounded.not_under k)
+          (entry_moved row from to k tenths less more from_in to_in is_less is_more);
       not_over = omega (arith, ints, first, second, is_less, is_more, sum);
       short = omega (arith, length_same, length-set (set row from less) to more, bounded.short);
     }
 
 -- less a part of a sum
-less_part : (part_there : Bool) (before after tenths : ℤ) → pos 0 ≤ℤ tenths → after ≡ (before +ℤ pos 0) -ℤ (if part_there then tenths else pos 0) → after ≤ℤ before
+less_part : (part_there : Bool) (before after tenths : ℤ) → pos 0 ≤ℤ tenths
+    → after ≡ (before +ℤ pos 0) -ℤ (if part_there then tenths else pos 0) → after ≤ℤ before
 less_part true before after tenths some is = omega (arith, ints)
 less_part false before after tenths some is = omega (arith, ints)
 
 -- an entry between the two steps of a move
-pub small_between : (row : List ℤ) (from k : ℕ) (tenths less : ℤ) → from < length row → pos 0 ≤ℤ tenths → tenths ≤ℤ get_or row from (pos 0) → less ≡ get_or row from (pos 0) -ℤ tenths → IsBounded row → IsSmall (get_or (set row from less) k (pos 0))
+pub small_between : (row : List ℤ) (from k : ℕ) (tenths less : ℤ) → from < length row → pos 0 ≤ℤ tenths
+    → tenths ≤ℤ get_or row from (pos 0) → less ≡ get_or row from (pos 0) -ℤ tenths → IsBounded row
+    → IsSmall (get_or (set row from less) k (pos 0))
 small_between row from k tenths less from_in some held is_less bounded =
     let first = entry_changed row from k (pos 0 -ℤ tenths) less from_in (omega (arith, ints, is_less)) in
     let there = parts (from == k) false _ _ (get_or (set row from less) k (pos 0)) tenths first (omega (arith, ints)) in
@@ -127,18 +145,22 @@ none_bounded : IsBounded []
 none_bounded = record { not_under = λ i. omega (arith, ints); not_over = omega (arith, ints); short = omega arith }
 
 -- where each of eight rows is bounded, all are
-pub bounded_all : (rows : List (List ℤ)) → length rows ≡ 8 → ((k : ℕ) → k < 8 → IsBounded (get_or rows k [])) → (k : ℕ) → IsBounded (get_or rows k [])
+pub bounded_all : (rows : List (List ℤ)) → length rows ≡ 8 → ((k : ℕ) → k < 8 → IsBounded (get_or rows k []))
+    → (k : ℕ) → IsBounded (get_or rows k [])
 bounded_all rows eight each k =
     elim (cases_lt k 8) [
       | inl within ↦ each k within
-      | inr past ↦ subst (λ (row : List ℤ). IsBounded row) (sym (get_or_past rows k [] (omega (arith, eight)))) none_bounded
+      | inr past ↦ subst (λ (row : List ℤ). IsBounded row) (sym (get_or_past rows k [] (omega (arith, eight))))
+          none_bounded
     ]
 
 -- with one row changed all are bounded
-pub bounded_set : (rows : List (List ℤ)) (at : ℕ) (row : List ℤ) → at < length rows → IsBounded row → ((k : ℕ) → IsBounded (get_or rows k [])) → (k : ℕ) → IsBounded (get_or (set rows at row) k [])
+pub bounded_set : (rows : List (List ℤ)) (at : ℕ) (row : List ℤ) → at < length rows → IsBounded row
+    → ((k : ℕ) → IsBounded (get_or rows k [])) → (k : ℕ) → IsBounded (get_or (set rows at row) k [])
 bounded_set rows at row within bounded each k =
     elim (cases_eq k at) [
-      | inl same ↦ subst (λ (i : ℕ). IsBounded (get_or (set rows at row) i [])) (sym same) (subst (λ (r : List ℤ). IsBounded r) (sym (get_or-set_same rows at row [] within)) bounded)
+      | inl same ↦ subst (λ (i : ℕ). IsBounded (get_or (set rows at row) i [])) (sym same)
+          (subst (λ (r : List ℤ). IsBounded r) (sym (get_or-set_same rows at row [] within)) bounded)
       | inr apart ↦ subst (λ (r : List ℤ). IsBounded r) (sym (get_or-set_other rows at k row [] apart)) (each k)
     ]
 

@@ -30,49 +30,75 @@ holds true kept = refl
 holds false kept = cc
 
 -- who may sell to pay for a train may sell
-stays : (president leaves moves : Bool) → (president && (leaves || moves)) ≡ false → (president && (leaves || false)) ≡ false
+stays : (president leaves moves : Bool) → (president && (leaves || moves)) ≡ false
+    → (president && (leaves || false)) ≡ false
 stays true true moves kept = kept
 stays true false moves kept = refl
 stays false leaves moves kept = refl
 
 -- tenths can be sold
-pub sale_allowed : (seats : ℕ) (events : List Event) (seat : Seat) (sale : Sale) (operating : Option Company) → sale_judgement seats events seat sale operating ≡ None → MaySell seats events seat sale
+pub sale_allowed : (seats : ℕ) (events : List Event) (seat : Seat) (sale : Sale) (operating : Option Company)
+    → sale_judgement seats events seat sale operating ≡ None → MaySell seats events seat sale
 unfolding sale_judgement must_stay
 sale_allowed seats events seat sale operating none =
     let kept = none_broken (sale_rules seats events seat sale operating) none in
-    record { held = kept.1.0; pool = kept.1.1.0; leaves = stays (presides seat (president_of events sale.company)) (leaves_none seats events seat sale) (moves_operating seats events seat sale operating) kept.1.1.1.0; started = holds (is_started events sale.company) kept.1.1.1.1.0 }
+    record {
+      held = kept.1.0;
+      pool = kept.1.1.0;
+      leaves =
+          stays (presides seat (president_of events sale.company)) (leaves_none seats events seat sale)
+          (moves_operating seats events seat sale operating) kept.1.1.1.0;
+      started =
+          holds (is_started events sale.company) kept.1.1.1.1.0;
+    }
 
 -- a company that is started stays so
-pub same_start : (before after : List Event) (company : Company) → SaysTheSame before after → is_started after company ≡ is_started before company
+pub same_start : (before after : List Event) (company : Company) → SaysTheSame before after
+    → is_started after company ≡ is_started before company
 same_start before after company same = ap is_some (same.square company)
 
 -- the seats that have so many tenths have them still
-same_holders : (before after : List Event) (company : Company) (least : ℤ) (seats : List Seat) → SaysTheSame before after → one_has after company least seats ≡ one_has before company least seats
+same_holders : (before after : List Event) (company : Company) (least : ℤ) (seats : List Seat)
+    → SaysTheSame before after → one_has after company least seats ≡ one_has before company least seats
 same_holders before after company least [] same = refl
 same_holders before after company least (seat ∷ others) same =
     ap (λ (tenths : ℤ). le_z least tenths || one_has after company least others) (same.shares company (OfSeat seat))
-    ∙ ap (λ (later : Bool). le_z least (shares_of before company (OfSeat seat)) || later) (same_holders before after company least others same)
+    ∙ ap (λ (later : Bool). le_z least (shares_of before company (OfSeat seat)) || later)
+    (same_holders before after company least others same)
 
 -- a president leaves none as before
-same_leave : (seats : ℕ) (before after : List Event) (seat : Seat) (sale : Sale) → SaysTheSame before after → leaves_none seats after seat sale ≡ leaves_none seats before seat sale
+same_leave : (seats : ℕ) (before after : List Event) (seat : Seat) (sale : Sale) → SaysTheSame before after
+    → leaves_none seats after seat sale ≡ leaves_none seats before seat sale
 same_leave seats before after seat sale same =
-    ap (λ (tenths : ℤ). lt_z (tenths -ℤ pos sale.tenths) (pos 2) && not (one_has after sale.company (pos 2) (others_from seats seat))) (same.shares sale.company (OfSeat seat))
-    ∙ ap (λ (another : Bool). lt_z (kept_after before seat sale) (pos 2) && not another) (same_holders before after sale.company (pos 2) (others_from seats seat) same)
+    ap (λ (tenths : ℤ). lt_z (tenths -ℤ pos sale.tenths) (pos 2)
+    && not (one_has after sale.company (pos 2) (others_from seats seat))) (same.shares sale.company (OfSeat seat))
+    ∙ ap (λ (another : Bool). lt_z (kept_after before seat sale) (pos 2) && not another)
+    (same_holders before after sale.company (pos 2) (others_from seats seat) same)
 
 -- a sale moves the presidency of the company that operates as before
-same_moves : (seats : ℕ) (before after : List Event) (seat : Seat) (sale : Sale) (operating : Option Company) → SaysTheSame before after → moves_operating seats after seat sale operating ≡ moves_operating seats before seat sale operating
+same_moves : (seats : ℕ) (before after : List Event) (seat : Seat) (sale : Sale) (operating : Option Company)
+    → SaysTheSame before after → moves_operating seats after seat sale operating
+    ≡ moves_operating seats before seat sale operating
 same_moves seats before after seat sale None same = refl
 same_moves seats before after seat sale (Some operating) same =
-    ap (λ (tenths : ℤ). same_company operating sale.company && one_has after sale.company ((tenths -ℤ pos sale.tenths) +ℤ pos 1) (others_from seats seat)) (same.shares sale.company (OfSeat seat))
-    ∙ ap (λ (another : Bool). same_company operating sale.company && another) (same_holders before after sale.company (kept_after before seat sale +ℤ pos 1) (others_from seats seat) same)
+    ap (λ (tenths : ℤ). same_company operating sale.company
+    && one_has after sale.company ((tenths -ℤ pos sale.tenths) +ℤ pos 1) (others_from seats seat))
+    (same.shares sale.company (OfSeat seat))
+    ∙ ap (λ (another : Bool). same_company operating sale.company && another)
+    (same_holders before after sale.company (kept_after before seat sale +ℤ pos 1) (others_from seats seat) same)
 
 -- a president must stay as before
-same_stay : (seats : ℕ) (before after : List Event) (seat : Seat) (sale : Sale) (operating : Option Company) → SaysTheSame before after → must_stay seats after seat sale operating ≡ must_stay seats before seat sale operating
+same_stay : (seats : ℕ) (before after : List Event) (seat : Seat) (sale : Sale) (operating : Option Company)
+    → SaysTheSame before after → must_stay seats after seat sale operating ≡ must_stay seats before seat sale operating
 unfolding must_stay
 same_stay seats before after seat sale operating same =
-    ap (λ (president : Option Seat). presides seat president && (leaves_none seats after seat sale || moves_operating seats after seat sale operating)) (same.president sale.company)
-    ∙ ap (λ (leaves : Bool). presides seat (president_of before sale.company) && (leaves || moves_operating seats after seat sale operating)) (same_leave seats before after seat sale same)
-    ∙ ap (λ (moves : Bool). presides seat (president_of before sale.company) && (leaves_none seats before seat sale || moves)) (same_moves seats before after seat sale operating same)
+    ap (λ (president : Option Seat). presides seat president
+    && (leaves_none seats after seat sale || moves_operating seats after seat sale operating))
+    (same.president sale.company)
+    ∙ ap (λ (leaves : Bool). presides seat (president_of before sale.company)
+    && (leaves || moves_operating seats after seat sale operating)) (same_leave seats before after seat sale same)
+    ∙ ap (λ (moves : Bool). presides seat (president_of before sale.company)
+    && (leaves_none seats before seat sale || moves)) (same_moves seats before after seat sale operating same)
 
 -- the first of the five rules of a sale that is broken
 abbrev judged : Bool → Bool → Bool → Bool → Bool → Option StockRule
@@ -86,42 +112,57 @@ judged first unheld full stays unstarted =
     ∷ [])
 
 -- in the same round a sale is judged as before
-pub same_judgement : (seats : ℕ) (before after : List Event) (seat : Seat) (sale : Sale) (operating : Option Company) → SaysTheSame before after → round_of after ≡ round_of before → sale_judgement seats after seat sale operating ≡ sale_judgement seats before seat sale operating
+pub same_judgement : (seats : ℕ) (before after : List Event) (seat : Seat) (sale : Sale) (operating : Option Company)
+    → SaysTheSame before after → round_of after ≡ round_of before
+    → sale_judgement seats after seat sale operating ≡ sale_judgement seats before seat sale operating
 unfolding sale_judgement is_not_held is_over_five
 same_judgement seats before after seat sale operating same round =
     let first : Bool = is_first_stock (round_of before) in
     let unheld : Bool = is_not_held before seat sale in
     let full : Bool = is_over_five before sale in
     let stays : Bool = must_stay seats before seat sale operating in
-    ap (λ (its : Option Round). judged (is_first_stock its) (is_not_held after seat sale) (is_over_five after sale) (must_stay seats after seat sale operating) (not (is_started after sale.company))) round
-    ∙ ap (λ (held : ℤ). judged first (sale.tenths == 0 || lt_z held (pos sale.tenths)) (is_over_five after sale) (must_stay seats after seat sale operating) (not (is_started after sale.company))) (same.shares sale.company (OfSeat seat))
-    ∙ ap (λ (pooled : ℤ). judged first unheld (lt_z (pos 5) (pooled +ℤ pos sale.tenths)) (must_stay seats after seat sale operating) (not (is_started after sale.company))) (same.shares sale.company BankPool)
-    ∙ ap (λ (its : Bool). judged first unheld full its (not (is_started after sale.company))) (same_stay seats before after seat sale operating same)
+    ap (λ (its : Option Round). judged (is_first_stock its) (is_not_held after seat sale) (is_over_five after sale)
+    (must_stay seats after seat sale operating) (not (is_started after sale.company))) round
+    ∙ ap (λ (held : ℤ). judged first (sale.tenths == 0 || lt_z held (pos sale.tenths)) (is_over_five after sale)
+    (must_stay seats after seat sale operating) (not (is_started after sale.company)))
+    (same.shares sale.company (OfSeat seat))
+    ∙ ap (λ (pooled : ℤ). judged first unheld (lt_z (pos 5) (pooled +ℤ pos sale.tenths))
+    (must_stay seats after seat sale operating) (not (is_started after sale.company)))
+    (same.shares sale.company BankPool)
+    ∙ ap (λ (its : Bool). judged first unheld full its (not (is_started after sale.company)))
+    (same_stay seats before after seat sale operating same)
     ∙ ap (λ (its : Bool). judged first unheld full stays (not its)) (same_start before after sale.company same)
 
 -- a sale can still be made where a list says the same
-pub still_may_sell : (seats : ℕ) (before after : List Event) (seat : Seat) (sale : Sale) → SaysTheSame before after → MaySell seats before seat sale → MaySell seats after seat sale
+pub still_may_sell : (seats : ℕ) (before after : List Event) (seat : Seat) (sale : Sale) → SaysTheSame before after
+    → MaySell seats before seat sale → MaySell seats after seat sale
 unfolding is_not_held is_over_five
 still_may_sell seats before after seat sale same may =
     record {
-      held = ap (λ (held : ℤ). sale.tenths == 0 || lt_z held (pos sale.tenths)) (same.shares sale.company (OfSeat seat)) ∙ may.held;
-      pool = ap (λ (pooled : ℤ). lt_z (pos 5) (pooled +ℤ pos sale.tenths)) (same.shares sale.company BankPool) ∙ may.pool;
+      held = ap (λ (held : ℤ). sale.tenths == 0 || lt_z held (pos sale.tenths))
+          (same.shares sale.company (OfSeat seat)) ∙ may.held;
+      pool = ap (λ (pooled : ℤ). lt_z (pos 5) (pooled +ℤ pos sale.tenths)) (same.shares sale.company BankPool)
+          ∙ may.pool;
       leaves = same_stay seats before after seat sale None same ∙ may.leaves;
       started = same_start before after sale.company same ∙ may.started;
     }
 
 -- a sale that breaks no rule can be made after its ruling
-pub may_sell_after : (old new : Game) (event : Event) (seat : Seat) (sale : Sale) (operating : Option Company) → new ≡ with_event old event → IsQuiet event → sale_judgement old.seats old.events seat sale operating ≡ None → MaySell new.seats new.events seat sale
+pub may_sell_after : (old new : Game) (event : Event) (seat : Seat) (sale : Sale) (operating : Option Company)
+    → new ≡ with_event old event → IsQuiet event → sale_judgement old.seats old.events seat sale operating ≡ None
+    → MaySell new.seats new.events seat sale
 may_sell_after old new event seat sale operating told quiet none =
     subst (λ (game : Game). MaySell game.seats game.events seat sale) (sym told)
-    (still_may_sell old.seats old.events (old.events ++ event ∷ []) seat sale (quiet_same old.events event quiet) (sale_allowed old.seats old.events seat sale operating none))
+    (still_may_sell old.seats old.events (old.events ++ event ∷ []) seat sale (quiet_same old.events event quiet)
+    (sale_allowed old.seats old.events seat sale operating none))
 
 -- few tenths come to a pool that has none too few and comes to at most five
 few_come : (pooled : ℤ) (tenths : ℕ) → pos 0 ≤ℤ pooled → lt_z (pos 5) (pooled +ℤ pos tenths) ≡ false → tenths ≤ 5
 few_come pooled tenths some pool = grind (arith, ints, some, pool)
 
 -- a block that may be sold is small
-pub block_small : (game : Game) (seat : Seat) (sale : Sale) → MaySell game.seats game.events seat sale → IsSound game → sale.tenths ≤ 5
+pub block_small : (game : Game) (seat : Seat) (sale : Sale) → MaySell game.seats game.events seat sale → IsSound game
+    → sale.tenths ≤ 5
 unfolding is_over_five
 block_small game seat sale may sound =
     few_come (shares_of game.events sale.company BankPool) sale.tenths (sound.held sale.company BankPool) may.pool

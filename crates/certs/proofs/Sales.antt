@@ -29,26 +29,32 @@ use Rattle.tables.specs.declared.seat.Seat.{Seat}
 use Rattle.tables.specs.declared.squares.Square.{Square}
 
 -- a company that is started is led
-pub started_is_led : (game : Game) (company : Company) → is_started game.events company ≡ true → IsSound game → IsLed game.events company
+pub started_is_led : (game : Game) (company : Company) → is_started game.events company ≡ true → IsSound game
+    → IsLed game.events company
 started_is_led game company started sound =
-    elim (square_of game.events company) as (λ (found : Option Square). square_of game.events company ≡ found → is_some found ≡ true → IsLed game.events company) [
+    elim (square_of game.events company) as (λ (found : Option Square). square_of game.events company ≡ found
+    → is_some found ≡ true → IsLed game.events company) [
       | None ↦ λ is has. absurd (cc)
       | Some square ↦ λ is has. sound.led company square is
     ]
     refl started
 
 -- that the bank is broken changes no tenths
-tenths_broken : (seats : ℕ) (events : List Event) (company : Company) (seat : Seat) → seat_tenths_of (with_broken seats events) company seat ≡ seat_tenths_of events company seat
+tenths_broken : (seats : ℕ) (events : List Event) (company : Company) (seat : Seat)
+    → seat_tenths_of (with_broken seats events) company seat ≡ seat_tenths_of events company seat
 tenths_broken seats events company seat =
-    elim (breaks seats events) as (λ (b : Bool). seat_tenths_of (if b then events ++ event.Broken ∷ [] else events) company seat ≡ seat_tenths_of events company seat) [
+    elim (breaks seats events) as (λ (b : Bool). seat_tenths_of (if b then events ++ event.Broken ∷ [] else events)
+    company seat ≡ seat_tenths_of events company seat) [
       | true ↦ shares_of_before events event.Broken company (OfSeat seat) refl
       | false ↦ refl
     ]
 
 -- and no president
-president_broken : (seats : ℕ) (events : List Event) (company : Company) → president_of (with_broken seats events) company ≡ president_of events company
+president_broken : (seats : ℕ) (events : List Event) (company : Company)
+    → president_of (with_broken seats events) company ≡ president_of events company
 president_broken seats events company =
-    elim (breaks seats events) as (λ (b : Bool). president_of (if b then events ++ event.Broken ∷ [] else events) company ≡ president_of events company) [
+    elim (breaks seats events) as (λ (b : Bool). president_of (if b then events ++ event.Broken ∷ [] else events)
+    company ≡ president_of events company) [
       | true ↦ president_of_before events event.Broken company refl
       | false ↦ refl
     ]
@@ -58,31 +64,41 @@ itself : (company : Company) → same_company company company ≡ true
 itself company = grind (arith, nat_tests)
 
 -- what a sale of so many tenths takes from a seat
-taken : (same by : Bool) (held : ℤ) (tenths : ℕ) → same ≡ true → ((held +ℤ pos (if same then 0 else 0)) -ℤ pos (if same then (if by then tenths else 0) else 0)) ≡ (held -ℤ pos (if by then tenths else 0))
+taken : (same by : Bool) (held : ℤ) (tenths : ℕ) → same ≡ true
+    → ((held +ℤ pos (if same then 0 else 0)) -ℤ pos (if same then (if by then tenths else 0) else 0))
+    ≡ (held -ℤ pos (if by then tenths else 0))
 taken true by held tenths is = omega (arith, ints)
 taken false by held tenths is = absurd (cc)
 
 -- the tenths of a seat after a sale
-tenths_sold : (game : Game) (company : Company) (seat : Seat) (tenths price : ℕ) (other : Seat) → seat_tenths_of (block_sold game company seat tenths price).events company other ≡ (seat_tenths_of game.events company other -ℤ pos (if seat.0 == other.0 then tenths else 0))
+tenths_sold : (game : Game) (company : Company) (seat : Seat) (tenths price : ℕ) (other : Seat)
+    → seat_tenths_of (block_sold game company seat tenths price).events company other
+    ≡ (seat_tenths_of game.events company other -ℤ pos (if seat.0 == other.0 then tenths else 0))
 tenths_sold game company seat tenths price other =
     tenths_broken game.seats (game.events ++ event.Sells company seat tenths price ∷ []) company other
     ∙ shares_of_at_end game.events (event.Sells company seat tenths price) company (OfSeat other)
-    ∙ taken (same_company company company) (seat.0 == other.0) (seat_tenths_of game.events company other) tenths (itself company)
+    ∙ taken (same_company company company) (seat.0 == other.0) (seat_tenths_of game.events company other) tenths
+    (itself company)
 
 -- a sale changes no president
-president_sold : (game : Game) (company : Company) (seat : Seat) (tenths price : ℕ) → president_of (block_sold game company seat tenths price).events company ≡ president_of game.events company
+president_sold : (game : Game) (company : Company) (seat : Seat) (tenths price : ℕ)
+    → president_of (block_sold game company seat tenths price).events company ≡ president_of game.events company
 president_sold game company seat tenths price =
     president_broken game.seats (game.events ++ event.Sells company seat tenths price ∷ []) company
     ∙ president_of_before game.events (event.Sells company seat tenths price) company refl
 
 -- one who sells nothing keeps what he has
-untaken : (seat other : Seat) (held : ℤ) (tenths : ℕ) → (seat.0 == other.0) ≡ false → (held -ℤ pos (if seat.0 == other.0 then tenths else 0)) ≡ held
+untaken : (seat other : Seat) (held : ℤ) (tenths : ℕ) → (seat.0 == other.0) ≡ false
+    → (held -ℤ pos (if seat.0 == other.0 then tenths else 0)) ≡ held
 untaken seat other held tenths apart = rw apart (omega (arith, ints))
 
 -- the tenths of another seat stay
-tenths_apart : (game : Game) (company : Company) (seat : Seat) (tenths price : ℕ) (other : Seat) → (seat.0 == other.0) ≡ false → seat_tenths_of (block_sold game company seat tenths price).events company other ≡ seat_tenths_of game.events company other
+tenths_apart : (game : Game) (company : Company) (seat : Seat) (tenths price : ℕ) (other : Seat)
+    → (seat.0 == other.0) ≡ false → seat_tenths_of (block_sold game company seat tenths price).events company other
+    ≡ seat_tenths_of game.events company other
 tenths_apart game company seat tenths price other apart =
-    tenths_sold game company seat tenths price other ∙ untaken seat other (seat_tenths_of game.events company other) tenths apart
+    tenths_sold game company seat tenths price other
+    ∙ untaken seat other (seat_tenths_of game.events company other) tenths apart
 
 -- what a seat sells is held
 sale_held : (none short : Bool) → (none || short) ≡ false → short ≡ false
@@ -90,7 +106,8 @@ sale_held true short kept = absurd (cc)
 sale_held false short kept = kept
 
 -- a president who may sell keeps two tenths, or another seat has two
-keeps_or_another : (short another : Bool) → ((short && not another) || false) ≡ false → (short ≡ false) ⊎ (another ≡ true)
+keeps_or_another : (short another : Bool) → ((short && not another) || false) ≡ false
+    → (short ≡ false) ⊎ (another ≡ true)
 keeps_or_another true true kept = inr refl
 keeps_or_another true false kept = absurd (cc)
 keeps_or_another false another kept = inl refl
@@ -101,7 +118,9 @@ presiding true rest so kept = kept
 presiding false rest so kept = absurd (cc)
 
 -- who presides after a sale of another seat has two tenths
-led_by_other : (game : Game) (company : Company) (seat : Seat) (tenths price : ℕ) (old : Seat) → (seat.0 == old.0) ≡ false → president_of game.events company ≡ Some old → IsLed game.events company → pos 2 ≤ℤ seat_tenths_of (block_sold game company seat tenths price).events company old
+led_by_other : (game : Game) (company : Company) (seat : Seat) (tenths price : ℕ) (old : Seat)
+    → (seat.0 == old.0) ≡ false → president_of game.events company ≡ Some old → IsLed game.events company
+    → pos 2 ≤ℤ seat_tenths_of (block_sold game company seat tenths price).events company old
 led_by_other game company seat tenths price old apart is led =
     let one : Some led.president ≡ Some old = sym led.has_president ∙ is in
     let same : led.president ≡ old = cc in
@@ -109,49 +128,77 @@ led_by_other game company seat tenths price old apart is led =
     (subst (λ (s : Seat). pos 2 ≤ℤ seat_tenths_of game.events company s) same led.holds_two)
 
 -- who presides after a sale has two tenths
-pub successor_has_two : (game : Game) (seat : Seat) (sale : Sale) (price : ℕ) (old : Seat) → game.seats ≤ 6 → seat.0 < game.seats → MaySell game.seats game.events seat sale → IsSound game → president_of game.events sale.company ≡ Some old → pos 2 ≤ℤ seat_tenths_of (block_sold game sale.company seat sale.tenths price).events sale.company (successor_of game.seats (block_sold game sale.company seat sale.tenths price).events sale.company old)
+pub successor_has_two : (game : Game) (seat : Seat) (sale : Sale) (price : ℕ) (old : Seat) → game.seats ≤ 6
+    → seat.0 < game.seats → MaySell game.seats game.events seat sale → IsSound game
+    → president_of game.events sale.company ≡ Some old
+    → pos 2 ≤ℤ seat_tenths_of (block_sold game sale.company seat sale.tenths price).events sale.company
+    (successor_of game.seats (block_sold game sale.company seat sale.tenths price).events sale.company old)
 unfolding must_stay
 successor_has_two game seat sale price old few within may sound is =
     let company = sale.company in
     let after : List Event = (block_sold game company seat sale.tenths price).events in
     let most = most_le (seat_tenths_of after company) old (others_from game.seats old) in
-    elim (seat.0 == old.0) as (λ (b : Bool). (seat.0 == old.0) ≡ b → pos 2 ≤ℤ seat_tenths_of after company (successor_of game.seats after company old)) [
+    elim (seat.0 == old.0) as (λ (b : Bool). (seat.0 == old.0) ≡ b
+    → pos 2 ≤ℤ seat_tenths_of after company (successor_of game.seats after company old)) [
       | false ↦ λ apart.
-          let two = led_by_other game company seat sale.tenths price old apart is (started_is_led game company may.started sound) in
+          let two = led_by_other game company seat sale.tenths price old apart is
+          (started_is_led game company may.started sound) in
           omega (arith, ints, most, two)
       | true ↦ λ same.
           let number : seat.0 ≡ old.0 = grind (arith, nat_tests, same) in
           let one : seat ≡ old = ap seat_at number in
-          let itself : presides seat (president_of game.events company) ≡ true = ap (presides seat) is ∙ grind (arith, nat_tests, number) in
-          let kept = presiding (presides seat (president_of game.events company)) (leaves_none game.seats game.events seat sale || false) itself may.leaves in
-          elim (keeps_or_another (lt_z (kept_after game.events seat sale) (pos 2)) (one_has game.events company (pos 2) (others_from game.seats seat)) kept) [
+          let itself : presides seat (president_of game.events company) ≡ true =
+          ap (presides seat) is ∙ grind (arith, nat_tests, number) in
+          let kept = presiding (presides seat (president_of game.events company))
+          (leaves_none game.seats game.events seat sale || false) itself may.leaves in
+          elim (keeps_or_another (lt_z (kept_after game.events seat sale) (pos 2))
+          (one_has game.events company (pos 2) (others_from game.seats seat)) kept) [
             | inl keeps ↦
                 let left = tenths_sold game company seat sale.tenths price old in
-                let mine : seat_tenths_of game.events company old ≡ seat_tenths_of game.events company seat = ap (seat_tenths_of game.events company) (sym one) in
-                let two : pos 2 ≤ℤ seat_tenths_of after company old = grind (arith, ints, nat_tests, left, mine, keeps, same) in
+                let mine : seat_tenths_of game.events company old ≡ seat_tenths_of game.events company seat =
+                ap (seat_tenths_of game.events company) (sym one) in
+                let two : pos 2 ≤ℤ seat_tenths_of after company old =
+                grind (arith, ints, nat_tests, left, mine, keeps, same) in
                 omega (arith, ints, most, two)
             | inr another ↦
-                subst (λ (s : Seat). pos 2 ≤ℤ seat_tenths_of after company (successor_of game.seats after company s)) one
-                (another_leads game.seats game.events company (pos 2) (seat_tenths_of after company) seat few within (tenths_apart game company seat sale.tenths price) another)
+                subst (λ (s : Seat). pos 2 ≤ℤ seat_tenths_of after company (successor_of game.seats after company s))
+                one
+                (another_leads game.seats game.events company (pos 2) (seat_tenths_of after company) seat few within
+                (tenths_apart game company seat sale.tenths price) another)
           ]
     ]
     refl
 
 -- the list after a sale and the presidency that follows from it
-succeeded_sound : (game : Game) (seat : Seat) (sale : Sale) (price : ℕ) (old : Seat) → game.seats ≤ 6 → seat.0 < game.seats → MaySell game.seats game.events seat sale → IsSound game → president_of game.events sale.company ≡ Some old → IsSound (record { seats = game.seats; events = succeeded (block_sold game sale.company seat sale.tenths price).events sale.company old (successor_of game.seats (block_sold game sale.company seat sale.tenths price).events sale.company old) })
+succeeded_sound : (game : Game) (seat : Seat) (sale : Sale) (price : ℕ) (old : Seat) → game.seats ≤ 6
+    → seat.0 < game.seats → MaySell game.seats game.events seat sale → IsSound game
+    → president_of game.events sale.company ≡ Some old
+    → IsSound (record {
+      seats = game.seats;
+      events =
+          succeeded (block_sold game sale.company seat sale.tenths price).events sale.company old
+          (successor_of game.seats (block_sold game sale.company seat sale.tenths price).events sale.company old);
+    })
 unfolding is_not_held
 succeeded_sound game seat sale price old few within may sound is =
     let company = sale.company in
     let after : List Event = (block_sold game company seat sale.tenths price).events in
     let new = successor_of game.seats after company old in
     let two = successor_has_two game seat sale price old few within may sound is in
-    let short : lt_z (seat_tenths_of game.events company seat) (pos sale.tenths) ≡ false = sale_held (sale.tenths == 0) (lt_z (seat_tenths_of game.events company seat) (pos sale.tenths)) may.held in
+    let short : lt_z (seat_tenths_of game.events company seat) (pos sale.tenths) ≡ false =
+    sale_held (sale.tenths == 0) (lt_z (seat_tenths_of game.events company seat) (pos sale.tenths)) may.held in
     let held : pos sale.tenths ≤ℤ seat_tenths_of game.events company seat = grind (arith, ints, short) in
-    elim (new.0 == old.0) as (λ (b : Bool). (new.0 == old.0) ≡ b → IsSound (record { seats = game.seats; events = if b then after else after ++ event.President company new ∷ [] })) [
+    elim (new.0 == old.0) as (λ (b : Bool). (new.0 == old.0) ≡ b
+    → IsSound (record {
+      seats = game.seats;
+      events =
+          if b then after else after ++ event.President company new ∷ [];
+    })) [
       | true ↦ λ same.
           let number : new.0 ≡ old.0 = grind (arith, nat_tests, same) in
           let one : new ≡ old = ap seat_at number in
-          let stays : (president : Seat) → president_of game.events company ≡ Some president → pos 2 ≤ℤ seat_tenths_of after company president =
+          let stays : (president : Seat) → president_of game.events company ≡ Some president
+          → pos 2 ≤ℤ seat_tenths_of after company president =
           λ president has.
           let both : Some old ≡ Some president = sym is ∙ has in
           let is_old : old ≡ president = cc in
@@ -163,29 +210,44 @@ succeeded_sound game seat sale price old few within may sound is =
     refl
 
 -- a sale without a president
-unled_sound : (game : Game) (seat : Seat) (sale : Sale) (price : ℕ) → seat.0 < game.seats → MaySell game.seats game.events seat sale → IsSound game → president_of game.events sale.company ≡ None → IsSound (block_sold game sale.company seat sale.tenths price)
+unled_sound : (game : Game) (seat : Seat) (sale : Sale) (price : ℕ) → seat.0 < game.seats
+    → MaySell game.seats game.events seat sale → IsSound game → president_of game.events sale.company ≡ None
+    → IsSound (block_sold game sale.company seat sale.tenths price)
 unfolding is_not_held
 unled_sound game seat sale price within may sound none =
     let company = sale.company in
-    let short : lt_z (seat_tenths_of game.events company seat) (pos sale.tenths) ≡ false = sale_held (sale.tenths == 0) (lt_z (seat_tenths_of game.events company seat) (pos sale.tenths)) may.held in
+    let short : lt_z (seat_tenths_of game.events company seat) (pos sale.tenths) ≡ false =
+    sale_held (sale.tenths == 0) (lt_z (seat_tenths_of game.events company seat) (pos sale.tenths)) may.held in
     let held : pos sale.tenths ≤ℤ seat_tenths_of game.events company seat = grind (arith, ints, short) in
-    block_sound game company seat sale.tenths price within held (λ president has. let no : None ≡ Some president = sym none ∙ has in absurd (cc)) sound
+    block_sound game company seat sale.tenths price within held
+    (λ president has. let no : None ≡ Some president = sym none ∙ has in absurd (cc)) sound
 
 -- after a sale and the presidency that follows from it a list is sound
-pub sale_led : (game : Game) (seat : Seat) (sale : Sale) (price : ℕ) → game.seats ≤ 6 → seat.0 < game.seats → MaySell game.seats game.events seat sale → IsSound game → IsSound (record { seats = game.seats; events = with_president game.seats (block_sold game sale.company seat sale.tenths price).events sale.company })
+pub sale_led : (game : Game) (seat : Seat) (sale : Sale) (price : ℕ) → game.seats ≤ 6 → seat.0 < game.seats
+    → MaySell game.seats game.events seat sale → IsSound game
+    → IsSound (record {
+      seats = game.seats;
+      events =
+          with_president game.seats (block_sold game sale.company seat sale.tenths price).events sale.company;
+    })
 sale_led game seat sale price few within may sound =
     let company = sale.company in
     let after : List Event = (block_sold game company seat sale.tenths price).events in
     let same = president_sold game company seat sale.tenths price in
-    subst (λ (found : Option Seat). IsSound (record { seats = game.seats; events = with_successor game.seats after company found })) (sym same)
-    (elim (president_of game.events company) as (λ (found : Option Seat). president_of game.events company ≡ found → IsSound (record { seats = game.seats; events = with_successor game.seats after company found })) [
+    subst (λ (found : Option Seat). IsSound (record
+    { seats = game.seats; events = with_successor game.seats after company found })) (sym same)
+    (elim (president_of game.events company) as (λ (found : Option Seat). president_of game.events company ≡ found
+    → IsSound (record { seats = game.seats; events = with_successor game.seats after company found })) [
       | None ↦ λ is. unled_sound game seat sale price within may sound is
       | Some old ↦ λ is. succeeded_sound game seat sale price old few within may sound is
     ]
     refl)
 
 -- so it is step by step
-pub sold_sound : (game paid led : Game) (seat : Seat) (sale : Sale) → game.seats ≤ 6 → seat.0 < game.seats → MaySell game.seats game.events seat sale → IsSound game → paid.seats ≡ game.seats → paid.events ≡ sold game.seats game.events seat sale.company sale.tenths → led.seats ≡ paid.seats → led.events ≡ with_president paid.seats paid.events sale.company → IsSound led
+pub sold_sound : (game paid led : Game) (seat : Seat) (sale : Sale) → game.seats ≤ 6 → seat.0 < game.seats
+    → MaySell game.seats game.events seat sale → IsSound game → paid.seats ≡ game.seats
+    → paid.events ≡ sold game.seats game.events seat sale.company sale.tenths → led.seats ≡ paid.seats
+    → led.events ≡ with_president paid.seats paid.events sale.company → IsSound led
 sold_sound game paid led seat sale few within may sound paid_seats is_paid led_seats is_led =
     let price = sale.tenths * market_price_of game.events sale.company in
     let after : List Event = (block_sold game sale.company seat sale.tenths price).events in
@@ -194,4 +256,5 @@ sold_sound game paid led seat sale few within may sound paid_seats is_paid led_s
     ∙ ap (λ (n : ℕ). with_president n paid.events sale.company) paid_seats
     ∙ ap (λ (events : List Event). with_president game.seats events sale.company) is_paid
     in
-    same_game led game.seats (with_president game.seats after sale.company) (led_seats ∙ paid_seats) events (sale_led game seat sale price few within may sound)
+    same_game led game.seats (with_president game.seats after sale.company) (led_seats ∙ paid_seats) events
+    (sale_led game seat sale price few within may sound)

@@ -13,19 +13,32 @@ use Rattle.tables.specs.declared.roster.Company.{Company}
 use Rattle.tables.specs.declared.seat.Seat.{Seat}
 
 -- a presidency that has moved
-succession_sound : (game : Game) (company : Company) (old : Seat) → president_of game.events company ≡ Some old → IsSound game → IsSound (record { seats = game.seats; events = succeeded game.events company old (successor_of game.seats game.events company old) })
+succession_sound : (game : Game) (company : Company) (old : Seat) → president_of game.events company ≡ Some old
+    → IsSound game → IsSound (record {
+      seats = game.seats;
+      events =
+          succeeded game.events company old (successor_of game.seats game.events company old);
+    })
 succession_sound game company old is sound =
     let new = successor_of game.seats game.events company old in
-    elim (new.0 == old.0) as (λ (b : Bool). IsSound (record { seats = game.seats; events = if b then game.events else game.events ++ event.President company new ∷ [] })) [
+    elim (new.0 == old.0) as (λ (b : Bool). IsSound
+    (record {
+      seats = game.seats;
+      events = if b then game.events else game.events
+          ++ event.President company new ∷ [];
+    })) [
       | true ↦ sound
-      | false ↦ succession_law game company old new is (most_le (seat_tenths_of game.events company) old (others_from game.seats old)) sound
+      | false ↦ succession_law game company old new is
+          (most_le (seat_tenths_of game.events company) old (others_from game.seats old)) sound
     ]
 
 -- the presidency that follows from a change
-pub president_sound : (game new : Game) (company : Company) → new.seats ≡ game.seats → new.events ≡ with_president game.seats game.events company → IsSound game → IsSound new
+pub president_sound : (game new : Game) (company : Company) → new.seats ≡ game.seats
+    → new.events ≡ with_president game.seats game.events company → IsSound game → IsSound new
 president_sound game new company seats told sound =
     let after : IsSound (record { seats = game.seats; events = with_president game.seats game.events company }) =
-    elim (president_of game.events company) as (λ (found : Option Seat). president_of game.events company ≡ found → IsSound (record { seats = game.seats; events = with_successor game.seats game.events company found })) [
+    elim (president_of game.events company) as (λ (found : Option Seat). president_of game.events company ≡ found
+    → IsSound (record { seats = game.seats; events = with_successor game.seats game.events company found })) [
       | None ↦ λ is. sound
       | Some old ↦ λ is. succession_sound game company old is sound
     ]

@@ -30,7 +30,10 @@ part_is true tenths = refl
 part_is false tenths = refl
 
 -- what goes to or from a place of the company of the transfer
-part_here : (of at : Company) (place other : Shareholder) (tenths : ℕ) → place_of_company of ≡ place_of_company at → pos (if place_of_company of == place_of_company at then (if same_shareholder place other then tenths else 0) else 0) ≡ (if index_of place == index_of other then pos tenths else pos 0)
+part_here : (of at : Company) (place other : Shareholder) (tenths : ℕ) → place_of_company of ≡ place_of_company at
+    → pos (if place_of_company of == place_of_company
+    at then (if same_shareholder place other then tenths else 0) else 0)
+    ≡ (if index_of place == index_of other then pos tenths else pos 0)
 part_here of at place other tenths same =
     let yes : (place_of_company of == place_of_company at) ≡ true = grind (arith, nat_tests) in
     ap (λ (b : Bool). pos (if b then (if same_shareholder place other then tenths else 0) else 0)) yes
@@ -38,13 +41,23 @@ part_here of at place other tenths same =
     ∙ part_is (index_of place == index_of other) tenths
 
 -- what goes to or from a place of another company
-part_elsewhere : (of at : Company) (place other : Shareholder) (tenths : ℕ) → (place_of_company of ≡ place_of_company at → ⊥) → pos 0 ≡ pos (if place_of_company of == place_of_company at then (if same_shareholder place other then tenths else 0) else 0)
+part_elsewhere : (of at : Company) (place other : Shareholder) (tenths : ℕ)
+    → (place_of_company of ≡ place_of_company at → ⊥)
+    → pos 0 ≡ pos (if place_of_company of == place_of_company
+    at then (if same_shareholder place other then tenths else 0) else 0)
 part_elsewhere of at place other tenths apart =
     let no : (place_of_company of == place_of_company at) ≡ false = grind (arith, nat_tests) in
     sym (ap (λ (b : Bool). pos (if b then (if same_shareholder place other then tenths else 0) else 0)) no)
 
 -- the tenths at a place after a transfer, where its company's row changed so there
-pub rows_after : (rows : List (List ℤ)) (row : List ℤ) (transfer : Transfer) (at : ℕ) → at ≡ place_of_company transfer.company → at < length rows → (company : Company) (place : Shareholder) → get_or row (index_of place) (pos 0) ≡ (get_or (get_or rows at []) (index_of place) (pos 0) +ℤ (if index_of transfer.to == index_of place then pos transfer.tenths else pos 0)) -ℤ (if index_of transfer.from == index_of place then pos transfer.tenths else pos 0) → get_or (get_or (set rows at row) (place_of_company company) []) (index_of place) (pos 0) ≡ (get_or (get_or rows (place_of_company company) []) (index_of place) (pos 0) +ℤ pos (brought_to company place (Some transfer))) -ℤ pos (taken_from company place (Some transfer))
+pub rows_after : (rows : List (List ℤ)) (row : List ℤ) (transfer : Transfer) (at : ℕ)
+    → at ≡ place_of_company transfer.company → at < length rows → (company : Company) (place : Shareholder)
+    → get_or row (index_of place) (pos 0) ≡ (get_or (get_or rows at []) (index_of place) (pos 0) +ℤ
+    (if index_of transfer.to == index_of place then pos transfer.tenths else pos 0)) -ℤ
+    (if index_of transfer.from == index_of place then pos transfer.tenths else pos 0)
+    → get_or (get_or (set rows at row) (place_of_company company) []) (index_of place) (pos 0)
+    ≡ (get_or (get_or rows (place_of_company company) []) (index_of place) (pos 0) +ℤ pos
+    (brought_to company place (Some transfer))) -ℤ pos (taken_from company place (Some transfer))
 rows_after rows row transfer at at_is within company place moved =
     let i : ℕ = index_of place in
     let k : ℕ = place_of_company company in
@@ -54,14 +67,22 @@ rows_after rows row transfer at at_is within company place moved =
           ap (λ (n : ℕ). get_or (get_or (set rows at row) n []) i (pos 0)) (sym at_k)
           ∙ ap (λ (r : List ℤ). get_or r i (pos 0)) (get_or-set_same rows at row [] within)
           ∙ moved
-          ∙ ap (λ (n : ℕ). (get_or (get_or rows n []) i (pos 0) +ℤ (if index_of transfer.to == i then pos transfer.tenths else pos 0)) -ℤ (if index_of transfer.from == i then pos transfer.tenths else pos 0)) at_k
-          ∙ ap (λ (z : ℤ). (get_or (get_or rows k []) i (pos 0) +ℤ z) -ℤ (if index_of transfer.from == i then pos transfer.tenths else pos 0)) (sym (part_here transfer.company company transfer.to place transfer.tenths same))
-          ∙ ap (λ (z : ℤ). (get_or (get_or rows k []) i (pos 0) +ℤ pos (brought_to company place (Some transfer))) -ℤ z) (sym (part_here transfer.company company transfer.from place transfer.tenths same))
+          ∙ ap (λ (n : ℕ). (get_or (get_or rows n []) i (pos 0) +ℤ
+          (if index_of transfer.to == i then pos transfer.tenths else pos 0)) -ℤ
+          (if index_of transfer.from == i then pos transfer.tenths else pos 0)) at_k
+          ∙ ap (λ (z : ℤ). (get_or (get_or rows k []) i (pos 0) +ℤ z) -ℤ
+          (if index_of transfer.from == i then pos transfer.tenths else pos 0))
+          (sym (part_here transfer.company company transfer.to place transfer.tenths same))
+          ∙ ap (λ (z : ℤ). (get_or (get_or rows k []) i (pos 0) +ℤ pos (brought_to company place (Some transfer))) -ℤ
+          z) (sym (part_here transfer.company company transfer.from place transfer.tenths same))
       | inr apart ↦
           let other : k ≡ at → ⊥ = λ is. apart (sym (is ∙ at_is)) in
-          let nothing : get_or (get_or rows k []) i (pos 0) ≡ (get_or (get_or rows k []) i (pos 0) +ℤ pos 0) -ℤ pos 0 = omega (arith, ints) in
+          let nothing : get_or (get_or rows k []) i (pos 0)
+          ≡ (get_or (get_or rows k []) i (pos 0) +ℤ pos 0) -ℤ pos 0 = omega (arith, ints) in
           ap (λ (r : List ℤ). get_or r i (pos 0)) (get_or-set_other rows at k row [] other)
           ∙ nothing
-          ∙ ap (λ (z : ℤ). (get_or (get_or rows k []) i (pos 0) +ℤ z) -ℤ pos 0) (part_elsewhere transfer.company company transfer.to place transfer.tenths apart)
-          ∙ ap (λ (z : ℤ). (get_or (get_or rows k []) i (pos 0) +ℤ pos (brought_to company place (Some transfer))) -ℤ z) (part_elsewhere transfer.company company transfer.from place transfer.tenths apart)
+          ∙ ap (λ (z : ℤ). (get_or (get_or rows k []) i (pos 0) +ℤ z) -ℤ pos 0)
+          (part_elsewhere transfer.company company transfer.to place transfer.tenths apart)
+          ∙ ap (λ (z : ℤ). (get_or (get_or rows k []) i (pos 0) +ℤ pos (brought_to company place (Some transfer))) -ℤ
+          z) (part_elsewhere transfer.company company transfer.from place transfer.tenths apart)
     ]

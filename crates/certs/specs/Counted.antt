@@ -59,7 +59,8 @@ certificates_in certificates (company ∷ others) = certificates company +ℤ ce
 -- the certificates of a company that a seat has, by the holdings
 abbrev pub certificates_by : Holdings → Seat → Company → ℤ
 certificates_by holdings seat company =
-    certificates_of seat (square_in holdings company) (president_in holdings company) (tenths_in holdings company (OfSeat seat))
+    certificates_of seat (square_in holdings company) (president_in holdings company)
+    (tenths_in holdings company (OfSeat seat))
 
 -- how many of a seat's certificates count, by the holdings
 abbrev pub counted_in : Holdings → Seat → ℤ
@@ -70,7 +71,8 @@ counted_in holdings seat =
 -- the certificates of a company that a seat has, by the events of a game
 abbrev pub certificates_now : List Event → Seat → Company → ℤ
 certificates_now events seat company =
-    certificates_of seat (square_of events company) (president_of events company) (shares_of events company (OfSeat seat))
+    certificates_of seat (square_of events company) (president_of events company)
+    (shares_of events company (OfSeat seat))
 
 -- how many count, by the events of a game
 abbrev pub counted_of : List Event → Seat → ℤ
@@ -81,4 +83,5 @@ counted_of events seat =
 -- as many count by the holdings of a game as by its events
 abbrev pub CountsByGame : Type 0
 CountsByGame =
-    (game : Game) (holdings : Holdings) (seat : Seat) → AreHoldingsOf game holdings → seat.0 < 6 → counted_in holdings seat ≡ counted_of game.events seat
+    (game : Game) (holdings : Holdings) (seat : Seat) → AreHoldingsOf game holdings → seat.0 < 6
+    → counted_in holdings seat ≡ counted_of game.events seat

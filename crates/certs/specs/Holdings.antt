@@ -30,7 +30,8 @@ square_in holdings company = slice_index_or holdings.squares (place_of_company c
 -- the holdings are those of a game
 pub record AreHoldingsOf (game : Game) (holdings : Holdings) : Type 0 where
   pub seats : holdings.seats ≡ game.seats
-  pub tenths : (company : Company) (place : Shareholder) → HasPlace place → tenths_in holdings company place ≡ shares_of game.events company place
+  pub tenths : (company : Company) (place : Shareholder) → HasPlace place
+      → tenths_in holdings company place ≡ shares_of game.events company place
   pub presidents : (company : Company) → president_in holdings company ≡ president_of game.events company
   pub squares : (company : Company) → square_in holdings company ≡ square_of game.events company
   pub owners : (private : Private) → owner_in holdings.owners private ≡ owner_of game.events private
@@ -41,7 +42,9 @@ AreHoldingsAt past holdings = AreHoldingsOf (record { seats = past.seats; events
 
 -- a transfer moves its tenths, and nothing else
 pub record MovesTenths (old new : Holdings) (transfer : Transfer) : Type 0 where
-  pub tenths : (company : Company) (place : Shareholder) → tenths_in new company place ≡ (tenths_in old company place +ℤ pos (brought_to company place (Some transfer))) -ℤ pos (taken_from company place (Some transfer))
+  pub tenths : (company : Company) (place : Shareholder)
+      → tenths_in new company place ≡ (tenths_in old company place +ℤ pos (brought_to company place (Some transfer)))
+      -ℤ pos (taken_from company place (Some transfer))
   pub seats : new.seats ≡ old.seats
   pub presidents : new.presidents ≡ old.presidents
   pub squares : new.squares ≡ old.squares

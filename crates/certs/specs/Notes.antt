@@ -13,11 +13,13 @@ use Rattle.tables.specs.declared.squares.Square.{Square}
 
 -- the tenths of a company at a place, by the rows
 abbrev pub noted_tenths : List (List ℤ) → Company → Shareholder → ℤ
-noted_tenths rows company place = slice_index_or (slice_index_or rows (place_of_company company) []) (index_of place) (pos 0)
+noted_tenths rows company place = slice_index_or (slice_index_or rows (place_of_company company) []) (index_of place)
+    (pos 0)
 
 -- the row of a company has its tenths
 abbrev pub IsRowOf : List Event → Company → List ℤ → Type 0
-IsRowOf events company row = (place : Shareholder) → HasPlace place → slice_index_or row (index_of place) (pos 0) ≡ shares_of events company place
+IsRowOf events company row = (place : Shareholder) → HasPlace place
+    → slice_index_or row (index_of place) (pos 0) ≡ shares_of events company place
 
 -- what is noted of a company
 abbrev pub noted : {A : Type 0} → List (Option A) → Company → Option A
@@ -26,7 +28,8 @@ noted table company = slice_index_or table (place_of_company company) None
 -- the tenths are those of a list of events
 abbrev pub AreTenthsOf : List Event → List (List ℤ) → Type 0
 AreTenthsOf events rows =
-    (company : Company) (place : Shareholder) → HasPlace place → noted_tenths rows company place ≡ shares_of events company place
+    (company : Company) (place : Shareholder) → HasPlace place
+    → noted_tenths rows company place ≡ shares_of events company place
 
 -- the presidents are those of a list of events
 abbrev pub ArePresidentsOf : List Event → List (Option Seat) → Type 0

@@ -59,12 +59,14 @@ HaveAtMost tenths most (seat ∷ others) = (tenths seat ≤ℤ most) × HaveAtMo
 abbrev pub IsFirstWithMost : (Seat → ℤ) → Seat → List Seat → Type 0
 IsFirstWithMost tenths first [] = ⊥
 IsFirstWithMost tenths first (seat ∷ others) =
-    ((seat ≡ first) × HaveAtMost tenths (tenths first) others) ⊎ ((tenths seat <ℤ tenths first) × IsFirstWithMost tenths first others)
+    ((seat ≡ first) × HaveAtMost tenths (tenths first) others)
+    ⊎ ((tenths seat <ℤ tenths first) × IsFirstWithMost tenths first others)
 
 -- the seat that presides is the first with most, beginning with the one that presided
 abbrev pub FirstWithMostPresides : Type 0
 FirstWithMostPresides =
-    (tenths : Seat → ℤ) (old : Seat) (others : List Seat) → IsFirstWithMost tenths (with_most tenths old others) (old ∷ others)
+    (tenths : Seat → ℤ) (old : Seat) (others : List Seat)
+    → IsFirstWithMost tenths (with_most tenths old others) (old ∷ others)
 
 -- the president as it was said last, if there is one, is at the table
 abbrev pub PresidentIsSeated : Game → Company → Type 0
@@ -74,4 +76,5 @@ PresidentIsSeated game company = (seat : Seat) → president_of game.events comp
 abbrev pub PresidesByGame : Type 0
 PresidesByGame =
     (game :
-    Game) (holdings : Holdings) (company : Company) → AreHoldingsOf game holdings → game.seats ≤ 6 → PresidentIsSeated game company → presiding_in holdings company ≡ presiding_of game.seats game.events company
+    Game) (holdings : Holdings) (company : Company) → AreHoldingsOf game holdings → game.seats ≤ 6
+    → PresidentIsSeated game company → presiding_in holdings company ≡ presiding_of game.seats game.events company

@@ -102,7 +102,8 @@ is_at_limit seats events seat company =
 -- with so many tenths more the seat would have over six of a company, where the zone does not lift that
 unfoldable pub is_over_six : List Event → Seat → Company → ℕ → Bool
 is_over_six events seat company tenths =
-    not (in_zone lifts_six (square_of events company)) && lt_z (pos 6) (shares_of events company (OfSeat seat) +ℤ pos tenths)
+    not (in_zone lifts_six (square_of events company))
+    && lt_z (pos 6) (shares_of events company (OfSeat seat) +ℤ pos tenths)
 
 -- a company is the one of which the seat has bought, and several of it may be bought
 abbrev pub is_one_of_several : List Event → Company → Company → Bool
@@ -132,7 +133,8 @@ share_purchase_rules seats events seat purchase bought =
 
 -- the first rule that a purchase breaks
 unfoldable pub purchase_judgement : ℕ → List Event → Seat → Purchase → Option Company → Option StockRule
-purchase_judgement seats events seat purchase bought = first_broken (share_purchase_rules seats events seat purchase bought)
+purchase_judgement seats events seat purchase bought =
+    first_broken (share_purchase_rules seats events seat purchase bought)
 
 -- a deal is allowed that breaks no rule
 abbrev pub allowed : Option StockRule → Result (Unit {0}) StockRule

@@ -38,7 +38,8 @@ only_at index k tenths = if index == k then tenths else pos 0
 -- a row is another in which tenths went from one place to another
 abbrev pub IsMoved : List ℤ → List ℤ → ℕ → ℕ → ℕ → Type 0
 IsMoved old new from to tenths =
-    (k : ℕ) → slice_index_or new k (pos 0) ≡ (slice_index_or old k (pos 0) +ℤ only_at to k (pos tenths)) -ℤ only_at from k (pos tenths)
+    (k : ℕ) → slice_index_or new k (pos 0) ≡ (slice_index_or old k (pos 0) +ℤ only_at to k (pos tenths)) -ℤ only_at
+    from k (pos tenths)
 
 -- tenths that are neither many nor far under 0
 pub record IsSmall (tenths : ℤ) : Type 0 where

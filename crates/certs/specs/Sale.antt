@@ -42,7 +42,8 @@ kept_after events seat sale = shares_of events sale.company (OfSeat seat) -ℤ p
 -- one of these seats has at least so many tenths of a company
 abbrev pub one_has : List Event → Company → ℤ → List Seat → Bool
 one_has events company least [] = false
-one_has events company least (seat ∷ others) = le_z least (shares_of events company (OfSeat seat)) || one_has events company least others
+one_has events company least (seat ∷ others) =
+    le_z least (shares_of events company (OfSeat seat)) || one_has events company least others
 
 -- another seat has at least so many
 abbrev pub another_has : ℕ → List Event → Company → Seat → ℤ → Bool
@@ -57,12 +58,14 @@ leaves_none seats events seat sale =
 abbrev pub moves_operating : ℕ → List Event → Seat → Sale → Option Company → Bool
 moves_operating seats events seat sale None = false
 moves_operating seats events seat sale (Some operating) =
-    same_company operating sale.company && another_has seats events sale.company seat (kept_after events seat sale +ℤ pos 1)
+    same_company operating sale.company && another_has seats events sale.company seat
+    (kept_after events seat sale +ℤ pos 1)
 
 -- the seat presides over the company, and may not sell so many of its tenths
 unfoldable pub must_stay : ℕ → List Event → Seat → Sale → Option Company → Bool
 must_stay seats events seat sale operating =
-    presides seat (president_of events sale.company) && (leaves_none seats events seat sale || moves_operating seats events seat sale operating)
+    presides seat (president_of events sale.company)
+    && (leaves_none seats events seat sale || moves_operating seats events seat sale operating)
 
 -- the rules that a sale may break, where this company operates, if it is to pay for a train: it is the first
 -- stock round; no tenths are to be sold, or more than the seat has; the pool would hold over five; the

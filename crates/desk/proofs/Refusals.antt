@@ -7,7 +7,8 @@ use Rattle.sheets.specs.declared.fault.FileFault.{FileFault}
 use Rattle.sheets.specs.declared.fault.FileFault.TheVariants.{Header, Players, TooLong, TooManySheets, Memory}
 
 -- a file without sheets has no answer of the desk
-pub none_where_it_fails : (fault : FileFault) (file : List ℕ) → Fails fault (content_of file) → HasNone (fault_of_file fault) file
+pub none_where_it_fails : (fault : FileFault) (file : List ℕ) → Fails fault (content_of file)
+    → HasNone (fault_of_file fault) file
 none_where_it_fails Header file fails = fails
 none_where_it_fails Players file fails = fails
 none_where_it_fails TooLong file fails = fails

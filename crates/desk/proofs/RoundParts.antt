@@ -10,7 +10,8 @@ use Rattle.tables.specs.declared.round.Round as the_round
 
 -- a round without a text was not played
 pub without_text :
-    (played : Played) (round : the_round.Round) (text : List ℕ) → text ≡ round_text_of played round → text ≡ [] → IsNotPlayed played (Some round)
+    (played : Played) (round : the_round.Round) (text : List ℕ) → text ≡ round_text_of played round → text ≡ []
+    → IsNotPlayed played (Some round)
 without_text played round text is none = record { round = round; is_asked = refl; none = sym is ∙ none }
 
 -- the text of the round that is asked for in the game of a file
@@ -22,7 +23,8 @@ part_of_file played asked file text of_file game is =
 
 -- why there is none
 pub no_part_of_file :
-    (fault : DeskFault) (played : Played) (asked : Option the_round.Round) (file : List ℕ) → played.file ≡ file → IsTheGame played →
+    (fault : DeskFault) (played : Played) (asked : Option the_round.Round) (file : List ℕ) → played.file ≡ file
+    → IsTheGame played →
     HasNoText played (round_asked played asked) fault → IsRoundFault file asked fault
 no_part_of_file Round played asked file of_file game none =
     record { played = played; of_file = record { of_file = of_file; game = game }; none = none }
@@ -30,7 +32,8 @@ no_part_of_file Memory played asked file of_file game none = tt
 no_part_of_file (File fault) played asked file of_file game none = absurd none
 
 -- where a file has no sheets
-pub no_part_where_it_fails : (fault : DeskFault) (asked : Option the_round.Round) (file : List ℕ) → HasNone fault file → IsRoundFault file asked fault
+pub no_part_where_it_fails : (fault : DeskFault) (asked : Option the_round.Round) (file : List ℕ) → HasNone fault file
+    → IsRoundFault file asked fault
 no_part_where_it_fails Round asked file none = absurd none
 no_part_where_it_fails Memory asked file none = none
 no_part_where_it_fails (File fault) asked file none = none

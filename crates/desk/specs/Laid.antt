@@ -8,4 +8,5 @@ use Rattle.events.specs.declared.event.Event.{Event}
 
 abbrev pub laid_then : MapState → Event → MapState
 laid_then laid event =
-    map_state_of (laid.lays ++ cons_option (tile_laid event) []) (laid.tokens ++ cons_option (token_placed event) []) laid.phase
+    map_state_of (laid.lays ++ cons_option (tile_laid event) []) (laid.tokens ++ cons_option (token_placed event) [])
+    laid.phase

@@ -39,10 +39,16 @@ OpensWith (Opening number) events in_set = in_set ≡ rounds_of_new_set events
 OpensWith other events in_set = ⊤
 
 -- no phase begins in an opening round
-phase_through : (file : List ℕ) (number : ℕ) (old new : Game) → IsPlayed file (Opening number) old new → phase_of new.events ≡ phase_of old.events
+phase_through : (file : List ℕ) (number : ℕ) (old new : Game) → IsPlayed file (Opening number) old new
+    → phase_of new.events ≡ phase_of old.events
 phase_through file number old new played =
     of_growing (λ before after. phase_of after ≡ phase_of before)
-    (record { same = λ events. refl; both = λ a b c first second. second ∙ first; aside = λ events its says. phase_kept events its says.phase })
+    (record {
+      same = λ events. refl;
+      both = λ a b c first second. second ∙ first;
+      aside =
+          λ events its says. phase_kept events its says.phase;
+    })
     (old.events ++ event.Round (Opening number) ∷ []) new.events (opening_grows file (Opening number) old new played)
     ∙ phase_kept old.events (event.Round (Opening number)) refl
 
@@ -56,12 +62,14 @@ opens_through file (Operating set number) old new in_set played opens = tt
 
 -- and before the round that follows
 opens_next : (round : Round) (events : List Event) (in_set : ℕ) (sold broken : Bool) → OpensWith round events in_set →
-    OfNext (λ later. OpensWith later events (in_set_before (next.Round later) events in_set)) (following round in_set sold broken)
+    OfNext (λ later. OpensWith later events (in_set_before (next.Round later) events in_set))
+    (following round in_set sold broken)
 opens_next (Opening number) events in_set true broken opens = tt
 opens_next (Opening number) events in_set false broken opens = opens
 opens_next (Stock set) events in_set sold broken opens = tt
 opens_next (Operating set number) events in_set sold broken opens =
-    after_operating (λ (later : Round). OpensWith later events (in_set_before (next.Round later) events in_set)) set number in_set sold broken
+    after_operating (λ (later : Round). OpensWith later events (in_set_before (next.Round later) events in_set)) set
+    number in_set sold broken
     (λ more. tt) (λ past. tt)
 
 -- ahead of an awaited round, whose set has so many operating rounds, where the bank was broken or not
@@ -71,9 +79,11 @@ record InSets (awaited : Round) (count : ℕ) (broken : Bool) (round : Round) (i
   stays : broken ≡ true → set_of round ≡ set_of awaited
 
 -- the round that follows is ahead too
-sets_next : (awaited : Round) (count : ℕ) (was : Bool) (round : Round) (in_set : ℕ) (sold broken : Bool) (events : List Event) →
+sets_next : (awaited : Round) (count : ℕ) (was : Bool) (round : Round) (in_set : ℕ) (sold broken : Bool)
+    (events : List Event) →
     (was ≡ true → broken ≡ true) → OpensWith round events in_set → InSets awaited count was round in_set →
-    OfNext (λ later. InSets awaited count was later (in_set_before (next.Round later) events in_set)) (following round in_set sold broken)
+    OfNext (λ later. InSets awaited count was later (in_set_before (next.Round later) events in_set))
+    (following round in_set sold broken)
 sets_next awaited count was (Opening number) in_set true broken events still opens ahead =
     record { later = ahead.later; number = λ same. sym opens ∙ ahead.number same; stays = ahead.stays }
 sets_next awaited count was (Opening number) in_set false broken events still opens ahead =
@@ -89,7 +99,8 @@ sets_next awaited count was (Operating set number) in_set sold true events still
     ]
 sets_next awaited count was (Operating set number) in_set sold false events still opens ahead =
     let no_earlier : set_of awaited ≤ set = ahead.later in
-    after_operating (λ (later : Round). InSets awaited count was later (in_set_before (next.Round later) events in_set)) set number in_set sold false
+    after_operating (λ (later : Round). InSets awaited count was later
+    (in_set_before (next.Round later) events in_set)) set number in_set sold false
     (λ more. record { later = ahead.later; number = ahead.number; stays = ahead.stays })
     (λ past.
     record {
@@ -106,11 +117,13 @@ in_time set true its stays =
 in_time set false its stays =
     elim (nat_le its set) as (λ (b : Bool). (b || true) ≡ true) [ true ↦ refl | false ↦ refl ]
 
-within_most : (set count its in_set number : ℕ) → (its ≡ set → in_set ≡ count) → number ≤ in_set → in_set ≤ operating_most →
+within_most : (set count its in_set number : ℕ) → (its ≡ set → in_set ≡ count) → number ≤ in_set
+    → in_set ≤ operating_most →
     nat_le number (most_in_set set count its) ≡ true
 within_most set count its in_set number same within few =
     elim (its == set) as (λ (b : Bool). (its == set) ≡ b → nat_le number (if b then count else operating_most) ≡ true) [
-      | true ↦ λ is. let counted : in_set ≡ count = same (eqb-true its set is) in le-leb number count (omega (arith, counted, within))
+      | true ↦ λ is. let counted : in_set ≡ count = same (eqb-true its set is) in le-leb number count
+          (omega (arith, counted, within))
       | false ↦ λ other. le-leb number operating_most (omega (arith, within, few))
     ]
     refl
@@ -119,7 +132,8 @@ both_hold : (a b : Bool) → a ≡ true → b ≡ true → (a && b) ≡ true
 both_hold true b first second = second
 both_hold false b first second = absurd (true≢false (sym first))
 
-comes_in : (awaited : Round) (count : ℕ) (broken : Bool) (round : Round) (in_set : ℕ) → InSets awaited count broken round in_set →
+comes_in : (awaited : Round) (count : ℕ) (broken : Bool) (round : Round) (in_set : ℕ)
+    → InSets awaited count broken round in_set →
     StandsInSet round in_set → may_come (set_of awaited) count broken round ≡ true
 comes_in awaited count broken (Opening number) in_set ahead stands = refl
 comes_in awaited count broken (Stock set) in_set ahead stands = in_time (set_of awaited) broken set ahead.stays
@@ -137,15 +151,18 @@ record IsAhead (awaited : Round) (count : ℕ) (broken : Bool) (there : Between)
   stands : StandsNext there
 
 -- a broken bank stays broken through a round
-broken_through : (round : Round) (old new : Game) → AddsRound round old new → broken_in old.events ≡ true → broken_in new.events ≡ true
+broken_through : (round : Round) (old new : Game) → AddsRound round old new → broken_in old.events ≡ true
+    → broken_in new.events ≡ true
 broken_through round old new adds is =
     ap (λ (game : Game). broken_in game.events) adds.added
     ∙ list_any-append tells_broken old.events (event.Round round ∷ adds.more)
     ∙ ap (λ b. b || broken_in (event.Round round ∷ adds.more)) is
 
-module _ (adds : RoundsOnlyAdd) (numbered : SheetsAreNumbered) (file : List ℕ) (some : 0 < length (players_of file)) where
+module _ (adds : RoundsOnlyAdd) (numbered : SheetsAreNumbered) (file : List ℕ)
+    (some : 0 < length (players_of file)) where
   -- a round that is played leads on
-  round_ahead : (awaited : Round) (count : ℕ) (broken : Bool) (old new : Between) → IsAhead awaited count broken old → IsRound file old new →
+  round_ahead : (awaited : Round) (count : ℕ) (broken : Bool) (old new : Between) → IsAhead awaited count broken old
+      → IsRound file old new →
       IsAhead awaited count broken new
   round_ahead awaited count broken old new ahead round =
       let events = new.game.events in
@@ -163,8 +180,10 @@ module _ (adds : RoundsOnlyAdd) (numbered : SheetsAreNumbered) (file : List ℕ)
             omega (arith, before, forward);
         sets =
             λ later comes.
-            subst (λ (number : ℕ). InSets awaited count broken later number) (sym (in_set_then file old new later round comes))
-            (of_coming (λ (at : Round). InSets awaited count broken at (in_set_before (next.Round at) events old.in_set))
+            subst (λ (number : ℕ). InSets awaited count broken later number)
+            (sym (in_set_then file old new later round comes))
+            (of_coming (λ (at : Round). InSets awaited count broken at
+            (in_set_before (next.Round at) events old.in_set))
             (following round.round old.in_set sold (broken_in events)) later (follows file old new later round comes)
             (sets_next awaited count broken round.round old.in_set sold (broken_in events) events still opens
             (ahead.sets round.round round.comes)));
@@ -179,11 +198,13 @@ module _ (adds : RoundsOnlyAdd) (numbered : SheetsAreNumbered) (file : List ℕ)
       }
 
   -- so do all that follow
-  all_ahead : (awaited : Round) (count : ℕ) (broken : Bool) (rounds : ℕ) (last there : Between) → IsAhead awaited count broken last →
+  all_ahead : (awaited : Round) (count : ℕ) (broken : Bool) (rounds : ℕ) (last there : Between)
+      → IsAhead awaited count broken last →
       AreRounds file rounds last there → IsAhead awaited count broken there
   all_ahead awaited count broken zero last there ahead played = subst (IsAhead awaited count broken) played ahead
   all_ahead awaited count broken (suc rounds) last there ahead played =
-      round_ahead awaited count broken played.0 there (all_ahead awaited count broken rounds last played.0 ahead played.1) played.2
+      round_ahead awaited count broken played.0 there
+      (all_ahead awaited count broken rounds last played.0 ahead played.1) played.2
 
 -- a game opens so wherever it comes
 abbrev OpensNext : Between → Type 0
@@ -194,26 +215,32 @@ round_opens file old new opens round later comes =
     let events = new.game.events in
     subst (λ (number : ℕ). OpensWith later events number) (sym (in_set_then file old new later round comes))
     (of_coming (λ (at : Round). OpensWith at events (in_set_before (next.Round at) events old.in_set))
-    (following round.round old.in_set (all_sold events) (broken_in events)) later (follows file old new later round comes)
+    (following round.round old.in_set (all_sold events) (broken_in events)) later
+    (follows file old new later round comes)
     (opens_next round.round events old.in_set (all_sold events) (broken_in events)
     (opens_through file round.round old.game new.game old.in_set round.played (opens round.round round.comes))))
 
-game_opens : (file : List ℕ) (rounds : ℕ) (there : Between) → AreRounds file rounds (before_play file) there → OpensNext there
+game_opens : (file : List ℕ) (rounds : ℕ) (there : Between) → AreRounds file rounds (before_play file) there
+    → OpensNext there
 game_opens file zero there played =
     subst OpensNext played
-    (λ round comes. subst (λ (at : Round). OpensWith at [] (before_play file).in_set) (comes_once (Opening 1) round comes) refl)
+    (λ round comes. subst (λ (at : Round). OpensWith at [] (before_play file).in_set)
+    (comes_once (Opening 1) round comes) refl)
 game_opens file (suc rounds) there played =
     round_opens file played.0 there (game_opens file rounds played.0 played.1) played.2
 
 -- where a game has stopped before a round, it is ahead of itself
-first_ahead : (file : List ℕ) (rounds : ℕ) (last : Between) (awaited : Round) → AreRounds file rounds (before_play file) last →
+first_ahead : (file : List ℕ) (rounds : ℕ) (last : Between) (awaited : Round)
+    → AreRounds file rounds (before_play file) last →
     last.next ≡ next.Round awaited → IsAhead awaited last.in_set (broken_in last.game.events) last
 first_ahead file rounds last awaited reached comes =
     record {
-      order = λ round is. subst (λ (at : Round). rank_of awaited ≤ rank_of at) (comes_once awaited round (sym comes ∙ is)) (omega arith);
+      order = λ round is. subst (λ (at : Round). rank_of awaited ≤ rank_of at)
+          (comes_once awaited round (sym comes ∙ is)) (omega arith);
       sets =
           λ round is.
-          subst (λ (at : Round). InSets awaited last.in_set (broken_in last.game.events) at last.in_set) (comes_once awaited round (sym comes ∙ is))
+          subst (λ (at : Round). InSets awaited last.in_set (broken_in last.game.events) at last.in_set)
+          (comes_once awaited round (sym comes ∙ is))
           (record { later = omega arith; number = λ same. refl; stays = λ broken. refl });
       opens = game_opens file rounds last reached;
       still = λ is. is;
@@ -221,7 +248,8 @@ first_ahead file rounds last awaited reached comes =
     }
 
 -- once a game is over no round comes
-none_comes : (file : List ℕ) (rounds : ℕ) (last there : Between) → last.next ≡ next.Ended → AreRounds file rounds last there → there ≡ last
+none_comes : (file : List ℕ) (rounds : ℕ) (last there : Between) → last.next ≡ next.Ended
+    → AreRounds file rounds last there → there ≡ last
 none_comes file zero last there over played = sym played
 none_comes file (suc rounds) last there over played =
     let same : played.0 ≡ last = none_comes file rounds last played.0 over played.1 in
@@ -232,18 +260,24 @@ none_comes file (suc rounds) last there over played =
 not_before : (awaited round : Round) → rank_of awaited ≤ rank_of round → not (is_before round awaited) ≡ true
 not_before awaited round order = ap not (le-ltb (rank_of round) (rank_of awaited) order)
 
-module _ (adds : RoundsOnlyAdd) (numbered : SheetsAreNumbered) (few : ThreeToSixPlay) (played : Played) (round : Round) where
-  module _ (last there : Between) (file : List ℕ) (rounds : ℕ) (stopped : StoppedAt played last) (accepted : IsAccepted file) (reached : AreRounds file rounds last there) (comes : there.next ≡ next.Round round) where
+module _ (adds : RoundsOnlyAdd) (numbered : SheetsAreNumbered) (few : ThreeToSixPlay) (played : Played)
+    (round : Round) where
+  module _ (last there : Between) (file : List ℕ) (rounds : ℕ) (stopped : StoppedAt played last)
+      (accepted : IsAccepted file) (reached : AreRounds file rounds last there)
+      (comes : there.next ≡ next.Round round) where
     -- if it comes, it may follow the awaited round
-    may_follow_so : (awaited : Round) → last.next ≡ next.Round awaited → may_follow awaited last.in_set (broken_in last.game.events) round ≡ true
+    may_follow_so : (awaited : Round) → last.next ≡ next.Round awaited
+        → may_follow awaited last.in_set (broken_in last.game.events) round ≡ true
     may_follow_so awaited awaits =
         let players = few file accepted in
         let some : 0 < length (players_of file) = omega (arith, players.0) in
         let ahead = all_ahead adds numbered file some awaited last.in_set (broken_in last.game.events) rounds last there
         (first_ahead played.file stopped.plays.rounds last awaited stopped.plays.reached awaits) reached in
-        both_hold (not (is_before round awaited)) (may_come (set_of awaited) last.in_set (broken_in last.game.events) round)
+        both_hold (not (is_before round awaited)) (may_come (set_of awaited) last.in_set (broken_in last.game.events)
+        round)
         (not_before awaited round (ahead.order round comes))
-        (comes_in awaited last.in_set (broken_in last.game.events) round there.in_set (ahead.sets round comes) (ahead.stands round comes))
+        (comes_in awaited last.in_set (broken_in last.game.events) round there.in_set (ahead.sets round comes)
+        (ahead.stands round comes))
 
     -- so it can come
     comes_so : (upcoming : Next) → last.next ≡ upcoming → can_come played.end played.game.events round ≡ true
@@ -256,10 +290,12 @@ module _ (adds : RoundsOnlyAdd) (numbered : SheetsAreNumbered) (few : ThreeToSix
         ∙ ap (λ (game : Game). may_follow awaited last.in_set (broken_in game.events) round) stopped.game
         ∙ may_follow_so awaited awaits
     comes_so next.Ended over =
-        let same : there.next ≡ last.next = ap (λ (at : Between). at.next) (none_comes file rounds last there over reached) in
+        let same : there.next ≡ last.next = ap (λ (at : Between). at.next)
+        (none_comes file rounds last there over reached) in
         absurd (no_round round (sym over ∙ sym same ∙ comes))
 
   -- one that cannot never comes
-  pub never_comes : (result : Bool) → result ≡ can_come played.end played.game.events round → result ≡ false → NeverComes played round
+  pub never_comes : (result : Bool) → result ≡ can_come played.end played.game.events round → result ≡ false
+      → NeverComes played round
   never_comes result is cannot last there file rounds stopped accepted reached comes =
       true≢false (sym (comes_so last there file rounds stopped accepted reached comes last.next refl) ∙ sym is ∙ cannot)

@@ -48,12 +48,14 @@ choices None b c = refl
 choices (Some phase) b c = refl
 
 -- the phase is the last that began
-phase_after : (events : List Event) (set : SetSoFar) → (fold set_then set events).phase ≡ unwrap_or (last_said phase_set events) set.phase
+phase_after : (events : List Event) (set : SetSoFar)
+    → (fold set_then set events).phase ≡ unwrap_or (last_said phase_set events) set.phase
 phase_after [] set = refl
 phase_after (event ∷ events) set =
     let begun : SetSoFar = in_phase set (phase_set event) in
     phase_after events (set_then set event)
-    ∙ ap (unwrap_or (last_said phase_set events)) (phase_at_round begun (round_begun_by event) ∙ phase_begun set (phase_set event))
+    ∙ ap (unwrap_or (last_said phase_set events)) (phase_at_round begun (round_begun_by event)
+    ∙ phase_begun set (phase_set event))
     ∙ sym (choices (last_said phase_set events) (phase_set event) set.phase)
 
 -- neither of two
@@ -67,7 +69,8 @@ none_there None none = refl
 none_there (Some round) none = absurd (cc)
 
 -- events none of which begins a round leave the number
-number_after : (events : List Event) (set : SetSoFar) → BeginsNoRound events → (fold set_then set events).rounds ≡ set.rounds
+number_after : (events : List Event) (set : SetSoFar) → BeginsNoRound events
+    → (fold set_then set events).rounds ≡ set.rounds
 number_after [] set none = refl
 number_after (event ∷ events) set none =
     let parts = neither (is_some (round_begun_by event)) (list_any (λ its. is_some (round_begun_by its)) events) none in
@@ -89,7 +92,8 @@ abbrev KeepsNumber : Between → Type 0
 KeepsNumber there = there.in_set ≡ in_set_before there.next there.game.events (set_of there.game.events).rounds
 
 -- so it is as a round begins
-number_begun : (round : Round) (events : List Event) (in_set : ℕ) → in_set ≡ in_set_before (next.Round round) events (set_of events).rounds →
+number_begun : (round : Round) (events : List Event) (in_set : ℕ)
+    → in_set ≡ in_set_before (next.Round round) events (set_of events).rounds →
     in_set ≡ (at_round (set_of events) (Some round)).rounds
 number_begun (Opening number) events in_set is = is
 number_begun (Stock set) events in_set is =
@@ -97,7 +101,8 @@ number_begun (Stock set) events in_set is =
 number_begun (Operating set number) events in_set is = is
 
 -- after a round that was played
-round_keeps : RoundsOnlyAdd → (file : List ℕ) (old new : Between) → KeepsNumber old → IsRound file old new → KeepsNumber new
+round_keeps : RoundsOnlyAdd → (file : List ℕ) (old new : Between) → KeepsNumber old → IsRound file old new
+    → KeepsNumber new
 round_keeps adds file old new keeps round =
     let at_first : old.in_set ≡ in_set_before (next.Round round.round) old.game.events (set_of old.game.events).rounds =
     keeps ∙ ap (λ (it : Next). in_set_before it old.game.events (set_of old.game.events).rounds) round.comes in
@@ -107,17 +112,20 @@ round_keeps adds file old new keeps round =
     round.in_set_then ∙ ap (in_set_before new.next new.game.events) number
 
 -- wherever a game comes
-keeps_number : RoundsOnlyAdd → (file : List ℕ) (rounds : ℕ) (there : Between) → AreRounds file rounds (before_play file) there → KeepsNumber there
+keeps_number : RoundsOnlyAdd → (file : List ℕ) (rounds : ℕ) (there : Between)
+    → AreRounds file rounds (before_play file) there → KeepsNumber there
 keeps_number adds file zero there played = subst KeepsNumber played refl
 keeps_number adds file (suc rounds) there played =
     round_keeps adds file played.0 there (keeps_number adds file rounds played.0 played.1) played.2
 
 -- where a game stops, the number goes by what comes next
-number_by_end : (bankrupt : Bool) (events : List Event) → number_in_set (if bankrupt then Bankrupt else Bank) events ≡ (set_of events).rounds
+number_by_end : (bankrupt : Bool) (events : List Event)
+    → number_in_set (if bankrupt then Bankrupt else Bank) events ≡ (set_of events).rounds
 number_by_end true events = refl
 number_by_end false events = refl
 
-number_by_next : (upcoming : Next) (events : List Event) → number_in_set (end_of upcoming events) events ≡ in_set_before upcoming events (set_of events).rounds
+number_by_next : (upcoming : Next) (events : List Event)
+    → number_in_set (end_of upcoming events) events ≡ in_set_before upcoming events (set_of events).rounds
 number_by_next (next.Round round) events = refl
 number_by_next next.Ended events = number_by_end (bankrupt_in events) events
 

@@ -68,7 +68,8 @@ replaces_with_one before (first ∷ heads) head h e =
     (h.0, replaces_with_one (before ++ head_at first ∷ []) heads head h.1 (rw append_assoc e))
 
 -- a choice that is made by a test
-or_by_test : (test : Bool) (line : ℕ) (other : Option ℕ) → cond test (Some line) other ≡ option_or (cond test (Some line) None) other
+or_by_test : (test : Bool) (line : ℕ) (other : Option ℕ)
+    → cond test (Some line) other ≡ option_or (cond test (Some line) None) other
 or_by_test true line other = refl
 or_by_test false line other = refl
 
@@ -76,7 +77,8 @@ or_by_test false line other = refl
 pub last_after_insert : (key sent : Sent) (line : ℕ) (old new : List (Sent × ℕ)) (heads : List HeadAt) →
     lookup (same_sent sent) new ≡ cond (same_sent key sent) (Some line) (lookup (same_sent sent) old)
     → lookup (same_sent sent) old ≡ last_line (sheet_key_of sent) heads
-    → lookup (same_sent sent) new ≡ last_line (sheet_key_of sent) (heads ++ record { line = line; sheet_key = sheet_key_of key } ∷ [])
+    → lookup (same_sent sent) new ≡ last_line (sheet_key_of sent)
+    (heads ++ record { line = line; sheet_key = sheet_key_of key } ∷ [])
 last_after_insert key sent line old new heads put kept =
     put ∙ ap (λ o. cond (same_sent key sent) (Some line) o) kept
     ∙ or_by_test (same_sent key sent) line (last_line (sheet_key_of sent) heads)
@@ -88,7 +90,8 @@ first_with_one : (sheet_key : SheetKey) (heads : List HeadAt) (head : HeadAt) �
 first_with_one sheet_key [] head = refl
 first_with_one sheet_key (first ∷ heads) head =
     elim (same_sheet_key first.sheet_key sheet_key) as (λ (test : Bool).
-    cond test (Some first.line) (first_line sheet_key (heads ++ head ∷ [])) ≡ option_or (cond test (Some first.line) (first_line sheet_key heads)) (line_if sheet_key head)) [
+    cond test (Some first.line) (first_line sheet_key (heads ++ head ∷ []))
+    ≡ option_or (cond test (Some first.line) (first_line sheet_key heads)) (line_if sheet_key head)) [
       | true ↦ refl
       | false ↦ first_with_one sheet_key heads head
     ]
@@ -109,24 +112,29 @@ none_before (Some first) false line none = refl
 
 module _ (key sent : Sent) (line : ℕ) (heads : List HeadAt) where
   -- where one begins this sheet, the first stays
-  pub first_stays : (entries : List (Sent × ℕ)) → lookup (same_sent sent) entries ≡ first_line (sheet_key_of sent) heads →
+  pub first_stays : (entries : List (Sent × ℕ)) → lookup (same_sent sent) entries
+      ≡ first_line (sheet_key_of sent) heads →
       is_some (first_line (sheet_key_of key) heads) ≡ true →
-      lookup (same_sent sent) entries ≡ first_line (sheet_key_of sent) (heads ++ record { line = line; sheet_key = sheet_key_of key } ∷ [])
+      lookup (same_sent sent) entries ≡ first_line (sheet_key_of sent)
+      (heads ++ record { line = line; sheet_key = sheet_key_of key } ∷ [])
   first_stays entries kept there =
       kept
       ∙ there_before (first_line (sheet_key_of sent) heads) (same_sent key sent) line
-      (λ same. subst (λ (sheet_key : SheetKey). is_some (first_line sheet_key heads) ≡ true) (same_post_is (sheet_key_of key) (sheet_key_of sent) same) there)
+      (λ same. subst (λ (sheet_key : SheetKey). is_some (first_line sheet_key heads) ≡ true)
+      (same_post_is (sheet_key_of key) (sheet_key_of sent) same) there)
       ∙ sym (first_with_one (sheet_key_of sent) heads (record { line = line; sheet_key = sheet_key_of key }))
 
   -- where none does, this is the first
   pub first_comes : (old new : List (Sent × ℕ)) →
       lookup (same_sent sent) new ≡ cond (same_sent key sent) (Some line) (lookup (same_sent sent) old) →
       lookup (same_sent sent) old ≡ first_line (sheet_key_of sent) heads → first_line (sheet_key_of key) heads ≡ None →
-      lookup (same_sent sent) new ≡ first_line (sheet_key_of sent) (heads ++ record { line = line; sheet_key = sheet_key_of key } ∷ [])
+      lookup (same_sent sent) new ≡ first_line (sheet_key_of sent)
+      (heads ++ record { line = line; sheet_key = sheet_key_of key } ∷ [])
   first_comes old new put kept none =
       put ∙ ap (λ o. cond (same_sent key sent) (Some line) o) kept
       ∙ none_before (first_line (sheet_key_of sent) heads) (same_sent key sent) line
-      (λ same. subst (λ (sheet_key : SheetKey). first_line sheet_key heads ≡ None) (same_post_is (sheet_key_of key) (sheet_key_of sent) same) none)
+      (λ same. subst (λ (sheet_key : SheetKey). first_line sheet_key heads ≡ None)
+      (same_post_is (sheet_key_of key) (sheet_key_of sent) same) none)
       ∙ sym (first_with_one (sheet_key_of sent) heads (record { line = line; sheet_key = sheet_key_of key }))
 
 -- nothing is there
@@ -136,15 +144,18 @@ not_there (Some line) none = absurd (true≢false none)
 
 -- the line by which one player more had a sheet
 pub complete_next : (seats : ℕ) (round : Round) (heads : List HeadAt) →
-    later_of (complete_by seats round heads) (first_line (sheet_key_at seats round) heads) ≡ complete_by (seats + 1) round heads
+    later_of (complete_by seats round heads) (first_line (sheet_key_at seats round) heads)
+    ≡ complete_by (seats + 1) round heads
 complete_next seats round heads = ap (λ n. complete_by n round heads) (sym (add-one seats))
 
 -- the heads that came, once one more has come
-pub came_with_one : (heads : List Head) (head : Head) → map head_at (heads ++ head ∷ []) ≡ map head_at heads ++ head_at head ∷ []
+pub came_with_one : (heads : List Head) (head : Head)
+    → map head_at (heads ++ head ∷ []) ≡ map head_at heads ++ head_at head ∷ []
 came_with_one heads head = map-append head_at heads (head ∷ [])
 
 -- one more line
-pub heads_step : (players : List (List ℕ)) (passed : ℕ) (old new whole : List HeadAt) (lines : List (List ℕ)) (line : List ℕ) (left : List (List ℕ)) →
+pub heads_step : (players : List (List ℕ)) (passed : ℕ) (old new whole : List HeadAt) (lines : List (List ℕ))
+    (line : List ℕ) (left : List (List ℕ)) →
     old ++ heads_in players passed lines ≡ whole → lines ≡ line ∷ left
     → new ≡ old ++ head_here (passed + 1) (begins players line)
     → new ++ heads_in players (passed + 1) left ≡ whole

@@ -29,7 +29,8 @@ passed k (player ∷ players) (suc n) name h = passed k players n name h
 
 pub seat_passed : (k : ℕ) (players : List (List ℕ)) (n : ℕ) (name : List ℕ) →
     is_named players n name ≡ false → seat_from k (drop n players) name ≡ seat_from (k + 1) (drop (n + 1) players) name
-seat_passed k players n name h = passed k players n name h ∙ ap (λ m. seat_from (k + 1) (drop m players) name) (sym (add-one n))
+seat_passed k players n name h = passed k players n name h
+    ∙ ap (λ m. seat_from (k + 1) (drop m players) name) (sym (add-one n))
 
 -- the seat whose player has the name is found
 pub seat_found : (k : ℕ) (players : List (List ℕ)) (n : ℕ) (name : List ℕ) →
@@ -40,5 +41,6 @@ seat_found k (player ∷ players) zero name h = rw h refl
 seat_found k (player ∷ players) (suc n) name h = seat_found k players n name h
 
 -- behind the last seat nobody is found
-pub no_seat_left : (k : ℕ) (players : List (List ℕ)) (n : ℕ) (name : List ℕ) → length players ≤ n → seat_from k (drop n players) name ≡ None
+pub no_seat_left : (k : ℕ) (players : List (List ℕ)) (n : ℕ) (name : List ℕ) → length players ≤ n
+    → seat_from k (drop n players) name ≡ None
 no_seat_left k players n name h = ap (λ xs. seat_from k xs name) (drop_all n players h)

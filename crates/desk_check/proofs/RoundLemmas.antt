@@ -31,7 +31,8 @@ by_kind (Operating m j) (Stock n) = refl
 by_kind (Operating m j) (Operating n k) = refl
 
 -- look-ups by either test are the same
-pub found_by_round : {X : Type 0} (round : Round) (entries : List (Round × X)) → lookup (derived.eq-value.it round) entries ≡ lookup (same_round round) entries
+pub found_by_round : {X : Type 0} (round : Round) (entries : List (Round × X))
+    → lookup (derived.eq-value.it round) entries ≡ lookup (same_round round) entries
 found_by_round round [] = refl
 found_by_round round (entry ∷ entries) =
     ap (λ t. cond t (Some entry.1) (lookup (derived.eq-value.it round) entries)) (by_kind round entry.0)
@@ -43,19 +44,24 @@ with_round_parts None a b = refl
 with_round_parts (Some round) a b = refl
 
 -- one more event begins a round, or none
-begun_with_one : (events : List Event) (event : Event) → rounds_begun (events ++ event ∷ []) ≡ rounds_begun events ++ with_round (round_begun_by event) []
+begun_with_one : (events : List Event) (event : Event)
+    → rounds_begun (events ++ event ∷ []) ≡ rounds_begun events ++ with_round (round_begun_by event) []
 begun_with_one [] event = refl
 begun_with_one (first ∷ events) event =
     ap (with_round (round_begun_by first)) (begun_with_one events event)
     ∙ with_round_parts (round_begun_by first) (rounds_begun events) (with_round (round_begun_by event) [])
 
 -- an event that begins no round
-none_begun : (events : List Event) (event : Event) (round : Round) → round_begun_by event ≡ None → is_begun (events ++ event ∷ []) round ≡ is_begun events round
+none_begun : (events : List Event) (event : Event) (round : Round) → round_begun_by event ≡ None
+    → is_begun (events ++ event ∷ []) round ≡ is_begun events round
 none_begun events event round h =
-    ap (list_any (λ begun. same_round begun round)) (begun_with_one events event ∙ ap (λ o. rounds_begun events ++ with_round o []) h ∙ append-nil (rounds_begun events))
+    ap (list_any (λ begun. same_round begun round))
+    (begun_with_one events event ∙ ap (λ o. rounds_begun events ++ with_round o []) h
+    ∙ append-nil (rounds_begun events))
 
 -- whether something is there, after a choice
-some_by_test : (test : Bool) (line : ℕ) (other : Option ℕ) → is_some (cond test (Some line) other) ≡ (is_some other || (test || false))
+some_by_test : (test : Bool) (line : ℕ) (other : Option ℕ)
+    → is_some (cond test (Some line) other) ≡ (is_some other || (test || false))
 some_by_test true line None = refl
 some_by_test true line (Some x) = refl
 some_by_test false line None = refl
@@ -64,7 +70,8 @@ some_by_test false line (Some x) = refl
 -- an event that begins a round, which is kept with a line
 one_begun : (events : List Event) (event : Event) (key round : Round) (line : ℕ) (old new : List (Round × ℕ)) →
     round_begun_by event ≡ Some key
-    → lookup (derived.eq-value.it round) new ≡ cond (derived.eq-value.it key round) (Some line) (lookup (derived.eq-value.it round) old)
+    → lookup (derived.eq-value.it round) new ≡ cond (derived.eq-value.it key round) (Some line)
+    (lookup (derived.eq-value.it round) old)
     → is_some (lookup (same_round round) old) ≡ is_begun events round
     → is_some (lookup (same_round round) new) ≡ is_begun (events ++ event ∷ []) round
 one_begun events event key round line old new h put kept =
@@ -88,7 +95,8 @@ or_none None = refl
 or_none (Some x) = refl
 
 -- a choice that is made by a test
-or_by_test : (test : Bool) (line : ℕ) (other : Option ℕ) → cond test (Some line) other ≡ option_or (cond test (Some line) None) other
+or_by_test : (test : Bool) (line : ℕ) (other : Option ℕ)
+    → cond test (Some line) other ≡ option_or (cond test (Some line) None) other
 or_by_test true line other = refl
 or_by_test false line other = refl
 
@@ -102,20 +110,23 @@ module _ (seats : ℕ) (heads : List HeadAt) where
   -- and of a round among them
   ready_with_one : (by : ℕ) (rounds : List Round) (key round : Round) →
       ready_among seats heads by (rounds ++ key ∷ []) round
-      ≡ option_or (cond (same_round key round) (Some (by_then seats heads by (rounds ++ key ∷ []))) None) (ready_among seats heads by rounds round)
+      ≡ option_or (cond (same_round key round) (Some (by_then seats heads by (rounds ++ key ∷ []))) None)
+      (ready_among seats heads by rounds round)
   ready_with_one by [] key round = or_none (cond (same_round key round) (Some (by_with seats heads by key)) None)
   ready_with_one by (first ∷ rounds) key round =
       let now = by_with seats heads by first in
       let here : Option ℕ = cond (same_round first round) (Some now) None in
       ap (λ (o : Option ℕ). option_or o here) (ready_with_one now rounds key round)
-      ∙ or_assoc (cond (same_round key round) (Some (by_then seats heads now (rounds ++ key ∷ []))) None) (ready_among seats heads now rounds round) here
+      ∙ or_assoc (cond (same_round key round) (Some (by_then seats heads now (rounds ++ key ∷ []))) None)
+      (ready_among seats heads now rounds round) here
 
 -- an event that begins no round is noted
 pub none_noted : (heads : Heads) (rounds : Rounds) (events : List Event) (event : Event) → round_begun_by event ≡ None →
     AreRoundsOf heads rounds events → AreRoundsOf heads rounds (events ++ event ∷ [])
 none_noted heads rounds events event none are =
     let same : rounds_begun (events ++ event ∷ []) ≡ rounds_begun events =
-    begun_with_one events event ∙ ap (λ o. rounds_begun events ++ with_round o []) none ∙ append-nil (rounds_begun events) in
+    begun_with_one events event ∙ ap (λ o. rounds_begun events ++ with_round o []) none
+    ∙ append-nil (rounds_begun events) in
     record {
       begun = λ round. are.begun round ∙ sym (none_begun events event round none);
       ready = λ round. are.ready round ∙ sym (ap (λ begun. ready_among heads.seats (came heads) 0 begun round) same);
@@ -123,25 +134,30 @@ none_noted heads rounds events event none are =
     }
 
 -- an event that begins a round is noted
-pub one_noted : (heads : Heads) (old new : Rounds) (events : List Event) (event : Event) (key : Round) → round_begun_by event ≡ Some key →
+pub one_noted : (heads : Heads) (old new : Rounds) (events : List Event) (event : Event) (key : Round)
+    → round_begun_by event ≡ Some key →
     ((round : Round) → lookup (derived.eq-value.it round) new.lines.entries
     ≡ cond (derived.eq-value.it key round) (Some new.by) (lookup (derived.eq-value.it round) old.lines.entries)) →
-    new.by ≡ by_with heads.seats (came heads) old.by key → AreRoundsOf heads old events → AreRoundsOf heads new (events ++ event ∷ [])
+    new.by ≡ by_with heads.seats (came heads) old.by key → AreRoundsOf heads old events
+    → AreRoundsOf heads new (events ++ event ∷ [])
 one_noted heads old new events event key begins put by are =
     let seats = heads.seats in
     let heads_came = came heads in
     let begun : rounds_begun (events ++ event ∷ []) ≡ rounds_begun events ++ key ∷ [] =
     begun_with_one events event ∙ ap (λ o. rounds_begun events ++ with_round o []) begins in
     let line : new.by ≡ by_then seats heads_came 0 (rounds_begun events ++ key ∷ []) =
-    by ∙ ap (λ n. by_with seats heads_came n key) are.by ∙ sym (by_with_one seats heads_came 0 (rounds_begun events) key) in
+    by ∙ ap (λ n. by_with seats heads_came n key) are.by
+    ∙ sym (by_with_one seats heads_came 0 (rounds_begun events) key) in
     record {
-      begun = λ round. one_begun events event key round new.by old.lines.entries new.lines.entries begins (put round) (are.begun round);
+      begun = λ round. one_begun events event key round new.by old.lines.entries new.lines.entries begins (put round)
+          (are.begun round);
       ready =
           λ round.
           let had = ready_among seats heads_came 0 (rounds_begun events) round in
           sym (found_by_round round new.lines.entries) ∙ put round
           ∙ ap (λ t. cond t (Some new.by) (lookup (derived.eq-value.it round) old.lines.entries)) (by_kind key round)
-          ∙ ap (λ o. cond (same_round key round) (Some new.by) o) (found_by_round round old.lines.entries ∙ are.ready round)
+          ∙ ap (λ o. cond (same_round key round) (Some new.by) o)
+          (found_by_round round old.lines.entries ∙ are.ready round)
           ∙ or_by_test (same_round key round) new.by had
           ∙ ap (λ n. option_or (cond (same_round key round) (Some n) None) had) line
           ∙ sym (ready_with_one seats heads_came 0 (rounds_begun events) key round)

@@ -10,7 +10,8 @@ told_one f xs n d old was now below before after =
     rw (take_more xs n d below) (rw (after, before) (flat_map_more f old (take n xs) (get_or xs n d)))
 
 -- where the elements are gone through in a slice of their list
-pub told_step : {X Y : Type 0} (f : X → List Y) (xs slice : List X) (n : ℕ) (d : X) (old was now : List Y) → slice ≡ xs → n < length slice →
+pub told_step : {X Y : Type 0} (f : X → List Y) (xs slice : List X) (n : ℕ) (d : X) (old was now : List Y)
+    → slice ≡ xs → n < length slice →
     was ≡ old ++ flat_map f (take n xs) → now ≡ was ++ f (get_or slice n d) → now ≡ old ++ flat_map f (take (n + 1) xs)
 told_step {X = X} f xs slice n d old was now same below before after =
     told_one f xs n d old was now (subst (λ (all : List X). n < length all) same below) before

@@ -17,7 +17,8 @@ FirstsAre kept heads = (sent : Sent) → get same_sent kept.first sent ≡ first
 -- a line that begins a sheet is noted, if it is the first that does
 abbrev pub NotesFirst : Heads → Sent → ℕ → Heads → Type 0
 NotesFirst old sent line new =
-    (heads : List HeadAt) → FirstsAre old heads → FirstsAre new (heads ++ record { line = line; sheet_key = sheet_key_of sent } ∷ [])
+    (heads : List HeadAt) → FirstsAre old heads → FirstsAre new
+    (heads ++ record { line = line; sheet_key = sheet_key_of sent } ∷ [])
 
 -- what is kept of them, in a game of at most six: the lines of the first and of the last that begin a sheet, and the sheet
 -- that each replaces

@@ -110,7 +110,8 @@ abbrev pub told_of : Heads → Rounds → Option Turn → Standing → Head → 
 told_of heads rounds turn now head = replacing_if heads rounds turn now head head.replaces
 
 -- of each sheet that replaces another it is told that it does, and what that changes
-pub record TellsReplaced (file : List ℕ) (heads : Heads) (rounds : Rounds) (now : Standing) (old new : List Finding) : Type 0 where
+pub record TellsReplaced (file : List ℕ) (heads : Heads) (rounds : Rounds) (now : Standing)
+    (old new : List Finding) : Type 0 where
   pub turn : Option Turn
   pub turns : TurnsBefore file heads (turning_of heads rounds).head turn
   pub told : new ≡ old ++ flat_map (told_of heads rounds turn now) heads.heads.items

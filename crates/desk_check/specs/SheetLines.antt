@@ -54,7 +54,8 @@ last_line sheet_key (head ∷ heads) =
 -- the first that does
 abbrev pub first_line : SheetKey → List HeadAt → Option ℕ
 first_line sheet_key [] = None
-first_line sheet_key (head ∷ heads) = if same_sheet_key head.sheet_key sheet_key then Some head.line else first_line sheet_key heads
+first_line sheet_key (head ∷ heads) = if same_sheet_key head.sheet_key sheet_key then Some head.line else first_line
+    sheet_key heads
 
 -- the later of two lines, if there are both
 abbrev pub later_of : Option ℕ → Option ℕ → Option ℕ
@@ -65,7 +66,8 @@ later_of (Some a) (Some b) = Some (max a b)
 -- the line by which each of so many players had a sheet for a round: the latest of those with which a player's first came
 abbrev pub complete_by : ℕ → Round → List HeadAt → Option ℕ
 complete_by zero round heads = Some 0
-complete_by (suc seats) round heads = later_of (complete_by seats round heads) (first_line (sheet_key_at seats round) heads)
+complete_by (suc seats) round heads = later_of (complete_by seats round heads)
+    (first_line (sheet_key_at seats round) heads)
 
 -- this is the line
 abbrev pub is_at : Option ℕ → ℕ → Bool

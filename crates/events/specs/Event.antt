@@ -91,14 +91,19 @@ train_owner_place (Some company) = train_place.Company company
 -- dividend, a seat for tenths, a company that floats, and one that withholds
 abbrev pub payment_of : Event → Option Payment
 payment_of (Sold private seat price) = Some (record { from = party_at seat; to = party.Bank; amount = price })
-payment_of (Revenue private owner amount) = Some (record { from = party.Bank; to = party.Holder owner; amount = amount })
-payment_of (Bought company seat tenths from price) = Some (record { from = party_at seat; to = party.Bank; amount = price })
+payment_of (Revenue private owner amount) = Some
+    (record { from = party.Bank; to = party.Holder owner; amount = amount })
+payment_of (Bought company seat tenths from price) =
+    Some (record { from = party_at seat; to = party.Bank; amount = price })
 payment_of (Sells company seat tenths price) = Some (record { from = party.Bank; to = party_at seat; amount = price })
 payment_of (Floats company amount) = Some (record { from = party.Bank; to = party_of_company company; amount = amount })
 payment_of (Laid company lay cost) = Some (record { from = party_of_company company; to = party.Bank; amount = cost })
-payment_of (Token company place cost) = Some (record { from = party_of_company company; to = party.Bank; amount = cost })
-payment_of (Withheld company amount) = Some (record { from = party.Bank; to = party_of_company company; amount = amount })
-payment_of (Dividend company holder amount) = Some (record { from = party.Bank; to = party.Holder holder; amount = amount })
+payment_of (Token company place cost) = Some (record
+    { from = party_of_company company; to = party.Bank; amount = cost })
+payment_of (Withheld company amount) = Some (record
+    { from = party.Bank; to = party_of_company company; amount = amount })
+payment_of (Dividend company holder amount) = Some
+    (record { from = party.Bank; to = party.Holder holder; amount = amount })
 payment_of (Train company kind from price) =
     Some (record { from = party_of_company company; to = party_of_seller from; amount = price })
 payment_of (PrivateBought private company seller price) =
@@ -212,9 +217,12 @@ operated_by other = None
 abbrev pub train_moved : Event → Option TrainMove
 train_moved (Train company kind from price) =
     Some (record { kind = kind; from = place_of_seller from; to = train_place.Company company })
-train_moved (Traded company kind) = Some (record { kind = kind; from = train_place.Company company; to = train_place.BankPool })
-train_moved (Rusted owner kind) = Some (record { kind = kind; from = train_owner_place owner; to = train_place.OutOfPlay })
-train_moved (Discarded company kind) = Some (record { kind = kind; from = train_place.Company company; to = train_place.BankPool })
+train_moved (Traded company kind) = Some (record
+    { kind = kind; from = train_place.Company company; to = train_place.BankPool })
+train_moved (Rusted owner kind) = Some (record
+    { kind = kind; from = train_owner_place owner; to = train_place.OutOfPlay })
+train_moved (Discarded company kind) = Some (record
+    { kind = kind; from = train_place.Company company; to = train_place.BankPool })
 train_moved other = None
 
 -- the phase that an event begins

@@ -20,7 +20,8 @@ times_among at [] = 0
 times_among at (one ∷ others) = one_if (same_train_place at one) + times_among at others
 
 -- a place is once among the bank, the stables, and the place of those out of play
-once_among : (at : TrainPlace) → one_if (same_train_place at place.Bank) + (times_among at train_owners + one_if (same_train_place at place.OutOfPlay)) ≡ 1
+once_among : (at : TrainPlace) → one_if (same_train_place at place.Bank)
+    + (times_among at train_owners + one_if (same_train_place at place.OutOfPlay)) ≡ 1
 once_among place.Bank = refl
 once_among place.BankPool = refl
 once_among (place.Company Pennsylvania) = refl
@@ -34,9 +35,17 @@ once_among (place.Company BostonMaine) = refl
 once_among place.OutOfPlay = refl
 
 -- the trains at a place with an event in front
-pub trains_in_front : (event : Event) (events : List Event) (place : TrainPlace) (kind : Kind) → trains_at (event ∷ events) place kind ≡ (trains_at events place kind +ℤ pos (one_if (train_comes place kind (train_moved event)))) -ℤ pos (one_if (train_goes place kind (train_moved event)))
+pub trains_in_front : (event : Event) (events : List Event) (place : TrainPlace) (kind : Kind)
+    → trains_at (event ∷ events) place kind ≡ (trains_at events place kind +ℤ pos
+    (one_if (train_comes place kind (train_moved event)))) -ℤ pos (one_if (train_goes place kind (train_moved event)))
 trains_in_front event events place kind =
-    omega (arith, ints, sum_by-cons (λ e. one_if (train_comes place kind (train_moved e))) event events, sum_by-cons (λ e. one_if (train_goes place kind (train_moved e))) event events)
+    omega (
+      arith,
+      ints,
+      sum_by-cons (λ e. one_if (train_comes place kind (train_moved e))) event events,
+      sum_by-cons
+          (λ e. one_if (train_goes place kind (train_moved e))) event events,
+    )
 
 -- how many trains an event brings to some places
 abbrev come_to : Kind → Option TrainMove → List TrainPlace → ℕ
@@ -49,7 +58,9 @@ go_from kind move [] = 0
 go_from kind move (one ∷ others) = one_if (train_goes one kind move) + go_from kind move others
 
 -- the trains at some places with an event in front
-together_in_front : (event : Event) (events : List Event) (some : List TrainPlace) (kind : Kind) → trains_together (event ∷ events) some kind ≡ (trains_together events some kind +ℤ pos (come_to kind (train_moved event) some)) -ℤ pos (go_from kind (train_moved event) some)
+together_in_front : (event : Event) (events : List Event) (some : List TrainPlace) (kind : Kind)
+    → trains_together (event ∷ events) some kind ≡ (trains_together events some kind +ℤ pos
+    (come_to kind (train_moved event) some)) -ℤ pos (go_from kind (train_moved event) some)
 together_in_front event events [] kind = omega (arith, ints)
 together_in_front event events (one ∷ others) kind =
     omega (arith, ints, trains_in_front event events one kind, together_in_front event events others kind)
@@ -64,28 +75,42 @@ none_go kind [] = refl
 none_go kind (one ∷ others) = omega (arith, none_go kind others)
 
 -- a train of the kind comes to the places among which its place is
-come_of : (kind : Kind) (move : TrainMove) (some : List TrainPlace) → same_kind move.kind kind ≡ true → come_to kind (Some move) some ≡ times_among move.to some
+come_of : (kind : Kind) (move : TrainMove) (some : List TrainPlace) → same_kind move.kind kind ≡ true
+    → come_to kind (Some move) some ≡ times_among move.to some
 come_of kind move [] same = refl
 come_of kind move (one ∷ others) same =
     omega (arith, ap (λ (is : Bool). one_if (is && same_train_place move.to one)) same, come_of kind move others same)
 
 -- and goes from those
-go_of : (kind : Kind) (move : TrainMove) (some : List TrainPlace) → same_kind move.kind kind ≡ true → go_from kind (Some move) some ≡ times_among move.from some
+go_of : (kind : Kind) (move : TrainMove) (some : List TrainPlace) → same_kind move.kind kind ≡ true
+    → go_from kind (Some move) some ≡ times_among move.from some
 go_of kind move [] same = refl
 go_of kind move (one ∷ others) same =
     omega (arith, ap (λ (is : Bool). one_if (is && same_train_place move.from one)) same, go_of kind move others same)
 
 -- one of another kind comes to none
-come_of_other : (kind : Kind) (move : TrainMove) (some : List TrainPlace) → same_kind move.kind kind ≡ false → come_to kind (Some move) some ≡ 0
+come_of_other : (kind : Kind) (move : TrainMove) (some : List TrainPlace) → same_kind move.kind kind ≡ false
+    → come_to kind (Some move) some ≡ 0
 come_of_other kind move [] other = refl
 come_of_other kind move (one ∷ others) other =
-    omega (arith, ap (λ (is : Bool). one_if (is && same_train_place move.to one)) other, come_of_other kind move others other)
+    omega (
+      arith,
+      ap (λ (is : Bool). one_if (is && same_train_place move.to one)) other,
+      come_of_other kind move
+          others other,
+    )
 
 -- and goes from none
-go_of_other : (kind : Kind) (move : TrainMove) (some : List TrainPlace) → same_kind move.kind kind ≡ false → go_from kind (Some move) some ≡ 0
+go_of_other : (kind : Kind) (move : TrainMove) (some : List TrainPlace) → same_kind move.kind kind ≡ false
+    → go_from kind (Some move) some ≡ 0
 go_of_other kind move [] other = refl
 go_of_other kind move (one ∷ others) other =
-    omega (arith, ap (λ (is : Bool). one_if (is && same_train_place move.from one)) other, go_of_other kind move others other)
+    omega (
+      arith,
+      ap (λ (is : Bool). one_if (is && same_train_place move.from one)) other,
+      go_of_other kind move
+          others other,
+    )
 
 -- no train comes to the bank
 abbrev ComesFromBankAlone : Option TrainMove → Type 0
@@ -129,7 +154,10 @@ none_to_bank (event.Bankrupt seat) = tt
 none_to_bank event.Broken = tt
 
 -- what comes to the stables and to the place of those out of play went from there, or from the bank
-balanced : (kind : Kind) (move : Option TrainMove) → ComesFromBankAlone move → come_to kind move train_owners + one_if (train_comes place.OutOfPlay kind move) ≡ (go_from kind move train_owners + one_if (train_goes place.OutOfPlay kind move)) + one_if (train_goes place.Bank kind move)
+balanced : (kind : Kind) (move : Option TrainMove) → ComesFromBankAlone move
+    → come_to kind move train_owners + one_if (train_comes place.OutOfPlay kind move)
+    ≡ (go_from kind move train_owners + one_if (train_goes place.OutOfPlay kind move))
+    + one_if (train_goes place.Bank kind move)
 balanced kind None apart = refl
 balanced kind (Some move) apart =
     elim (truth (same_kind move.kind kind)) [
@@ -157,14 +185,26 @@ balanced kind (Some move) apart =
     ]
 
 -- how many the bank has sold, with an event in front
-sold_in_front : (event : Event) (events : List Event) (kind : Kind) → trains_sold (event ∷ events) kind ≡ one_if (train_goes place.Bank kind (train_moved event)) + trains_sold events kind
+sold_in_front : (event : Event) (events : List Event) (kind : Kind)
+    → trains_sold (event ∷ events) kind ≡ one_if (train_goes place.Bank kind (train_moved event))
+    + trains_sold events kind
 sold_in_front event events kind = sum_by-cons (λ e. one_if (train_goes place.Bank kind (train_moved e))) event events
 
 -- the trains that the bank has sold are in play or have left it
 pub trains_stay : AllTrainsStay
 trains_stay [] kind = refl
 trains_stay (event ∷ events) kind =
-    omega (arith, ints, together_in_front event events train_owners kind, trains_in_front event events place.OutOfPlay kind, sold_in_front event events kind, balanced kind (train_moved event) (none_to_bank event), trains_stay events kind)
+    omega (
+      arith,
+      ints,
+      together_in_front event events train_owners kind,
+      trains_in_front event events place.OutOfPlay
+          kind,
+      sold_in_front event events kind,
+      balanced kind (train_moved event) (none_to_bank event),
+      trains_stay
+          events kind,
+    )
 
 -- two tests of which one fails
 not_both : (test : Bool) → one_if (test && false) ≡ 0
@@ -172,12 +212,15 @@ not_both true = refl
 not_both false = refl
 
 -- so none comes there
-none_comes : (kind : Kind) (move : Option TrainMove) → ComesFromBankAlone move → one_if (train_comes place.Bank kind move) ≡ 0
+none_comes : (kind : Kind) (move : Option TrainMove) → ComesFromBankAlone move
+    → one_if (train_comes place.Bank kind move) ≡ 0
 none_comes kind None none = refl
-none_comes kind (Some move) none = ap (λ (is : Bool). one_if (same_kind move.kind kind && is)) none ∙ not_both (same_kind move.kind kind)
+none_comes kind (Some move) none = ap (λ (is : Bool). one_if (same_kind move.kind kind && is)) none
+    ∙ not_both (same_kind move.kind kind)
 
 -- what the bank has of a kind is under nothing by what it has sold
-pub bank_sold : (events : List Event) (kind : Kind) → trains_at events place.Bank kind ≡ neg_ℤ (pos (trains_sold events kind))
+pub bank_sold : (events : List Event) (kind : Kind)
+    → trains_at events place.Bank kind ≡ neg_ℤ (pos (trains_sold events kind))
 bank_sold [] kind = refl
 bank_sold (event ∷ events) kind =
     omega (

@@ -22,23 +22,29 @@ use Rattle.tables.specs.declared.roster.Private.TheVariants.{SchuylkillValley, C
 use Rattle.tables.specs.declared.seat.Seat.{Seat}
 
 -- what holds is the later word, or what held before
-flatten_or : {A : Type 0} (later earlier : Option (Option A)) → option_flatten (option_or later earlier) ≡ unwrap_or later (option_flatten earlier)
+flatten_or : {A : Type 0} (later earlier : Option (Option A))
+    → option_flatten (option_or later earlier) ≡ unwrap_or later (option_flatten earlier)
 flatten_or None earlier = refl
 flatten_or (Some word) earlier = refl
 
 -- what holds now is what the event at the end says, or what held before it
-pub now_said_at_end : {A : Type 0} (says : Event → Option (Option A)) (events : List Event) (event : Event) → now_said says (events ++ event ∷ []) ≡ unwrap_or (says event) (now_said says events)
+pub now_said_at_end : {A : Type 0} (says : Event → Option (Option A)) (events : List Event) (event : Event)
+    → now_said says (events ++ event ∷ []) ≡ unwrap_or (says event) (now_said says events)
 now_said_at_end says events event =
     ap option_flatten (last_said_at_end says events event) ∙ flatten_or (says event) (last_said says events)
 
 -- a seat's bid: what the event at the end says, or the bid before
-pub bid_of_at_end : (events : List Event) (event : Event) (private : Private) (seat : Seat) → bid_of (events ++ event ∷ []) private seat ≡ unwrap_or (bid_said private seat (bidding_of event)) (bid_of events private seat)
+pub bid_of_at_end : (events : List Event) (event : Event) (private : Private) (seat : Seat)
+    → bid_of (events ++ event ∷ []) private seat ≡ unwrap_or (bid_said private seat (bidding_of event))
+    (bid_of events private seat)
 bid_of_at_end events event private seat = now_said_at_end (λ e. bid_said private seat (bidding_of e)) events event
 
 -- the private at a place of the roster
 abbrev private_at : ℕ → Private
 private_at place =
-    if place == 0 then SchuylkillValley else if place == 1 then ChamplainStLawrence else if place == 2 then DelawareHudson else if place == 3 then MohawkHudson else if place == 4 then CamdenAmboy else BaltimoreOhio
+    if place == 0 then SchuylkillValley else if place == 1 then ChamplainStLawrence else if place ==
+    2 then DelawareHudson else if place == 3 then MohawkHudson else if place ==
+    4 then CamdenAmboy else BaltimoreOhio
 
 -- is the private
 private_at_place : (private : Private) → private_at (place_of_private private) ≡ private
@@ -52,7 +58,8 @@ private_at_place BaltimoreOhio = refl
 -- privates of one place are the same
 pub same_private_is : (a b : Private) → same_private a b ≡ true → a ≡ b
 same_private_is a b same =
-    sym (private_at_place a) ∙ ap private_at ((Decides-eqb (place_of_private a) (place_of_private b)).0 same) ∙ private_at_place b
+    sym (private_at_place a) ∙ ap private_at ((Decides-eqb (place_of_private a) (place_of_private b)).0 same)
+    ∙ private_at_place b
 
 -- a private is itself
 pub private_itself : (private : Private) → same_private private private ≡ true
@@ -78,50 +85,75 @@ skip_same true a b agree = refl
 skip_same false a b agree = agree refl
 
 -- an event that speaks of bids on one private alone leaves the others
-pub elsewhere_kept : (events : List Event) (event : Event) (seat : Seat) (private : Private) → ((other : Private) → same_private other private ≡ false → bid_said other seat (bidding_of event) ≡ None) → bids_elsewhere_of (events ++ event ∷ []) seat private ≡ bids_elsewhere_of events seat private
+pub elsewhere_kept : (events : List Event) (event : Event) (seat : Seat) (private : Private)
+    → ((other : Private) → same_private other private ≡ false → bid_said other seat (bidding_of event) ≡ None)
+    → bids_elsewhere_of (events ++ event ∷ []) seat private ≡ bids_elsewhere_of events seat private
 elsewhere_kept events event seat private silent =
-    ap (λ tied. sum_by tied privates) (fun_ext (λ other. skip_same (same_private other private) (tied_on (events ++ event ∷ []) seat other) (tied_on events seat other) (λ apart. ap (λ bid. unwrap_or bid 0) (now_said_before (λ e. bid_said other seat (bidding_of e)) events event (silent other apart)))))
+    ap (λ tied. sum_by tied privates) (fun_ext (λ other. skip_same (same_private other private)
+    (tied_on (events ++ event ∷ []) seat other) (tied_on events seat other)
+    (λ apart. ap (λ bid. unwrap_or bid 0) (now_said_before (λ e. bid_said other seat (bidding_of e)) events event
+    (silent other apart)))))
 
 -- a bid speaks of one private
-pub bid_silent : (private : Private) (seat : Seat) (amount : ℕ) (by : Seat) (other : Private) → same_private other private ≡ false → bid_said other by (bidding_of (Bids private seat amount)) ≡ None
+pub bid_silent : (private : Private) (seat : Seat) (amount : ℕ) (by : Seat) (other : Private)
+    → same_private other private ≡ false → bid_said other by (bidding_of (Bids private seat amount)) ≡ None
 bid_silent private seat amount by other apart =
-    ap (λ same. if same && (seat.0 == by.0) then Some (Some amount) else None) (same_either_way (place_of_private private) (place_of_private other) ∙ apart)
+    ap (λ same. if same && (seat.0 == by.0) then Some (Some amount) else None)
+    (same_either_way (place_of_private private) (place_of_private other) ∙ apart)
 
 -- and so does a sale
-pub sale_silent : (private : Private) (seat : Seat) (price : ℕ) (by : Seat) (other : Private) → same_private other private ≡ false → bid_said other by (bidding_of (Sold private seat price)) ≡ None
+pub sale_silent : (private : Private) (seat : Seat) (price : ℕ) (by : Seat) (other : Private)
+    → same_private other private ≡ false → bid_said other by (bidding_of (Sold private seat price)) ≡ None
 sale_silent private seat price by other apart =
-    ap (λ same. if same then Some None else None) (same_either_way (place_of_private private) (place_of_private other) ∙ apart)
+    ap (λ same. if same then Some None else None) (same_either_way (place_of_private private) (place_of_private other)
+    ∙ apart)
 
 -- what a bid ties
-tied_by : (here : Bool) (amount : ℕ) (earlier : Option ℕ) → unwrap_or (unwrap_or (if here then Some (Some amount) else None) earlier) 0 ≡ (if here then amount else unwrap_or earlier 0)
+tied_by : (here : Bool) (amount : ℕ) (earlier : Option ℕ)
+    → unwrap_or (unwrap_or (if here then Some (Some amount) else None) earlier) 0
+    ≡ (if here then amount else unwrap_or earlier 0)
 tied_by true amount earlier = refl
 tied_by false amount earlier = refl
 
 -- a bid ties its sum for the seat that bids, and leaves the others
-pub tied_by_bid : (events : List Event) (private : Private) (seat : Seat) (amount : ℕ) (by : Seat) → tied_on (events ++ Bids private seat amount ∷ []) by private ≡ (if seat.0 == by.0 then amount else tied_on events by private)
+pub tied_by_bid : (events : List Event) (private : Private) (seat : Seat) (amount : ℕ) (by : Seat)
+    → tied_on (events ++ Bids private seat amount ∷ []) by private
+    ≡ (if seat.0 == by.0 then amount else tied_on events by private)
 tied_by_bid events private seat amount by =
-    ap (λ bid. unwrap_or bid 0) (bid_of_at_end events (Bids private seat amount) private by ∙ ap (λ same. unwrap_or (if same && (seat.0 == by.0) then Some (Some amount) else None) (bid_of events private by)) (private_itself private)) ∙ tied_by (seat.0 == by.0) amount (bid_of events private by)
+    ap (λ bid. unwrap_or bid 0) (bid_of_at_end events (Bids private seat amount) private by
+    ∙ ap (λ same. unwrap_or (if same && (seat.0 == by.0) then Some (Some amount) else None)
+    (bid_of events private by)) (private_itself private))
+    ∙ tied_by (seat.0 == by.0) amount (bid_of events private by)
 
 -- a sale unties all bids on the private
-pub untied_by_sale : (events : List Event) (private : Private) (seat : Seat) (price : ℕ) (by : Seat) → tied_on (events ++ Sold private seat price ∷ []) by private ≡ 0
+pub untied_by_sale : (events : List Event) (private : Private) (seat : Seat) (price : ℕ) (by : Seat)
+    → tied_on (events ++ Sold private seat price ∷ []) by private ≡ 0
 untied_by_sale events private seat price by =
-    ap (λ bid. unwrap_or bid 0) (bid_of_at_end events (Sold private seat price) private by ∙ ap (λ same. unwrap_or (if same then Some None else None) (bid_of events private by)) (private_itself private))
+    ap (λ bid. unwrap_or bid 0) (bid_of_at_end events (Sold private seat price) private by
+    ∙ ap (λ same. unwrap_or (if same then Some None else None) (bid_of events private by)) (private_itself private))
 
 -- a bid that stands after a bid is that one, or one before
-bid_cases : (here : Bool) (amount : ℕ) (earlier : Option ℕ) (said : ℕ) → unwrap_or (if here then Some (Some amount) else None) earlier ≡ Some said → ((here ≡ true) × (amount ≡ said)) ⊎ ((here ≡ false) × (earlier ≡ Some said))
+bid_cases : (here : Bool) (amount : ℕ) (earlier : Option ℕ) (said : ℕ)
+    → unwrap_or (if here then Some (Some amount) else None) earlier ≡ Some said
+    → ((here ≡ true) × (amount ≡ said)) ⊎ ((here ≡ false) × (earlier ≡ Some said))
 bid_cases true amount earlier said is = inl (refl, cc)
 bid_cases false amount earlier said is = inr (refl, is)
 
 -- a bid that stands after a sale stood before it
-sale_cases : (here : Bool) (earlier : Option ℕ) (said : ℕ) → unwrap_or (if here then Some None else None) earlier ≡ Some said → earlier ≡ Some said
+sale_cases : (here : Bool) (earlier : Option ℕ) (said : ℕ)
+    → unwrap_or (if here then Some None else None) earlier ≡ Some said → earlier ≡ Some said
 sale_cases true earlier said is = absurd (cc)
 sale_cases false earlier said is = is
 
 -- so bids differ after a bid that differs from those of the other seats
-pub differ_after_bid : (events : List Event) (private : Private) (seat : Seat) (amount : ℕ) → ((other : Seat) → bid_of events private other ≡ Some amount → other ≡ seat) → BidsDiffer events → BidsDiffer (events ++ Bids private seat amount ∷ [])
+pub differ_after_bid : (events : List Event) (private : Private) (seat : Seat) (amount : ℕ)
+    → ((other : Seat) → bid_of events private other ≡ Some amount → other ≡ seat) → BidsDiffer events
+    → BidsDiffer (events ++ Bids private seat amount ∷ [])
 differ_after_bid events private seat amount apart differ on a b said of_a of_b =
-    let case_a = bid_cases (same_private private on && (seat.0 == a.0)) amount (bid_of events on a) said (sym (bid_of_at_end events (Bids private seat amount) on a) ∙ of_a) in
-    let case_b = bid_cases (same_private private on && (seat.0 == b.0)) amount (bid_of events on b) said (sym (bid_of_at_end events (Bids private seat amount) on b) ∙ of_b) in
+    let case_a = bid_cases (same_private private on && (seat.0 == a.0)) amount (bid_of events on a) said
+    (sym (bid_of_at_end events (Bids private seat amount) on a) ∙ of_a) in
+    let case_b = bid_cases (same_private private on && (seat.0 == b.0)) amount (bid_of events on b) said
+    (sym (bid_of_at_end events (Bids private seat amount) on b) ∙ of_b) in
     elim case_a [
       | inl new_a ↦
           let here_a = both (same_private private on) (seat.0 == a.0) new_a.0 in
@@ -130,21 +162,26 @@ differ_after_bid events private seat amount apart differ on a b said of_a of_b =
                 let here_b = both (same_private private on) (seat.0 == b.0) new_b.0 in
                 sym (same_seat_is seat a here_a.1) ∙ same_seat_is seat b here_b.1
             | inr old_b ↦
-                sym (same_seat_is seat a here_a.1) ∙ sym (apart b (ap (λ p. bid_of events p b) (same_private_is private on here_a.0) ∙ old_b.1 ∙ ap (λ (n : ℕ). Some n) (sym new_a.1)))
+                sym (same_seat_is seat a here_a.1) ∙ sym (apart b
+                (ap (λ p. bid_of events p b) (same_private_is private on here_a.0) ∙ old_b.1
+                ∙ ap (λ (n : ℕ). Some n) (sym new_a.1)))
           ]
       | inr old_a ↦
           elim case_b [
             | inl new_b ↦
                 let here_b = both (same_private private on) (seat.0 == b.0) new_b.0 in
-                apart a (ap (λ p. bid_of events p a) (same_private_is private on here_b.0) ∙ old_a.1 ∙ ap (λ (n : ℕ). Some n) (sym new_b.1)) ∙ same_seat_is seat b here_b.1
+                apart a (ap (λ p. bid_of events p a) (same_private_is private on here_b.0) ∙ old_a.1
+                ∙ ap (λ (n : ℕ). Some n) (sym new_b.1)) ∙ same_seat_is seat b here_b.1
             | inr old_b ↦ differ on a b said old_a.1 old_b.1
           ]
     ]
 
 -- and are small after a small bid
-pub small_after_bid : (events : List Event) (private : Private) (seat : Seat) (amount : ℕ) → amount ≤ 99999 → BidsAreSmall events → BidsAreSmall (events ++ Bids private seat amount ∷ [])
+pub small_after_bid : (events : List Event) (private : Private) (seat : Seat) (amount : ℕ) → amount ≤ 99999
+    → BidsAreSmall events → BidsAreSmall (events ++ Bids private seat amount ∷ [])
 small_after_bid events private seat amount low small on by said is =
-    elim (bid_cases (same_private private on && (seat.0 == by.0)) amount (bid_of events on by) said (sym (bid_of_at_end events (Bids private seat amount) on by) ∙ is)) [
+    elim (bid_cases (same_private private on && (seat.0 == by.0)) amount (bid_of events on by) said
+    (sym (bid_of_at_end events (Bids private seat amount) on by) ∙ is)) [
       | inl new ↦ omega (arith, new.1)
       | inr old ↦ small on by said old.1
     ]
@@ -154,27 +191,37 @@ its_seat : (on : Bool) (a b : ℕ) → (on && (a == b)) ≡ true → a ≡ b
 its_seat on a b both = grind (arith, nat_tests)
 
 -- and are of seats at the table after the bid of one
-pub seated_after_bid : (seats : ℕ) (events : List Event) (private : Private) (seat : Seat) (amount : ℕ) → seat.0 < seats → BiddersAreSeated seats events → BiddersAreSeated seats (events ++ Bids private seat amount ∷ [])
+pub seated_after_bid : (seats : ℕ) (events : List Event) (private : Private) (seat : Seat) (amount : ℕ)
+    → seat.0 < seats → BiddersAreSeated seats events → BiddersAreSeated seats (events ++ Bids private seat amount ∷ [])
 seated_after_bid seats events private seat amount under seated on by said is =
-    elim (bid_cases (same_private private on && (seat.0 == by.0)) amount (bid_of events on by) said (sym (bid_of_at_end events (Bids private seat amount) on by) ∙ is)) [
+    elim (bid_cases (same_private private on && (seat.0 == by.0)) amount (bid_of events on by) said
+    (sym (bid_of_at_end events (Bids private seat amount) on by) ∙ is)) [
       | inl new ↦ let same : seat.0 ≡ by.0 = its_seat (same_private private on) seat.0 by.0 new.0 in omega arith
       | inr old ↦ seated on by said old.1
     ]
 
 -- bids differ after a sale
-pub differ_after_sale : (events : List Event) (private : Private) (seat : Seat) (price : ℕ) → BidsDiffer events → BidsDiffer (events ++ Sold private seat price ∷ [])
+pub differ_after_sale : (events : List Event) (private : Private) (seat : Seat) (price : ℕ) → BidsDiffer events
+    → BidsDiffer (events ++ Sold private seat price ∷ [])
 differ_after_sale events private seat price differ on a b said of_a of_b =
-    differ on a b said (sale_cases (same_private private on) (bid_of events on a) said (sym (bid_of_at_end events (Sold private seat price) on a) ∙ of_a)) (sale_cases (same_private private on) (bid_of events on b) said (sym (bid_of_at_end events (Sold private seat price) on b) ∙ of_b))
+    differ on a b said (sale_cases (same_private private on) (bid_of events on a) said
+    (sym (bid_of_at_end events (Sold private seat price) on a) ∙ of_a))
+    (sale_cases (same_private private on) (bid_of events on b) said
+    (sym (bid_of_at_end events (Sold private seat price) on b) ∙ of_b))
 
 -- and are small
-pub small_after_sale : (events : List Event) (private : Private) (seat : Seat) (price : ℕ) → BidsAreSmall events → BidsAreSmall (events ++ Sold private seat price ∷ [])
+pub small_after_sale : (events : List Event) (private : Private) (seat : Seat) (price : ℕ) → BidsAreSmall events
+    → BidsAreSmall (events ++ Sold private seat price ∷ [])
 small_after_sale events private seat price small on by said is =
-    small on by said (sale_cases (same_private private on) (bid_of events on by) said (sym (bid_of_at_end events (Sold private seat price) on by) ∙ is))
+    small on by said (sale_cases (same_private private on) (bid_of events on by) said
+    (sym (bid_of_at_end events (Sold private seat price) on by) ∙ is))
 
 -- and are of seats at the table
-pub seated_after_sale : (seats : ℕ) (events : List Event) (private : Private) (seat : Seat) (price : ℕ) → BiddersAreSeated seats events → BiddersAreSeated seats (events ++ Sold private seat price ∷ [])
+pub seated_after_sale : (seats : ℕ) (events : List Event) (private : Private) (seat : Seat) (price : ℕ)
+    → BiddersAreSeated seats events → BiddersAreSeated seats (events ++ Sold private seat price ∷ [])
 seated_after_sale seats events private seat price seated on by said is =
-    seated on by said (sale_cases (same_private private on) (bid_of events on by) said (sym (bid_of_at_end events (Sold private seat price) on by) ∙ is))
+    seated on by said (sale_cases (same_private private on) (bid_of events on by) said
+    (sym (bid_of_at_end events (Sold private seat price) on by) ∙ is))
 
 -- no word is none, of whichever seat
 none_of : {A : Type 0} (here : Bool) → ◌≡◌ {A = Option A} None (if here then None else None)
@@ -183,17 +230,20 @@ none_of false = refl
 
 -- a ruling that obeys no order that speaks says nothing of a seat
 no_word :
-    {A : Type 0} (says : Order → Option A) (obeyed : Ruling → Option A) (by : Seat) (line : ℕ) (seat : Seat) (ruling : Ruling) →
+    {A : Type 0} (says : Order → Option A) (obeyed : Ruling → Option A) (by : Seat) (line : ℕ) (seat : Seat)
+    (ruling : Ruling) →
     ((condition : Option Condition) (order : Order) → obeyed (Obeyed condition order) ≡ says order) →
     None ≡ obeyed ruling → None ≡ said_by seat says (obeyed_by by line ruling)
 no_word {A} says obeyed by line seat (Obeyed condition order) agree none =
-    none_of (by.0 == seat.0) ∙ ap (λ (word : Option A). if by.0 == seat.0 then word else None) (none ∙ agree condition order)
+    none_of (by.0 == seat.0) ∙ ap (λ (word : Option A). if by.0 == seat.0 then word else None)
+    (none ∙ agree condition order)
 no_word says obeyed by line seat (Refused rule condition order) agree none = refl
 no_word says obeyed by line seat (Faulty fault) agree none = refl
 
 -- and neither does the event that tells of it
 pub no_word_told :
-    {A : Type 0} (says : Order → Option A) (obeyed : Ruling → Option A) (event : Event) (by : Seat) (line : ℕ) (seat : Seat) (ruling : Ruling) →
+    {A : Type 0} (says : Order → Option A) (obeyed : Ruling → Option A) (event : Event) (by : Seat) (line : ℕ)
+    (seat : Seat) (ruling : Ruling) →
     ((condition : Option Condition) (order : Order) → obeyed (Obeyed condition order) ≡ says order) →
     event ≡ Ruled by line ruling → None ≡ obeyed ruling →
     None ≡ said_by seat says (obeyed_of event)

@@ -14,22 +14,31 @@ module _ (events : List Event) (price : Private → ℕ) where
   AllAtMost most (private ∷ privates) = (price private ≤ most) × AllAtMost most privates
 
   -- either this private is the first, or a later one is
-  this_or_later : (sold : Bool) (this first : Private) (later : Option Private) (most : ℕ) → cond sold later (Some this) ≡ Some first → price this ≤ most → (later ≡ Some first → price first ≤ most) → price first ≤ most
-  this_or_later false this first later most is low later_low = let same : this ≡ first = cc in subst (λ private. price private ≤ most) same low
+  this_or_later : (sold : Bool) (this first : Private) (later : Option Private) (most : ℕ)
+      → cond sold later (Some this) ≡ Some first → price this ≤ most → (later ≡ Some first → price first ≤ most)
+      → price first ≤ most
+  this_or_later false this first later most is low later_low = let same : this ≡ first =
+      cc in subst (λ private. price private ≤ most) same low
   this_or_later true this first later most is low later_low = later_low is
 
   -- the first that is unsold comes before an unsold one, or is that one
-  first_before : (front : List Private) (other : Private) (rest : List Private) (first : Private) → is_sold events other ≡ false → AllAtMost (price other) front → first_unsold (is_sold events) (front ++ other ∷ rest) ≡ Some first → price first ≤ price other
+  first_before : (front : List Private) (other : Private) (rest : List Private) (first : Private)
+      → is_sold events other ≡ false → AllAtMost (price other) front
+      → first_unsold (is_sold events) (front ++ other ∷ rest) ≡ Some first → price first ≤ price other
   first_before [] other rest first unsold low is =
-      let here : Some other ≡ Some first = subst (λ sold. cond sold (first_unsold (is_sold events) rest) (Some other) ≡ Some first) unsold is in
+      let here : Some other ≡ Some first = subst (λ sold. cond sold (first_unsold (is_sold events) rest) (Some other)
+      ≡ Some first) unsold is in
       let same : other ≡ first = cc in
       subst (λ private. price private ≤ price other) same (omega arith)
   first_before (private ∷ front) other rest first unsold low is =
-      this_or_later (is_sold events private) private first (first_unsold (is_sold events) (front ++ other ∷ rest)) (price other) is low.0 (first_before front other rest first unsold low.1)
+      this_or_later (is_sold events private) private first (first_unsold (is_sold events) (front ++ other ∷ rest))
+      (price other) is low.0 (first_before front other rest first unsold low.1)
 
 -- SV costs no more than its face
 sv_low : (game : Game) → IsSound game → sv_price_of game.events ≤ 20
-sv_low game sound = let price : (sv_price_of game.events ≡ 20) ⊎ (sv_price_of game.events ≡ 15) ⊎ (sv_price_of game.events ≡ 10) ⊎ (sv_price_of game.events ≡ 5) ⊎ (sv_price_of game.events ≡ 0) = sound.price in omega arith
+sv_low game sound = let price : (sv_price_of game.events ≡ 20) ⊎ (sv_price_of game.events ≡ 15)
+    ⊎ (sv_price_of game.events ≡ 10) ⊎ (sv_price_of game.events ≡ 5) ⊎ (sv_price_of game.events ≡ 0) =
+    sound.price in omega arith
 
 -- the prices of the roster
 module _ (game : Game) (price : Private → ℕ) (sound : IsSound game) (asked : AreAsked game price) where
@@ -52,14 +61,39 @@ module _ (game : Game) (price : Private → ℕ) (sound : IsSound game) (asked :
   bop = asked.of_others BaltimoreOhio (λ same. cc)
 
   -- by the place of the other private
-  by_place : (first other : Private) → cheapest_of game.events ≡ Some first → is_sold game.events other ≡ false → price first ≤ price other
-  by_place first SchuylkillValley is unsold = first_before game.events price [] SchuylkillValley (ChamplainStLawrence ∷ DelawareHudson ∷ MohawkHudson ∷ CamdenAmboy ∷ BaltimoreOhio ∷ []) first unsold tt is
-  by_place first ChamplainStLawrence is unsold = first_before game.events price (SchuylkillValley ∷ []) ChamplainStLawrence (DelawareHudson ∷ MohawkHudson ∷ CamdenAmboy ∷ BaltimoreOhio ∷ []) first unsold (omega (arith, sv, cs), tt) is
-  by_place first DelawareHudson is unsold = first_before game.events price (SchuylkillValley ∷ ChamplainStLawrence ∷ []) DelawareHudson (MohawkHudson ∷ CamdenAmboy ∷ BaltimoreOhio ∷ []) first unsold (omega (arith, sv, dh), (omega (arith, cs, dh), tt)) is
-  by_place first MohawkHudson is unsold = first_before game.events price (SchuylkillValley ∷ ChamplainStLawrence ∷ DelawareHudson ∷ []) MohawkHudson (CamdenAmboy ∷ BaltimoreOhio ∷ []) first unsold (omega (arith, sv, mh), (omega (arith, cs, mh), (omega (arith, dh, mh), tt))) is
-  by_place first CamdenAmboy is unsold = first_before game.events price (SchuylkillValley ∷ ChamplainStLawrence ∷ DelawareHudson ∷ MohawkHudson ∷ []) CamdenAmboy (BaltimoreOhio ∷ []) first unsold (omega (arith, sv, ca), (omega (arith, cs, ca), (omega (arith, dh, ca), (omega (arith, mh, ca), tt)))) is
-  by_place first BaltimoreOhio is unsold = first_before game.events price (SchuylkillValley ∷ ChamplainStLawrence ∷ DelawareHudson ∷ MohawkHudson ∷ CamdenAmboy ∷ []) BaltimoreOhio [] first unsold (omega (arith, sv, bop), (omega (arith, cs, bop), (omega (arith, dh, bop), (omega (arith, mh, bop), (omega (arith, ca, bop), tt))))) is
+  by_place : (first other : Private) → cheapest_of game.events ≡ Some first → is_sold game.events other ≡ false
+      → price first ≤ price other
+  by_place first SchuylkillValley is unsold = first_before game.events price [] SchuylkillValley
+      (ChamplainStLawrence ∷ DelawareHudson ∷ MohawkHudson ∷ CamdenAmboy ∷ BaltimoreOhio ∷ []) first unsold tt is
+  by_place first ChamplainStLawrence is unsold =
+      first_before game.events price (SchuylkillValley ∷ []) ChamplainStLawrence
+      (DelawareHudson ∷ MohawkHudson ∷ CamdenAmboy ∷ BaltimoreOhio ∷ []) first unsold (omega (arith, sv, cs), tt) is
+  by_place first DelawareHudson is unsold = first_before game.events price
+      (SchuylkillValley ∷ ChamplainStLawrence ∷ []) DelawareHudson (MohawkHudson ∷ CamdenAmboy ∷ BaltimoreOhio ∷ [])
+      first unsold (omega (arith, sv, dh), (omega (arith, cs, dh), tt)) is
+  by_place first MohawkHudson is unsold = first_before game.events price
+      (SchuylkillValley ∷ ChamplainStLawrence ∷ DelawareHudson ∷ []) MohawkHudson (CamdenAmboy ∷ BaltimoreOhio ∷ [])
+      first unsold (omega (arith, sv, mh), (omega (arith, cs, mh), (omega (arith, dh, mh), tt))) is
+  by_place first CamdenAmboy is unsold = first_before game.events price
+      (SchuylkillValley ∷ ChamplainStLawrence ∷ DelawareHudson ∷ MohawkHudson ∷ []) CamdenAmboy (BaltimoreOhio ∷ [])
+      first unsold (
+        omega (arith, sv, ca),
+        (
+          omega (arith, cs, ca),
+          (omega (arith, dh, ca), (omega (arith, mh, ca), tt)),
+        ),
+      ) is
+  by_place first BaltimoreOhio is unsold = first_before game.events price
+      (SchuylkillValley ∷ ChamplainStLawrence ∷ DelawareHudson ∷ MohawkHudson ∷ CamdenAmboy ∷ []) BaltimoreOhio []
+      first unsold (
+        omega (arith, sv, bop),
+        (
+          omega (arith, cs, bop),
+          (omega (arith, dh, bop), (omega (arith, mh, bop), (omega (arith, ca, bop), tt))),
+        ),
+      ) is
 
 -- the law of the cheapest private
 pub first_is_cheapest_law : FirstIsCheapest
-first_is_cheapest_law game price first other sound asked is unsold = by_place game price sound asked first other is unsold
+first_is_cheapest_law game price first other sound asked is unsold =
+    by_place game price sound asked first other is unsold

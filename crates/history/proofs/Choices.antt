@@ -25,12 +25,14 @@ something None some = absurd (cc)
 something (Some value) some = (value, refl)
 
 -- the last word on a company, where the event at the end names one
-pub new_word : {A : Type 0} (same : Bool) (word : A) (earlier : Option A) → same ≡ true → option_or (if same then Some word else None) earlier ≡ Some word
+pub new_word : {A : Type 0} (same : Bool) (word : A) (earlier : Option A) → same ≡ true
+    → option_or (if same then Some word else None) earlier ≡ Some word
 new_word true word earlier is = refl
 new_word false word earlier is = absurd (cc)
 
 -- or where it names another
-pub old_word : {A : Type 0} (same : Bool) (word : A) (earlier : Option A) → same ≡ false → option_or (if same then Some word else None) earlier ≡ earlier
+pub old_word : {A : Type 0} (same : Bool) (word : A) (earlier : Option A) → same ≡ false
+    → option_or (if same then Some word else None) earlier ≡ earlier
 old_word true word earlier is = absurd (cc)
 old_word false word earlier is = refl
 
@@ -40,7 +42,8 @@ nothing_there true = refl
 nothing_there false = refl
 
 -- two tests in either order
-pub either_order : (a b : Bool) (n : ℕ) → (if a then (if b then n else 0) else 0) ≡ (if b then (if a then n else 0) else 0)
+pub either_order : (a b : Bool) (n : ℕ) → (if a then (if b then n else 0) else 0)
+    ≡ (if b then (if a then n else 0) else 0)
 either_order true true n = refl
 either_order true false n = refl
 either_order false true n = refl
@@ -49,7 +52,9 @@ either_order false false n = refl
 -- the company at a place of the roster
 abbrev company_at : ℕ → Company
 company_at place =
-    if place == 0 then Pennsylvania else if place == 1 then NewYorkCentral else if place == 2 then CanadianPacific else if place == 3 then BaltimoreOhio else if place == 4 then ChesapeakeOhio else if place == 5 then Erie else if place == 6 then NewHaven else BostonMaine
+    if place == 0 then Pennsylvania else if place == 1 then NewYorkCentral else if place ==
+    2 then CanadianPacific else if place == 3 then BaltimoreOhio else if place ==
+    4 then ChesapeakeOhio else if place == 5 then Erie else if place == 6 then NewHaven else BostonMaine
 
 -- is the company
 company_at_place : (company : Company) → company_at (place_of_company company) ≡ company
@@ -65,4 +70,5 @@ company_at_place BostonMaine = refl
 -- companies of one place are the same
 pub same_company_is : (a b : Company) → same_company a b ≡ true → a ≡ b
 same_company_is a b same =
-    sym (company_at_place a) ∙ ap company_at ((Decides-eqb (place_of_company a) (place_of_company b)).0 same) ∙ company_at_place b
+    sym (company_at_place a) ∙ ap company_at ((Decides-eqb (place_of_company a) (place_of_company b)).0 same)
+    ∙ company_at_place b

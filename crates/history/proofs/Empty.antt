@@ -28,7 +28,8 @@ nothing_said company.NewHaven = refl
 nothing_said company.BostonMaine = refl
 
 -- a table in which no bid stands
-pub no_bid : (private : Private) (number : ℕ) → number < 6 → bid_in (replicate 6 (replicate 6 None)) private number ≡ None
+pub no_bid : (private : Private) (number : ℕ) → number < 6
+    → bid_in (replicate 6 (replicate 6 None)) private number ≡ None
 no_bid SchuylkillValley number low = none_standing SchuylkillValley number low
 no_bid ChamplainStLawrence number low = none_standing ChamplainStLawrence number low
 no_bid DelawareHudson number low = none_standing DelawareHudson number low
@@ -57,7 +58,8 @@ pub no_count : (n entry : ℕ) → IsCounted 0 [] (count_at (replicate n 0) entr
 no_count n entry = none_counted _ (same_throughout 0 n entry)
 
 -- each row of a table of eight
-row_throughout : {A : Type 0} (row : List A) (company : Company) → slice_index_or (replicate 8 row) (place_of_company company) [] ≡ row
+row_throughout : {A : Type 0} (row : List A) (company : Company)
+    → slice_index_or (replicate 8 row) (place_of_company company) [] ≡ row
 row_throughout row company.Pennsylvania = refl
 row_throughout row company.NewYorkCentral = refl
 row_throughout row company.CanadianPacific = refl

@@ -19,16 +19,47 @@ use Rattle.tables.specs.declared.seat.Seat.{Seat}
 -- a purchase that is due
 pub forcing_sound : ForcingKeepsSound
 forcing_sound game company sound =
-    quiet_sound game (Forced company) (record { payment = refl; ownership = refl; bidding = refl; transfer = refl; par = refl; square = refl; office = refl; float = refl; sv_price = refl; train = refl; tile = refl; token = refl }) sound
+    quiet_sound game (Forced company) (record {
+      payment = refl;
+      ownership = refl;
+      bidding = refl;
+      transfer =
+          refl;
+      par = refl;
+      square = refl;
+      office = refl;
+      float = refl;
+      sv_price = refl;
+      train = refl;
+      tile =
+          refl;
+      token = refl;
+    }) sound
 
 -- a president that is bankrupt
 pub bankruptcy_sound : BankruptcyKeepsSound
 bankruptcy_sound game seat sound =
-    quiet_sound game (Bankrupt seat) (record { payment = refl; ownership = refl; bidding = refl; transfer = refl; par = refl; square = refl; office = refl; float = refl; sv_price = refl; train = refl; tile = refl; token = refl }) sound
+    quiet_sound game (Bankrupt seat) (record {
+      payment = refl;
+      ownership = refl;
+      bidding = refl;
+      transfer =
+          refl;
+      par = refl;
+      square = refl;
+      office = refl;
+      float = refl;
+      sv_price = refl;
+      train = refl;
+      tile =
+          refl;
+      token = refl;
+    }) sound
 
 -- after an aid each seat still has what its bids tie
 solvent_after_aid : (game : Game) (seat : Seat) (company : Company) (amount : ℕ) →
-    pos amount ≤ℤ free_cash_of game.seats game.events seat → SeatsAreSolvent game → SeatsAreSolvent (with_event game (Aid seat company amount))
+    pos amount ≤ℤ free_cash_of game.seats game.events seat → SeatsAreSolvent game
+    → SeatsAreSolvent (with_event game (Aid seat company amount))
 solvent_after_aid game seat company amount affordable solvent by =
     let cash = cash_of_at_end game.seats game.events (Aid seat company amount) (party_at by) in
     let bids = bids_of_before game.events (Aid seat company amount) by refl in

@@ -62,12 +62,22 @@ pub record Gains (seats : ℕ) (event : Event) (transfer : Transfer) : Type 0 wh
   pub pays : IsWithin seats (payment_of event)
 
 -- no seat has fewer tenths
-pub seat_gains : (events : List Event) (event : Event) (transfer : Transfer) (company : Company) (seat : Seat) → transfer_of event ≡ Some transfer → IsOfBank transfer.from → shares_of events company (OfSeat seat) ≤ℤ shares_of (events ++ event ∷ []) company (OfSeat seat)
+pub seat_gains : (events : List Event) (event : Event) (transfer : Transfer) (company : Company) (seat : Seat)
+    → transfer_of event ≡ Some transfer → IsOfBank transfer.from
+    → shares_of events company (OfSeat seat) ≤ℤ shares_of (events ++ event ∷ []) company (OfSeat seat)
 seat_gains events event transfer company seat moves bank =
-    omega (arith, ints, shares_after events event transfer company (OfSeat seat) moves, none_with_seat transfer.from seat (moved company transfer) bank)
+    omega (
+      arith,
+      ints,
+      shares_after events event transfer company (OfSeat seat) moves,
+      none_with_seat transfer.from
+          seat (moved company transfer) bank,
+    )
 
 -- a company is led as before
-pub is_led_gained : (events : List Event) (event : Event) (transfer : Transfer) (company : Company) → transfer_of event ≡ Some transfer → IsOfBank transfer.from → par_set event ≡ None → office_of event ≡ None → IsLed events company → IsLed (events ++ event ∷ []) company
+pub is_led_gained : (events : List Event) (event : Event) (transfer : Transfer) (company : Company)
+    → transfer_of event ≡ Some transfer → IsOfBank transfer.from → par_set event ≡ None → office_of event ≡ None
+    → IsLed events company → IsLed (events ++ event ∷ []) company
 is_led_gained events event transfer company moves bank no_par no_office before =
     let two = before.holds_two in
     record {
@@ -80,28 +90,47 @@ is_led_gained events event transfer company moves bank no_par no_office before =
     }
 
 -- so is each with a square
-pub led_gained : (events : List Event) (event : Event) (transfer : Transfer) → transfer_of event ≡ Some transfer → IsOfBank transfer.from → par_set event ≡ None → square_set event ≡ None → office_of event ≡ None → AreLed events → AreLed (events ++ event ∷ [])
+pub led_gained : (events : List Event) (event : Event) (transfer : Transfer) → transfer_of event ≡ Some transfer
+    → IsOfBank transfer.from → par_set event ≡ None → square_set event ≡ None → office_of event ≡ None → AreLed events
+    → AreLed (events ++ event ∷ [])
 led_gained events event transfer moves bank no_par no_square no_office led company square placed =
-    is_led_gained events event transfer company moves bank no_par no_office (led company square (sym (square_of_before events event company no_square) ∙ placed))
+    is_led_gained events event transfer company moves bank no_par no_office
+    (led company square (sym (square_of_before events event company no_square) ∙ placed))
 
 -- and each that has floated
-pub floated_gained : (events : List Event) (event : Event) (transfer : Transfer) → transfer_of event ≡ Some transfer → IsOfBank transfer.from → par_set event ≡ None → floated_by event ≡ None → office_of event ≡ None → FloatedAreLed events → FloatedAreLed (events ++ event ∷ [])
+pub floated_gained : (events : List Event) (event : Event) (transfer : Transfer) → transfer_of event ≡ Some transfer
+    → IsOfBank transfer.from → par_set event ≡ None → floated_by event ≡ None → office_of event ≡ None
+    → FloatedAreLed events → FloatedAreLed (events ++ event ∷ [])
 floated_gained events event transfer moves bank no_par no_float no_office led company floated =
-    is_led_gained events event transfer company moves bank no_par no_office (led company (sym (is_floated_before events event company no_float) ∙ floated))
+    is_led_gained events event transfer company moves bank no_par no_office
+    (led company (sym (is_floated_before events event company no_float) ∙ floated))
 
 -- of a company without a square enough are left
 abbrev pub EnoughAreLeft : List Event → Transfer → Type 0
 EnoughAreLeft events transfer =
-    (company : Company) → square_of events company ≡ None → pos (least_offered events company + part transfer.from InitialOffering (moved company transfer)) ≤ℤ shares_of events company InitialOffering
+    (company : Company) → square_of events company ≡ None
+    → pos (least_offered events company + part transfer.from InitialOffering (moved company transfer)) ≤ℤ
+    shares_of events company InitialOffering
 
 -- so as many are offered
-pub offered_gained : (events : List Event) (event : Event) (transfer : Transfer) → transfer_of event ≡ Some transfer → ownership_of event ≡ None → square_set event ≡ None → EnoughAreLeft events transfer → AreOffered (events ++ event ∷ [])
+pub offered_gained : (events : List Event) (event : Event) (transfer : Transfer) → transfer_of event ≡ Some transfer
+    → ownership_of event ≡ None → square_set event ≡ None → EnoughAreLeft events transfer
+    → AreOffered (events ++ event ∷ [])
 offered_gained events event transfer moves no_owner no_square enough company unplaced =
     let left = enough company (sym (square_of_before events event company no_square) ∙ unplaced) in
-    omega (arith, ints, shares_after events event transfer company InitialOffering moves, least_offered_before events event company no_owner)
+    omega (
+      arith,
+      ints,
+      shares_after events event transfer company InitialOffering moves,
+      least_offered_before events
+          event company no_owner,
+    )
 
 -- such an event keeps a list sound, where the bank has so many, enough are left and nobody comes to owe
-pub gain_sound : (game : Game) (event : Event) (transfer : Transfer) → Gains game.seats event transfer → pos transfer.tenths ≤ℤ shares_of game.events transfer.company transfer.from → EnoughAreLeft game.events transfer → SeatsAreSolvent (with_event game event) → CompaniesAreSolvent (with_event game event) → IsSound game → IsSound (with_event game event)
+pub gain_sound : (game : Game) (event : Event) (transfer : Transfer) → Gains game.seats event transfer
+    → pos transfer.tenths ≤ℤ shares_of game.events transfer.company transfer.from → EnoughAreLeft game.events transfer
+    → SeatsAreSolvent (with_event game event) → CompaniesAreSolvent (with_event game event) → IsSound game
+    → IsSound (with_event game event)
 gain_sound game event transfer gains many enough solvent companies sound =
     record {
       solvent = solvent;
@@ -112,10 +141,13 @@ gain_sound game event transfer gains many enough solvent companies sound =
       price = price_kept game.events event gains.no_price sound.price;
       given = given_kept game.events event gains.no_price gains.no_owner sound.given;
       held = held_after game.events event transfer gains.moves many sound.held;
-      ten = ten_after game event transfer gains.moves (bank_at_table game.seats transfer.from gains.from_bank) gains.to_table sound.ten;
+      ten = ten_after game event transfer gains.moves (bank_at_table game.seats transfer.from gains.from_bank)
+          gains.to_table sound.ten;
       offered = offered_gained game.events event transfer gains.moves gains.no_owner gains.no_square enough;
-      led = led_gained game.events event transfer gains.moves gains.from_bank gains.no_par gains.no_square gains.no_office sound.led;
-      floated = floated_gained game.events event transfer gains.moves gains.from_bank gains.no_par gains.no_float gains.no_office sound.floated;
+      led = led_gained game.events event transfer gains.moves gains.from_bank gains.no_par gains.no_square
+          gains.no_office sound.led;
+      floated = floated_gained game.events event transfer gains.moves gains.from_bank gains.no_par gains.no_float
+          gains.no_office sound.floated;
       within = within_after game.seats game.events event gains.pays sound.within;
       trains = trains_kept game.events event gains.no_train sound.trains;
       fit = fit_kept game.events event gains.no_tile gains.no_token sound.fit;

@@ -27,7 +27,8 @@ abbrev gift : Company → Seat → ℕ → Transfer
 gift company seat tenths = record { company = company; from = InitialOffering; to = OfSeat seat; tenths = tenths }
 
 -- a gift says nothing else
-gift_gains : (seats : ℕ) (company : Company) (seat : Seat) (tenths : ℕ) → seat.0 < seats → Gains seats (Given company seat tenths) (gift company seat tenths)
+gift_gains : (seats : ℕ) (company : Company) (seat : Seat) (tenths : ℕ) → seat.0 < seats
+    → Gains seats (Given company seat tenths) (gift company seat tenths)
 gift_gains seats company seat tenths seated =
     record {
       moves = refl;
@@ -47,12 +48,18 @@ gift_gains seats company seat tenths seated =
     }
 
 -- enough are left of each company, where there are enough of the one
-left_after_gift : (events : List Event) (given : Company) (seat : Seat) (tenths : ℕ) → (square_of events given ≡ None → pos (least_offered events given + tenths) ≤ℤ shares_of events given InitialOffering) → AreOffered events → EnoughAreLeft events (gift given seat tenths)
+left_after_gift : (events : List Event) (given : Company) (seat : Seat) (tenths : ℕ)
+    → (square_of events given ≡ None → pos (least_offered events given + tenths) ≤ℤ shares_of events given
+    InitialOffering) → AreOffered events → EnoughAreLeft events (gift given seat tenths)
 left_after_gift events given seat tenths many offered company unplaced =
     elim (truth (same_company given company)) [
       | inl same ↦
-          let its : moved company (gift given seat tenths) ≡ tenths = ap (λ (is : Bool). if is then tenths else 0) same in
-          let enough : pos (least_offered events company + tenths) ≤ℤ shares_of events company InitialOffering = subst (λ (one : Company). square_of events one ≡ None → pos (least_offered events one + tenths) ≤ℤ shares_of events one InitialOffering) (same_company_is given company same) many unplaced in
+          let its : moved company (gift given seat tenths) ≡ tenths =
+          ap (λ (is : Bool). if is then tenths else 0) same in
+          let enough : pos (least_offered events company + tenths) ≤ℤ shares_of events company InitialOffering =
+          subst (λ (one : Company). square_of events one ≡ None
+          → pos (least_offered events one + tenths) ≤ℤ shares_of events one InitialOffering)
+          (same_company_is given company same) many unplaced in
           omega (arith, ints)
       | inr apart ↦
           let its : moved company (gift given seat tenths) ≡ 0 = ap (λ (is : Bool). if is then tenths else 0) apart in
@@ -63,16 +70,29 @@ left_after_gift events given seat tenths many offered company unplaced =
 -- a gift to a seat at the table
 pub given_sound : GiftKeepsSound
 given_sound game company seat tenths seated many more sound =
-    gain_sound game (Given company seat tenths) (gift company seat tenths) (gift_gains game.seats company seat tenths seated) many (left_after_gift game.events company seat tenths more sound.offered) (solvent_kept game (Given company seat tenths) refl refl sound.solvent) (companies_kept game (Given company seat tenths) refl sound.companies) sound
+    gain_sound game (Given company seat tenths) (gift company seat tenths)
+    (gift_gains game.seats company seat tenths seated) many
+    (left_after_gift game.events company seat tenths more sound.offered)
+    (solvent_kept game (Given company seat tenths) refl refl sound.solvent)
+    (companies_kept game (Given company seat tenths) refl sound.companies) sound
 
 -- CA's sale, with the tenth of PRR
 pub ca_sound : CaIsSoldWithItsGift
 ca_sound game seat price unsold unplaced seated affordable sound =
     let mid = with_event game (Sold CamdenAmboy seat price) in
-    let sold : is_sold mid.events CamdenAmboy ≡ true = ap is_some (last_said_at_end (λ e. owner_said CamdenAmboy (ownership_of e)) game.events (Sold CamdenAmboy seat price)) in
+    let sold : is_sold mid.events CamdenAmboy ≡ true =
+    ap is_some (last_said_at_end (λ e. owner_said CamdenAmboy (ownership_of e)) game.events
+    (Sold CamdenAmboy seat price)) in
     let eight : least_offered mid.events Pennsylvania ≡ 8 = ap (λ (now : Bool). if now then 8 else 9) sold in
     let nine : least_offered game.events Pennsylvania ≡ 9 = ap (λ (now : Bool). if now then 8 else 9) unsold in
-    let offered : pos (least_offered game.events Pennsylvania) ≤ℤ shares_of game.events Pennsylvania InitialOffering = sound.offered Pennsylvania unplaced in
-    let same : shares_of mid.events Pennsylvania InitialOffering ≡ shares_of game.events Pennsylvania InitialOffering = shares_of_before game.events (Sold CamdenAmboy seat price) Pennsylvania InitialOffering refl in
-    let many : pos 9 ≤ℤ shares_of mid.events Pennsylvania InitialOffering = subst (λ (tenths : ℤ). pos 9 ≤ℤ tenths) (sym same) (subst (λ (least : ℕ). pos least ≤ℤ shares_of game.events Pennsylvania InitialOffering) nine offered) in
-    given_sound mid Pennsylvania seat 1 seated (omega (arith, ints)) (λ _. subst (λ (least : ℕ). pos (least + 1) ≤ℤ shares_of mid.events Pennsylvania InitialOffering) (sym eight) many) (sale_sound game CamdenAmboy seat price unsold seated affordable sound)
+    let offered : pos (least_offered game.events Pennsylvania) ≤ℤ shares_of game.events Pennsylvania InitialOffering =
+    sound.offered Pennsylvania unplaced in
+    let same : shares_of mid.events Pennsylvania InitialOffering
+    ≡ shares_of game.events Pennsylvania InitialOffering =
+    shares_of_before game.events (Sold CamdenAmboy seat price) Pennsylvania InitialOffering refl in
+    let many : pos 9 ≤ℤ shares_of mid.events Pennsylvania InitialOffering =
+    subst (λ (tenths : ℤ). pos 9 ≤ℤ tenths) (sym same)
+    (subst (λ (least : ℕ). pos least ≤ℤ shares_of game.events Pennsylvania InitialOffering) nine offered) in
+    given_sound mid Pennsylvania seat 1 seated (omega (arith, ints))
+    (λ _. subst (λ (least : ℕ). pos (least + 1) ≤ℤ shares_of mid.events Pennsylvania InitialOffering) (sym eight)
+    many) (sale_sound game CamdenAmboy seat price unsold seated affordable sound)

@@ -25,14 +25,18 @@ pub tokens_grow : TokensGrow
 tokens_grow events event = filter_map-append token_placed events (event ∷ [])
 
 -- an event that lays no tile leaves those that were laid
-pub lays_before : (events : List Event) (event : Event) → tile_laid event ≡ None → lays_of (events ++ event ∷ []) ≡ lays_of events
+pub lays_before : (events : List Event) (event : Event) → tile_laid event ≡ None
+    → lays_of (events ++ event ∷ []) ≡ lays_of events
 lays_before events event none =
-    lays_grow events event ∙ ap (λ (said : Option Lay). lays_of events ++ cons_option said []) none ∙ append-nil (lays_of events)
+    lays_grow events event ∙ ap (λ (said : Option Lay). lays_of events ++ cons_option said []) none
+    ∙ append-nil (lays_of events)
 
 -- and one that places no token the tokens
-pub tokens_before : (events : List Event) (event : Event) → token_placed event ≡ None → tokens_of (events ++ event ∷ []) ≡ tokens_of events
+pub tokens_before : (events : List Event) (event : Event) → token_placed event ≡ None
+    → tokens_of (events ++ event ∷ []) ≡ tokens_of events
 tokens_before events event none =
-    tokens_grow events event ∙ ap (λ (said : Option (Place × Company)). tokens_of events ++ cons_option said []) none ∙ append-nil (tokens_of events)
+    tokens_grow events event ∙ ap (λ (said : Option (Place × Company)). tokens_of events ++ cons_option said []) none
+    ∙ append-nil (tokens_of events)
 
 -- and the ruling is counted
 pub rulings_at_end : RulingsAreCounted
@@ -48,7 +52,8 @@ tokens_at_end events event company =
 
 -- a list of all that was said, with what the event at the end says
 pub all_kept :
-    {A : Type 0} (says : Event → Option A) (events : List Event) (event : Event) (before after : List A) (said : Option A) → before ≡ filter_map says events →
+    {A : Type 0} (says : Event → Option A) (events : List Event) (event : Event) (before after : List A)
+    (said : Option A) → before ≡ filter_map says events →
     said ≡ says event → after ≡ before ++ cons_option said [] → after ≡ filter_map says (events ++ event ∷ [])
 all_kept says events event before after said kept speaks grows =
     grows
@@ -57,6 +62,7 @@ all_kept says events event before after said kept speaks grows =
     ∙ sym (filter_map-append says events (event ∷ []))
 
 -- what is lent of a list at a place
-pub lent_at : {A : Type 0} (list : List A) (place : ℕ) (lent : Option (Bor A)) → IsItemAt list place lent → option_copied lent ≡ slice_get list place
+pub lent_at : {A : Type 0} (list : List A) (place : ℕ) (lent : Option (Bor A)) → IsItemAt list place lent
+    → option_copied lent ≡ slice_get list place
 lent_at list place None is = sym (slice_get_past list place is.3)
 lent_at list place (Some item) is = ap Some is.1 ∙ sym (slice_get-get_or list place item.now is.3.0)

@@ -22,10 +22,12 @@ are_lent None events empty kept = none_in events (empty refl)
 are_lent (Some all) events empty kept = kept all refl
 
 -- and the other way round
-pub lent_empty : (totals : Option (Bor Totals)) (events : List Event) → AreLent totals events → totals ≡ None → length events ≡ 0
+pub lent_empty : (totals : Option (Bor Totals)) (events : List Event) → AreLent totals events → totals ≡ None
+    → length events ≡ 0
 lent_empty None events lent is = ap length lent
 lent_empty (Some all) events lent is = absurd cc
 
 pub lent_kept :
-    (totals : Option (Bor Totals)) (events : List Event) → AreLent totals events → (all : Bor Totals) → totals ≡ Some all → AreTotalsOf all.now events
+    (totals : Option (Bor Totals)) (events : List Event) → AreLent totals events → (all : Bor Totals)
+    → totals ≡ Some all → AreTotalsOf all.now events
 lent_kept totals events lent all is = subst (λ some. AreLent some events) is lent

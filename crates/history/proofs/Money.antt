@@ -26,7 +26,8 @@ sum_with at sum [] = 0
 sum_with at sum (one ∷ others) = (if same_party at one then sum else 0) + sum_with at sum others
 
 -- parties in two parts
-sum_with_both : (at : Party) (sum : ℕ) (some more : List Party) → sum_with at sum (some ++ more) ≡ sum_with at sum some + sum_with at sum more
+sum_with_both : (at : Party) (sum : ℕ) (some more : List Party)
+    → sum_with at sum (some ++ more) ≡ sum_with at sum some + sum_with at sum more
 sum_with_both at sum [] more = omega arith
 sum_with_both at sum (one ∷ others) more = omega (arith, sum_with_both at sum others more)
 
@@ -36,28 +37,37 @@ no_seat_of_bank sum [] = refl
 no_seat_of_bank sum (seat ∷ others) = omega (arith, no_seat_of_bank sum others)
 
 -- nor what a company has
-no_seat_of_company : (company : Company) (sum : ℕ) (seats : List Seat) → sum_with (party_of_company company) sum (map party_at seats) ≡ 0
+no_seat_of_company : (company : Company) (sum : ℕ) (seats : List Seat)
+    → sum_with (party_of_company company) sum (map party_at seats) ≡ 0
 no_seat_of_company company sum [] = refl
 no_seat_of_company company sum (seat ∷ others) = omega (arith, no_seat_of_company company sum others)
 
 -- what a seat has is with no later one
-no_later_seat : (seat : Seat) (sum from count : ℕ) → seat.0 < from → sum_with (party_at seat) sum (map party_at (map seat_at (range_with_len from count))) ≡ 0
+no_later_seat : (seat : Seat) (sum from count : ℕ) → seat.0 < from
+    → sum_with (party_at seat) sum (map party_at (map seat_at (range_with_len from count))) ≡ 0
 no_later_seat seat sum from zero before = refl
 no_later_seat seat sum from (suc count) before =
     let apart : seat.0 ≢ from = omega arith in
     omega (arith, passed_over seat.0 from sum 0 apart, no_later_seat seat sum (from + 1) count (omega arith))
 
 -- it is with the seats among whom the one is
-with_its_seat : (seat : Seat) (sum from count : ℕ) → from ≤ seat.0 → seat.0 < from + count → sum_with (party_at seat) sum (map party_at (map seat_at (range_with_len from count))) ≡ sum
+with_its_seat : (seat : Seat) (sum from count : ℕ) → from ≤ seat.0 → seat.0 < from + count
+    → sum_with (party_at seat) sum (map party_at (map seat_at (range_with_len from count))) ≡ sum
 with_its_seat seat sum from zero low high = absurd (omega arith)
 with_its_seat seat sum from (suc count) low high =
     elim (cases_eq seat.0 from) [
       | inl same ↦ omega (arith, chosen seat.0 from sum 0 same, no_later_seat seat sum (from + 1) count (omega arith))
-      | inr apart ↦ omega (arith, passed_over seat.0 from sum 0 apart, with_its_seat seat sum (from + 1) count (omega arith) (omega arith))
+      | inr apart ↦ omega (
+        arith,
+        passed_over seat.0 from sum 0 apart,
+        with_its_seat seat sum (from + 1) count
+            (omega arith) (omega arith),
+      )
     ]
 
 -- what a company has is with the companies
-with_its_company : (company : Company) (sum : ℕ) → sum_with (party_of_company company) sum (map party_of_company companies) ≡ sum
+with_its_company : (company : Company) (sum : ℕ)
+    → sum_with (party_of_company company) sum (map party_of_company companies) ≡ sum
 with_its_company Pennsylvania sum = omega arith
 with_its_company NewYorkCentral sum = omega arith
 with_its_company CanadianPacific sum = omega arith
@@ -70,37 +80,90 @@ with_its_company BostonMaine sum = omega arith
 -- a sum with a party of the game is with its parties
 with_parties : (seats : ℕ) (at : Party) (sum : ℕ) → IsParty seats at → sum_with at sum (parties seats) ≡ sum
 with_parties seats party.Bank sum is =
-    omega (arith, sum_with_both party.Bank sum (map party_at (all_seats seats)) (map party_of_company companies), no_seat_of_bank sum (all_seats seats))
+    omega (
+      arith,
+      sum_with_both party.Bank sum (map party_at (all_seats seats)) (map party_of_company companies),
+      no_seat_of_bank sum (all_seats seats),
+    )
 with_parties seats (party.Holder (holder.Seat seat)) sum is =
-    omega (arith, sum_with_both (party_at seat) sum (map party_at (all_seats seats)) (map party_of_company companies), with_its_seat seat sum 0 seats (omega arith) (omega arith))
+    omega (
+      arith,
+      sum_with_both (party_at seat) sum (map party_at (all_seats seats)) (map party_of_company companies),
+      with_its_seat seat sum 0 seats (omega arith) (omega arith),
+    )
 with_parties seats (party.Holder (holder.Company company)) sum is =
-    omega (arith, sum_with_both (party_of_company company) sum (map party_at (all_seats seats)) (map party_of_company companies), no_seat_of_company company sum (all_seats seats), with_its_company company sum)
+    omega (
+      arith,
+      sum_with_both (party_of_company company) sum (map party_at (all_seats seats))
+          (map party_of_company companies),
+      no_seat_of_company company sum (all_seats seats),
+      with_its_company company
+          sum,
+    )
 
 -- a party's cash with an event in front
-cash_in_front : (seats : ℕ) (event : Event) (events : List Event) (one : Party) → cash_of seats (event ∷ events) one ≡ (cash_of seats events one +ℤ pos (paid_to one (payment_of event))) -ℤ pos (paid_by one (payment_of event))
+cash_in_front : (seats : ℕ) (event : Event) (events : List Event) (one : Party)
+    → cash_of seats (event ∷ events) one ≡ (cash_of seats events one +ℤ pos (paid_to one (payment_of event))) -ℤ pos
+    (paid_by one (payment_of event))
 cash_in_front seats event events one =
-    omega (arith, ints, sum_by-cons (λ e. paid_to one (payment_of e)) event events, sum_by-cons (λ e. paid_by one (payment_of e)) event events)
+    omega (
+      arith,
+      ints,
+      sum_by-cons (λ e. paid_to one (payment_of e)) event events,
+      sum_by-cons
+          (λ e. paid_by one (payment_of e)) event events,
+    )
 
 -- without a payment parties have together what they had
-unpaid : (seats : ℕ) (event : Event) (events : List Event) (some : List Party) → payment_of event ≡ None → cash_together seats (event ∷ events) some ≡ cash_together seats events some
+unpaid : (seats : ℕ) (event : Event) (events : List Event) (some : List Party) → payment_of event ≡ None
+    → cash_together seats (event ∷ events) some ≡ cash_together seats events some
 unpaid seats event events [] none = refl
 unpaid seats event events (one ∷ others) none =
-    omega (arith, ints, cash_in_front seats event events one, ap (paid_to one) none, ap (paid_by one) none, unpaid seats event events others none)
+    omega (
+      arith,
+      ints,
+      cash_in_front seats event events one,
+      ap (paid_to one) none,
+      ap (paid_by one) none,
+      unpaid
+          seats event events others none,
+    )
 
 -- with one they have what it brings more, and what it takes less
-paid : (seats : ℕ) (event : Event) (events : List Event) (payment : Payment) (some : List Party) → payment_of event ≡ Some payment → cash_together seats (event ∷ events) some ≡ (cash_together seats events some +ℤ pos (sum_with payment.to payment.amount some)) -ℤ pos (sum_with payment.from payment.amount some)
+paid : (seats : ℕ) (event : Event) (events : List Event) (payment : Payment) (some : List Party)
+    → payment_of event ≡ Some payment → cash_together seats (event ∷ events) some
+    ≡ (cash_together seats events some +ℤ pos (sum_with payment.to payment.amount some)) -ℤ pos
+    (sum_with payment.from payment.amount some)
 paid seats event events payment [] pays = omega (arith, ints)
 paid seats event events payment (one ∷ others) pays =
-    omega (arith, ints, cash_in_front seats event events one, ap (paid_to one) pays, ap (paid_by one) pays, paid seats event events payment others pays)
+    omega (
+      arith,
+      ints,
+      cash_in_front seats event events one,
+      ap (paid_to one) pays,
+      ap (paid_by one) pays,
+      paid seats
+          event events payment others pays,
+    )
 
 -- so all parties have together what they had
-together_stays : (seats : ℕ) (event : Event) (events : List Event) (payment : Option Payment) → payment_of event ≡ payment → IsWithin seats payment → cash_together seats (event ∷ events) (parties seats) ≡ cash_together seats events (parties seats)
+together_stays : (seats : ℕ) (event : Event) (events : List Event) (payment : Option Payment)
+    → payment_of event ≡ payment → IsWithin seats payment
+    → cash_together seats (event ∷ events) (parties seats) ≡ cash_together seats events (parties seats)
 together_stays seats event events None pays within = unpaid seats event events (parties seats) pays
 together_stays seats event events (Some payment) pays within =
-    omega (arith, ints, paid seats event events payment (parties seats) pays, with_parties seats payment.to payment.amount within.1, with_parties seats payment.from payment.amount within.0)
+    omega (
+      arith,
+      ints,
+      paid seats event events payment (parties seats) pays,
+      with_parties seats payment.to
+          payment.amount within.1,
+      with_parties seats payment.from payment.amount within.0,
+    )
 
 -- at any other number of seats nobody begins with money
-begin_with_none : (seats : ℕ) (some : List Seat) → start_money_of seats ≡ 0 → cash_together seats [] (map party_at some ++ map party_of_company companies) ≡ pos 0
+begin_with_none : (seats : ℕ) (some : List Seat) → start_money_of seats ≡ 0
+    → cash_together seats [] (map party_at some ++ map party_of_company companies) ≡ pos 0
 begin_with_none seats [] none = omega (arith, ints)
 begin_with_none seats (seat ∷ others) none = omega (arith, ints, begin_with_none seats others none)
 

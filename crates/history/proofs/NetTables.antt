@@ -41,8 +41,10 @@ sum_kept n change safe not_under not_over = omega (arith, ints, safe.not_under, 
 
 -- the entry that is changed, and the others
 pub entry_changed :
-    (nets : List ℤ) (at entry : ℕ) (change value : ℤ) → at < length nets → (IsSafe (net_at nets at) → value ≡ net_at nets at +ℤ change) →
-    IsSafe (net_at nets entry) → net_at (set nets at value) entry ≡ net_at nets entry +ℤ (if at == entry then change else pos 0)
+    (nets : List ℤ) (at entry : ℕ) (change value : ℤ) → at < length nets
+    → (IsSafe (net_at nets at) → value ≡ net_at nets at +ℤ change) →
+    IsSafe (net_at nets entry) → net_at (set nets at value) entry
+    ≡ net_at nets entry +ℤ (if at == entry then change else pos 0)
 entry_changed nets at entry change value low is safe =
     grind (arith, get_or-set_same, get_or-set_other, cases_eq at entry, eq-eqb at entry, plus_none (net_at nets entry))
 
@@ -71,9 +73,11 @@ same_entry (party.Holder (holder.Company a)) (party.Holder (holder.Seat b)) =
 
 -- a payment moves its amount from its entry to its other
 pub payment_moved :
-    (payment : Payment) (made : Option Payment) (of : Party) (from to : ℕ) (old new : ℤ) → Some payment ≡ made → from ≡ party_entry payment.from →
+    (payment : Payment) (made : Option Payment) (of : Party) (from to : ℕ) (old new : ℤ) → Some payment ≡ made
+    → from ≡ party_entry payment.from →
     to ≡ party_entry payment.to →
-    new ≡ (old +ℤ pos (if to == party_entry of then payment.amount else 0)) -ℤ pos (if from == party_entry of then payment.amount else 0) →
+    new ≡ (old +ℤ pos (if to == party_entry of then payment.amount else 0)) -ℤ pos
+    (if from == party_entry of then payment.amount else 0) →
     new ≡ (old +ℤ pos (paid_to of made)) -ℤ pos (paid_by of made)
 payment_moved payment made of from to old new is from_is to_is moved =
     rw (sym is, same_entry payment.to of, same_entry payment.from of, sym from_is, sym to_is) moved
@@ -103,17 +107,22 @@ both_tests false b n = refl
 -- the tenths that come to a place, by entries
 part_by_entry :
     (a b : Company) (at place : Shareholder) (tenths : ℕ) →
-    (if same_company a b then (if same_shareholder at place then tenths else 0) else 0) ≡ (if tenths_entry a at == tenths_entry b place then tenths else 0)
+    (if same_company a b then (if same_shareholder at place then tenths else 0) else 0)
+    ≡ (if tenths_entry a at == tenths_entry b place then tenths else 0)
 part_by_entry a b at place tenths =
     both_tests (same_company a b) (same_shareholder at place) tenths
     ∙ ap (λ test. if same_company a b && test then tenths else 0) (same_row at place)
-    ∙ ap (λ test. if test then tenths else 0) (row_same (place_of_company a) (place_of_company b) (row_of at) (row_of place) (company_low a) (company_low b))
+    ∙ ap (λ test. if test then tenths else 0) (row_same (place_of_company a) (place_of_company b) (row_of at)
+    (row_of place) (company_low a) (company_low b))
 
 -- a transfer moves its tenths from its entry to its other
 pub transfer_moved :
-    (transfer : Transfer) (made : Option Transfer) (company : Company) (place : Shareholder) (from to tenths : ℕ) (old new : ℤ) → Some transfer ≡ made →
-    from ≡ tenths_entry transfer.company transfer.from → to ≡ tenths_entry transfer.company transfer.to → tenths ≡ transfer.tenths →
-    new ≡ (old +ℤ pos (if to == tenths_entry company place then tenths else 0)) -ℤ pos (if from == tenths_entry company place then tenths else 0) →
+    (transfer : Transfer) (made : Option Transfer) (company : Company) (place : Shareholder) (from to tenths : ℕ)
+    (old new : ℤ) → Some transfer ≡ made →
+    from ≡ tenths_entry transfer.company transfer.from → to ≡ tenths_entry transfer.company transfer.to
+    → tenths ≡ transfer.tenths →
+    new ≡ (old +ℤ pos (if to == tenths_entry company place then tenths else 0)) -ℤ pos
+    (if from == tenths_entry company place then tenths else 0) →
     new ≡ (old +ℤ pos (brought_to company place made)) -ℤ pos (taken_from company place made)
 transfer_moved transfer made company place from to tenths old new is from_is to_is many moved =
     let to_place = part_by_entry transfer.company company transfer.to place transfer.tenths in
@@ -133,10 +142,12 @@ same_train_row train_place.OutOfPlay train_place.BankPool = refl
 same_train_row train_place.OutOfPlay train_place.OutOfPlay = refl
 same_train_row train_place.Bank (train_place.Company b) = grind (arith, eq-eqb 0 (2 + place_of_company b))
 same_train_row train_place.BankPool (train_place.Company b) = grind (arith, eq-eqb 1 (2 + place_of_company b))
-same_train_row train_place.OutOfPlay (train_place.Company b) = grind (arith, company_low b, eq-eqb 10 (2 + place_of_company b))
+same_train_row train_place.OutOfPlay (train_place.Company b) =
+    grind (arith, company_low b, eq-eqb 10 (2 + place_of_company b))
 same_train_row (train_place.Company a) train_place.Bank = grind (arith, eq-eqb (2 + place_of_company a) 0)
 same_train_row (train_place.Company a) train_place.BankPool = grind (arith, eq-eqb (2 + place_of_company a) 1)
-same_train_row (train_place.Company a) train_place.OutOfPlay = grind (arith, company_low a, eq-eqb (2 + place_of_company a) 10)
+same_train_row (train_place.Company a) train_place.OutOfPlay =
+    grind (arith, company_low a, eq-eqb (2 + place_of_company a) 10)
 same_train_row (train_place.Company a) (train_place.Company b) = plus_same 2 (place_of_company a) (place_of_company b)
 
 -- a kind has a place under 8
@@ -156,33 +167,55 @@ train_entry_low train_place.OutOfPlay kind = omega (arith, kind_low kind)
 
 -- whether a train is one of those at a place, by entries
 train_by_entry :
-    (a b : Kind) (at place : TrainPlace) → one_if (same_kind a b && same_train_place at place) ≡ (if train_entry at a == train_entry place b then 1 else 0)
+    (a b : Kind) (at place : TrainPlace) → one_if (same_kind a b && same_train_place at place)
+    ≡ (if train_entry at a == train_entry place b then 1 else 0)
 train_by_entry a b at place =
     ap (λ test. one_if (same_kind a b && test)) (same_train_row at place)
-    ∙ ap one_if (row_same (place_of_kind a) (place_of_kind b) (train_row at) (train_row place) (kind_low a) (kind_low b))
+    ∙ ap one_if (row_same (place_of_kind a) (place_of_kind b) (train_row at) (train_row place) (kind_low a)
+    (kind_low b))
 
 -- a train moves from its entry to its other
 pub train_moved_on :
-    (train : TrainMove) (made : Option TrainMove) (place : TrainPlace) (kind : Kind) (from to : ℕ) (old new : ℤ) → Some train ≡ made →
+    (train : TrainMove) (made : Option TrainMove) (place : TrainPlace) (kind : Kind) (from to : ℕ) (old new : ℤ)
+    → Some train ≡ made →
     from ≡ train_entry train.from train.kind → to ≡ train_entry train.to train.kind →
-    new ≡ (old +ℤ pos (if to == train_entry place kind then 1 else 0)) -ℤ pos (if from == train_entry place kind then 1 else 0) →
+    new ≡ (old +ℤ pos (if to == train_entry place kind then 1 else 0)) -ℤ pos
+    (if from == train_entry place kind then 1 else 0) →
     new ≡ (old +ℤ pos (one_if (train_comes place kind made))) -ℤ pos (one_if (train_goes place kind made))
 train_moved_on train made place kind from to old new is from_is to_is moved =
-    rw (sym is, train_by_entry train.kind kind train.to place, train_by_entry train.kind kind train.from place, sym from_is, sym to_is) moved
+    rw (
+      sym is,
+      train_by_entry train.kind kind train.to place,
+      train_by_entry train.kind kind train.from place,
+      sym
+          from_is,
+      sym to_is,
+    ) moved
 
 -- a train moves from its place to its other
 pub train_count_moved :
-    (train : TrainMove) (made : Option TrainMove) (owner : Option Company) (from to : ℕ) (old new : ℤ) → Some train ≡ made → from ≡ train_row train.from →
+    (train : TrainMove) (made : Option TrainMove) (owner : Option Company) (from to : ℕ) (old new : ℤ)
+    → Some train ≡ made → from ≡ train_row train.from →
     to ≡ train_row train.to →
-    new ≡ (old +ℤ pos (if to == train_row (train_owner_place owner) then 1 else 0)) -ℤ pos (if from == train_row (train_owner_place owner) then 1 else 0) →
+    new ≡ (old +ℤ pos (if to == train_row (train_owner_place owner) then 1 else 0)) -ℤ pos
+    (if from == train_row (train_owner_place owner) then 1 else 0) →
     new ≡ (old +ℤ pos (one_if (any_comes owner made))) -ℤ pos (one_if (any_goes owner made))
 train_count_moved train made owner from to old new is from_is to_is moved =
-    rw (sym is, same_train_row train.to (train_owner_place owner), same_train_row train.from (train_owner_place owner), sym from_is, sym to_is) moved
+    rw (
+      sym is,
+      same_train_row train.to (train_owner_place owner),
+      same_train_row train.from
+          (train_owner_place owner),
+      sym from_is,
+      sym to_is,
+    ) moved
 
 -- a start with a net is an account
 pub account_kept :
-    (start : ℕ) (brings takes : Event → ℕ) (events : List Event) (from net : ℤ) → length events < 2 ^ 63 → start < 2 ^ 32 → from ≡ pos start →
-    IsNet brings takes events net → to_z w128 (of_z w128 (to_z w128 (of_z w128 from) +ℤ to_z w128 (of_z w128 net))) ≡ balance start brings takes events
+    (start : ℕ) (brings takes : Event → ℕ) (events : List Event) (from net : ℤ) → length events < 2 ^ 63
+    → start < 2 ^ 32 → from ≡ pos start →
+    IsNet brings takes events net → to_z w128 (of_z w128 (to_z w128 (of_z w128 from) +ℤ to_z w128 (of_z w128 net)))
+    ≡ balance start brings takes events
 account_kept start brings takes events from net short few is kept =
     let added : to_z w128 (of_z w128 (to_z w128 (of_z w128 from) +ℤ to_z w128 (of_z w128 net))) ≡ pos start +ℤ net =
     omega (arith, ints, short, few, is, kept.not_under, kept.not_over) in
@@ -190,8 +223,10 @@ account_kept start brings takes events from net short few is kept =
 
 -- and moderate
 pub account_moderate :
-    (start : ℕ) (brings takes : Event → ℕ) (events : List Event) (from net : ℤ) → length events < 2 ^ 63 → start < 2 ^ 32 → from ≡ pos start →
-    IsNet brings takes events net → IsModerate (to_z w128 (of_z w128 (to_z w128 (of_z w128 from) +ℤ to_z w128 (of_z w128 net))))
+    (start : ℕ) (brings takes : Event → ℕ) (events : List Event) (from net : ℤ) → length events < 2 ^ 63
+    → start < 2 ^ 32 → from ≡ pos start →
+    IsNet brings takes events net → IsModerate (to_z w128
+    (of_z w128 (to_z w128 (of_z w128 from) +ℤ to_z w128 (of_z w128 net))))
 account_moderate start brings takes events from net short few is kept =
     let added : to_z w128 (of_z w128 (to_z w128 (of_z w128 from) +ℤ to_z w128 (of_z w128 net))) ≡ pos start +ℤ net =
     omega (arith, ints, short, few, is, kept.not_under, kept.not_over) in

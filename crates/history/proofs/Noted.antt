@@ -28,15 +28,18 @@ use Rattle.tables.specs.declared.seat.Seat.{Seat}
 
 -- the last word is that of the event, or else the one before
 pub word_applied :
-    {A : Type 0} (says : Event → Option A) (events : List Event) (event : Event) (old new : Option A) → new ≡ option_or (says event) old →
+    {A : Type 0} (says : Event → Option A) (events : List Event) (event : Event) (old new : Option A)
+    → new ≡ option_or (says event) old →
     old ≡ last_said says events → new ≡ last_said says (events ++ event ∷ [])
 word_applied says events event old new noted before =
     noted ∙ ap (option_or (says event)) before ∙ sym (last_said_at_end says events event)
 
 -- the place of the event that speaks last
 pub place_applied :
-    {A : Type 0} (says : Event → Option A) (events : List Event) (event : Event) (place : ℕ) (old new : Option ℕ) → place ≡ length events →
-    new ≡ option_or (here_if (says event) place) old → old ≡ last_place_from says 0 events → new ≡ last_place_from says 0 (events ++ event ∷ [])
+    {A : Type 0} (says : Event → Option A) (events : List Event) (event : Event) (place : ℕ) (old new : Option ℕ)
+    → place ≡ length events →
+    new ≡ option_or (here_if (says event) place) old → old ≡ last_place_from says 0 events
+    → new ≡ last_place_from says 0 (events ++ event ∷ [])
 place_applied says events event place old new at noted before =
     let from_start : length events ≡ 0 + length events = omega arith in
     noted
@@ -56,8 +59,10 @@ or_true false = refl
 
 -- a bid on a private is what the event says, or else the one before
 pub bid_applied :
-    (events : List Event) (event : Event) (private : Private) (seat : Seat) (bidding : Option Bidding) (old new : Option ℕ) → bidding ≡ bidding_of event →
-    new ≡ unwrap_or (bid_said private seat bidding) old → old ≡ bid_of events private seat → new ≡ bid_of (events ++ event ∷ []) private seat
+    (events : List Event) (event : Event) (private : Private) (seat : Seat) (bidding : Option Bidding)
+    (old new : Option ℕ) → bidding ≡ bidding_of event →
+    new ≡ unwrap_or (bid_said private seat bidding) old → old ≡ bid_of events private seat
+    → new ≡ bid_of (events ++ event ∷ []) private seat
 bid_applied events event private seat bidding old new is noted before =
     noted
     ∙ ap (λ told. unwrap_or (bid_said private seat told) old) is
@@ -67,13 +72,15 @@ bid_applied events event private seat bidding old new is noted before =
 -- a word of the round that began last
 pub round_word_applied :
     {A : Type 0} (says : Event → Option A) (events : List Event) (event : Event) (old new : Option A) →
-    new ≡ unwrap_or (in_round says event) old → old ≡ now_said (in_round says) events → new ≡ now_said (in_round says) (events ++ event ∷ [])
+    new ≡ unwrap_or (in_round says event) old → old ≡ now_said (in_round says) events
+    → new ≡ now_said (in_round says) (events ++ event ∷ [])
 round_word_applied says events event old new noted before =
     noted ∙ ap (unwrap_or (in_round says event)) before ∙ sym (now_said_at_end (in_round says) events event)
 
 -- a test that some event has met
 pub flag_applied :
-    (says : Event → Bool) (events : List Event) (event : Event) (old new : Bool) → new ≡ (old || says event) → old ≡ list_any says events →
+    (says : Event → Bool) (events : List Event) (event : Event) (old new : Bool) → new ≡ (old || says event)
+    → old ≡ list_any says events →
     new ≡ list_any says (events ++ event ∷ [])
 flag_applied says events event old new noted before =
     noted
@@ -103,8 +110,10 @@ one_low test = grind arith
 
 -- the entry of an account
 pub net_applied :
-    (brings takes : Event → ℕ) (events : List Event) (event : Event) (old new : ℤ) → length events < 2 ^ 63 → brings event < 2 ^ 32 → takes event < 2 ^ 32 →
-    (IsModerate old → new ≡ (old +ℤ pos (brings event)) -ℤ pos (takes event)) → IsNet brings takes events old → IsNet brings takes (events ++ event ∷ []) new
+    (brings takes : Event → ℕ) (events : List Event) (event : Event) (old new : ℤ) → length events < 2 ^ 63
+    → brings event < 2 ^ 32 → takes event < 2 ^ 32 →
+    (IsModerate old → new ≡ (old +ℤ pos (brings event)) -ℤ pos (takes event)) → IsNet brings takes events old
+    → IsNet brings takes (events ++ event ∷ []) new
 net_applied brings takes events event old new short few_in few_out moves before =
     let moderate : IsModerate old = record {
       not_under = omega (arith, ints, short, before.not_under);
@@ -113,14 +122,16 @@ net_applied brings takes events event old new short few_in few_out moves before 
     let moved = moves moderate in
     let longer : length (events ++ event ∷ []) ≡ length events + 1 = length-append events (event ∷ []) in
     record {
-      is = moved ∙ ap (λ net. (net +ℤ pos (brings event)) -ℤ pos (takes event)) before.is ∙ sym (balance_at_end 0 brings takes events event);
+      is = moved ∙ ap (λ net. (net +ℤ pos (brings event)) -ℤ pos (takes event)) before.is
+          ∙ sym (balance_at_end 0 brings takes events event);
       not_under = omega (arith, ints, moved, longer, few_in, few_out, before.not_under);
       not_over = omega (arith, ints, moved, longer, few_in, few_out, before.not_over);
     }
 
 -- a flag of a round that some event of it has put up
 pub round_flag_applied :
-    {A : Type 0} (says : Event → Option A) (events : List Event) (event : Event) (old new : Bool) → new ≡ flag_then event (is_some (says event)) old →
+    {A : Type 0} (says : Event → Option A) (events : List Event) (event : Event) (old new : Bool)
+    → new ≡ flag_then event (is_some (says event)) old →
     old ≡ is_some (now_said (in_round says) events) → new ≡ is_some (now_said (in_round says) (events ++ event ∷ []))
 round_flag_applied says events event old new noted before =
     noted
@@ -130,8 +141,10 @@ round_flag_applied says events event old new noted before =
 
 -- a count of a seat's rulings
 pub rulings_applied :
-    (events : List Event) (event : Event) (seat : Seat) (old new : ℕ) → length events < 2 ^ 63 → (old < 2 ^ 63 → new ≡ rulings_then seat old event) →
-    IsCounted (rulings_in_round events seat) events old → IsCounted (rulings_in_round (events ++ event ∷ []) seat) (events ++ event ∷ []) new
+    (events : List Event) (event : Event) (seat : Seat) (old new : ℕ) → length events < 2 ^ 63
+    → (old < 2 ^ 63 → new ≡ rulings_then seat old event) →
+    IsCounted (rulings_in_round events seat) events old
+    → IsCounted (rulings_in_round (events ++ event ∷ []) seat) (events ++ event ∷ []) new
 rulings_applied events event seat old new short counts before =
     let counted = counts (omega (arith, short, before.few)) in
     record {
@@ -142,7 +155,8 @@ rulings_applied events event seat old new short counts before =
 -- a count of a company's tokens
 pub tokens_applied :
     (events : List Event) (event : Event) (company : Company) (old new : ℕ) → length events < 2 ^ 63 →
-    (old < 2 ^ 63 → new ≡ old + tokens_placed (event ∷ []) company) → IsCounted (tokens_placed events company) events old →
+    (old < 2 ^ 63 → new ≡ old + tokens_placed (event ∷ []) company)
+    → IsCounted (tokens_placed events company) events old →
     IsCounted (tokens_placed (events ++ event ∷ []) company) (events ++ event ∷ []) new
 tokens_applied events event company old new short counts before =
     let counted = counts (omega (arith, short, before.few)) in
@@ -153,34 +167,43 @@ tokens_applied events event company old new short counts before =
 
 -- the books of a list up to a place, and those with the event there
 pub one_more :
-    (events : List Event) (i : ℕ) (event d : Event) (old new : Totals) → i < length events → event ≡ get_or events i d → AreTotalsOf old (take i events) →
-    length events < 2 ^ 63 → ((before : List Event) → length before < 2 ^ 63 → AreTotalsOf old before → AreTotalsOf new (before ++ event ∷ [])) →
+    (events : List Event) (i : ℕ) (event d : Event) (old new : Totals) → i < length events → event ≡ get_or events i d
+    → AreTotalsOf old (take i events) →
+    length events < 2 ^ 63 → ((before : List Event) → length before < 2 ^ 63 → AreTotalsOf old before
+    → AreTotalsOf new (before ++ event ∷ [])) →
     AreTotalsOf new (take (i + 1) events)
 one_more events i event d old new below is before short notes =
     let longer = ap (λ e. take i events ++ e ∷ []) is ∙ sym (take_more events i d below) in
     subst (AreTotalsOf new) longer (notes (take i events) (omega (arith, length-take-le i events)) before)
 
 -- an offer that is told is the one among those that it adds
-one_told : (seat : Seat) (sale : Offer) (told : Option (Seat × Offer)) → is_among seat sale (cons_option told []) ≡ tells_offer seat sale told
+one_told : (seat : Seat) (sale : Offer) (told : Option (Seat × Offer))
+    → is_among seat sale (cons_option told []) ≡ tells_offer seat sale told
 one_told seat sale None = refl
 one_told seat sale (Some offer) = or_false (is_that_offer seat sale offer)
 
 -- the offers of a round, with that of an event
 pub offer_added :
-    (event : Event) (offers longer : List (Seat × Offer)) (told : Option (Seat × Offer)) (seat : Seat) (sale : Offer) → is_some (round_begun_by event) ≡ false →
-    longer ≡ offers ++ cons_option told [] → tells_offer seat sale told ≡ is_some (said_by seat (offered_in sale) (obeyed_of event)) →
-    is_among seat sale longer ≡ flag_then event (is_some (said_by seat (offered_in sale) (obeyed_of event))) (is_among seat sale offers)
+    (event : Event) (offers longer : List (Seat × Offer)) (told : Option (Seat × Offer)) (seat : Seat) (sale : Offer)
+    → is_some (round_begun_by event) ≡ false →
+    longer ≡ offers ++ cons_option told [] → tells_offer seat sale told
+    ≡ is_some (said_by seat (offered_in sale) (obeyed_of event)) →
+    is_among seat sale longer ≡ flag_then event (is_some (said_by seat (offered_in sale) (obeyed_of event)))
+    (is_among seat sale offers)
 offer_added event offers longer told seat sale quiet grows says =
     ap (is_among seat sale) grows
     ∙ list_any-append (is_that_offer seat sale) offers (cons_option told [])
     ∙ ap (λ flag. is_among seat sale offers || flag) (one_told seat sale told ∙ says)
     ∙ sym
-    (ap (λ begins. if begins then false else (is_among seat sale offers || is_some (said_by seat (offered_in sale) (obeyed_of event)))) quiet)
+    (ap (λ begins. if begins then false else (is_among seat sale offers
+    || is_some (said_by seat (offered_in sale) (obeyed_of event)))) quiet)
 
 -- and the offers that the round has had once it is told of
 pub offers_applied :
     (events : List Event) (event : Event) (offers longer : List (Seat × Offer)) →
-    ((seat : Seat) (sale : Offer) → is_among seat sale longer ≡ flag_then event (is_some (said_by seat (offered_in sale) (obeyed_of event))) (is_among seat sale offers)) →
+    ((seat : Seat) (sale : Offer) → is_among seat sale longer
+    ≡ flag_then event (is_some (said_by seat (offered_in sale) (obeyed_of event))) (is_among seat sale offers)) →
     AreOffersOf offers events → AreOffersOf longer (events ++ event ∷ [])
 offers_applied events event offers longer noted before = λ seat sale.
-    round_flag_applied (λ e. said_by seat (offered_in sale) (obeyed_of e)) events event _ _ (noted seat sale) (before seat sale)
+    round_flag_applied (λ e. said_by seat (offered_in sale) (obeyed_of e)) events event _ _ (noted seat sale)
+    (before seat sale)

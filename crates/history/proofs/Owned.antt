@@ -17,7 +17,9 @@ use Rattle.tables.specs.declared.roster.Private.TheVariants.{MohawkHudson}
 use Rattle.tables.specs.declared.seat.Seat.{Seat}
 
 -- a private sold to a seat at the table is owned by a party
-sold_within : (same : Bool) (seats : ℕ) (seat : Seat) (owner : Holder) → seat.0 < seats → ◌≡◌ {A = Option (Option Holder)} (if same then Some (Some (holder.Seat seat)) else None) (Some (Some owner)) → IsParty seats (party.Holder owner)
+sold_within : (same : Bool) (seats : ℕ) (seat : Seat) (owner : Holder) → seat.0 < seats
+    → ◌≡◌ {A = Option (Option Holder)} (if same then Some (Some (holder.Seat seat)) else None) (Some (Some owner))
+    → IsParty seats (party.Holder owner)
 sold_within true seats seat owner seated names =
     let is : holder.Seat seat ≡ owner = cc in
     subst (λ (one : Holder). IsParty seats (party.Holder one)) is seated
@@ -33,29 +35,38 @@ bought_within true seats company owner names =
 bought_within false seats company owner names = absurd (cc)
 
 -- an event that says that nobody owns a private names no owner
-none_named : (same : Bool) (owner : Holder) → ◌≡◌ {A = Option (Option Holder)} (if same then Some None else None) (Some (Some owner)) → ⊥
+none_named : (same : Bool) (owner : Holder) → ◌≡◌ {A = Option (Option Holder)} (if same then Some None else None)
+    (Some (Some owner)) → ⊥
 none_named true owner names = absurd (cc)
 none_named false owner names = absurd (cc)
 
 -- the owner that an event names is a party where the event pays between parties
-named_is_party : (seats : ℕ) (event : Event) (private : Private) (owner : Holder) → IsWithin seats (payment_of event) → owner_said private (ownership_of event) ≡ Some (Some owner) → IsParty seats (party.Holder owner)
-named_is_party seats (Sold sold seat price) private owner pays names = sold_within (same_private sold private) seats seat owner pays.0 names
-named_is_party seats (Exchanged seat from) private owner pays names = absurd (none_named (same_private MohawkHudson private) owner names)
-named_is_party seats (Closed closed) private owner pays names = absurd (none_named (same_private closed private) owner names)
+named_is_party : (seats : ℕ) (event : Event) (private : Private) (owner : Holder) → IsWithin seats (payment_of event)
+    → owner_said private (ownership_of event) ≡ Some (Some owner) → IsParty seats (party.Holder owner)
+named_is_party seats (Sold sold seat price) private owner pays names =
+    sold_within (same_private sold private) seats seat owner pays.0 names
+named_is_party seats (Exchanged seat from) private owner pays names =
+    absurd (none_named (same_private MohawkHudson private) owner names)
+named_is_party seats (Closed closed) private owner pays names =
+    absurd (none_named (same_private closed private) owner names)
 named_is_party seats (PrivateBought bought company seller price) private owner pays names =
     bought_within (same_private bought private) seats company owner names
 named_is_party seats other private owner pays names = absurd (cc)
 
 -- the last word is the later one, or the earlier
-either_word : {A : Type 0} (later earlier : Option A) (word : A) → option_or later earlier ≡ Some word → (later ≡ Some word) ⊎ (earlier ≡ Some word)
+either_word : {A : Type 0} (later earlier : Option A) (word : A) → option_or later earlier ≡ Some word
+    → (later ≡ Some word) ⊎ (earlier ≡ Some word)
 either_word None earlier word is = inr is
 either_word (Some later) earlier word is = inl is
 
 -- the owner of whom was said last is a party
-word_is_party : (seats : ℕ) (events : List Event) (private : Private) (owner : Holder) → AreWithin seats events → last_said (λ e. owner_said private (ownership_of e)) events ≡ Some (Some owner) → IsParty seats (party.Holder owner)
+word_is_party : (seats : ℕ) (events : List Event) (private : Private) (owner : Holder) → AreWithin seats events
+    → last_said (λ e. owner_said private (ownership_of e)) events ≡ Some (Some owner)
+    → IsParty seats (party.Holder owner)
 word_is_party seats [] private owner within said = absurd (cc)
 word_is_party seats (event ∷ events) private owner within said =
-    elim (either_word (last_said (λ e. owner_said private (ownership_of e)) events) (owner_said private (ownership_of event)) (Some owner) said) [
+    elim (either_word (last_said (λ e. owner_said private (ownership_of e)) events)
+    (owner_said private (ownership_of event)) (Some owner) said) [
       | inl later ↦ word_is_party seats events private owner within.1 later
       | inr here ↦ named_is_party seats event private owner within.0 here
     ]
@@ -69,4 +80,5 @@ said_so (Some (Some one)) owner is = ap Some is
 -- so is the owner of a private in a sound list
 pub owner_is_party : OwnersAreParties
 owner_is_party game private owner sound owns =
-    word_is_party game.seats game.events private owner sound.within (said_so (last_said (λ e. owner_said private (ownership_of e)) game.events) owner owns)
+    word_is_party game.seats game.events private owner sound.within
+    (said_so (last_said (λ e. owner_said private (ownership_of e)) game.events) owner owns)

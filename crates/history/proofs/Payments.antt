@@ -36,14 +36,25 @@ NoSeatPays event = (seat : Seat) → paid_by (party_at seat) (payment_of event) 
 -- each company has what it pays by an event
 abbrev pub CompaniesCanPay : Game → Event → Type 0
 CompaniesCanPay game event =
-    (company : Company) → pos (paid_by (party_of_company company) (payment_of event)) ≤ℤ cash_of game.seats game.events (party_of_company company)
+    (company : Company) → pos (paid_by (party_of_company company) (payment_of event)) ≤ℤ cash_of game.seats
+    game.events (party_of_company company)
 
 -- such an event keeps a list sound, where trains are held and what lies fits after it
-pub payment_sound : (game : Game) (event : Event) → OnlyPays event → NoSeatPays event → CompaniesCanPay game event → IsWithin game.seats (payment_of event) → TrainsAreHeld (game.events ++ event ∷ []) → LiesFit (game.events ++ event ∷ []) → IsSound game → IsSound (with_event game event)
+pub payment_sound : (game : Game) (event : Event) → OnlyPays event → NoSeatPays event → CompaniesCanPay game event
+    → IsWithin game.seats (payment_of event) → TrainsAreHeld (game.events ++ event ∷ [])
+    → LiesFit (game.events ++ event ∷ []) → IsSound game → IsSound (with_event game event)
 payment_sound game event only no_seat can pays trains fit sound =
     record {
-      solvent = λ seat. let before = sound.solvent seat in omega (arith, ints, cash_of_at_end game.seats game.events event (party_at seat), bids_of_before game.events event seat only.no_bid, no_seat seat);
-      companies = λ company. let enough = can company in omega (arith, ints, cash_of_at_end game.seats game.events event (party_of_company company));
+      solvent = λ seat. let before = sound.solvent seat in omega (
+        arith,
+        ints,
+        cash_of_at_end game.seats game.events event (party_at seat),
+        bids_of_before game.events event
+            seat only.no_bid,
+        no_seat seat,
+      );
+      companies = λ company. let enough = can company in omega
+          (arith, ints, cash_of_at_end game.seats game.events event (party_of_company company));
       bids_differ = differ_kept game.events event only.no_bid sound.bids_differ;
       bids_small = small_kept game.events event only.no_bid sound.bids_small;
       seated = seated_kept game.seats game.events event only.no_bid sound.seated;
@@ -60,29 +71,79 @@ payment_sound game event only no_seat can pays trains fit sound =
     }
 
 -- a company that pays the bank has what it pays, where the one that pays has
-pub can_pay : (game : Game) (company other : Company) (cost : ℕ) → pos cost ≤ℤ cash_of game.seats game.events (party_of_company company) → CompaniesAreSolvent game → pos (if same_company company other then cost else 0) ≤ℤ cash_of game.seats game.events (party_of_company other)
+pub can_pay : (game : Game) (company other : Company) (cost : ℕ)
+    → pos cost ≤ℤ cash_of game.seats game.events (party_of_company company) → CompaniesAreSolvent game
+    → pos (if same_company company other then cost else 0) ≤ℤ cash_of game.seats game.events (party_of_company other)
 can_pay game company other cost enough solvent =
     elim (truth (same_company company other)) [
-      | inl same ↦ rw same (subst (λ (one : Company). pos cost ≤ℤ cash_of game.seats game.events (party_of_company one)) (same_company_is company other same) enough)
+      | inl same ↦ rw same (subst (λ (one : Company). pos cost ≤ℤ cash_of game.seats game.events
+          (party_of_company one)) (same_company_is company other same) enough)
       | inr apart ↦ rw apart (solvent other)
     ]
 
 -- a lay
 pub lay_sound : LayKeepsSound
 lay_sound game company lay cost enough fit sound =
-    payment_sound game (Laid company lay cost) (record { no_owner = refl; no_bid = refl; no_transfer = refl; no_par = refl; no_square = refl; no_office = refl; no_float = refl; no_price = refl }) (λ seat. refl) (λ other. can_pay game company other cost enough sound.companies) (tt, tt) (trains_kept game.events (Laid company lay cost) refl sound.trains) fit sound
+    payment_sound game (Laid company lay cost) (record {
+      no_owner = refl;
+      no_bid = refl;
+      no_transfer = refl;
+      no_par = refl;
+      no_square = refl;
+      no_office =
+          refl;
+      no_float = refl;
+      no_price = refl;
+    }) (λ seat. refl)
+    (λ other. can_pay game company other cost enough sound.companies) (tt, tt)
+    (trains_kept game.events (Laid company lay cost) refl sound.trains) fit sound
 
 -- a token
 pub token_sound : TokenKeepsSound
 token_sound game company place cost enough fit sound =
-    payment_sound game (Token company place cost) (record { no_owner = refl; no_bid = refl; no_transfer = refl; no_par = refl; no_square = refl; no_office = refl; no_float = refl; no_price = refl }) (λ seat. refl) (λ other. can_pay game company other cost enough sound.companies) (tt, tt) (trains_kept game.events (Token company place cost) refl sound.trains) fit sound
+    payment_sound game (Token company place cost) (record {
+      no_owner = refl;
+      no_bid = refl;
+      no_transfer = refl;
+      no_par = refl;
+      no_square = refl;
+      no_office =
+          refl;
+      no_float = refl;
+      no_price = refl;
+    }) (λ seat. refl)
+    (λ other. can_pay game company other cost enough sound.companies) (tt, tt)
+    (trains_kept game.events (Token company place cost) refl sound.trains) fit sound
 
 -- a company that withholds
 pub withholding_sound : WithholdingKeepsSound
 withholding_sound game company amount sound =
-    payment_sound game (Withheld company amount) (record { no_owner = refl; no_bid = refl; no_transfer = refl; no_par = refl; no_square = refl; no_office = refl; no_float = refl; no_price = refl }) (λ seat. refl) (λ other. sound.companies other) (tt, tt) (trains_kept game.events (Withheld company amount) refl sound.trains) (fit_kept game.events (Withheld company amount) refl refl sound.fit) sound
+    payment_sound game (Withheld company amount) (record {
+      no_owner = refl;
+      no_bid = refl;
+      no_transfer = refl;
+      no_par = refl;
+      no_square = refl;
+      no_office =
+          refl;
+      no_float = refl;
+      no_price = refl;
+    }) (λ seat. refl) (λ other. sound.companies other) (tt, tt)
+    (trains_kept game.events (Withheld company amount) refl sound.trains)
+    (fit_kept game.events (Withheld company amount) refl refl sound.fit) sound
 
 -- a home token
 pub home_sound : HomeKeepsSound
 home_sound game company place fit sound =
-    payment_sound game (Home company place) (record { no_owner = refl; no_bid = refl; no_transfer = refl; no_par = refl; no_square = refl; no_office = refl; no_float = refl; no_price = refl }) (λ seat. refl) (λ other. sound.companies other) tt (trains_kept game.events (Home company place) refl sound.trains) fit sound
+    payment_sound game (Home company place) (record {
+      no_owner = refl;
+      no_bid = refl;
+      no_transfer = refl;
+      no_par = refl;
+      no_square = refl;
+      no_office =
+          refl;
+      no_float = refl;
+      no_price = refl;
+    }) (λ seat. refl) (λ other. sound.companies other) tt
+    (trains_kept game.events (Home company place) refl sound.trains) fit sound

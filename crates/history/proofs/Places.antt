@@ -7,10 +7,15 @@ use Rattle.history.specs.Totals.{here_if}
 use Rattle.history.specs.LookBack.{last_place_from}
 
 -- the place of the event at the end, if it speaks, or else what it was before
-pub last_place_at_end : {A : Type 0} (says : Event → Option A) (from : ℕ) (events : List Event) (event : Event) → last_place_from says from (events ++ event ∷ []) ≡ option_or (here_if (says event) (from + length events)) (last_place_from says from events)
+pub last_place_at_end : {A : Type 0} (says : Event → Option A) (from : ℕ) (events : List Event) (event : Event)
+    → last_place_from says from (events ++ event ∷ [])
+    ≡ option_or (here_if (says event) (from + length events)) (last_place_from says from events)
 last_place_at_end says from [] event =
     let place : from ≡ from + 0 = omega arith in
     ap (here_if (says event)) place ∙ sym (option_or_none (here_if (says event) (from + 0)))
 last_place_at_end says from (first ∷ events) event =
     let place : (from + 1) + length events ≡ from + length (first ∷ events) = omega arith in
-    ap (λ later. option_or later (here_if (says first) from)) (last_place_at_end says (from + 1) events event) ∙ (option_or_assoc (here_if (says event) ((from + 1) + length events)) (last_place_from says (from + 1) events) (here_if (says first) from) ∙ ap (λ at. option_or (here_if (says event) at) (last_place_from says from (first ∷ events))) place)
+    ap (λ later. option_or later (here_if (says first) from)) (last_place_at_end says (from + 1) events event)
+    ∙ (option_or_assoc (here_if (says event) ((from + 1) + length events))
+    (last_place_from says (from + 1) events) (here_if (says first) from)
+    ∙ ap (λ at. option_or (here_if (says event) at) (last_place_from says from (first ∷ events))) place)

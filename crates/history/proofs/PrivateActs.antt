@@ -26,35 +26,42 @@ use Rattle.tables.specs.declared.roster.Private.TheVariants.{SchuylkillValley, M
 use Rattle.tables.specs.declared.seat.Seat.{Seat}
 
 -- what is closed has no owner, so it is none that changes hands, and stays closed
-closed_still : (here : Bool) (new old : Holder) (earlier : Option (Option Holder)) → (here ≡ true → option_flatten earlier ≡ Some old) →
+closed_still : (here : Bool) (new old : Holder) (earlier : Option (Option Holder))
+    → (here ≡ true → option_flatten earlier ≡ Some old) →
     (is_some earlier && is_none (option_flatten earlier)) ≡ true →
     (is_some (option_or (if here then Some (Some new) else None) earlier)
     && is_none (option_flatten (option_or (if here then Some (Some new) else None) earlier)))
     ≡ true
 closed_still false new old earlier owned closed = closed
-closed_still true new old None owned closed = let nobody : ◌≡◌ {A = Option Holder} None (Some old) = owned refl in absurd (cc)
-closed_still true new old (Some None) owned closed = let nobody : ◌≡◌ {A = Option Holder} None (Some old) = owned refl in absurd (cc)
+closed_still true new old None owned closed = let nobody : ◌≡◌ {A = Option Holder} None (Some old) =
+    owned refl in absurd (cc)
+closed_still true new old (Some None) owned closed = let nobody : ◌≡◌ {A = Option Holder} None (Some old) =
+    owned refl in absurd (cc)
 closed_still true new old (Some (Some one)) owned closed = absurd (cc)
 
 -- so a closed private stays so where a company buys one from its owner
-stays_closed : (events : List Event) (bought : Private) (company : Company) (seller : Seat) (price : ℕ) (private : Private) →
+stays_closed : (events : List Event) (bought : Private) (company : Company) (seller : Seat) (price : ℕ)
+    (private : Private) →
     owner_of events bought ≡ Some (holder.Seat seller) → is_closed events private ≡ true →
     is_closed (events ++ PrivateBought bought company seller price ∷ []) private ≡ true
 stays_closed events bought company seller price private owns closed =
     ap (λ (word : Option (Option Holder)). is_some word && is_none (option_flatten word))
     (last_said_at_end (λ e. owner_said private (ownership_of e)) events (PrivateBought bought company seller price))
-    ∙ closed_still (same_private bought private) (holder.Company company) (holder.Seat seller) (last_said (λ e. owner_said private (ownership_of e)) events)
+    ∙ closed_still (same_private bought private) (holder.Company company) (holder.Seat seller)
+    (last_said (λ e. owner_said private (ownership_of e)) events)
     (λ same. ap (owner_of events) (sym (same_private_is bought private same)) ∙ owns) closed
 
 -- no more tenths are to stay in an initial offering
-least_after_purchase : (events : List Event) (private : Private) (company : Company) (seller : Seat) (price : ℕ) (of : Company) →
+least_after_purchase : (events : List Event) (private : Private) (company : Company) (seller : Seat) (price : ℕ)
+    (of : Company) →
     owner_of events private ≡ Some (holder.Seat seller) →
     least_offered (events ++ PrivateBought private company seller price ∷ []) of ≤ least_offered events of
 least_after_purchase events private company seller price Pennsylvania owns =
     fewer (is_sold events CamdenAmboy) (is_sold (events ++ PrivateBought private company seller price ∷ []) CamdenAmboy)
     (stays_sold events (PrivateBought private company seller price) CamdenAmboy)
 least_after_purchase events private company seller price NewYorkCentral owns =
-    fewer (is_closed events MohawkHudson) (is_closed (events ++ PrivateBought private company seller price ∷ []) MohawkHudson)
+    fewer (is_closed events MohawkHudson) (is_closed (events ++ PrivateBought private company seller price ∷ [])
+    MohawkHudson)
     (stays_closed events private company seller price MohawkHudson owns)
 least_after_purchase events private company seller price CanadianPacific owns = omega arith
 least_after_purchase events private company seller price BaltimoreOhio owns = omega arith
@@ -70,10 +77,17 @@ offered_after_purchase : (events : List Event) (private : Private) (company : Co
 offered_after_purchase events private company seller price owns offered of unplaced =
     let event = PrivateBought private company seller price in
     let enough = offered of (sym (square_of_before events event of refl) ∙ unplaced) in
-    omega (arith, ints, least_after_purchase events private company seller price of owns, shares_of_before events event of InitialOffering refl)
+    omega (
+      arith,
+      ints,
+      least_after_purchase events private company seller price of owns,
+      shares_of_before events
+          event of InitialOffering refl,
+    )
 
 -- SV stays given away
-given_after_purchase : (events : List Event) (private : Private) (company : Company) (seller : Seat) (price : ℕ) → IsGivenAway events →
+given_after_purchase : (events : List Event) (private : Private) (company : Company) (seller : Seat) (price : ℕ)
+    → IsGivenAway events →
     IsGivenAway (events ++ PrivateBought private company seller price ∷ [])
 given_after_purchase events private company seller price given none =
     stays_sold events (PrivateBought private company seller price) SchuylkillValley
@@ -86,7 +100,13 @@ private_sound game private company seller price owns enough sound =
     record {
       solvent = λ seat.
           let before = sound.solvent seat in
-          omega (arith, ints, cash_of_at_end game.seats game.events event (party_at seat), bids_of_before game.events event seat refl);
+          omega (
+            arith,
+            ints,
+            cash_of_at_end game.seats game.events event (party_at seat),
+            bids_of_before game.events
+                event seat refl,
+          );
       companies = λ other.
           let can = can_pay game company other price enough sound.companies in
           omega (arith, ints, cash_of_at_end game.seats game.events event (party_of_company other));
@@ -100,7 +120,8 @@ private_sound game private company seller price owns enough sound =
       offered = offered_after_purchase game.events private company seller price owns sound.offered;
       led = led_kept game.events event refl refl refl refl sound.led;
       floated = floated_kept game.events event refl refl refl refl sound.floated;
-      within = within_after game.seats game.events event (tt, owner_is_party game private (holder.Seat seller) sound owns) sound.within;
+      within = within_after game.seats game.events event
+          (tt, owner_is_party game private (holder.Seat seller) sound owns) sound.within;
       trains = trains_kept game.events event refl sound.trains;
       fit = fit_kept game.events event refl refl sound.fit;
     }

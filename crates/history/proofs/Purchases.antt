@@ -35,30 +35,48 @@ use Rattle.tables.specs.declared.seat.Seat.{Seat}
 use Rattle.tables.specs.declared.squares.Square.{Square}
 
 -- after a purchase each seat still has what its bids tie
-solvent_after_purchase : (game : Game) (company : Company) (seat : Seat) (tenths : ℕ) (from : ShareSource) (price : ℕ) → pos price ≤ℤ free_cash_of game.seats game.events seat → SeatsAreSolvent game → SeatsAreSolvent (with_event game (Bought company seat tenths from price))
+solvent_after_purchase : (game : Game) (company : Company) (seat : Seat) (tenths : ℕ) (from : ShareSource) (price : ℕ)
+    → pos price ≤ℤ free_cash_of game.seats game.events seat → SeatsAreSolvent game
+    → SeatsAreSolvent (with_event game (Bought company seat tenths from price))
 solvent_after_purchase game company seat tenths from price affordable solvent by =
     let cash = cash_of_at_end game.seats game.events (Bought company seat tenths from price) (party_at by) in
     let bids = bids_of_before game.events (Bought company seat tenths from price) by refl in
     let before = solvent by in
     elim (cases_eq seat.0 by.0) [
       | inl same ↦
-          let here : pos price ≤ℤ free_cash_of game.seats game.events by = subst (λ (one : Seat). pos price ≤ℤ free_cash_of game.seats game.events one) (ap seat_at same) affordable in
+          let here : pos price ≤ℤ free_cash_of game.seats game.events by =
+          subst (λ (one : Seat). pos price ≤ℤ free_cash_of game.seats game.events one) (ap seat_at same)
+          affordable in
           omega (arith, ints, chosen seat.0 by.0 price 0 same)
       | inr apart ↦ omega (arith, ints, passed_over seat.0 by.0 price 0 apart)
     ]
 
 -- a purchase takes nothing from a company
-companies_after_purchase : (game : Game) (company : Company) (seat : Seat) (tenths : ℕ) (from : ShareSource) (price : ℕ) → CompaniesAreSolvent game → CompaniesAreSolvent (with_event game (Bought company seat tenths from price))
+companies_after_purchase : (game : Game) (company : Company) (seat : Seat) (tenths : ℕ) (from : ShareSource)
+    (price : ℕ) → CompaniesAreSolvent game → CompaniesAreSolvent
+    (with_event game (Bought company seat tenths from price))
 companies_after_purchase game company seat tenths from price solvent other =
     let before = solvent other in
-    omega (arith, ints, cash_of_at_end game.seats game.events (Bought company seat tenths from price) (party.Holder (holder.Company other)))
+    omega (
+      arith,
+      ints,
+      cash_of_at_end game.seats game.events (Bought company seat tenths from price)
+          (party.Holder (holder.Company other)),
+    )
 
 -- the tenths of a purchase
 abbrev purchase : Company → Seat → ℕ → ShareSource → Transfer
-purchase company seat tenths from = record { company = company; from = place_of_source from; to = OfSeat seat; tenths = tenths }
+purchase company seat tenths from = record {
+  company = company;
+  from = place_of_source from;
+  to =
+      OfSeat seat;
+  tenths = tenths;
+}
 
 -- a purchase says nothing else but of money
-purchase_gains : (seats : ℕ) (company : Company) (seat : Seat) (tenths : ℕ) (from : ShareSource) (price : ℕ) → seat.0 < seats → Gains seats (Bought company seat tenths from price) (purchase company seat tenths from)
+purchase_gains : (seats : ℕ) (company : Company) (seat : Seat) (tenths : ℕ) (from : ShareSource) (price : ℕ)
+    → seat.0 < seats → Gains seats (Bought company seat tenths from price) (purchase company seat tenths from)
 purchase_gains seats company seat tenths from price seated =
     record {
       moves = refl;
@@ -83,14 +101,18 @@ part_of_none source.InitialOffering tenths none = none
 part_of_none source.BankPool tenths none = refl
 
 -- of a company without a square nothing is bought
-left_after_purchase : (events : List Event) (company : Company) (seat : Seat) (tenths : ℕ) (from : ShareSource) (square : Square) → square_of events company ≡ Some square → AreOffered events → EnoughAreLeft events (purchase company seat tenths from)
+left_after_purchase : (events : List Event) (company : Company) (seat : Seat) (tenths : ℕ) (from : ShareSource)
+    (square : Square) → square_of events company ≡ Some square → AreOffered events
+    → EnoughAreLeft events (purchase company seat tenths from)
 left_after_purchase events company seat tenths from square started offered other unplaced =
     elim (truth (same_company company other)) [
       | inl same ↦
-          let has : Some square ≡ None = sym started ∙ ap (square_of events) (same_company_is company other same) ∙ unplaced in
+          let has : Some square ≡ None = sym started ∙ ap (square_of events) (same_company_is company other same)
+          ∙ unplaced in
           absurd (cc)
       | inr apart ↦
-          let its : moved other (purchase company seat tenths from) ≡ 0 = ap (λ (is : Bool). if is then tenths else 0) apart in
+          let its : moved other (purchase company seat tenths from) ≡ 0 =
+          ap (λ (is : Bool). if is then tenths else 0) apart in
           let enough = offered other unplaced in
           omega (arith, ints, part_of_none from (moved other (purchase company seat tenths from)) its)
     ]
@@ -98,68 +120,141 @@ left_after_purchase events company seat tenths from square started offered other
 -- a purchase by a seat at the table that has the price free of its bids
 pub purchase_sound : PurchaseKeepsSound
 purchase_sound game company seat tenths from price square started seated many affordable sound =
-    gain_sound game (Bought company seat tenths from price) (purchase company seat tenths from) (purchase_gains game.seats company seat tenths from price seated) many (left_after_purchase game.events company seat tenths from square started sound.offered) (solvent_after_purchase game company seat tenths from price affordable sound.solvent) (companies_after_purchase game company seat tenths from price sound.companies) sound
+    gain_sound game (Bought company seat tenths from price) (purchase company seat tenths from)
+    (purchase_gains game.seats company seat tenths from price seated) many
+    (left_after_purchase game.events company seat tenths from square started sound.offered)
+    (solvent_after_purchase game company seat tenths from price affordable sound.solvent)
+    (companies_after_purchase game company seat tenths from price sound.companies) sound
 
 -- the president's two tenths are bought
 pub start_by_purchase_sound : StartByPurchaseKeepsSound
 start_by_purchase_sound game company seat price cost is_par unplaced seated affordable sound =
     let par = with_event game (Par company price) in
-    let free : pos cost ≤ℤ free_cash_of par.seats par.events seat = subst (λ (cash : ℤ). pos cost ≤ℤ cash) (sym (free_cash_before game.seats game.events (Par company price) seat refl refl)) affordable in
-    start_sound_by game company seat price (Bought company seat 2 source.InitialOffering cost) (purchase_gains game.seats company seat 2 source.InitialOffering cost seated) is_par unplaced (solvent_after_purchase par company seat 2 source.InitialOffering cost free (solvent_kept game (Par company price) refl refl sound.solvent)) (companies_after_purchase par company seat 2 source.InitialOffering cost (companies_kept game (Par company price) refl sound.companies)) sound
+    let free : pos cost ≤ℤ free_cash_of par.seats par.events seat =
+    subst (λ (cash : ℤ). pos cost ≤ℤ cash) (sym (free_cash_before game.seats game.events (Par company price) seat
+    refl refl)) affordable in
+    start_sound_by game company seat price (Bought company seat 2 source.InitialOffering cost)
+    (purchase_gains game.seats company seat 2 source.InitialOffering cost seated) is_par unplaced
+    (solvent_after_purchase par company seat 2 source.InitialOffering cost free
+    (solvent_kept game (Par company price) refl refl sound.solvent))
+    (companies_after_purchase par company seat 2 source.InitialOffering cost
+    (companies_kept game (Par company price) refl sound.companies)) sound
 
 -- the tenth of an exchange
 abbrev exchange : Seat → ShareSource → Transfer
 exchange seat from = record { company = NewYorkCentral; from = place_of_source from; to = OfSeat seat; tenths = 1 }
 
 -- a private that has an owner is not closed
-not_closed : (word : Option (Option Holder)) (owner : Holder) → option_flatten word ≡ Some owner → (is_some word && is_none (option_flatten word)) ≡ false
+not_closed : (word : Option (Option Holder)) (owner : Holder) → option_flatten word ≡ Some owner
+    → (is_some word && is_none (option_flatten word)) ≡ false
 not_closed None owner has = refl
 not_closed (Some None) owner has = absurd cc
 not_closed (Some (Some word)) owner has = refl
 
 -- before an exchange nine tenths of NYC stay
-nine_before : (events : List Event) (owner : Holder) → owner_of events MohawkHudson ≡ Some owner → least_offered events NewYorkCentral ≡ 9
+nine_before : (events : List Event) (owner : Holder) → owner_of events MohawkHudson ≡ Some owner
+    → least_offered events NewYorkCentral ≡ 9
 nine_before events owner has =
-    ap (λ (closed : Bool). if closed then 8 else 9) (not_closed (last_said (λ e. owner_said MohawkHudson (ownership_of e)) events) owner has)
+    ap (λ (closed : Bool). if closed then 8 else 9)
+    (not_closed (last_said (λ e. owner_said MohawkHudson (ownership_of e)) events) owner has)
 
 -- and eight after it
-eight_after : (events : List Event) (seat : Seat) (from : ShareSource) → least_offered (events ++ Exchanged seat from ∷ []) NewYorkCentral ≡ 8
+eight_after : (events : List Event) (seat : Seat) (from : ShareSource)
+    → least_offered (events ++ Exchanged seat from ∷ []) NewYorkCentral ≡ 8
 eight_after events seat from =
-    ap (λ (word : Option (Option Holder)). if is_some word && is_none (option_flatten word) then 8 else 9) (last_said_at_end (λ e. owner_said MohawkHudson (ownership_of e)) events (Exchanged seat from))
+    ap (λ (word : Option (Option Holder)). if is_some word && is_none (option_flatten word) then 8 else 9)
+    (last_said_at_end (λ e. owner_said MohawkHudson (ownership_of e)) events (Exchanged seat from))
 
 -- at most one of its offering goes
-one_goes : (from : ShareSource) (seat : Seat) → part (place_of_source from) InitialOffering (moved NewYorkCentral (exchange seat from)) ≤ 1
+one_goes : (from : ShareSource) (seat : Seat) → part (place_of_source from) InitialOffering
+    (moved NewYorkCentral (exchange seat from)) ≤ 1
 one_goes source.InitialOffering seat = omega arith
 one_goes source.BankPool seat = omega arith
 
 -- so PRR's stay as they were: CA is sold as before
-camden_as_before : (events : List Event) (seat : Seat) (from : ShareSource) → least_offered (events ++ Exchanged seat from ∷ []) Pennsylvania ≡ least_offered events Pennsylvania
+camden_as_before : (events : List Event) (seat : Seat) (from : ShareSource)
+    → least_offered (events ++ Exchanged seat from ∷ []) Pennsylvania ≡ least_offered events Pennsylvania
 camden_as_before events seat from =
-    ap (λ (word : Option (Option Holder)). if is_some word then 8 else 9) (last_said_at_end (λ e. owner_said CamdenAmboy (ownership_of e)) events (Exchanged seat from))
+    ap (λ (word : Option (Option Holder)). if is_some word then 8 else 9)
+    (last_said_at_end (λ e. owner_said CamdenAmboy (ownership_of e)) events (Exchanged seat from))
 
 -- enough are left of each company
-enough_after_exchange : (events : List Event) (seat : Seat) (from : ShareSource) (owner : Holder) (company : Company) → owner_of events MohawkHudson ≡ Some owner → pos (least_offered events company) ≤ℤ shares_of events company InitialOffering → pos (least_offered (events ++ Exchanged seat from ∷ []) company) ≤ℤ shares_of (events ++ Exchanged seat from ∷ []) company InitialOffering
+enough_after_exchange : (events : List Event) (seat : Seat) (from : ShareSource) (owner : Holder) (company : Company)
+    → owner_of events MohawkHudson ≡ Some owner → pos (least_offered events company) ≤ℤ shares_of events company
+    InitialOffering → pos (least_offered (events ++ Exchanged seat from ∷ []) company) ≤ℤ shares_of
+    (events ++ Exchanged seat from ∷ []) company InitialOffering
 enough_after_exchange events seat from owner Pennsylvania has before =
-    omega (arith, ints, camden_as_before events seat from, shares_after events (Exchanged seat from) (exchange seat from) Pennsylvania InitialOffering refl, part_of_none from 0 refl)
+    omega (
+      arith,
+      ints,
+      camden_as_before events seat from,
+      shares_after events (Exchanged seat from)
+          (exchange seat from) Pennsylvania InitialOffering refl,
+      part_of_none from 0 refl,
+    )
 enough_after_exchange events seat from owner NewYorkCentral has before =
-    omega (arith, ints, nine_before events owner has, eight_after events seat from, shares_after events (Exchanged seat from) (exchange seat from) NewYorkCentral InitialOffering refl, one_goes from seat)
+    omega (
+      arith,
+      ints,
+      nine_before events owner has,
+      eight_after events seat from,
+      shares_after events
+          (Exchanged seat from) (exchange seat from) NewYorkCentral InitialOffering refl,
+      one_goes from seat,
+    )
 enough_after_exchange events seat from owner CanadianPacific has before =
-    omega (arith, ints, shares_after events (Exchanged seat from) (exchange seat from) CanadianPacific InitialOffering refl, part_of_none from 0 refl)
+    omega (
+      arith,
+      ints,
+      shares_after events (Exchanged seat from) (exchange seat from) CanadianPacific InitialOffering
+          refl,
+      part_of_none from 0 refl,
+    )
 enough_after_exchange events seat from owner BaltimoreOhio has before =
-    omega (arith, ints, shares_after events (Exchanged seat from) (exchange seat from) BaltimoreOhio InitialOffering refl, part_of_none from 0 refl)
+    omega (
+      arith,
+      ints,
+      shares_after events (Exchanged seat from) (exchange seat from) BaltimoreOhio InitialOffering
+          refl,
+      part_of_none from 0 refl,
+    )
 enough_after_exchange events seat from owner ChesapeakeOhio has before =
-    omega (arith, ints, shares_after events (Exchanged seat from) (exchange seat from) ChesapeakeOhio InitialOffering refl, part_of_none from 0 refl)
+    omega (
+      arith,
+      ints,
+      shares_after events (Exchanged seat from) (exchange seat from) ChesapeakeOhio InitialOffering
+          refl,
+      part_of_none from 0 refl,
+    )
 enough_after_exchange events seat from owner Erie has before =
-    omega (arith, ints, shares_after events (Exchanged seat from) (exchange seat from) Erie InitialOffering refl, part_of_none from 0 refl)
+    omega (
+      arith,
+      ints,
+      shares_after events (Exchanged seat from) (exchange seat from) Erie InitialOffering refl,
+      part_of_none from 0 refl,
+    )
 enough_after_exchange events seat from owner NewHaven has before =
-    omega (arith, ints, shares_after events (Exchanged seat from) (exchange seat from) NewHaven InitialOffering refl, part_of_none from 0 refl)
+    omega (
+      arith,
+      ints,
+      shares_after events (Exchanged seat from) (exchange seat from) NewHaven InitialOffering refl,
+      part_of_none from 0 refl,
+    )
 enough_after_exchange events seat from owner BostonMaine has before =
-    omega (arith, ints, shares_after events (Exchanged seat from) (exchange seat from) BostonMaine InitialOffering refl, part_of_none from 0 refl)
+    omega (
+      arith,
+      ints,
+      shares_after events (Exchanged seat from) (exchange seat from) BostonMaine InitialOffering
+          refl,
+      part_of_none from 0 refl,
+    )
 
 -- so as many are offered
-offered_after_exchange : (events : List Event) (seat : Seat) (from : ShareSource) (owner : Holder) → owner_of events MohawkHudson ≡ Some owner → AreOffered events → AreOffered (events ++ Exchanged seat from ∷ [])
+offered_after_exchange : (events : List Event) (seat : Seat) (from : ShareSource) (owner : Holder)
+    → owner_of events MohawkHudson ≡ Some owner → AreOffered events → AreOffered (events ++ Exchanged seat from ∷ [])
 offered_after_exchange events seat from owner has offered company unplaced =
-    enough_after_exchange events seat from owner company has (offered company (sym (square_of_before events (Exchanged seat from) company refl) ∙ unplaced))
+    enough_after_exchange events seat from owner company has
+    (offered company (sym (square_of_before events (Exchanged seat from) company refl) ∙ unplaced))
 
 -- MH's exchange
 pub exchange_sound : ExchangeKeepsSound
@@ -171,12 +266,16 @@ exchange_sound game seat from owner seated many sound =
       bids_small = small_kept game.events (Exchanged seat from) refl sound.bids_small;
       seated = seated_kept game.seats game.events (Exchanged seat from) refl sound.seated;
       price = price_kept game.events (Exchanged seat from) refl sound.price;
-      given = λ none. stays_sold game.events (Exchanged seat from) SchuylkillValley (sound.given (sym (sv_price_of_before game.events (Exchanged seat from) refl) ∙ none));
+      given = λ none. stays_sold game.events (Exchanged seat from) SchuylkillValley
+          (sound.given (sym (sv_price_of_before game.events (Exchanged seat from) refl) ∙ none));
       held = held_after game.events (Exchanged seat from) (exchange seat from) refl many sound.held;
-      ten = ten_after game (Exchanged seat from) (exchange seat from) refl (bank_at_table game.seats (place_of_source from) (source_of_bank from)) seated sound.ten;
+      ten = ten_after game (Exchanged seat from) (exchange seat from) refl
+          (bank_at_table game.seats (place_of_source from) (source_of_bank from)) seated sound.ten;
       offered = offered_after_exchange game.events seat from (holder.Seat seat) owner sound.offered;
-      led = led_gained game.events (Exchanged seat from) (exchange seat from) refl (source_of_bank from) refl refl refl sound.led;
-      floated = floated_gained game.events (Exchanged seat from) (exchange seat from) refl (source_of_bank from) refl refl refl sound.floated;
+      led = led_gained game.events (Exchanged seat from) (exchange seat from) refl (source_of_bank from) refl refl
+          refl sound.led;
+      floated = floated_gained game.events (Exchanged seat from) (exchange seat from) refl (source_of_bank from) refl
+          refl refl sound.floated;
       within = within_kept game.seats game.events (Exchanged seat from) refl sound.within;
       trains = trains_kept game.events (Exchanged seat from) refl sound.trains;
       fit = fit_kept game.events (Exchanged seat from) refl refl sound.fit;

@@ -6,6 +6,8 @@ use Rattle.history.specs.Record.{with_left}
 use Rattle.tables.specs.declared.seat.Seat.{Seat}
 
 -- a LEFT event stands in front of others
-pub left_first : (seat : Seat) (count : ℕ) (events : List Event) → with_left seat count [] ++ events ≡ with_left seat count events
+pub left_first : (seat : Seat) (count : ℕ) (events : List Event)
+    → with_left seat count [] ++ events ≡ with_left seat count events
 left_first seat count events =
-    elim (count == 0) as (λ (b : Bool). (if b then [] else event.Left seat count ∷ []) ++ events ≡ (if b then events else event.Left seat count ∷ events)) [ true ↦ refl | false ↦ refl ]
+    elim (count == 0) as (λ (b : Bool). (if b then [] else event.Left seat count ∷ []) ++ events
+    ≡ (if b then events else event.Left seat count ∷ events)) [ true ↦ refl | false ↦ refl ]

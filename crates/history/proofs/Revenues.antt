@@ -7,8 +7,11 @@ use Rattle.history.specs.Record.{after_revenues, paid_to_owner}
 use Rattle.tables.specs.declared.roster.Private.{Private}
 
 -- where the revenues of those that are left lead after the next, they lead before it
-pub revenues_go_on : (seats same : ℕ) (old new : List Event) (all : List Private) (i : ℕ) (d : Private) → i < length all → same ≡ seats → new ≡ paid_to_owner seats old (get_or all i d) (owner_of old (get_or all i d)) → after_revenues same new (drop (i + 1) all) ≡ after_revenues seats old (drop i all)
+pub revenues_go_on : (seats same : ℕ) (old new : List Event) (all : List Private) (i : ℕ) (d : Private)
+    → i < length all → same ≡ seats → new ≡ paid_to_owner seats old (get_or all i d) (owner_of old (get_or all i d))
+    → after_revenues same new (drop (i + 1) all) ≡ after_revenues seats old (drop i all)
 revenues_go_on seats same old new all i d below is_same paid =
     ap (λ (n : ℕ). after_revenues n new (drop (i + 1) all)) is_same
     ∙ ap (λ (events : List Event). after_revenues seats events (drop (i + 1) all)) paid
-    ∙ sym (ap (λ (left : List Private). after_revenues seats old left) (drop-cons all i d below ∙ ap (λ (k : ℕ). get_or all i d ∷ drop k all) (sym (add-one i))))
+    ∙ sym (ap (λ (left : List Private). after_revenues seats old left)
+    (drop-cons all i d below ∙ ap (λ (k : ℕ). get_or all i d ∷ drop k all) (sym (add-one i))))

@@ -20,7 +20,8 @@ use Rattle.tables.specs.declared.roster.Company.{Company}
 -- the kind at a place among the kinds
 abbrev kind_at : ℕ → Kind
 kind_at place =
-    if place == 0 then Two else if place == 1 then Three else if place == 2 then Four else if place == 3 then Five else if place == 4 then Six else Diesel
+    if place == 0 then Two else if place == 1 then Three else if place == 2 then Four else if place ==
+    3 then Five else if place == 4 then Six else Diesel
 
 -- is the kind
 kind_at_place : (kind : Kind) → kind_at (place_of_kind kind) ≡ kind
@@ -62,62 +63,119 @@ both true false is = absurd cc
 both false b is = absurd cc
 
 -- how many the bank has sold, once one more event stands at the end
-pub sold_at_end : (events : List Event) (event : Event) (kind : Kind) → trains_sold (events ++ event ∷ []) kind ≡ trains_sold events kind + one_if (train_goes place.Bank kind (train_moved event))
+pub sold_at_end : (events : List Event) (event : Event) (kind : Kind)
+    → trains_sold (events ++ event ∷ []) kind ≡ trains_sold events kind
+    + one_if (train_goes place.Bank kind (train_moved event))
 sold_at_end events event kind = sum_by_push (λ e. one_if (train_goes place.Bank kind (train_moved e))) events event
 
 -- an event that moves no train leaves all trains where they lie
-pub trains_kept : (events : List Event) (event : Event) → train_moved event ≡ None → TrainsAreHeld events → TrainsAreHeld (events ++ event ∷ [])
+pub trains_kept : (events : List Event) (event : Event) → train_moved event ≡ None → TrainsAreHeld events
+    → TrainsAreHeld (events ++ event ∷ [])
 trains_kept events event none before =
     record {
-      held = λ owner kind. subst (λ (trains : ℤ). pos 0 ≤ℤ trains) (sym (trains_at_before events event (train_owner_place owner) kind none)) (before.held owner kind);
-      sold = λ kind number there. let few = before.sold kind number there in omega (arith, sold_at_end events event kind, ap (λ move. one_if (train_goes place.Bank kind move)) none);
+      held = λ owner kind. subst (λ (trains : ℤ). pos 0 ≤ℤ trains)
+          (sym (trains_at_before events event (train_owner_place owner) kind none)) (before.held owner kind);
+      sold = λ kind number there. let few = before.sold kind number there in omega
+          (arith, sold_at_end events event kind, ap (λ move. one_if (train_goes place.Bank kind move)) none);
     }
 
 -- a place keeps no fewer than none where the train that goes is one that is there
-still_held : (events : List Event) (event : Event) (move : TrainMove) (place : TrainPlace) (kind : Kind) → train_moved event ≡ Some move → pos 1 ≤ℤ trains_at events move.from move.kind → pos 0 ≤ℤ trains_at events place kind → pos 0 ≤ℤ trains_at (events ++ event ∷ []) place kind
+still_held : (events : List Event) (event : Event) (move : TrainMove) (place : TrainPlace) (kind : Kind)
+    → train_moved event ≡ Some move → pos 1 ≤ℤ trains_at events move.from move.kind
+    → pos 0 ≤ℤ trains_at events place kind → pos 0 ≤ℤ trains_at (events ++ event ∷ []) place kind
 still_held events event move place kind is there before =
     elim (truth (train_goes place kind (Some move))) [
       | inl goes ↦
           let same = both (same_kind move.kind kind) (same_train_place move.from place) goes in
-          let here : pos 1 ≤ℤ trains_at events place kind = subst (λ (at : TrainPlace). pos 1 ≤ℤ trains_at events at kind) (same_train_place_is move.from place same.1) (subst (λ (of : Kind). pos 1 ≤ℤ trains_at events move.from of) (same_kind_is move.kind kind same.0) there) in
-          omega (arith, ints, trains_at_end events event place kind, ap (λ m. one_if (train_goes place kind m)) is, ap one_if goes)
+          let here : pos 1 ≤ℤ trains_at events place kind =
+          subst (λ (at : TrainPlace). pos 1 ≤ℤ trains_at events at kind)
+          (same_train_place_is move.from place same.1) (subst
+          (λ (of : Kind). pos 1 ≤ℤ trains_at events move.from of) (same_kind_is move.kind kind same.0) there) in
+          omega (
+            arith,
+            ints,
+            trains_at_end events event place kind,
+            ap (λ m. one_if (train_goes place kind m)) is,
+            ap
+                one_if goes,
+          )
       | inr stays ↦
-          omega (arith, ints, trains_at_end events event place kind, ap (λ m. one_if (train_goes place kind m)) is, ap one_if stays)
+          omega (
+            arith,
+            ints,
+            trains_at_end events event place kind,
+            ap (λ m. one_if (train_goes place kind m)) is,
+            ap
+                one_if stays,
+          )
     ]
 
 -- a train that leaves a stable is none that the bank sells
-never_of_bank : (owner : Option Company) (kind of : Kind) (to : TrainPlace) → train_goes place.Bank kind (Some (record { kind = of; from = train_owner_place owner; to = to })) ≡ false
+never_of_bank : (owner : Option Company) (kind of : Kind) (to : TrainPlace)
+    → train_goes place.Bank kind (Some (record { kind = of; from = train_owner_place owner; to = to })) ≡ false
 never_of_bank None kind of to = grind arith
 never_of_bank (Some company) kind of to = grind arith
 
 -- a train that is there goes from a company or from the pool
-pub trains_after_move : (events : List Event) (event : Event) (owner : Option Company) (kind : Kind) (to : TrainPlace) → train_moved event ≡ Some (record { kind = kind; from = train_owner_place owner; to = to }) → pos 1 ≤ℤ trains_held events owner kind → TrainsAreHeld events → TrainsAreHeld (events ++ event ∷ [])
+pub trains_after_move : (events : List Event) (event : Event) (owner : Option Company) (kind : Kind) (to : TrainPlace)
+    → train_moved event ≡ Some (record { kind = kind; from = train_owner_place owner; to = to })
+    → pos 1 ≤ℤ trains_held events owner kind → TrainsAreHeld events → TrainsAreHeld (events ++ event ∷ [])
 trains_after_move events event owner kind to is there before =
     let move : TrainMove = record { kind = kind; from = train_owner_place owner; to = to } in
     record {
       held = λ other of. still_held events event move (train_owner_place other) of is there (before.held other of);
-      sold = λ of number has. let few = before.sold of number has in omega (arith, sold_at_end events event of, ap (λ m. one_if (train_goes place.Bank of m)) is, ap one_if (never_of_bank owner of kind to));
+      sold = λ of number has. let few = before.sold of number has in omega (
+        arith,
+        sold_at_end events event of,
+        ap (λ m. one_if (train_goes place.Bank of m)) is,
+        ap one_if
+            (never_of_bank owner of kind to),
+      );
     }
 
 -- the bank is no stable
-none_from_train_owner : (owner : Option Company) (kind of : Kind) (to : TrainPlace) → train_goes (train_owner_place owner) kind (Some (record { kind = of; from = place.Bank; to = to })) ≡ false
+none_from_train_owner : (owner : Option Company) (kind of : Kind) (to : TrainPlace)
+    → train_goes (train_owner_place owner) kind (Some (record { kind = of; from = place.Bank; to = to })) ≡ false
 none_from_train_owner None kind of to = grind arith
 none_from_train_owner (Some company) kind of to = grind arith
 
 -- a train is sold that the bank still has
-pub trains_after_sale : (events : List Event) (event : Event) (kind : Kind) (to : TrainPlace) → train_moved event ≡ Some (record { kind = kind; from = place.Bank; to = to }) → ((number : ℕ) → (trains_of kind).number ≡ Some number → trains_sold events kind < number) → TrainsAreHeld events → TrainsAreHeld (events ++ event ∷ [])
+pub trains_after_sale : (events : List Event) (event : Event) (kind : Kind) (to : TrainPlace)
+    → train_moved event ≡ Some (record { kind = kind; from = place.Bank; to = to })
+    → ((number : ℕ) → (trains_of kind).number ≡ Some number → trains_sold events kind < number) → TrainsAreHeld events
+    → TrainsAreHeld (events ++ event ∷ [])
 trains_after_sale events event kind to is left before =
     let move : TrainMove = record { kind = kind; from = place.Bank; to = to } in
     record {
-      held = λ other of. let had = before.held other of in omega (arith, ints, trains_at_end events event (train_owner_place other) of, ap (λ m. one_if (train_goes (train_owner_place other) of m)) is, ap one_if (none_from_train_owner other of kind to));
+      held = λ other of. let had = before.held other of in omega (
+        arith,
+        ints,
+        trains_at_end events event (train_owner_place other) of,
+        ap
+            (λ m. one_if (train_goes (train_owner_place other) of m)) is,
+        ap one_if
+            (none_from_train_owner other of kind to),
+      );
       sold = λ of number has. elim (truth (same_kind kind of)) [
         | inl same ↦
             let fewer = left number (ap (λ k. (trains_of k).number) (same_kind_is kind of same) ∙ has) in
             let sold = subst (λ k. trains_sold events k < number) (same_kind_is kind of same) fewer in
-            omega (arith, sold_at_end events event of, ap (λ m. one_if (train_goes place.Bank of m)) is, ap (λ (test : Bool). one_if (test && true)) same)
+            omega (
+              arith,
+              sold_at_end events event of,
+              ap (λ m. one_if (train_goes place.Bank of m)) is,
+              ap
+                  (λ (test : Bool). one_if (test && true)) same,
+            )
         | inr other ↦
             let few = before.sold of number has in
-            omega (arith, sold_at_end events event of, ap (λ m. one_if (train_goes place.Bank of m)) is, ap (λ (test : Bool). one_if (test && true)) other)
+            omega (
+              arith,
+              sold_at_end events event of,
+              ap (λ m. one_if (train_goes place.Bank of m)) is,
+              ap
+                  (λ (test : Bool). one_if (test && true)) other,
+            )
       ];
     }
 

@@ -111,7 +111,8 @@ same_itself events =
 -- the word that the bank is broken changes nothing of what parties have and own
 pub told_same : (game : Game) → SaysTheSame game.events (broken_recorded game).events
 told_same game =
-    elim (breaks game.seats game.events) as (λ b. SaysTheSame game.events (if b then game.events ++ Broken ∷ [] else game.events)) [
+    elim (breaks game.seats game.events) as (λ b. SaysTheSame game.events
+    (if b then game.events ++ Broken ∷ [] else game.events)) [
       | true ↦ quiet_same game.events Broken broken_quiet
       | false ↦ same_itself game.events
     ]
@@ -119,7 +120,8 @@ told_same game =
 -- and keeps the list settled
 pub told_settled : (game : Game) → IsSettled game → IsSettled (broken_recorded game)
 told_settled game settled =
-    elim (breaks game.seats game.events) as (λ b. IsSettled (record { seats = game.seats; events = if b then game.events ++ Broken ∷ [] else game.events })) [
+    elim (breaks game.seats game.events) as (λ b. IsSettled
+    (record { seats = game.seats; events = if b then game.events ++ Broken ∷ [] else game.events })) [
       | true ↦ settled_quiet game Broken broken_quiet settled
       | false ↦ settled
     ]

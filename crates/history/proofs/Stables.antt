@@ -33,23 +33,29 @@ of_one Diesel here = omega arith
 -- so a train that comes is one of one kind
 abbrev come_by_kind : Option Company → Option TrainMove → List Kind → ℕ
 come_by_kind owner move [] = 0
-come_by_kind owner move (kind ∷ others) = one_if (train_comes (train_owner_place owner) kind move) + come_by_kind owner move others
+come_by_kind owner move (kind ∷ others) = one_if (train_comes (train_owner_place owner) kind move)
+    + come_by_kind owner move others
 
-come_once : (owner : Option Company) (move : Option TrainMove) → come_by_kind owner move kinds ≡ one_if (any_comes owner move)
+come_once : (owner : Option Company) (move : Option TrainMove)
+    → come_by_kind owner move kinds ≡ one_if (any_comes owner move)
 come_once owner None = refl
 come_once owner (Some move) = of_one move.kind (any_comes owner (Some move))
 
 -- and so is one that goes
 abbrev go_by_kind : Option Company → Option TrainMove → List Kind → ℕ
 go_by_kind owner move [] = 0
-go_by_kind owner move (kind ∷ others) = one_if (train_goes (train_owner_place owner) kind move) + go_by_kind owner move others
+go_by_kind owner move (kind ∷ others) = one_if (train_goes (train_owner_place owner) kind move)
+    + go_by_kind owner move others
 
-go_once : (owner : Option Company) (move : Option TrainMove) → go_by_kind owner move kinds ≡ one_if (any_goes owner move)
+go_once : (owner : Option Company) (move : Option TrainMove)
+    → go_by_kind owner move kinds ≡ one_if (any_goes owner move)
 go_once owner None = refl
 go_once owner (Some move) = of_one move.kind (any_goes owner (Some move))
 
 -- how many there are with an event in front
-size_in_front : (event : Event) (events : List Event) (owner : Option Company) → train_count (event ∷ events) owner ≡ (train_count events owner +ℤ pos (one_if (any_comes owner (train_moved event)))) -ℤ pos (one_if (any_goes owner (train_moved event)))
+size_in_front : (event : Event) (events : List Event) (owner : Option Company)
+    → train_count (event ∷ events) owner ≡ (train_count events owner +ℤ pos
+    (one_if (any_comes owner (train_moved event)))) -ℤ pos (one_if (any_goes owner (train_moved event)))
 size_in_front event events owner =
     omega (
       arith,
@@ -65,12 +71,24 @@ size_in_front event events owner =
     )
 
 -- how many came less how many went, with an event in front
-balance_in_front : (event : Event) (events : List Event) (owner : Option Company) → balance 0 (λ e. one_if (any_comes owner (train_moved e))) (λ e. one_if (any_goes owner (train_moved e))) (event ∷ events) ≡ (balance 0 (λ e. one_if (any_comes owner (train_moved e))) (λ e. one_if (any_goes owner (train_moved e))) events +ℤ pos (one_if (any_comes owner (train_moved event)))) -ℤ pos (one_if (any_goes owner (train_moved event)))
+balance_in_front : (event : Event) (events : List Event) (owner : Option Company)
+    → balance 0 (λ e. one_if (any_comes owner (train_moved e))) (λ e. one_if (any_goes owner (train_moved e)))
+    (event ∷ events) ≡ (balance 0 (λ e. one_if (any_comes owner (train_moved e)))
+    (λ e. one_if (any_goes owner (train_moved e))) events +ℤ pos (one_if (any_comes owner (train_moved event)))) -ℤ
+    pos (one_if (any_goes owner (train_moved event)))
 balance_in_front event events owner =
-    omega (arith, ints, sum_by-cons (λ e. one_if (any_comes owner (train_moved e))) event events, sum_by-cons (λ e. one_if (any_goes owner (train_moved e))) event events)
+    omega (
+      arith,
+      ints,
+      sum_by-cons (λ e. one_if (any_comes owner (train_moved e))) event events,
+      sum_by-cons
+          (λ e. one_if (any_goes owner (train_moved e))) event events,
+    )
 
 -- both are the same
-pub size_is : (events : List Event) (owner : Option Company) → balance 0 (λ e. one_if (any_comes owner (train_moved e))) (λ e. one_if (any_goes owner (train_moved e))) events ≡ train_count events owner
+pub size_is : (events : List Event) (owner : Option Company)
+    → balance 0 (λ e. one_if (any_comes owner (train_moved e))) (λ e. one_if (any_goes owner (train_moved e))) events
+    ≡ train_count events owner
 size_is [] owner = refl
 size_is (event ∷ events) owner =
     omega (arith, ints, balance_in_front event events owner, size_in_front event events owner, size_is events owner)
@@ -86,11 +104,13 @@ abs_low (pos n) bound under over = omega (arith, ints, over)
 abs_low (negsuc n) bound under over = omega (arith, ints, under)
 
 -- a count of trains is no greater than the number of events
-pub count_fits : (comes goes : Event → Bool) (events : List Event) → length events < 2 ^ 63 → FitsSigned w64 (count_of comes goes events)
+pub count_fits : (comes goes : Event → Bool) (events : List Event) → length events < 2 ^ 63
+    → FitsSigned w64 (count_of comes goes events)
 count_fits comes goes events short =
     let came = count_by-le-length comes events in
     let went = count_by-le-length goes events in
-    let low = abs_low (count_of comes goes events) (length events) (omega (arith, ints, came, went)) (omega (arith, ints, came, went)) in
+    let low = abs_low (count_of comes goes events) (length events) (omega (arith, ints, came, went))
+    (omega (arith, ints, came, went)) in
     fits_signed_from_abs w64 (count_of comes goes events) (omega (arith, low, short))
 
 -- the net of a table is the number that keeps it
@@ -108,11 +128,14 @@ pub train_count_fits :
     (comes goes : Event → Bool) (events : List Event) (net : ℤ) → length events < 2 ^ 63 →
     IsNet (λ e. one_if (comes e)) (λ e. one_if (goes e)) events net → FitsSigned w64 (to_z w128 (of_z w128 net))
 train_count_fits comes goes events net short kept =
-    subst (FitsSigned w64) (sym (count_safe comes goes events net short kept ∙ kept.is)) (count_fits comes goes events short)
+    subst (FitsSigned w64) (sym (count_safe comes goes events net short kept ∙ kept.is))
+    (count_fits comes goes events short)
 
 -- which is the count
 pub train_count_kept :
     (comes goes : Event → Bool) (events : List Event) (net : ℤ) → length events < 2 ^ 63 →
-    IsNet (λ e. one_if (comes e)) (λ e. one_if (goes e)) events net → to_z w64 (of_z w64 (to_z w128 (of_z w128 net))) ≡ count_of comes goes events
+    IsNet (λ e. one_if (comes e)) (λ e. one_if (goes e)) events net
+    → to_z w64 (of_z w64 (to_z w128 (of_z w128 net))) ≡ count_of comes goes events
 train_count_kept comes goes events net short kept =
-    to_z-of_z w64 (to_z w128 (of_z w128 net)) (train_count_fits comes goes events net short kept) ∙ count_safe comes goes events net short kept ∙ kept.is
+    to_z-of_z w64 (to_z w128 (of_z w128 net)) (train_count_fits comes goes events net short kept)
+    ∙ count_safe comes goes events net short kept ∙ kept.is

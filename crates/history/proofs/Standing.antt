@@ -20,33 +20,86 @@ use Rattle.tables.specs.declared.roster.Private.TheVariants.{SchuylkillValley, C
 use Rattle.tables.specs.declared.seat.Seat.{Seat}
 
 -- one more seat
-pub bids_on_more : (count : ℕ) (events : List Event) (private : Private) → bids_on (count + 1) events private ≡ bids_on count events private ++ as_bid (seat_at count) (bid_of events private (seat_at count))
+pub bids_on_more : (count : ℕ) (events : List Event) (private : Private)
+    → bids_on (count + 1) events private ≡ bids_on count events private
+    ++ as_bid (seat_at count) (bid_of events private (seat_at count))
 bids_on_more count events private =
-    ap (flat_map (λ seat. as_bid seat (bid_of events private seat))) (map-range_with_len_more seat_at 0 count count (omega arith)) ∙ (flat_map-append (λ seat. as_bid seat (bid_of events private seat)) (all_seats count) (seat_at count ∷ []) ∙ ap (λ last. bids_on count events private ++ last) (flat_map-cons (λ seat. as_bid seat (bid_of events private seat)) (seat_at count) [] ∙ append-nil _))
+    ap (flat_map (λ seat. as_bid seat (bid_of events private seat)))
+    (map-range_with_len_more seat_at 0 count count (omega arith))
+    ∙ (flat_map-append (λ seat. as_bid seat (bid_of events private seat)) (all_seats count) (seat_at count ∷ [])
+    ∙ ap (λ last. bids_on count events private ++ last)
+    (flat_map-cons (λ seat. as_bid seat (bid_of events private seat)) (seat_at count) [] ∙ append-nil _))
 
 -- a seat with a bid
-pub bid_added : (count : ℕ) (events : List Event) (private : Private) (bids : List Bid) (seat : Seat) (amount : ℕ) → bids ≡ bids_on count events private → seat ≡ seat_at count → Some amount ≡ bid_of events private seat → bids ++ record { seat = seat; amount = amount } ∷ [] ≡ bids_on (count + 1) events private
+pub bid_added : (count : ℕ) (events : List Event) (private : Private) (bids : List Bid) (seat : Seat) (amount : ℕ)
+    → bids ≡ bids_on count events private → seat ≡ seat_at count → Some amount ≡ bid_of events private seat
+    → bids ++ record { seat = seat; amount = amount } ∷ [] ≡ bids_on (count + 1) events private
 bid_added count events private bids seat amount before here stands =
-    ap (λ list. list ++ record { seat = seat; amount = amount } ∷ []) before ∙ sym (bids_on_more count events private ∙ ap (λ at. bids_on count events private ++ as_bid at (bid_of events private at)) (sym here) ∙ ap (λ bid. bids_on count events private ++ as_bid seat bid) (sym stands))
+    ap (λ list. list ++ record { seat = seat; amount = amount } ∷ []) before
+    ∙ sym (bids_on_more count events private ∙ ap (λ at. bids_on count events private
+    ++ as_bid at (bid_of events private at)) (sym here)
+    ∙ ap (λ bid. bids_on count events private ++ as_bid seat bid) (sym stands))
 
 -- a seat without one
-pub bid_missing : (count : ℕ) (events : List Event) (private : Private) (bids : List Bid) (seat : Seat) → bids ≡ bids_on count events private → seat ≡ seat_at count → None ≡ bid_of events private seat → bids ≡ bids_on (count + 1) events private
+pub bid_missing : (count : ℕ) (events : List Event) (private : Private) (bids : List Bid) (seat : Seat)
+    → bids ≡ bids_on count events private → seat ≡ seat_at count → None ≡ bid_of events private seat
+    → bids ≡ bids_on (count + 1) events private
 bid_missing count events private bids seat before here none =
-    before ∙ sym (bids_on_more count events private ∙ ap (λ at. bids_on count events private ++ as_bid at (bid_of events private at)) (sym here) ∙ ap (λ bid. bids_on count events private ++ as_bid seat bid) (sym none) ∙ append-nil _)
+    before ∙ sym (bids_on_more count events private
+    ∙ ap (λ at. bids_on count events private ++ as_bid at (bid_of events private at)) (sym here)
+    ∙ ap (λ bid. bids_on count events private ++ as_bid seat bid) (sym none) ∙ append-nil _)
 
 -- a sum over the six privates
-sum_of_six : (f : Private → ℕ) → sum_by f privates ≡ f SchuylkillValley + (f ChamplainStLawrence + (f DelawareHudson + (f MohawkHudson + (f CamdenAmboy + f BaltimoreOhio))))
-sum_of_six f = omega (arith, sum_by-cons f SchuylkillValley (ChamplainStLawrence ∷ DelawareHudson ∷ MohawkHudson ∷ CamdenAmboy ∷ BaltimoreOhio ∷ []), sum_by-cons f ChamplainStLawrence (DelawareHudson ∷ MohawkHudson ∷ CamdenAmboy ∷ BaltimoreOhio ∷ []), sum_by-cons f DelawareHudson (MohawkHudson ∷ CamdenAmboy ∷ BaltimoreOhio ∷ []), sum_by-cons f MohawkHudson (CamdenAmboy ∷ BaltimoreOhio ∷ []), sum_by-cons f CamdenAmboy (BaltimoreOhio ∷ []), sum_by-cons f BaltimoreOhio [])
+sum_of_six : (f : Private → ℕ) → sum_by f privates
+    ≡ f SchuylkillValley + (f ChamplainStLawrence + (f DelawareHudson
+    + (f MohawkHudson + (f CamdenAmboy + f BaltimoreOhio))))
+sum_of_six f = omega (
+  arith,
+  sum_by-cons f SchuylkillValley
+      (ChamplainStLawrence ∷ DelawareHudson ∷ MohawkHudson ∷ CamdenAmboy ∷ BaltimoreOhio ∷ []),
+  sum_by-cons f
+      ChamplainStLawrence (DelawareHudson ∷ MohawkHudson ∷ CamdenAmboy ∷ BaltimoreOhio ∷ []),
+  sum_by-cons f
+      DelawareHudson (MohawkHudson ∷ CamdenAmboy ∷ BaltimoreOhio ∷ []),
+  sum_by-cons f MohawkHudson
+      (CamdenAmboy ∷ BaltimoreOhio ∷ []),
+  sum_by-cons f CamdenAmboy (BaltimoreOhio ∷ []),
+  sum_by-cons f BaltimoreOhio [],
+)
 
 -- a seat's bids are those elsewhere, and the one on a private
-pub bids_split : (events : List Event) (seat : Seat) (private : Private) → bids_of events seat ≡ bids_elsewhere_of events seat private + tied_on events seat private
-bids_split events seat SchuylkillValley = omega (arith, sum_of_six (tied_on events seat), sum_of_six (tied_elsewhere events seat SchuylkillValley))
-bids_split events seat ChamplainStLawrence = omega (arith, sum_of_six (tied_on events seat), sum_of_six (tied_elsewhere events seat ChamplainStLawrence))
-bids_split events seat DelawareHudson = omega (arith, sum_of_six (tied_on events seat), sum_of_six (tied_elsewhere events seat DelawareHudson))
-bids_split events seat MohawkHudson = omega (arith, sum_of_six (tied_on events seat), sum_of_six (tied_elsewhere events seat MohawkHudson))
-bids_split events seat CamdenAmboy = omega (arith, sum_of_six (tied_on events seat), sum_of_six (tied_elsewhere events seat CamdenAmboy))
-bids_split events seat BaltimoreOhio = omega (arith, sum_of_six (tied_on events seat), sum_of_six (tied_elsewhere events seat BaltimoreOhio))
+pub bids_split : (events : List Event) (seat : Seat) (private : Private)
+    → bids_of events seat ≡ bids_elsewhere_of events seat private + tied_on events seat private
+bids_split events seat SchuylkillValley = omega
+    (arith, sum_of_six (tied_on events seat), sum_of_six (tied_elsewhere events seat SchuylkillValley))
+bids_split events seat ChamplainStLawrence = omega
+    (arith, sum_of_six (tied_on events seat), sum_of_six (tied_elsewhere events seat ChamplainStLawrence))
+bids_split events seat DelawareHudson = omega (
+  arith,
+  sum_of_six (tied_on events seat),
+  sum_of_six
+      (tied_elsewhere events seat DelawareHudson),
+)
+bids_split events seat MohawkHudson = omega (
+  arith,
+  sum_of_six (tied_on events seat),
+  sum_of_six
+      (tied_elsewhere events seat MohawkHudson),
+)
+bids_split events seat CamdenAmboy = omega (
+  arith,
+  sum_of_six (tied_on events seat),
+  sum_of_six
+      (tied_elsewhere events seat CamdenAmboy),
+)
+bids_split events seat BaltimoreOhio = omega (
+  arith,
+  sum_of_six (tied_on events seat),
+  sum_of_six
+      (tied_elsewhere events seat BaltimoreOhio),
+)
 
 -- cash less bids fits
-pub less_bids : (cash tied : ℤ) (bids : ℕ) → IsModerate cash → tied ≡ pos bids → bids < 2 ^ 35 → to_z w128 (of_z w128 (to_z w128 (of_z w128 cash) -ℤ to_z w128 (of_z w128 tied))) ≡ cash -ℤ pos bids
+pub less_bids : (cash tied : ℤ) (bids : ℕ) → IsModerate cash → tied ≡ pos bids → bids < 2 ^ 35
+    → to_z w128 (of_z w128 (to_z w128 (of_z w128 cash) -ℤ to_z w128 (of_z w128 tied))) ≡ cash -ℤ pos bids
 less_bids cash tied bids moderate is few = omega (arith, ints, moderate.not_under, moderate.not_over)

@@ -46,15 +46,39 @@ abbrev pub moved : Company → Transfer → ℕ
 moved company transfer = if same_company transfer.company company then transfer.tenths else 0
 
 -- the tenths at a place: what comes to it is added, and what leaves it is taken off
-pub shares_after : (events : List Event) (event : Event) (transfer : Transfer) (company : Company) (place : Shareholder) → transfer_of event ≡ Some transfer → shares_of (events ++ event ∷ []) company place ≡ (shares_of events company place +ℤ pos (part transfer.to place (moved company transfer))) -ℤ pos (part transfer.from place (moved company transfer))
+pub shares_after : (events : List Event) (event : Event) (transfer : Transfer) (company : Company)
+    (place : Shareholder) → transfer_of event ≡ Some transfer
+    → shares_of (events ++ event ∷ []) company place
+    ≡ (shares_of events company place +ℤ pos (part transfer.to place (moved company transfer))) -ℤ pos
+    (part transfer.from place (moved company transfer))
 shares_after events event transfer company place is =
-    omega (arith, ints, shares_of_at_end events event company place, ap (brought_to company place) is, ap (taken_from company place) is, either_order (same_company transfer.company company) (same_shareholder transfer.to place) transfer.tenths, either_order (same_company transfer.company company) (same_shareholder transfer.from place) transfer.tenths)
+    omega (
+      arith,
+      ints,
+      shares_of_at_end events event company place,
+      ap (brought_to company place) is,
+      ap
+          (taken_from company place) is,
+      either_order (same_company transfer.company company)
+          (same_shareholder transfer.to place) transfer.tenths,
+      either_order (same_company transfer.company company)
+          (same_shareholder transfer.from place) transfer.tenths,
+    )
 
 -- seats together
-held_by_after : (events : List Event) (event : Event) (transfer : Transfer) (company : Company) (seats : List Seat) → transfer_of event ≡ Some transfer → held_by (events ++ event ∷ []) company seats ≡ (held_by events company seats +ℤ pos (parts transfer.to (moved company transfer) seats)) -ℤ pos (parts transfer.from (moved company transfer) seats)
+held_by_after : (events : List Event) (event : Event) (transfer : Transfer) (company : Company) (seats : List Seat)
+    → transfer_of event ≡ Some transfer → held_by (events ++ event ∷ []) company seats
+    ≡ (held_by events company seats +ℤ pos (parts transfer.to (moved company transfer) seats)) -ℤ pos
+    (parts transfer.from (moved company transfer) seats)
 held_by_after events event transfer company [] is = omega (arith, ints)
 held_by_after events event transfer company (seat ∷ others) is =
-    omega (arith, ints, shares_after events event transfer company (OfSeat seat) is, held_by_after events event transfer company others is)
+    omega (
+      arith,
+      ints,
+      shares_after events event transfer company (OfSeat seat) is,
+      held_by_after events event
+          transfer company others is,
+    )
 
 -- the place is one of a table
 abbrev pub IsAtTable : ℕ → Shareholder → Type 0
@@ -73,56 +97,101 @@ none_pooled tenths [] = refl
 none_pooled tenths (seat ∷ others) = omega (arith, none_pooled tenths others)
 
 -- what a seat has is with no later one
-none_later : (seat : Seat) (tenths from count : ℕ) → seat.0 < from → parts (OfSeat seat) tenths (map seat_at (range_with_len from count)) ≡ 0
+none_later : (seat : Seat) (tenths from count : ℕ) → seat.0 < from
+    → parts (OfSeat seat) tenths (map seat_at (range_with_len from count)) ≡ 0
 none_later seat tenths from zero before = refl
 none_later seat tenths from (suc count) before =
     let apart : seat.0 ≢ from = omega arith in
     omega (arith, passed_over seat.0 from tenths 0 apart, none_later seat tenths (from + 1) count (omega arith))
 
 -- it is with the seats among whom the one is
-with_seats : (seat : Seat) (tenths from count : ℕ) → from ≤ seat.0 → seat.0 < from + count → parts (OfSeat seat) tenths (map seat_at (range_with_len from count)) ≡ tenths
+with_seats : (seat : Seat) (tenths from count : ℕ) → from ≤ seat.0 → seat.0 < from + count
+    → parts (OfSeat seat) tenths (map seat_at (range_with_len from count)) ≡ tenths
 with_seats seat tenths from zero low high = absurd (omega arith)
 with_seats seat tenths from (suc count) low high =
     elim (cases_eq seat.0 from) [
-      | inl same ↦ omega (arith, chosen seat.0 from tenths 0 same, none_later seat tenths (from + 1) count (omega arith))
-      | inr apart ↦ omega (arith, passed_over seat.0 from tenths 0 apart, with_seats seat tenths (from + 1) count (omega arith) (omega arith))
+      | inl same ↦ omega (
+        arith,
+        chosen seat.0 from tenths 0 same,
+        none_later seat tenths (from + 1) count
+            (omega arith),
+      )
+      | inr apart ↦ omega (
+        arith,
+        passed_over seat.0 from tenths 0 apart,
+        with_seats seat tenths (from + 1) count
+            (omega arith) (omega arith),
+      )
     ]
 
 -- tenths at one place of a table are somewhere
-all_there : (seats : ℕ) (at : Shareholder) (tenths : ℕ) → IsAtTable seats at → (part at InitialOffering tenths + part at BankPool tenths) + parts at tenths (all_seats seats) ≡ tenths
+all_there : (seats : ℕ) (at : Shareholder) (tenths : ℕ) → IsAtTable seats at
+    → (part at InitialOffering tenths + part at BankPool tenths) + parts at tenths (all_seats seats) ≡ tenths
 all_there seats InitialOffering tenths there = omega (arith, none_offered tenths (all_seats seats))
 all_there seats BankPool tenths there = omega (arith, none_pooled tenths (all_seats seats))
 all_there seats (OfSeat seat) tenths there = omega (arith, with_seats seat tenths 0 seats (omega arith) (omega arith))
 
 -- ten tenths stay ten
-pub ten_after : (game : Game) (event : Event) (transfer : Transfer) → transfer_of event ≡ Some transfer → IsAtTable game.seats transfer.from → IsAtTable game.seats transfer.to → AreTenInAll game → AreTenInAll (with_event game event)
+pub ten_after : (game : Game) (event : Event) (transfer : Transfer) → transfer_of event ≡ Some transfer
+    → IsAtTable game.seats transfer.from → IsAtTable game.seats transfer.to → AreTenInAll game
+    → AreTenInAll (with_event game event)
 ten_after game event transfer is from to ten company =
-    omega (arith, ints, ten company, shares_after game.events event transfer company InitialOffering is, shares_after game.events event transfer company BankPool is, held_by_after game.events event transfer company (all_seats game.seats) is, all_there game.seats transfer.from (moved company transfer) from, all_there game.seats transfer.to (moved company transfer) to)
+    omega (
+      arith,
+      ints,
+      ten company,
+      shares_after game.events event transfer company InitialOffering is,
+      shares_after
+          game.events event transfer company BankPool is,
+      held_by_after game.events event transfer company
+          (all_seats game.seats) is,
+      all_there game.seats transfer.from (moved company transfer) from,
+      all_there
+          game.seats transfer.to (moved company transfer) to,
+    )
 
 -- no more leave a place than it has
-taken_low : (events : List Event) (transfer : Transfer) (company : Company) (place : Shareholder) → pos transfer.tenths ≤ℤ shares_of events transfer.company transfer.from → pos 0 ≤ℤ shares_of events company place → pos (part transfer.from place (moved company transfer)) ≤ℤ shares_of events company place
+taken_low : (events : List Event) (transfer : Transfer) (company : Company) (place : Shareholder)
+    → pos transfer.tenths ≤ℤ shares_of events transfer.company transfer.from → pos 0 ≤ℤ shares_of events company place
+    → pos (part transfer.from place (moved company transfer)) ≤ℤ shares_of events company place
 taken_low events transfer company place enough held =
     elim (truth (same_company transfer.company company)) [
       | inl same ↦
           elim (truth (same_shareholder transfer.from place)) [
             | inl here ↦
-                let its : moved company transfer ≡ transfer.tenths = ap (λ (is : Bool). if is then transfer.tenths else 0) same in
-                let taken : part transfer.from place (moved company transfer) ≡ moved company transfer = ap (λ (is : Bool). if is then moved company transfer else 0) here in
-                let at_company : pos transfer.tenths ≤ℤ shares_of events company transfer.from = subst (λ (one : Company). pos transfer.tenths ≤ℤ shares_of events one transfer.from) (same_company_is transfer.company company same) enough in
-                let at_place : pos transfer.tenths ≤ℤ shares_of events company place = subst (λ (one : Shareholder). pos transfer.tenths ≤ℤ shares_of events company one) (same_shareholder_is transfer.from place here) at_company in
+                let its : moved company transfer ≡ transfer.tenths =
+                ap (λ (is : Bool). if is then transfer.tenths else 0) same in
+                let taken : part transfer.from place (moved company transfer) ≡ moved company transfer =
+                ap (λ (is : Bool). if is then moved company transfer else 0) here in
+                let at_company : pos transfer.tenths ≤ℤ shares_of events company transfer.from =
+                subst (λ (one : Company). pos transfer.tenths ≤ℤ shares_of events one transfer.from)
+                (same_company_is transfer.company company same) enough in
+                let at_place : pos transfer.tenths ≤ℤ shares_of events company place =
+                subst (λ (one : Shareholder). pos transfer.tenths ≤ℤ shares_of events company one)
+                (same_shareholder_is transfer.from place here) at_company in
                 omega (arith, ints)
             | inr elsewhere ↦
-                let taken : part transfer.from place (moved company transfer) ≡ 0 = ap (λ (is : Bool). if is then moved company transfer else 0) elsewhere in
+                let taken : part transfer.from place (moved company transfer) ≡ 0 =
+                ap (λ (is : Bool). if is then moved company transfer else 0) elsewhere in
                 omega (arith, ints)
           ]
       | inr apart ↦
           let its : moved company transfer ≡ 0 = ap (λ (is : Bool). if is then transfer.tenths else 0) apart in
-          let taken : part transfer.from place (moved company transfer) ≡ part transfer.from place 0 = ap (part transfer.from place) its in
+          let taken : part transfer.from place (moved company transfer) ≡ part transfer.from place 0 =
+          ap (part transfer.from place) its in
           let nothing : part transfer.from place 0 ≡ 0 = nothing_there (same_shareholder transfer.from place) in
           omega (arith, ints)
     ]
 
 -- tenths are held as before, where there were so many
-pub held_after : (events : List Event) (event : Event) (transfer : Transfer) → transfer_of event ≡ Some transfer → pos transfer.tenths ≤ℤ shares_of events transfer.company transfer.from → TenthsAreHeld events → TenthsAreHeld (events ++ event ∷ [])
+pub held_after : (events : List Event) (event : Event) (transfer : Transfer) → transfer_of event ≡ Some transfer
+    → pos transfer.tenths ≤ℤ shares_of events transfer.company transfer.from → TenthsAreHeld events
+    → TenthsAreHeld (events ++ event ∷ [])
 held_after events event transfer is enough held company place =
-    omega (arith, ints, shares_after events event transfer company place is, taken_low events transfer company place enough (held company place))
+    omega (
+      arith,
+      ints,
+      shares_after events event transfer company place is,
+      taken_low events transfer company place
+          enough (held company place),
+    )

@@ -18,7 +18,8 @@ none_standing private (suc (suc (suc (suc (suc (suc number)))))) within = absurd
 
 -- a seat's bid stands in the table
 pub is_standing :
-    (events : List Event) (private : Private) (number : ℕ) (standing : List (Option ℕ)) (seat : Seat) → number < 6 → seat ≡ seat_at number →
+    (events : List Event) (private : Private) (number : ℕ) (standing : List (Option ℕ)) (seat : Seat) → number < 6
+    → seat ≡ seat_at number →
     AreStanding events private standing → get_or standing number None ≡ bid_of events private seat
 is_standing events private number standing seat within at stands =
     stands number within ∙ ap (bid_of events private) (sym at)

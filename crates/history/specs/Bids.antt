@@ -42,7 +42,8 @@ AreStanding events private standing =
 abbrev pub NotesBidOn : Private → Option Bidding → List (Option ℕ) → List (Option ℕ) → Type 0
 NotesBidOn private bidding old new =
     (number : ℕ) → number < 6 →
-    slice_index_or new number None ≡ unwrap_or (bid_said private (seat_at number) bidding) (slice_index_or old number None)
+    slice_index_or new number None ≡ unwrap_or (bid_said private (seat_at number) bidding)
+    (slice_index_or old number None)
 
 -- what a seat's standing bid on a private ties
 abbrev pub tied_on : List Event → Seat → Private → ℕ

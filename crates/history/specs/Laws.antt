@@ -43,7 +43,8 @@ LastWordIsLast A =
 abbrev pub CashMoves : Type 0
 CashMoves =
     (seats : ℕ) (events : List Event) (event : Event) (party : Party) →
-    cash_of seats (events ++ event ∷ []) party ≡ (cash_of seats events party +ℤ pos (paid_to party (payment_of event))) -ℤ pos (paid_by party (payment_of event))
+    cash_of seats (events ++ event ∷ []) party ≡ (cash_of seats events party +ℤ pos
+    (paid_to party (payment_of event))) -ℤ pos (paid_by party (payment_of event))
 
 -- a list says the same as before of what parties have and own, and of SV's price
 pub record SaysTheSame (before after : List Event) : Type 0 where
@@ -54,7 +55,8 @@ pub record SaysTheSame (before after : List Event) : Type 0 where
   pub bid : (private : Private) (seat : Seat) → bid_of after private seat ≡ bid_of before private seat
   pub bids : (seat : Seat) → bids_of after seat ≡ bids_of before seat
   pub bids_on : (seats : ℕ) (private : Private) → the_bids_on seats after private ≡ the_bids_on seats before private
-  pub shares : (company : Company) (place : Shareholder) → shares_of after company place ≡ shares_of before company place
+  pub shares : (company : Company) (place : Shareholder)
+      → shares_of after company place ≡ shares_of before company place
   pub par : (company : Company) → par_of after company ≡ par_of before company
   pub square : (company : Company) → square_of after company ≡ square_of before company
   pub president : (company : Company) → president_of after company ≡ president_of before company
@@ -91,14 +93,20 @@ QuietKeepsSound = (game : Game) (event : Event) → IsQuiet event → IsSound ga
 abbrev pub BidKeepsSound : Type 0
 BidKeepsSound =
     (game : Game) (private : Private) (seat : Seat) (amount : ℕ) →
-    amount ≤ 99999 → seat.0 < game.seats → ((other : Seat) → bid_of game.events private other ≡ Some amount → other ≡ seat) → pos amount ≤ℤ (cash_of game.seats game.events (party_at seat) -ℤ pos (bids_elsewhere_of game.events seat private)) → IsSound game → IsSound (with_event game (Bids private seat amount))
+    amount ≤ 99999 → seat.0 < game.seats → ((other : Seat) → bid_of game.events private other ≡ Some amount
+    → other ≡ seat) → pos amount ≤ℤ (cash_of game.seats game.events (party_at seat) -ℤ pos
+    (bids_elsewhere_of game.events seat private)) → IsSound game
+    → IsSound (with_event game (Bids private seat amount))
 
 -- a sale of an unsold private to a seat at the table keeps a list sound, where the seat has the price free of
 -- its other bids
 abbrev pub SaleKeepsSound : Type 0
 SaleKeepsSound =
     (game : Game) (private : Private) (seat : Seat) (price : ℕ) →
-    is_sold game.events private ≡ false → seat.0 < game.seats → pos price ≤ℤ (cash_of game.seats game.events (party_at seat) -ℤ pos (bids_elsewhere_of game.events seat private)) → IsSound game → IsSound (with_event game (Sold private seat price))
+    is_sold game.events private ≡ false → seat.0 < game.seats
+    → pos price ≤ℤ (cash_of game.seats game.events (party_at seat) -ℤ pos
+    (bids_elsewhere_of game.events seat private)) → IsSound game
+    → IsSound (with_event game (Sold private seat price))
 
 -- a revenue of the bank to the owner of a private keeps a list sound
 abbrev pub RevenueKeepsSound : Type 0
@@ -110,78 +118,102 @@ RevenueKeepsSound =
 abbrev pub PriceKeepsSound : Type 0
 PriceKeepsSound =
     (game : Game) (price : ℕ) →
-    IsSvPrice price → (price ≡ 0 → is_sold game.events SchuylkillValley ≡ true) → IsSound game → IsSound (with_event game (Price price))
+    IsSvPrice price → (price ≡ 0 → is_sold game.events SchuylkillValley ≡ true) → IsSound game
+    → IsSound (with_event game (Price price))
 
 -- or it comes to 0, and SV is given away to a seat at the table
 abbrev pub SvIsGivenAway : Type 0
 SvIsGivenAway =
     (game : Game) (seat : Seat) →
-    is_sold game.events SchuylkillValley ≡ false → seat.0 < game.seats → IsSound game → IsSound (with_event (with_event game (Price 0)) (Sold SchuylkillValley seat 0))
+    is_sold game.events SchuylkillValley ≡ false → seat.0 < game.seats → IsSound game
+    → IsSound (with_event (with_event game (Price 0)) (Sold SchuylkillValley seat 0))
 
 -- a gift to a seat at the table keeps a list sound, where the initial offering has so many tenths, and
 -- of a company without a square enough are left
 abbrev pub GiftKeepsSound : Type 0
 GiftKeepsSound =
     (game : Game) (company : Company) (seat : Seat) (tenths : ℕ) →
-    seat.0 < game.seats → pos tenths ≤ℤ shares_of game.events company InitialOffering → (square_of game.events company ≡ None → pos (least_offered game.events company + tenths) ≤ℤ shares_of game.events company InitialOffering) → IsSound game → IsSound (with_event game (Given company seat tenths))
+    seat.0 < game.seats → pos tenths ≤ℤ shares_of game.events company InitialOffering
+    → (square_of game.events company ≡ None → pos (least_offered game.events company + tenths) ≤ℤ shares_of
+    game.events company InitialOffering) → IsSound game → IsSound (with_event game (Given company seat tenths))
 
 -- so does the sale of CA with its tenth of PRR, where PRR has no square
 abbrev pub CaIsSoldWithItsGift : Type 0
 CaIsSoldWithItsGift =
     (game : Game) (seat : Seat) (price : ℕ) →
-    is_sold game.events CamdenAmboy ≡ false → square_of game.events Pennsylvania ≡ None → seat.0 < game.seats → pos price ≤ℤ (cash_of game.seats game.events (party_at seat) -ℤ pos (bids_elsewhere_of game.events seat CamdenAmboy)) → IsSound game → IsSound (with_event (with_event game (Sold CamdenAmboy seat price)) (Given Pennsylvania seat 1))
+    is_sold game.events CamdenAmboy ≡ false → square_of game.events Pennsylvania ≡ None → seat.0 < game.seats
+    → pos price ≤ℤ (cash_of game.seats game.events (party_at seat) -ℤ pos
+    (bids_elsewhere_of game.events seat CamdenAmboy)) → IsSound game
+    → IsSound (with_event (with_event game (Sold CamdenAmboy seat price)) (Given Pennsylvania seat 1))
 
 -- and so does the start of a company that has no square: its par value, two tenths for a seat at the
 -- table, and that seat as its president
 abbrev pub StartKeepsSound : Type 0
 StartKeepsSound =
     (game : Game) (company : Company) (seat : Seat) (price : ℕ) →
-    is_par_value price ≡ true → square_of game.events company ≡ None → seat.0 < game.seats → IsSound game → IsSound (with_event (with_event (with_event game (Par company price)) (Given company seat 2)) (President company seat))
+    is_par_value price ≡ true → square_of game.events company ≡ None → seat.0 < game.seats → IsSound game
+    → IsSound (with_event (with_event (with_event game (Par company price)) (Given company seat 2))
+    (President company seat))
 
 -- so does the start of a company that has no square by a purchase: its par value, two tenths of the initial
 -- offering for a seat at the table that has their price free of its bids, and that seat as its president
 abbrev pub StartByPurchaseKeepsSound : Type 0
 StartByPurchaseKeepsSound =
     (game : Game) (company : Company) (seat : Seat) (price cost : ℕ) →
-    is_par_value price ≡ true → square_of game.events company ≡ None → seat.0 < game.seats → pos cost ≤ℤ free_cash_of game.seats game.events seat → IsSound game → IsSound (with_event (with_event (with_event game (Par company price)) (Bought company seat 2 source.InitialOffering cost)) (President company seat))
+    is_par_value price ≡ true → square_of game.events company ≡ None → seat.0 < game.seats
+    → pos cost ≤ℤ free_cash_of game.seats game.events seat → IsSound game
+    → IsSound (with_event (with_event (with_event game (Par company price))
+    (Bought company seat 2 source.InitialOffering cost)) (President company seat))
 
 -- a purchase of tenths of a company that has a square, by a seat at the table that has their price free of
 -- its bids, keeps a list sound, where there are so many
 abbrev pub PurchaseKeepsSound : Type 0
 PurchaseKeepsSound =
     (game : Game) (company : Company) (seat : Seat) (tenths : ℕ) (from : ShareSource) (price : ℕ) (square : Square) →
-    square_of game.events company ≡ Some square → seat.0 < game.seats → pos tenths ≤ℤ shares_of game.events company (place_of_source from) → pos price ≤ℤ free_cash_of game.seats game.events seat → IsSound game → IsSound (with_event game (Bought company seat tenths from price))
+    square_of game.events company ≡ Some square → seat.0 < game.seats
+    → pos tenths ≤ℤ shares_of game.events company (place_of_source from)
+    → pos price ≤ℤ free_cash_of game.seats game.events seat → IsSound game
+    → IsSound (with_event game (Bought company seat tenths from price))
 
 -- MH's exchange keeps a list sound, where a seat at the table owns MH and there is a tenth of NYC
 abbrev pub ExchangeKeepsSound : Type 0
 ExchangeKeepsSound =
     (game : Game) (seat : Seat) (from : ShareSource) →
-    owner_of game.events MohawkHudson ≡ Some (holder.Seat seat) → seat.0 < game.seats → pos 1 ≤ℤ shares_of game.events NewYorkCentral (place_of_source from) → IsSound game → IsSound (with_event game (Exchanged seat from))
+    owner_of game.events MohawkHudson ≡ Some (holder.Seat seat) → seat.0 < game.seats
+    → pos 1 ≤ℤ shares_of game.events NewYorkCentral (place_of_source from) → IsSound game
+    → IsSound (with_event game (Exchanged seat from))
 
 -- a presidency that passes to a seat with no fewer tenths than the president has keeps a list sound
 abbrev pub SuccessionKeepsSound : Type 0
 SuccessionKeepsSound =
     (game : Game) (company : Company) (old new : Seat) →
-    president_of game.events company ≡ Some old → shares_of game.events company (OfSeat old) ≤ℤ shares_of game.events company (OfSeat new) → IsSound game → IsSound (with_event game (President company new))
+    president_of game.events company ≡ Some old → shares_of game.events company (OfSeat old) ≤ℤ shares_of game.events
+    company (OfSeat new) → IsSound game → IsSound (with_event game (President company new))
 
 -- a sale of tenths that a seat at the table has keeps a list sound, where the president keeps two; perhaps it
 -- breaks the bank
 abbrev pub BlockKeepsSound : Type 0
 BlockKeepsSound =
     (game : Game) (company : Company) (seat : Seat) (tenths price : ℕ) →
-    seat.0 < game.seats → pos tenths ≤ℤ shares_of game.events company (OfSeat seat) → ((president : Seat) → president_of game.events company ≡ Some president → pos 2 ≤ℤ shares_of (block_sold game company seat tenths price).events company (OfSeat president)) → IsSound game → IsSound (block_sold game company seat tenths price)
+    seat.0 < game.seats → pos tenths ≤ℤ shares_of game.events company (OfSeat seat)
+    → ((president : Seat) → president_of game.events company ≡ Some president
+    → pos 2 ≤ℤ shares_of (block_sold game company seat tenths price).events company (OfSeat president))
+    → IsSound game → IsSound (block_sold game company seat tenths price)
 
 -- so does a sale after which the presidency passes to a seat that then has two
 abbrev pub BlockWithSuccessionKeepsSound : Type 0
 BlockWithSuccessionKeepsSound =
     (game : Game) (company : Company) (seat : Seat) (tenths price : ℕ) (president : Seat) →
-    seat.0 < game.seats → pos tenths ≤ℤ shares_of game.events company (OfSeat seat) → pos 2 ≤ℤ shares_of (block_sold game company seat tenths price).events company (OfSeat president) → IsSound game → IsSound (with_event (block_sold game company seat tenths price) (President company president))
+    seat.0 < game.seats → pos tenths ≤ℤ shares_of game.events company (OfSeat seat)
+    → pos 2 ≤ℤ shares_of (block_sold game company seat tenths price).events company (OfSeat president)
+    → IsSound game → IsSound (with_event (block_sold game company seat tenths price) (President company president))
 
 -- a company that floats keeps a list sound, where at most four tenths are left in its initial offering
 abbrev pub FloatKeepsSound : Type 0
 FloatKeepsSound =
     (game : Game) (company : Company) (amount : ℕ) →
-    shares_of game.events company InitialOffering ≤ℤ pos 4 → IsSound game → IsSound (with_event game (Floats company amount))
+    shares_of game.events company InitialOffering ≤ℤ pos 4 → IsSound game
+    → IsSound (with_event game (Floats company amount))
 
 -- a token that moves from a square to another keeps a list sound
 abbrev pub MoveKeepsSound : Type 0
@@ -199,13 +231,17 @@ HomeKeepsSound =
 abbrev pub TokenKeepsSound : Type 0
 TokenKeepsSound =
     (game : Game) (company : Company) (place : Place) (cost : ℕ) →
-    pos cost ≤ℤ cash_of game.seats game.events (party_of_company company) → LiesFit (game.events ++ Token company place cost ∷ []) → IsSound game → IsSound (with_event game (Token company place cost))
+    pos cost ≤ℤ cash_of game.seats game.events (party_of_company company)
+    → LiesFit (game.events ++ Token company place cost ∷ []) → IsSound game
+    → IsSound (with_event game (Token company place cost))
 
 -- a lay that a company can pay keeps a list sound, where what lies fits with it
 abbrev pub LayKeepsSound : Type 0
 LayKeepsSound =
     (game : Game) (company : Company) (lay : Lay) (cost : ℕ) →
-    pos cost ≤ℤ cash_of game.seats game.events (party_of_company company) → LiesFit (game.events ++ Laid company lay cost ∷ []) → IsSound game → IsSound (with_event game (Laid company lay cost))
+    pos cost ≤ℤ cash_of game.seats game.events (party_of_company company)
+    → LiesFit (game.events ++ Laid company lay cost ∷ []) → IsSound game
+    → IsSound (with_event game (Laid company lay cost))
 
 -- a company that withholds what it earned keeps a list sound
 abbrev pub WithholdingKeepsSound : Type 0
@@ -227,19 +263,22 @@ DividendKeepsSound =
 abbrev pub TrainPurchaseKeepsSound : Type 0
 TrainPurchaseKeepsSound =
     (game : Game) (company : Company) (kind : Kind) (from : TrainSeller) (price : ℕ) →
-    IsThere game.events from kind → pos price ≤ℤ cash_of game.seats game.events (party_of_company company) → IsSound game → IsSound (with_event game (Train company kind from price))
+    IsThere game.events from kind → pos price ≤ℤ cash_of game.seats game.events (party_of_company company)
+    → IsSound game → IsSound (with_event game (Train company kind from price))
 
 -- a train that a company has keeps a list sound where it is traded in
 abbrev pub TradeKeepsSound : Type 0
 TradeKeepsSound =
     (game : Game) (company : Company) (kind : Kind) →
-    pos 1 ≤ℤ trains_held game.events (Some company) kind → IsSound game → IsSound (with_event game (Traded company kind))
+    pos 1 ≤ℤ trains_held game.events (Some company) kind → IsSound game
+    → IsSound (with_event game (Traded company kind))
 
 -- so does one that it discards
 abbrev pub DiscardKeepsSound : Type 0
 DiscardKeepsSound =
     (game : Game) (company : Company) (kind : Kind) →
-    pos 1 ≤ℤ trains_held game.events (Some company) kind → IsSound game → IsSound (with_event game (Discarded company kind))
+    pos 1 ≤ℤ trains_held game.events (Some company) kind → IsSound game
+    → IsSound (with_event game (Discarded company kind))
 
 -- and one of a company or the pool that rusts
 abbrev pub RustingKeepsSound : Type 0
@@ -259,7 +298,8 @@ ClosingKeepsSound = (game : Game) (private : Private) → IsSound game → IsSou
 abbrev pub PrivateKeepsSound : Type 0
 PrivateKeepsSound =
     (game : Game) (private : Private) (company : Company) (seller : Seat) (price : ℕ) →
-    owner_of game.events private ≡ Some (holder.Seat seller) → pos price ≤ℤ cash_of game.seats game.events (party_of_company company) →
+    owner_of game.events private ≡ Some (holder.Seat seller)
+    → pos price ≤ℤ cash_of game.seats game.events (party_of_company company) →
     IsSound game → IsSound (with_event game (PrivateBought private company seller price))
 
 -- a purchase that is forced, and a president that is bankrupt, keep a list sound
@@ -273,16 +313,19 @@ BankruptcyKeepsSound = (game : Game) (seat : Seat) → IsSound game → IsSound 
 abbrev pub AidKeepsSound : Type 0
 AidKeepsSound =
     (game : Game) (seat : Seat) (company : Company) (amount : ℕ) →
-    seat.0 < game.seats → pos amount ≤ℤ free_cash_of game.seats game.events seat → IsSound game → IsSound (with_event game (Aid seat company amount))
+    seat.0 < game.seats → pos amount ≤ℤ free_cash_of game.seats game.events seat → IsSound game
+    → IsSound (with_event game (Aid seat company amount))
 
 -- a tile that the event at the end lays is the last
 abbrev pub LaysGrow : Type 0
-LaysGrow = (events : List Event) (event : Event) → lays_of (events ++ event ∷ []) ≡ lays_of events ++ lays_of (event ∷ [])
+LaysGrow = (events : List Event) (event : Event)
+    → lays_of (events ++ event ∷ []) ≡ lays_of events ++ lays_of (event ∷ [])
 
 -- and a token that it places
 abbrev pub TokensGrow : Type 0
 TokensGrow =
-    (events : List Event) (event : Event) → tokens_of (events ++ event ∷ []) ≡ tokens_of events ++ tokens_of (event ∷ [])
+    (events : List Event) (event : Event) → tokens_of (events ++ event ∷ [])
+    ≡ tokens_of events ++ tokens_of (event ∷ [])
 
 -- the event at the end begins the count of a seat's rulings anew, or adds one, or leaves it
 abbrev pub RulingsAreCounted : Type 0
@@ -300,7 +343,8 @@ ArrivalsDiffer =
 abbrev pub ArrivalIsLast : Type 0
 ArrivalIsLast =
     (events : List Event) (event : Event) (company : Company) →
-    arrival_of (events ++ event ∷ []) company ≡ (if is_some (square_said company (square_set event)) then length events else arrival_of events company)
+    arrival_of (events ++ event ∷ []) company ≡ (if is_some (square_said company (square_set event)) then length
+    events else arrival_of events company)
 
 -- these prices are what the bank asks: SV goes at the price that was set last, another private at its
 -- face value
@@ -312,4 +356,5 @@ pub record AreAsked (game : Game) (price : Private → ℕ) : Type 0 where
 abbrev pub FirstIsCheapest : Type 0
 FirstIsCheapest =
     (game : Game) (price : Private → ℕ) (first other : Private) →
-    IsSound game → AreAsked game price → cheapest_of game.events ≡ Some first → is_sold game.events other ≡ false → price first ≤ price other
+    IsSound game → AreAsked game price → cheapest_of game.events ≡ Some first → is_sold game.events other ≡ false
+    → price first ≤ price other

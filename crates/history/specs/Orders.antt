@@ -10,7 +10,8 @@ use Rattle.tables.specs.declared.seat.Seat.{Seat}
 
 -- how far a seat goes in an auction of a private, by its last obeyed order of this round
 abbrev pub bid_limit_of : List Event → Private → Seat → Option ℕ
-bid_limit_of events private seat = now_said (in_round (λ event. said_by seat (limit_in private) (obeyed_of event))) events
+bid_limit_of events private seat = now_said (in_round (λ event. said_by seat (limit_in private) (obeyed_of event)))
+    events
 
 -- the par value that a seat sets for BO, by its last obeyed order of this round or an earlier one
 abbrev pub par_ordered_of : List Event → Seat → Option ℕ

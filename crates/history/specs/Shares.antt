@@ -28,13 +28,15 @@ same_shareholder other another = false
 abbrev pub brought_to : Company → Shareholder → Option Transfer → ℕ
 brought_to company place None = 0
 brought_to company place (Some transfer) =
-    if same_company transfer.company company then (if same_shareholder transfer.to place then transfer.tenths else 0) else 0
+    if same_company transfer.company company then (if same_shareholder transfer.to
+    place then transfer.tenths else 0) else 0
 
 -- the tenths of a company that a transfer takes from a place
 abbrev pub taken_from : Company → Shareholder → Option Transfer → ℕ
 taken_from company place None = 0
 taken_from company place (Some transfer) =
-    if same_company transfer.company company then (if same_shareholder transfer.from place then transfer.tenths else 0) else 0
+    if same_company transfer.company company then (if same_shareholder transfer.from
+    place then transfer.tenths else 0) else 0
 
 -- the tenths of a company that lie at a place at first: all are in the initial offering
 abbrev pub start_tenths : Shareholder → ℕ
@@ -44,7 +46,8 @@ start_tenths other = 0
 -- the tenths of a company at a place
 abbrev pub shares_of : List Event → Company → Shareholder → ℤ
 shares_of events company place =
-    balance (start_tenths place) (λ event. brought_to company place (transfer_of event)) (λ event. taken_from company place (transfer_of event)) events
+    balance (start_tenths place) (λ event. brought_to company place (transfer_of event))
+    (λ event. taken_from company place (transfer_of event)) events
 
 -- what is said of a company's par value
 abbrev pub par_said : Company → Option ParValue → Option ℕ
@@ -95,7 +98,8 @@ is_floated events company = is_some (last_said (λ event. float_said company (fl
 abbrev pub sale_said : Company → Seat → Option Transfer → Option ℕ
 sale_said company seat None = None
 sale_said company seat (Some transfer) =
-    if same_company transfer.company company && (same_shareholder transfer.from (OfSeat seat) && same_shareholder transfer.to BankPool)
+    if same_company transfer.company company && (same_shareholder transfer.from (OfSeat seat)
+    && same_shareholder transfer.to BankPool)
     then Some transfer.tenths
     else None
 
@@ -112,4 +116,5 @@ held_by events company (seat ∷ others) = shares_of events company (OfSeat seat
 -- the tenths of a company with the bank and at the table
 abbrev pub tenths_in_all : ℕ → List Event → Company → ℤ
 tenths_in_all seats events company =
-    (shares_of events company InitialOffering +ℤ shares_of events company BankPool) +ℤ held_by events company (all_seats seats)
+    (shares_of events company InitialOffering +ℤ shares_of events company BankPool) +ℤ held_by events company
+    (all_seats seats)

@@ -43,7 +43,8 @@ CompaniesAreSolvent game =
 -- no two seats have the same bid on a private
 abbrev pub BidsDiffer : List Event → Type 0
 BidsDiffer events =
-    (private : Private) (a b : Seat) (amount : ℕ) → bid_of events private a ≡ Some amount → bid_of events private b ≡ Some amount → a ≡ b
+    (private : Private) (a b : Seat) (amount : ℕ) → bid_of events private a ≡ Some amount
+    → bid_of events private b ≡ Some amount → a ≡ b
 
 -- no bid is over 99,999
 abbrev pub BidsAreSmall : List Event → Type 0
@@ -80,7 +81,8 @@ least_offered events other = 8
 -- so many are there
 abbrev pub AreOffered : List Event → Type 0
 AreOffered events =
-    (company : Company) → square_of events company ≡ None → pos (least_offered events company) ≤ℤ shares_of events company InitialOffering
+    (company : Company) → square_of events company ≡ None
+    → pos (least_offered events company) ≤ℤ shares_of events company InitialOffering
 
 -- a company has one of the six par values, and a president with at least two tenths
 pub record IsLed (events : List Event) (company : Company) : Type 0 where

@@ -146,7 +146,8 @@ pub record IsNet (brings takes : Event → ℕ) (events : List Event) (net : ℤ
 pub record AreTotalsOf (totals : Totals) (events : List Event) : Type 0 where
   pub told : totals.told ≡ length events
   pub owners : (private : Private) → word_in totals.owners private ≡ word_on events private
-  pub bids : (private : Private) (number : ℕ) → number < 6 → bid_in totals.bids private number ≡ bid_of events private (seat_at number)
+  pub bids : (private : Private) (number : ℕ) → number < 6
+      → bid_in totals.bids private number ≡ bid_of events private (seat_at number)
   pub sv_price : totals.sv_price ≡ last_said sv_price_set events
   pub actor : totals.actor ≡ last_said actor_of events
   pub round : totals.round ≡ last_said round_begun_by events
@@ -158,20 +159,29 @@ pub record AreTotalsOf (totals : Totals) (events : List Event) : Type 0 where
   pub presidents : (company : Company) → at_company totals.presidents company ≡ president_of events company
   pub arrivals : (company : Company) → at_company totals.arrivals company ≡ arrival_on events company
   pub floats : (company : Company) → at_company totals.floats company ≡ float_on events company
-  pub cash : (party : Party) → HasEntry party → IsNet (λ e. paid_to party (payment_of e)) (λ e. paid_by party (payment_of e)) events (cash_net totals.cash party)
+  pub cash : (party : Party) → HasEntry party → IsNet (λ e. paid_to party (payment_of e))
+      (λ e. paid_by party (payment_of e)) events (cash_net totals.cash party)
   pub tenths :
       (company : Company) (place : Shareholder) → HasTenths place →
-      IsNet (λ e. brought_to company place (transfer_of e)) (λ e. taken_from company place (transfer_of e)) events (tenths_net totals.tenths company place)
+      IsNet (λ e. brought_to company place (transfer_of e)) (λ e. taken_from company place (transfer_of e)) events
+      (tenths_net totals.tenths company place)
   pub trains :
       (place : TrainPlace) (kind : Kind) →
-      IsNet (λ e. one_if (train_comes place kind (train_moved e))) (λ e. one_if (train_goes place kind (train_moved e))) events
+      IsNet (λ e. one_if (train_comes place kind (train_moved e)))
+      (λ e. one_if (train_goes place kind (train_moved e))) events
       (train_net totals.trains place kind)
   pub train_owners :
       (owner : Option Company) →
-      IsNet (λ e. one_if (any_comes owner (train_moved e))) (λ e. one_if (any_goes owner (train_moved e))) events (train_count_net totals.train_owners owner)
-  pub tokens : (company : Company) → IsCounted (tokens_placed events company) events (count_at totals.tokens (place_of_company company))
+      IsNet (λ e. one_if (any_comes owner (train_moved e))) (λ e. one_if (any_goes owner (train_moved e))) events
+      (train_count_net totals.train_owners owner)
+  pub tokens : (company : Company) → IsCounted (tokens_placed events company) events
+      (count_at totals.tokens (place_of_company company))
   pub operated : (company : Company) → flag_of totals.operated company ≡ has_operated events company
-  pub sales : (company : Company) (seat : Seat) → seat.0 < 6 → sale_in totals.sales company seat ≡ has_sold_in_round events company seat
-  pub rulings : (seat : Seat) → seat.0 < 6 → IsCounted (rulings_in_round events seat) events (count_at totals.rulings seat.0)
-  pub limits : (private : Private) (seat : Seat) → seat.0 < 6 → bid_in totals.limits private seat.0 ≡ bid_limit_of events private seat
-  pub par_orders : (seat : Seat) → seat.0 < 6 → slice_index_or totals.par_orders seat.0 None ≡ par_ordered_of events seat
+  pub sales : (company : Company) (seat : Seat) → seat.0 < 6
+      → sale_in totals.sales company seat ≡ has_sold_in_round events company seat
+  pub rulings : (seat : Seat) → seat.0 < 6 → IsCounted (rulings_in_round events seat) events
+      (count_at totals.rulings seat.0)
+  pub limits : (private : Private) (seat : Seat) → seat.0 < 6
+      → bid_in totals.limits private seat.0 ≡ bid_limit_of events private seat
+  pub par_orders : (seat : Seat) → seat.0 < 6 → slice_index_or totals.par_orders seat.0 None
+      ≡ par_ordered_of events seat

@@ -57,7 +57,8 @@ count_of comes goes events = balance 0 (λ event. one_if (comes event)) (λ even
 -- that it has sold
 abbrev pub trains_at : List Event → TrainPlace → Kind → ℤ
 trains_at events place kind =
-    count_of (λ event. train_comes place kind (train_moved event)) (λ event. train_goes place kind (train_moved event)) events
+    count_of (λ event. train_comes place kind (train_moved event))
+    (λ event. train_goes place kind (train_moved event)) events
 
 -- the trains of a kind that a company has, or the bank pool where there is none
 abbrev pub trains_held : List Event → Option Company → Kind → ℤ
@@ -101,7 +102,8 @@ trains_in_play events kind = trains_together events train_owners kind
 -- the trains of a kind that the bank has sold are those in play and those that have left it
 abbrev pub AllTrainsStay : Type 0
 AllTrainsStay =
-    (events : List Event) (kind : Kind) → trains_in_play events kind +ℤ trains_at events place.OutOfPlay kind ≡ pos (trains_sold events kind)
+    (events : List Event) (kind : Kind) → trains_in_play events kind +ℤ trains_at events place.OutOfPlay kind
+    ≡ pos (trains_sold events kind)
 
 -- nobody has fewer than no trains of a kind, and the bank has sold no more of them than there are
 pub record TrainsAreHeld (events : List Event) : Type 0 where

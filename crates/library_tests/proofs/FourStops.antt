@@ -35,7 +35,8 @@ in_hex_is hex =
 
 -- and at a stop what stands there
 pub at_stop_is : (stop : Stop) → at_stop four_stops stop ≡ standing_in (joined_hex stop.hex) stop.number
-at_stop_is stop = ap (λ (here : InHex). get_or here.stops (stop_index_of stop.number) no_stop) (in_hex_is (joined_hex stop.hex))
+at_stop_is stop = ap (λ (here : InHex). get_or here.stops (stop_index_of stop.number) no_stop)
+    (in_hex_is (joined_hex stop.hex))
 
 -- no hex has a second stop
 pub no_second : (hex : Hex) → standing_in hex Second ≡ no_stop
@@ -58,7 +59,8 @@ worth hex First = lit≤ tt
 worth hex Second = lit≤ tt
 
 -- no track leads to a second stop
-none_second : (hex : Hex) (link : Link) → IsAmong link (on_map_in hex).links → link.b ≡ AtStop Second → joined_hex hex ≡ hex
+none_second : (hex : Hex) (link : Link) → IsAmong link (on_map_in hex).links → link.b ≡ AtStop Second
+    → joined_hex hex ≡ hex
 none_second A9 link among second = absurd among
 none_second I1 link among second = absurd among
 none_second hex link among second = refl
@@ -71,5 +73,6 @@ lawful pair =
       values = λ stop. subst (λ s. s.value ≤ 80) (sym (at_stop_is stop)) (worth (joined_hex stop.hex) stop.number);
       gulf_is_red = ap (λ s. s.red) (at_stop_is (stop_at J2 First));
       canadian_west_is_red = ap (λ s. s.red) (at_stop_is (stop_at A11 First));
-      parts_have_one_stop = λ hex link among second. none_second hex link (subst (λ (h : InHex). IsAmong link h.links) (in_hex_is hex) among) second;
+      parts_have_one_stop = λ hex link among second. none_second hex link
+          (subst (λ (h : InHex). IsAmong link h.links) (in_hex_is hex) among) second;
     }

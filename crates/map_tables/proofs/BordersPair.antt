@@ -62,7 +62,9 @@ unfolding is_back
 is_back-true None hex e = absurd cc
 is_back-true (Some other) hex e = ap (λ h. Some h) (same_hex-true other hex e)
 
-pub pair : (hex : Hex) (side : Side) (other : Hex) → neighbour_of hex side ≡ Some other → neighbour_of other (facing_of side) ≡ Some hex
+pub pair : (hex : Hex) (side : Side) (other : Hex) → neighbour_of hex side ≡ Some other
+    → neighbour_of other (facing_of side) ≡ Some hex
 unfolding leads_back
 pair hex side other e =
-    is_back-true (neighbour_of other (facing_of side)) hex (ap (λ found. leads_back found side hex) (sym e) ∙ back side hex)
+    is_back-true (neighbour_of other (facing_of side)) hex
+    (ap (λ found. leads_back found side hex) (sym e) ∙ back side hex)

@@ -29,14 +29,17 @@ find_passes test (x ∷ xs) one e =
     ]) refl e
 
 -- the hex that is found lies in the row and the column
-pub hex_at-is : (row column : ℕ) (hex : Hex) → hex_at row column ≡ Some hex → (row_of hex ≡ row) × (column_of hex ≡ column)
+pub hex_at-is : (row column : ℕ) (hex : Hex) → hex_at row column ≡ Some hex
+    → (row_of hex ≡ row) × (column_of hex ≡ column)
 unfolding hex_at
 hex_at-is row column hex e =
-    let parts = and_parts (row_of hex == row) (column_of hex == column) (find_passes (λ h. row_of h == row && column_of h == column) hexes hex e) in
+    let parts = and_parts (row_of hex == row) (column_of hex == column)
+    (find_passes (λ h. row_of h == row && column_of h == column) hexes hex e) in
     (eqb-true (row_of hex) row parts.0, eqb-true (column_of hex) column parts.1)
 
 -- a row and a column have no hex where no guess is right
-pub hex_at-none : (row column : ℕ) → ((hex : Hex) → guess_at row column ≡ Some hex → row_of hex ≡ row → column_of hex ≡ column → ⊥) → hex_at row column ≡ None
+pub hex_at-none : (row column : ℕ) → ((hex : Hex) → guess_at row column ≡ Some hex → row_of hex ≡ row
+    → column_of hex ≡ column → ⊥) → hex_at row column ≡ None
 unfolding hex_at
 hex_at-none row column wrong =
     (elim (hex_at row column) as (λ found. hex_at row column ≡ found → found ≡ None) [
@@ -48,5 +51,6 @@ hex_at-none row column wrong =
     ]) refl
 
 -- and the guess that is right is their hex
-pub hex_at-some : (row column : ℕ) (hex : Hex) → row_of hex ≡ row → column_of hex ≡ column → hex_at row column ≡ Some hex
+pub hex_at-some : (row column : ℕ) (hex : Hex) → row_of hex ≡ row → column_of hex ≡ column
+    → hex_at row column ≡ Some hex
 hex_at-some row column hex r c = rw (← r, ← c) (hex_at-site hex)

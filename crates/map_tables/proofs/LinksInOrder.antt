@@ -26,7 +26,8 @@ here : (hex : Hex) (track : List Segment) → LieIn hex (links_in hex track)
 here hex [] = tt
 here hex (s ∷ ss) = (refl, here hex ss)
 
-links_of : (hex : Hex) (track : List Segment) → are_fit (links_in hex track) ≡ true → AreLinksOf hex (links_in hex track)
+links_of : (hex : Hex) (track : List Segment) → are_fit (links_in hex track) ≡ true
+    → AreLinksOf hex (links_in hex track)
 unfolding are_fit
 links_of hex track fit =
     let parts = and_parts (are_links (links_in hex track)) (leb (length (links_in hex track)) 6) fit in
@@ -104,7 +105,8 @@ unfolding are_fit lay printed laid_track_of laid_links_of
 fit_five_true hex T1 = refl
 fit_five_true hex _ = refl
 
-laid_fit : (hex : Hex) (tile : TileNo) (rot : Rotation) (swap : Bool) → are_fit (laid_links_of (lay hex tile rot swap)) ≡ true
+laid_fit : (hex : Hex) (tile : TileNo) (rot : Rotation) (swap : Bool)
+    → are_fit (laid_links_of (lay hex tile rot swap)) ≡ true
 laid_fit hex tile Zero false = fit_zero_false hex tile
 laid_fit hex tile Zero true = fit_zero_true hex tile
 laid_fit hex tile One false = fit_one_false hex tile

@@ -9,7 +9,9 @@ IsOneOf hex first [] = hex ≡ first
 IsOneOf hex first (second ∷ rest) = (hex ≡ first) ⊎ IsOneOf hex second rest
 
 -- then its print is the one that all of them have
-pub same_print : (print : Print) (hex first : Hex) (rest : List Hex) → map print_of (first ∷ rest) ≡ print ∷ replicate (length rest) print → IsOneOf hex first rest → print_of hex ≡ print
+pub same_print : (print : Print) (hex first : Hex) (rest : List Hex)
+    → map print_of (first ∷ rest) ≡ print ∷ replicate (length rest) print → IsOneOf hex first rest
+    → print_of hex ≡ print
 same_print print hex first [] all one = cc
 same_print print hex first (second ∷ rest) all one =
     elim one [ inl e ↦ cc | inr more ↦ same_print print hex second rest (cc) more ]

@@ -28,7 +28,12 @@ unfolding hexes
 hexes_are_93 = refl
 
 pub hex_stands : (hex : Hex) → HexStands hex
-hex_stands hex = record { below = ltb-true (index_of hex) 93 (hex_below hex); there = hex_there hex; found = hex_at-site hex }
+hex_stands hex = record {
+  below = ltb-true (index_of hex) 93 (hex_below hex);
+  there = hex_there hex;
+  found =
+      hex_at-site hex;
+}
 
 pub hexes_told_apart : (a b : Hex) → (same_hex a b ≡ true) ↔ (a ≡ b)
 hexes_told_apart a b = (same_hex-true a b, same_hex-same a b)
@@ -53,7 +58,12 @@ unfolding tiles
 tiles_are_46 = refl
 
 pub tile_stands : (tile : TileNo) → TileStands tile
-tile_stands tile = record { below = ltb-true (tile_index_of tile) 46 (tile_below tile); there = tile_there tile; found = tile_found tile }
+tile_stands tile = record {
+  below = ltb-true (tile_index_of tile) 46 (tile_below tile);
+  there =
+      tile_there tile;
+  found = tile_found tile;
+}
 
 pub one_print : (hex : Hex) → count_by (λ group. is_one_of hex group.hexes) groups ≡ 1
 unfolding index_of groups plain_hexes

@@ -42,7 +42,8 @@ short-two t d some tens ones =
 pub two_digits : (n : ℕ) → 10 ≤ n → n < 100 → decimal n ≡ (48 + n / 10) ∷ (48 + n % 10) ∷ []
 two_digits n large small =
     let long : n < 2 ^ 64 = omega arith in
-    decimal_step n large long ∙ ap (λ (digits : List ℕ). digits ++ (48 + n % 10) ∷ []) (decimal_digit (n / 10) (omega arith))
+    decimal_step n large long ∙ ap (λ (digits : List ℕ). digits ++ (48 + n % 10) ∷ [])
+    (decimal_digit (n / 10) (omega arith))
 
 -- a short number is read again
 pub short_number-decimal : (n : ℕ) → n < 100 → short_number (decimal n) ≡ Some n
@@ -51,7 +52,8 @@ short_number-decimal n small =
       | inl one ↦ ap short_number (decimal_digit n one) ∙ short-one n one
       | inr two ↦
           let whole : n / 10 * 10 + n % 10 ≡ n = omega arith in
-          ap short_number (two_digits n two small) ∙ short-two (n / 10) (n % 10) (omega arith) (omega arith) (omega arith) ∙ ap (λ (m : ℕ). Some m) whole
+          ap short_number (two_digits n two small) ∙ short-two (n / 10) (n % 10) (omega arith) (omega arith)
+          (omega arith) ∙ ap (λ (m : ℕ). Some m) whole
     ]
 
 -- what is known of a digit
@@ -64,20 +66,23 @@ one-is ones n digit is =
     let byte : 48 + n ≡ ones = omega (arith, range.0) in
     sym (decimal_digit n (omega (arith, range.0, range.1)) ∙ ap (λ (b : ℕ). b ∷ []) byte)
 
-two-is : (tens ones n : ℕ) → 48 < tens → is_digit tens ≡ true → is_digit ones ≡ true → (tens - 48) * 10 + (ones - 48) ≡ n → tens ∷ ones ∷ [] ≡ decimal n
+two-is : (tens ones n : ℕ) → 48 < tens → is_digit tens ≡ true → is_digit ones ≡ true
+    → (tens - 48) * 10 + (ones - 48) ≡ n → tens ∷ ones ∷ [] ≡ decimal n
 two-is tens ones n some first second is =
     let a = digit_range tens first in
     let b = digit_range ones second in
     let t : 48 + n / 10 ≡ tens = omega (arith, a.0, a.1, b.0, b.1) in
     let o : 48 + n % 10 ≡ ones = omega (arith, a.0, a.1, b.0, b.1) in
-    sym (two_digits n (omega (arith, a.0, a.1, b.0, b.1)) (omega (arith, a.0, a.1, b.0, b.1)) ∙ ap (λ (x : ℕ). x ∷ (48 + n % 10) ∷ []) t ∙ ap (λ (x : ℕ). tens ∷ x ∷ []) o)
+    sym (two_digits n (omega (arith, a.0, a.1, b.0, b.1)) (omega (arith, a.0, a.1, b.0, b.1))
+    ∙ ap (λ (x : ℕ). x ∷ (48 + n % 10) ∷ []) t ∙ ap (λ (x : ℕ). tens ∷ x ∷ []) o)
 
 -- the text of a short number is what the number is written as
 pub short_number-is : (text : List ℕ) (n : ℕ) → short_number text ≡ Some n → text ≡ decimal n
 short_number-is [] n e = absurd cc
 short_number-is (ones ∷ []) n e =
     elim (cases_Bool (is_digit ones)) [
-      | inl digit ↦ let found : Some (ones - 48) ≡ Some n = rw digit at e in one-is ones n digit (same_Some (ones - 48) n found)
+      | inl digit ↦ let found : Some (ones - 48) ≡ Some n =
+          rw digit at e in one-is ones n digit (same_Some (ones - 48) n found)
       | inr other ↦ let wrong : None ≡ Some n = rw other at e in absurd cc
     ]
 short_number-is (tens ∷ ones ∷ []) n e =
@@ -119,20 +124,24 @@ pub hex_text-le : (hex : Hex) → length (text_of_hex hex) ≤ 3
 hex_text-le hex = omega (arith, digits-le (column_of hex) (column_short hex))
 
 -- as it is written
-pub hex_written : (hex : Hex) (row column : ℕ) (front middle whole : List ℕ) → front ≡ [] → row ≡ row_of hex → column ≡ column_of hex → middle ≡ front ++ row ∷ [] → whole ≡ middle ++ decimal column → whole ≡ text_of_hex hex
+pub hex_written : (hex : Hex) (row column : ℕ) (front middle whole : List ℕ) → front ≡ [] → row ≡ row_of hex
+    → column ≡ column_of hex → middle ≡ front ++ row ∷ [] → whole ≡ middle ++ decimal column → whole ≡ text_of_hex hex
 hex_written hex row column front middle whole none r c first rest = rw (rest, first, none, r, c) refl
 
 -- a hex is read again
 pub hex_text : (hex : Hex) → hex_of_text (text_of_hex hex) ≡ Some hex
 hex_text hex =
-    ap (option_and_then (hex_at (row_of hex))) (short_number-decimal (column_of hex) (column_short hex)) ∙ hex_at-site hex
+    ap (option_and_then (hex_at (row_of hex))) (short_number-decimal (column_of hex) (column_short hex))
+    ∙ hex_at-site hex
 
 -- only its text is
-row_named : (row : ℕ) (digits : List ℕ) (found : Option ℕ) (hex : Hex) → short_number digits ≡ found → option_and_then (hex_at row) found ≡ Some hex → row ∷ digits ≡ text_of_hex hex
+row_named : (row : ℕ) (digits : List ℕ) (found : Option ℕ) (hex : Hex) → short_number digits ≡ found
+    → option_and_then (hex_at row) found ≡ Some hex → row ∷ digits ≡ text_of_hex hex
 row_named row digits None hex is e = absurd cc
 row_named row digits (Some column) hex is e =
     let at = hex_at-is row column hex e in
-    ap (λ (r : ℕ). r ∷ digits) (sym at.0) ∙ ap (λ (ds : List ℕ). row_of hex ∷ ds) (short_number-is digits column is ∙ ap decimal (sym at.1))
+    ap (λ (r : ℕ). r ∷ digits) (sym at.0) ∙ ap (λ (ds : List ℕ). row_of hex ∷ ds)
+    (short_number-is digits column is ∙ ap decimal (sym at.1))
 
 pub hex_named : (text : List ℕ) (hex : Hex) → hex_of_text text ≡ Some hex → text ≡ text_of_hex hex
 hex_named [] hex e = absurd cc
@@ -143,7 +152,8 @@ stop_read : (number : StopNumber) → stop_of_text (stop_text (Some number)) ≡
 stop_read First = ap (λ (digits : List ℕ). stop_of_text (46 ∷ digits)) (decimal_digit 0 (omega arith))
 stop_read Second = ap (λ (digits : List ℕ). stop_of_text (46 ∷ digits)) (decimal_digit 1 (omega arith))
 
-stop_first : (point digit i : ℕ) → i < 10 → (point == 46 && digit == 48 + i) ≡ true → point ∷ digit ∷ [] ≡ 46 ∷ decimal i
+stop_first : (point digit i : ℕ) → i < 10 → (point == 46 && digit == 48 + i) ≡ true
+    → point ∷ digit ∷ [] ≡ 46 ∷ decimal i
 stop_first point digit i small h =
     let parts = and_parts (point == 46) (digit == 48 + i) h in
     let p : point ≡ 46 = eqb-true point 46 parts.0 in
@@ -182,25 +192,35 @@ stop_digit First = decimal_digit 0 (omega arith)
 stop_digit Second = decimal_digit 1 (omega arith)
 
 -- a place is read again
-stop_of_hex_text : (hex : Hex) (number : StopNumber) → place_of_text (text_of_hex hex ++ stop_text (Some number)) ≡ Some (record { hex = hex; stop = Some number })
+stop_of_hex_text : (hex : Hex) (number : StopNumber)
+    → place_of_text (text_of_hex hex ++ stop_text (Some number)) ≡ Some (record { hex = hex; stop = Some number })
 stop_of_hex_text hex number =
     let digit : decimal (stop_index_of number) ≡ (48 + stop_index_of number) ∷ [] = stop_digit number in
     let none : hex_of_text (text_of_hex hex ++ stop_text (Some number)) ≡ None =
-    ap (λ (digits : List ℕ). option_and_then (hex_at (row_of hex)) (short_number (decimal (column_of hex) ++ 46 ∷ digits))) digit
+    ap (λ (digits : List ℕ). option_and_then (hex_at (row_of hex))
+    (short_number (decimal (column_of hex) ++ 46 ∷ digits))) digit
     ∙ ap (option_and_then (hex_at (row_of hex))) (long_number (decimal (column_of hex)) (48 + stop_index_of number)) in
     let size : length (text_of_hex hex ++ stop_text (Some number)) - 2 ≡ length (text_of_hex hex) =
     omega (arith, length-append (text_of_hex hex) (stop_text (Some number)), ap length digit) in
-    let front : take (length (text_of_hex hex ++ stop_text (Some number)) - 2) (text_of_hex hex ++ stop_text (Some number)) ≡ text_of_hex hex =
+    let front : take (length (text_of_hex hex ++ stop_text (Some number)) - 2)
+    (text_of_hex hex ++ stop_text (Some number)) ≡ text_of_hex hex =
     take_at (text_of_hex hex) (stop_text (Some number)) _ (sym size) in
-    let back : drop (length (text_of_hex hex ++ stop_text (Some number)) - 2) (text_of_hex hex ++ stop_text (Some number)) ≡ stop_text (Some number) =
+    let back : drop (length (text_of_hex hex ++ stop_text (Some number)) - 2)
+    (text_of_hex hex ++ stop_text (Some number)) ≡ stop_text (Some number) =
     drop_at (text_of_hex hex) (stop_text (Some number)) _ (sym size) in
-    place_by (text_of_hex hex ++ stop_text (Some number)) hex number none (ap hex_of_text front ∙ hex_text hex) (ap stop_of_text back ∙ stop_read number) where
-      place_by : (text : List ℕ) (hex : Hex) (number : StopNumber) → hex_of_text text ≡ None → hex_of_text (take (length text - 2) text) ≡ Some hex → stop_of_text (drop (length text - 2) text) ≡ Some number → place_of_text text ≡ Some (record { hex = hex; stop = Some number })
+    place_by (text_of_hex hex ++ stop_text (Some number)) hex number none (ap hex_of_text front ∙ hex_text hex)
+    (ap stop_of_text back ∙ stop_read number) where
+      place_by : (text : List ℕ) (hex : Hex) (number : StopNumber) → hex_of_text text ≡ None
+          → hex_of_text (take (length text - 2) text) ≡ Some hex
+          → stop_of_text (drop (length text - 2) text) ≡ Some number
+          → place_of_text text ≡ Some (record { hex = hex; stop = Some number })
       place_by text hex number none front back = rw (none, front, back, place_of_text) refl
 
-place_text_from : (hex : Hex) (stop : Option StopNumber) → place_of_text (text_of_hex hex ++ stop_text stop) ≡ Some (record { hex = hex; stop = stop })
+place_text_from : (hex : Hex) (stop : Option StopNumber)
+    → place_of_text (text_of_hex hex ++ stop_text stop) ≡ Some (record { hex = hex; stop = stop })
 place_text_from hex None =
-    let whole : hex_of_text (text_of_hex hex ++ []) ≡ Some hex = ap hex_of_text (append-nil (text_of_hex hex)) ∙ hex_text hex in
+    let whole : hex_of_text (text_of_hex hex ++ []) ≡ Some hex =
+    ap hex_of_text (append-nil (text_of_hex hex)) ∙ hex_text hex in
     rw (whole, place_of_text) refl
 place_text_from hex (Some number) = stop_of_hex_text hex number
 
@@ -208,7 +228,9 @@ pub place_text : (place : Place) → place_of_text (text_of_place place) ≡ Som
 place_text place = place_text_from place.hex place.stop
 
 -- the text of a stop, as it is written
-pub stop_written : (place : Place) (number : StopNumber) (digit : ℕ) (front middle whole : List ℕ) → front ≡ text_of_hex place.hex → place.stop ≡ Some number → digit ≡ 48 + stop_index_of number → middle ≡ front ++ 46 ∷ [] → whole ≡ middle ++ digit ∷ [] → whole ≡ text_of_place place
+pub stop_written : (place : Place) (number : StopNumber) (digit : ℕ) (front middle whole : List ℕ)
+    → front ≡ text_of_hex place.hex → place.stop ≡ Some number → digit ≡ 48 + stop_index_of number
+    → middle ≡ front ++ 46 ∷ [] → whole ≡ middle ++ digit ∷ [] → whole ≡ text_of_place place
 stop_written place number digit front middle whole hex stop is point end =
     let number_is : digit ∷ [] ≡ decimal (stop_index_of number) = ap (λ (d : ℕ). d ∷ []) is ∙ sym (stop_digit number) in
     end ∙ ap (λ (bytes : List ℕ). bytes ++ digit ∷ []) (point ∙ ap (λ (bytes : List ℕ). bytes ++ 46 ∷ []) hex)
@@ -217,20 +239,27 @@ stop_written place number digit front middle whole hex stop is point end =
     ∙ ap (λ (s : Option StopNumber). text_of_hex place.hex ++ stop_text s) (sym stop)
 
 -- only its text is
-stop_place_named : (front back : List ℕ) (hex : Option Hex) (stop : Option StopNumber) (place : Place) → hex_of_text front ≡ hex → stop_of_text back ≡ stop → place_from hex stop ≡ Some place → front ++ back ≡ text_of_place place
+stop_place_named : (front back : List ℕ) (hex : Option Hex) (stop : Option StopNumber) (place : Place)
+    → hex_of_text front ≡ hex → stop_of_text back ≡ stop → place_from hex stop ≡ Some place
+    → front ++ back ≡ text_of_place place
 stop_place_named front back (Some hex) (Some number) place h s e =
     let is = same_Some (record { hex = hex; stop = Some number }) place e in
-    ap (λ (text : List ℕ). text ++ back) (hex_named front hex h) ∙ ap (λ (text : List ℕ). text_of_hex hex ++ text) (stop_named back number s) ∙ ap text_of_place is
+    ap (λ (text : List ℕ). text ++ back) (hex_named front hex h)
+    ∙ ap (λ (text : List ℕ). text_of_hex hex ++ text) (stop_named back number s) ∙ ap text_of_place is
 stop_place_named front back (Some hex) None place h s e = absurd cc
 stop_place_named front back None stop place h s e = absurd cc
 
-place_named_by : (text : List ℕ) (found : Option Hex) (place : Place) → hex_of_text text ≡ found → place_of_text text ≡ Some place → text ≡ text_of_place place
+place_named_by : (text : List ℕ) (found : Option Hex) (place : Place) → hex_of_text text ≡ found
+    → place_of_text text ≡ Some place → text ≡ text_of_place place
 place_named_by text (Some hex) place is e =
     let one : Some (record { hex = hex; stop = None }) ≡ Some place = rw (is, place_of_text) at e in
-    hex_named text hex is ∙ sym (append-nil (text_of_hex hex)) ∙ ap text_of_place (same_Some (record { hex = hex; stop = None }) place one)
+    hex_named text hex is ∙ sym (append-nil (text_of_hex hex))
+    ∙ ap text_of_place (same_Some (record { hex = hex; stop = None }) place one)
 place_named_by text None place is e =
-    let one : place_from (hex_of_text (take (length text - 2) text)) (stop_of_text (drop (length text - 2) text)) ≡ Some place = rw (is, place_of_text) at e in
-    sym (take-append-drop (length text - 2) text) ∙ stop_place_named (take (length text - 2) text) (drop (length text - 2) text) _ _ place refl refl one
+    let one : place_from (hex_of_text (take (length text - 2) text)) (stop_of_text (drop (length text - 2) text))
+    ≡ Some place = rw (is, place_of_text) at e in
+    sym (take-append-drop (length text - 2) text) ∙ stop_place_named (take (length text - 2) text)
+    (drop (length text - 2) text) _ _ place refl refl one
 
 pub place_named : (text : List ℕ) (place : Place) → place_of_text text ≡ Some place → text ≡ text_of_place place
 place_named text place e = place_named_by text (hex_of_text text) place refl e
@@ -246,13 +275,16 @@ number_short tile = ltb-true (number_of_tile tile) 100 (number_test tile)
 
 tile_is : (number : ℕ) (tile : TileNo) → tile_numbered number ≡ Some tile → number_of_tile tile ≡ number
 unfolding tile_numbered
-tile_is number tile e = eqb-true (number_of_tile tile) number (find_passes (λ t. number_of_tile t == number) tiles tile e)
+tile_is number tile e = eqb-true (number_of_tile tile) number
+    (find_passes (λ t. number_of_tile t == number) tiles tile e)
 
 tile_text : (tile : TileNo) → tile_of_text (text_of_tile tile) ≡ Some tile
 tile_text tile =
-    ap (option_and_then tile_numbered) (short_number-decimal (number_of_tile tile) (number_short tile)) ∙ (tile_stands tile).found
+    ap (option_and_then tile_numbered) (short_number-decimal (number_of_tile tile) (number_short tile))
+    ∙ (tile_stands tile).found
 
-tile_named_by : (text : List ℕ) (found : Option ℕ) (tile : TileNo) → short_number text ≡ found → option_and_then tile_numbered found ≡ Some tile → text ≡ text_of_tile tile
+tile_named_by : (text : List ℕ) (found : Option ℕ) (tile : TileNo) → short_number text ≡ found
+    → option_and_then tile_numbered found ≡ Some tile → text ≡ text_of_tile tile
 tile_named_by text None tile is e = absurd cc
 tile_named_by text (Some number) tile is e = short_number-is text number is ∙ ap decimal (sym (tile_is number tile e))
 
@@ -266,7 +298,9 @@ rotation_text Four = ap (option_and_then rotation_of) (short_number-decimal 4 (o
 rotation_text Five = ap (option_and_then rotation_of) (short_number-decimal 5 (omega arith))
 
 -- the first of some rotations, or one of the others
-first_of : (turns k : ℕ) (first : Rotation) (others : Option Rotation) (rotation : Rotation) → turns_of first ≡ k → cond (turns == k) (Some first) others ≡ Some rotation → (others ≡ Some rotation → turns_of rotation ≡ turns) → turns_of rotation ≡ turns
+first_of : (turns k : ℕ) (first : Rotation) (others : Option Rotation) (rotation : Rotation) → turns_of first ≡ k
+    → cond (turns == k) (Some first) others ≡ Some rotation → (others ≡ Some rotation → turns_of rotation ≡ turns)
+    → turns_of rotation ≡ turns
 first_of turns k first others rotation is e later =
     elim (cases_Bool (turns == k)) [
       | inl same ↦
@@ -284,9 +318,11 @@ rotation_is turns rotation e =
     (λ e4. first_of turns 4 Four _ rotation refl e4
     (λ e5. first_of turns 5 Five _ rotation refl e5 (λ none. absurd cc))))))
 
-rotation_named_by : (text : List ℕ) (found : Option ℕ) (rotation : Rotation) → short_number text ≡ found → option_and_then rotation_of found ≡ Some rotation → text ≡ text_of_rotation rotation
+rotation_named_by : (text : List ℕ) (found : Option ℕ) (rotation : Rotation) → short_number text ≡ found
+    → option_and_then rotation_of found ≡ Some rotation → text ≡ text_of_rotation rotation
 rotation_named_by text None rotation is e = absurd cc
-rotation_named_by text (Some turns) rotation is e = short_number-is text turns is ∙ ap decimal (sym (rotation_is turns rotation e))
+rotation_named_by text (Some turns) rotation is e =
+    short_number-is text turns is ∙ ap decimal (sym (rotation_is turns rotation e))
 
 -- each is read from its text, and from no other
 pub texts_read : TextsAreRead
@@ -294,5 +330,9 @@ texts_read = record {
   hexes = λ text hex. (hex_named text hex, λ is. ap hex_of_text is ∙ hex_text hex);
   places = λ text place. (place_named text place, λ is. ap place_of_text is ∙ place_text place);
   tiles = λ text tile. (tile_named_by text (short_number text) tile refl, λ is. ap tile_of_text is ∙ tile_text tile);
-  rotations = λ text rotation. (rotation_named_by text (short_number text) rotation refl, λ is. ap rotation_of_text is ∙ rotation_text rotation);
+  rotations = λ text rotation. (
+    rotation_named_by text (short_number text) rotation refl,
+    λ is. ap rotation_of_text is
+        ∙ rotation_text rotation,
+  );
 }

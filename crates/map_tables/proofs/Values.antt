@@ -25,8 +25,13 @@ unfolding index_of groups plain_hexes print_of
 late A9 = refl
 late _ = refl
 
-pub hex_value : (hex : Hex) → ((print_of hex).value.before_phase_five ≤ 80) × ((print_of hex).value.from_phase_five ≤ 80)
-hex_value hex = (leb-true (print_of hex).value.before_phase_five 80 (early hex), leb-true (print_of hex).value.from_phase_five 80 (late hex))
+pub hex_value : (hex : Hex) → ((print_of hex).value.before_phase_five ≤ 80)
+    × ((print_of hex).value.from_phase_five ≤ 80)
+hex_value hex = (
+  leb-true (print_of hex).value.before_phase_five 80 (early hex),
+  leb-true
+      (print_of hex).value.from_phase_five 80 (late hex),
+)
 
 of_tile : (tile : TileNo) → leb (entry_of tile).value 80 ≡ true
 unfolding printed
@@ -42,7 +47,8 @@ joined A9 = inr (refl, refl)
 joined I1 = inr (refl, refl)
 joined _ = inl refl
 
-pub red_area : (stop : Stop) → (joined_stop_of stop ≡ stop) ⊎ (((print_of stop.hex).kind ≡ Red) × ((print_of (joined_stop_of stop).hex).kind ≡ Red))
+pub red_area : (stop : Stop) → (joined_stop_of stop ≡ stop)
+    ⊎ (((print_of stop.hex).kind ≡ Red) × ((print_of (joined_stop_of stop).hex).kind ≡ Red))
 red_area stop =
     elim (joined stop.hex) [
       | inl same ↦ inl (let e : stop_at (joined_hex stop.hex) stop.number ≡ stop_at stop.hex stop.number = cc in e)

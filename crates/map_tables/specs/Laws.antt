@@ -24,7 +24,8 @@ use Rattle.map_tables.specs.Home.{home_of}
 -- the neighbour over a side has the hex as its neighbour over the facing side
 abbrev pub NeighboursPair : Type 0
 NeighboursPair =
-    (hex : Hex) (side : Side) (other : Hex) → neighbour_of hex side ≡ Some other → neighbour_of other (facing_of side) ≡ Some hex
+    (hex : Hex) (side : Side) (other : Hex) → neighbour_of hex side ≡ Some other
+    → neighbour_of other (facing_of side) ≡ Some hex
 
 -- the list of hexes has 93, each at its index, which is below 93; and each is the hex at its row and column
 pub record HexStands (hex : Hex) : Type 0 where
@@ -59,7 +60,8 @@ SixTurnsAreNone = (tile : TileNo) → iterate (turned_track One) 6 (tile_track_o
 -- a rotation is so many turns by a sixth
 abbrev pub TurnsAddUp : Type 0
 TurnsAddUp =
-    (tile : TileNo) (rotation : Rotation) → turned_track rotation (tile_track_of tile) ≡ iterate (turned_track One) (turns_of rotation) (tile_track_of tile)
+    (tile : TileNo) (rotation : Rotation) → turned_track rotation (tile_track_of tile)
+    ≡ iterate (turned_track One) (turns_of rotation) (tile_track_of tile)
 
 -- the place of a link in the order of a hex's links
 abbrev pub link_order : Link → ℕ
@@ -105,7 +107,8 @@ ValuesAreAtMost80 =
 -- a stop is itself, or it and the stop that it is part of are red
 abbrev pub RedAreasAreJoined : Type 0
 RedAreasAreJoined =
-    (stop : Stop) → (joined_stop_of stop ≡ stop) ⊎ (((print_of stop.hex).kind ≡ Red) × ((print_of (joined_stop_of stop).hex).kind ≡ Red))
+    (stop : Stop) → (joined_stop_of stop ≡ stop) ⊎ (((print_of stop.hex).kind ≡ Red)
+    × ((print_of (joined_stop_of stop).hex).kind ≡ Red))
 
 -- the print of each home takes a token
 abbrev pub HomesTakeTokens : Type 0

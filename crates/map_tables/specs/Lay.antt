@@ -9,7 +9,8 @@ use Rattle.map_tables.specs.Tile.{tile_track_of}
 -- the track of a tile as it lies
 unfoldable pub laid_track_of : Lay → List Segment
 laid_track_of lay =
-    if lay.swap then swapped_track (turned_track lay.rot (tile_track_of lay.tile)) else turned_track lay.rot (tile_track_of lay.tile)
+    if lay.swap then swapped_track (turned_track lay.rot (tile_track_of lay.tile)) else turned_track lay.rot
+    (tile_track_of lay.tile)
 
 -- the links that it gives its hex
 unfoldable pub laid_links_of : Lay → List Link

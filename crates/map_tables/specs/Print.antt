@@ -140,7 +140,16 @@ slots_of_kind CitiesOO = 1
 -- a red area, whose stop takes no token
 abbrev pub red_of : ℕ → ℕ → List Segment → Print
 red_of before from track =
-    record { kind = Red; cost = 0; colour = White; stops = 1; slots = 0; value = at_first_and_later before from; track = track }
+    record {
+      kind = Red;
+      cost = 0;
+      colour = White;
+      stops = 1;
+      slots = 0;
+      value =
+          at_first_and_later before from;
+      track = track;
+    }
 
 abbrev red : ℕ → ℕ → List ℕ → Print
 red before from sides = red_of before from (in_order (city_track sides))
@@ -165,7 +174,16 @@ grey_track track = grey_of 0 0 0 (in_order track)
 -- a hex whose print is a yellow tile
 abbrev pub yellow_of : TileKind → ℕ → ℕ → List Segment → Print
 yellow_of kind cost value track =
-    record { kind = Open kind; cost = cost; colour = Yellow; stops = stops_of_kind kind; slots = slots_of_kind kind; value = always value; track = track }
+    record {
+      kind = Open kind;
+      cost = cost;
+      colour = Yellow;
+      stops = stops_of_kind kind;
+      slots =
+          slots_of_kind kind;
+      value = always value;
+      track = track;
+    }
 
 abbrev yellow_city : TileKind → ℕ → List ℕ → Print
 yellow_city kind value sides = yellow_of kind 0 value (in_order (city_track sides))
@@ -176,7 +194,16 @@ yellow_cities kind cost value first second = yellow_of kind cost value (in_order
 -- a hex without track, whose stops are worth nothing until a tile lies
 abbrev pub white : TileKind → ℕ → Print
 white kind cost =
-    record { kind = Open kind; cost = cost; colour = White; stops = stops_of_kind kind; slots = slots_of_kind kind; value = always 0; track = [] }
+    record {
+      kind = Open kind;
+      cost = cost;
+      colour = White;
+      stops = stops_of_kind kind;
+      slots =
+          slots_of_kind kind;
+      value = always 0;
+      track = [];
+    }
 
 -- the hexes that have a print
 pub record Group : Type 0 where

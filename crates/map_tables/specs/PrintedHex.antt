@@ -5,4 +5,13 @@ use Rattle.map_tables.specs.Print.{Print}
 -- the print that it keeps
 abbrev pub print_seen : PrintedHex → Print
 print_seen p =
-    record { kind = p.kind; cost = p.cost; colour = p.colour; stops = p.stops; slots = p.slots; value = p.value; track = p.track.now }
+    record {
+      kind = p.kind;
+      cost = p.cost;
+      colour = p.colour;
+      stops = p.stops;
+      slots = p.slots;
+      value =
+          p.value;
+      track = p.track.now;
+    }

@@ -80,4 +80,5 @@ pub record TextsAreRead : Type 0 where
   pub hexes : (text : List ℕ) (hex : Hex) → (hex_of_text text ≡ Some hex) ↔ (text ≡ text_of_hex hex)
   pub places : (text : List ℕ) (place : Place) → (place_of_text text ≡ Some place) ↔ (text ≡ text_of_place place)
   pub tiles : (text : List ℕ) (tile : TileNo) → (tile_of_text text ≡ Some tile) ↔ (text ≡ text_of_tile tile)
-  pub rotations : (text : List ℕ) (rotation : Rotation) → (rotation_of_text text ≡ Some rotation) ↔ (text ≡ text_of_rotation rotation)
+  pub rotations : (text : List ℕ) (rotation : Rotation)
+      → (rotation_of_text text ≡ Some rotation) ↔ (text ≡ text_of_rotation rotation)

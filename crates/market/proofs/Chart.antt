@@ -5,21 +5,25 @@ use Rattle.tables.specs.Chart.{entry_at, is_on_chart, square_at}
 use Rattle.tables.specs.declared.squares.Square.{Square}
 
 -- a square of the chart, or else another square of it, is on the chart
-on_chart_or : (row column : ℕ) (other : Square) → is_on_chart other ≡ true → is_on_chart (unwrap_or (square_at row column) other) ≡ true
+on_chart_or : (row column : ℕ) (other : Square) → is_on_chart other ≡ true
+    → is_on_chart (unwrap_or (square_at row column) other) ≡ true
 on_chart_or row column other on =
-    elim (is_some (entry_at row column)) as (λ (b : Bool). is_some (entry_at row column) ≡ b → is_on_chart (unwrap_or (if b then Some (record { row = row; column = column }) else None) other) ≡ true) [
+    elim (is_some (entry_at row column)) as (λ (b : Bool). is_some (entry_at row column) ≡ b
+    → is_on_chart (unwrap_or (if b then Some (record { row = row; column = column }) else None) other) ≡ true) [
       | true ↦ λ found. found
       | false ↦ λ none. on
     ]
     refl
 
 -- the square above, or else another
-above_or : (row column : ℕ) (other : Square) → is_on_chart other ≡ true → is_on_chart (unwrap_or (above (record { row = row; column = column })) other) ≡ true
+above_or : (row column : ℕ) (other : Square) → is_on_chart other ≡ true
+    → is_on_chart (unwrap_or (above (record { row = row; column = column })) other) ≡ true
 above_or zero column other on = on
 above_or (suc row) column other on = on_chart_or row column other on
 
 -- the square at the left, or else another
-at_left_or : (row column : ℕ) (other : Square) → is_on_chart other ≡ true → is_on_chart (unwrap_or (at_left (record { row = row; column = column })) other) ≡ true
+at_left_or : (row column : ℕ) (other : Square) → is_on_chart other ≡ true
+    → is_on_chart (unwrap_or (at_left (record { row = row; column = column })) other) ≡ true
 at_left_or row zero other on = on
 at_left_or row (suc column) other on = on_chart_or row column other on
 

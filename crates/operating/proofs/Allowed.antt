@@ -24,7 +24,8 @@ use Rattle.tables.proofs.Rules.{none_broken}
 use Rattle.tables.specs.Rules.{Rule, first_broken}
 
 -- where no rule of two tables is broken, none of the first is
-none_of_first : {Code : Type 0} (rules later : List (Rule Code)) → first_broken (rules ++ later) ≡ None → first_broken rules ≡ None
+none_of_first : {Code : Type 0} (rules later : List (Rule Code)) → first_broken (rules ++ later) ≡ None
+    → first_broken rules ≡ None
 none_of_first {Code} rules later none =
     elim (first_broken rules) as (λ (found : Option Code). first_broken rules ≡ found → found ≡ None) [
       | None ↦ λ is. refl
@@ -33,7 +34,8 @@ none_of_first {Code} rules later none =
     refl
 
 -- an answer with a cost breaks no rule, and that is the cost
-none_where_ok : {Fault : Type 0} (cost : ℤ) (priced : ℕ) (found : Option Fault) → Ok cost ≡ cost_or priced found → (found ≡ None) × (cost ≡ pos priced)
+none_where_ok : {Fault : Type 0} (cost : ℤ) (priced : ℕ) (found : Option Fault) → Ok cost ≡ cost_or priced found
+    → (found ≡ None) × (cost ≡ pos priced)
 none_where_ok cost priced None given = (refl, cc)
 none_where_ok cost priced (Some fault) given = cc
 
@@ -47,7 +49,8 @@ pub record IsAllowed (none : Type 0) (cost cash : ℤ) (priced : ℕ) : Type 0 w
   pub kept : to_z w128 (of_z w128 cost) ≡ cost
 
 -- a small sum that is not more than the cash
-priced_well : {none : Type 0} (cost cash : ℤ) (priced : ℕ) → none → cost ≡ pos priced → lt_z cash (pos priced) ≡ false → priced ≤ 120 → IsAllowed none cost cash priced
+priced_well : {none : Type 0} (cost cash : ℤ) (priced : ℕ) → none → cost ≡ pos priced → lt_z cash (pos priced) ≡ false
+    → priced ≤ 120 → IsAllowed none cost cash priced
 priced_well cost cash priced allowed is enough small =
     record {
       allowed = allowed;
@@ -98,7 +101,8 @@ token_price_test false false true = omega arith
 token_price_test false false false = omega arith
 
 -- a lay that is allowed
-pub lay_allowed : (laid : MapState) (asker : Asker) (lay : Lay) (cost : ℤ) → IsLayAnswer laid asker lay (Ok cost) → IsAllowed (first_broken (map_rules laid asker lay) ≡ None) cost asker.cash (lay_cost_of laid.lays lay.hex)
+pub lay_allowed : (laid : MapState) (asker : Asker) (lay : Lay) (cost : ℤ) → IsLayAnswer laid asker lay (Ok cost)
+    → IsAllowed (first_broken (map_rules laid asker lay) ≡ None) cost asker.cash (lay_cost_of laid.lays lay.hex)
 lay_allowed laid asker lay cost answer =
     let priced = lay_cost_of laid.lays lay.hex in
     let rules = map_rules laid asker lay in
@@ -109,7 +113,9 @@ lay_allowed laid asker lay cost answer =
     priced_well cost asker.cash priced first is.1 both.1.0 (lay_small laid.lays lay.hex)
 
 -- a token that is allowed
-pub token_allowed : (laid : MapState) (asker : Asker) (place : Place) (cost : ℤ) → IsTokenAnswer laid asker place (Ok cost) → IsAllowed (first_broken (slot_rules laid asker place) ≡ None) cost asker.cash (token_cost_of laid.tokens asker place.hex)
+pub token_allowed : (laid : MapState) (asker : Asker) (place : Place) (cost : ℤ)
+    → IsTokenAnswer laid asker place (Ok cost) → IsAllowed (first_broken (slot_rules laid asker place) ≡ None) cost
+    asker.cash (token_cost_of laid.tokens asker place.hex)
 unfolding token_cost_of
 token_allowed laid asker place cost answer =
     let priced = token_cost_of laid.tokens asker place.hex in
@@ -118,4 +124,6 @@ token_allowed laid asker place cost answer =
     let is = none_where_ok cost priced (first_broken (rules ++ later)) answer.given in
     let first : first_broken rules ≡ None = none_of_first rules later is.0 in
     let both = none_broken later (sym (kept rules later first) ∙ is.0) in
-    priced_well cost asker.cash priced first is.1 both.1.0 (token_price_test (is_dh_token asker place.hex) (laid_by laid.tokens asker.company == 0) (laid_by laid.tokens asker.company == 1))
+    priced_well cost asker.cash priced first is.1 both.1.0
+    (token_price_test (is_dh_token asker place.hex) (laid_by laid.tokens asker.company == 0)
+    (laid_by laid.tokens asker.company == 1))

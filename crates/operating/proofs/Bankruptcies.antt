@@ -33,7 +33,8 @@ tells_none company game (event.Bankrupt seat) is = absurd is
 tells_none company game other is = refl
 
 -- with one event more
-one_more : (events : List Event) (its : Event) → tells_bankrupt its ≡ false → bankrupt_in (events ++ its ∷ []) ≡ bankrupt_in events
+one_more : (events : List Event) (its : Event) → tells_bankrupt its ≡ false
+    → bankrupt_in (events ++ its ∷ []) ≡ bankrupt_in events
 one_more events its none =
     list_any-append tells_bankrupt events (its ∷ [])
     ∙ ap (λ (b : Bool). bankrupt_in events || (b || false)) none
@@ -41,7 +42,8 @@ one_more events its none =
 
 -- with a bankruptcy somebody is bankrupt
 pub now_bankrupt : (events : List Event) (seat : Seat) → bankrupt_in (events ++ event.Bankrupt seat ∷ []) ≡ true
-now_bankrupt events seat = list_any-append tells_bankrupt events (event.Bankrupt seat ∷ []) ∙ or_true (bankrupt_in events)
+now_bankrupt events seat = list_any-append tells_bankrupt events (event.Bankrupt seat ∷ [])
+    ∙ or_true (bankrupt_in events)
 
 -- as many are bankrupt
 abbrev Same : Game → Game → Type 0
@@ -53,18 +55,24 @@ of_turn_events company =
     by_each company Same on (λ game its is. one_more game.events its (tells_none company game its is))
 
 of_sales : (by : Operator) → OfSales by Same
-of_sales by = of_sale by Same (of_turn_events by.company) (λ game company seat. one_more game.events (event.President company seat) refl)
+of_sales by = of_sale by Same (of_turn_events by.company)
+    (λ game company seat. one_more game.events (event.President company seat) refl)
 
 -- nobody is bankrupt, and somebody is
-not_both : (before after : Game) → Same before after → bankrupt_in before.events ≡ false → bankrupt_in after.events ≡ true → ⊥
+not_both : (before after : Game) → Same before after → bankrupt_in before.events ≡ false
+    → bankrupt_in after.events ≡ true → ⊥
 not_both before after same solvent bankrupt = false≢true (sym (same ∙ solvent) ∙ bankrupt)
 
-module _ (by : Operator) (new : Game) (presides : president_of new.events by.company ≡ Some by.president) (bankrupt : bankrupt_in new.events ≡ true) where
+module _ (by : Operator) (new : Game) (presides : president_of new.events by.company ≡ Some by.president)
+    (bankrupt : bankrupt_in new.events ≡ true) where
   -- where the purchase ends so, once the money is raised
-  of_concluded : (gained : Game) → new ≡ concluded by gained → bankrupt_in gained.events ≡ false → has_trains gained.events by.company ≡ false → EndsBankrupt new by.company
+  of_concluded : (gained : Game) → new ≡ concluded by gained → bankrupt_in gained.events ≡ false
+      → has_trains gained.events by.company ≡ false → EndsBankrupt new by.company
   unfolding concluded
   of_concluded gained is solvent none =
-      elim (falls_short by gained) as (λ (b : Bool). new ≡ (if b then with_event gained (event.Bankrupt by.president) else after_train (with_aid by gained) by.company (cheapest gained.events)) → EndsBankrupt new by.company) [
+      elim (falls_short by gained) as (λ (b : Bool). new
+      ≡ (if b then with_event gained (event.Bankrupt by.president) else after_train (with_aid by gained)
+      by.company (cheapest gained.events)) → EndsBankrupt new by.company) [
         | true ↦ λ told. record {
           before = gained.events;
           president = by.president;
@@ -76,24 +84,30 @@ module _ (by : Operator) (new : Game) (presides : president_of new.events by.com
               ∙ none;
         }
         | false ↦ λ bought.
-            let same : Same gained new = ap (λ (game : Game). bankrupt_in game.events) bought ∙ of_bought by Same (of_turn_events by.company) (of_sales by) gained none in
+            let same : Same gained new = ap (λ (game : Game). bankrupt_in game.events) bought
+            ∙ of_bought by Same (of_turn_events by.company) (of_sales by) gained none in
             absurd (not_both gained new same solvent bankrupt)
       ]
       is
 
   -- where the turn ends so
-  of_end : (lines : List Numbered) (game : Game) → EndLeads by lines game new → bankrupt_in game.events ≡ false → EndsBankrupt new by.company
+  of_end : (lines : List Numbered) (game : Game) → EndLeads by lines game new → bankrupt_in game.events ≡ false
+      → EndsBankrupt new by.company
   unfolding after_forced
   of_end lines game (inl due) solvent =
       let gained : Game = gained_of by lines game in
-      of_concluded gained due.1 (of_gained by Same (of_turn_events by.company) (of_sales by) lines game ∙ solvent) (gained_none by lines game due.0.0)
+      of_concluded gained due.1 (of_gained by Same (of_turn_events by.company) (of_sales by) lines game ∙ solvent)
+      (gained_none by lines game due.0.0)
   of_end lines game (inr none) solvent =
-      let same : Same game new = ap (λ (after : Game). bankrupt_in after.events) none.1 ∙ of_raises by Same (of_turn_events by.company) (of_sales by) false lines game in
+      let same : Same game new = ap (λ (after : Game). bankrupt_in after.events) none.1
+      ∙ of_raises by Same (of_turn_events by.company) (of_sales by) false lines game in
       absurd (not_both game new same solvent bankrupt)
 
 -- so it is with the block of the president
-of_block : (file : List ℕ) (round : Round) (company : Company) (game new : Game) (president : Option Seat) → president_of new.events company ≡ president →
-    BlockEnds file round company game president new → bankrupt_in game.events ≡ false → bankrupt_in new.events ≡ true → EndsBankrupt new company
+of_block : (file : List ℕ) (round : Round) (company : Company) (game new : Game) (president : Option Seat)
+    → president_of new.events company ≡ president →
+    BlockEnds file round company game president new → bankrupt_in game.events ≡ false → bankrupt_in new.events ≡ true
+    → EndsBankrupt new company
 of_block file round company game new None presides ends solvent bankrupt =
     absurd (not_both game new (ap (λ (after : Game). bankrupt_in after.events) ends) solvent bankrupt)
 of_block file round company game new (Some seat) presides ends solvent bankrupt =
@@ -103,5 +117,6 @@ of_block file round company game new (Some seat) presides ends solvent bankrupt 
 pub bankruptcy_ends : BankruptcyEndsTurns
 bankruptcy_ends file round company old new turn solvent bankrupt =
     let paid : Game = (settled company turn.last).game in
-    of_block file round company paid new (president_of old.events company) (president_stays file round company old new turn) turn.after
+    of_block file round company paid new (president_of old.events company)
+    (president_stays file round company old new turn) turn.after
     (of_paid_turn company Same (of_turn_events company) file round old new turn ∙ solvent) bankrupt

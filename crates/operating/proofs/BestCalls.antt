@@ -21,9 +21,11 @@ use Rattle.tables.specs.declared.round.Round.{Round}
 module _ {Runner : Type 0} (earns : Earns Runner) where
   -- a runner that was asked for the best runs, and answered
   is_asked :
-      (events : List Event) (position : Position) (round : Round) (company : Company) (trains : List Kind) (answer : Result ℤ RunnerFault)
+      (events : List Event) (position : Position) (round : Round) (company : Company) (trains : List Kind)
+      (answer : Result ℤ RunnerFault)
       (before after : Runner) →
-      position ≡ position_now events → trains ≡ trains_now events company → earns before position round company trains answer after →
+      position ≡ position_now events → trains ≡ trains_now events company
+      → earns before position round company trains answer after →
       earns before (position_now events) round company (trains_now events company) answer after
   is_asked events position round company trains answer before after is_position are_trains earned =
       subst (λ (held : List Kind). earns before (position_now events) round company held answer after) are_trains
@@ -31,34 +33,44 @@ module _ {Runner : Type 0} (earns : Earns Runner) where
 
   -- it told a revenue
   pub told_revenue :
-      (events : List Event) (position : Position) (round : Round) (company : Company) (trains : List Kind) (answer : Result ℤ RunnerFault) (revenue : ℕ)
+      (events : List Event) (position : Position) (round : Round) (company : Company) (trains : List Kind)
+      (answer : Result ℤ RunnerFault) (revenue : ℕ)
       (before after : Runner) →
       position ≡ position_now events → trains ≡ trains_now events company → answer ≡ Ok (pos revenue) →
       IsGreatest (position_now events) company (trains_now events company) revenue →
-      earns before position round company trains answer after → Makes earns before (Asks company round events (Ok revenue)) after
-  told_revenue events position round company trains answer revenue before after is_position are_trains is_answer greatest earned = (
-    asked company round events (Ok (pos revenue)) ∷ [],
-    (greatest, refl),
-    (
-      after,
-      subst (λ (said : Result ℤ RunnerFault). earns before (position_now events) round company (trains_now events company) said after) is_answer (is_asked events position round company trains answer before after is_position are_trains earned),
-      refl,
-    ),
-  )
+      earns before position round company trains answer after
+      → Makes earns before (Asks company round events (Ok revenue)) after
+  told_revenue events position round company trains answer revenue before after is_position are_trains is_answer
+      greatest earned = (
+        asked company round events (Ok (pos revenue)) ∷ [],
+        (greatest, refl),
+        (
+          after,
+          subst (λ (said : Result ℤ RunnerFault). earns before (position_now events) round company
+              (trains_now events company) said after) is_answer
+              (is_asked events position round company trains answer before after is_position are_trains earned),
+          refl,
+        ),
+      )
 
   -- it told why it does not
   pub told_fault :
-      (events : List Event) (position : Position) (round : Round) (company : Company) (trains : List Kind) (answer : Result ℤ RunnerFault)
+      (events : List Event) (position : Position) (round : Round) (company : Company) (trains : List Kind)
+      (answer : Result ℤ RunnerFault)
       (fault : RunnerFault) (result : Result ℕ RunnerFault) (before after : Runner) →
       position ≡ position_now events → trains ≡ trains_now events company → answer ≡ Err fault → result ≡ Err fault →
-      earns before position round company trains answer after → Makes earns before (Asks company round events result) after
-  told_fault events position round company trains answer fault result before after is_position are_trains is_answer is_result earned =
+      earns before position round company trains answer after
+      → Makes earns before (Asks company round events result) after
+  told_fault events position round company trains answer fault result before after is_position are_trains is_answer
+      is_result earned =
       subst (λ (met : Result ℕ RunnerFault). Makes earns before (Asks company round events met) after) (sym is_result) (
         asked company round events (Err fault) ∷ [],
         inl refl,
         (
           after,
-          subst (λ (said : Result ℤ RunnerFault). earns before (position_now events) round company (trains_now events company) said after) is_answer (is_asked events position round company trains answer before after is_position are_trains earned),
+          subst (λ (said : Result ℤ RunnerFault). earns before (position_now events) round company
+              (trains_now events company) said after) is_answer
+              (is_asked events position round company trains answer before after is_position are_trains earned),
           refl,
         ),
       )
@@ -70,8 +82,10 @@ module _ {Runner : Type 0} (earns : Earns Runner) where
       found ≡ best_judgement turn by.company → found ≡ Some rule → outcome ≡ Err Memory →
       Makes earns runner (BestCalls by round line (best_judgement turn by.company) turn outcome) runner
   broken_unasked by round line turn found rule outcome runner judged broken is =
-      subst (λ (met : Result InTurn RunnerFault). Makes earns runner (BestCalls by round line (best_judgement turn by.company) turn met) runner) (sym is)
-      (subst (λ (its : Option RunRule). Makes earns runner (BestCalls by round line its turn (Err Memory)) runner) (sym broken ∙ judged)
+      subst (λ (met : Result InTurn RunnerFault). Makes earns runner
+      (BestCalls by round line (best_judgement turn by.company) turn met) runner) (sym is)
+      (subst (λ (its : Option RunRule). Makes earns runner (BestCalls by round line its turn (Err Memory)) runner)
+      (sym broken ∙ judged)
       ([], (refl, refl), refl))
 
   -- one that breaks none, where the runner does not answer
@@ -82,9 +96,12 @@ module _ {Runner : Type 0} (earns : Earns Runner) where
       Makes earns before (Asks by.company round turn.game.events (Err fault)) after →
       Makes earns before (BestCalls by round line (best_judgement turn by.company) turn outcome) after
   best_unanswered by round line turn found fault outcome before after judged none is asked_it =
-      subst (λ (met : Result InTurn RunnerFault). Makes earns before (BestCalls by round line (best_judgement turn by.company) turn met) after) (sym is)
-      (subst (λ (its : Option RunRule). Makes earns before (BestCalls by round line its turn (Err fault)) after) (sym none ∙ judged)
-      (broken_off earns (Asks by.company round) (Unasked Memory (IsCredited by turn line)) turn.game.events fault before after asked_it))
+      subst (λ (met : Result InTurn RunnerFault). Makes earns before
+      (BestCalls by round line (best_judgement turn by.company) turn met) after) (sym is)
+      (subst (λ (its : Option RunRule). Makes earns before (BestCalls by round line its turn (Err fault)) after)
+      (sym none ∙ judged)
+      (broken_off earns (Asks by.company round) (Unasked Memory (IsCredited by turn line)) turn.game.events fault
+      before after asked_it))
 
   -- and one where it tells a revenue, and memory is refused after that
   pub best_untold :
@@ -94,7 +111,10 @@ module _ {Runner : Type 0} (earns : Earns Runner) where
       Makes earns before (Asks by.company round turn.game.events (Ok revenue)) after →
       Makes earns before (BestCalls by round line (best_judgement turn by.company) turn outcome) after
   best_untold by round line turn found revenue outcome before after judged none is asked_it =
-      subst (λ (met : Result InTurn RunnerFault). Makes earns before (BestCalls by round line (best_judgement turn by.company) turn met) after) (sym is)
-      (subst (λ (its : Option RunRule). Makes earns before (BestCalls by round line its turn (Err Memory)) after) (sym none ∙ judged)
-      (joined earns (Asks by.company round) (Unasked Memory (IsCredited by turn line)) turn.game.events revenue (Err Memory) before after after asked_it
+      subst (λ (met : Result InTurn RunnerFault). Makes earns before
+      (BestCalls by round line (best_judgement turn by.company) turn met) after) (sym is)
+      (subst (λ (its : Option RunRule). Makes earns before (BestCalls by round line its turn (Err Memory)) after)
+      (sym none ∙ judged)
+      (joined earns (Asks by.company round) (Unasked Memory (IsCredited by turn line)) turn.game.events revenue
+      (Err Memory) before after after asked_it
       ([], (refl, refl), refl)))

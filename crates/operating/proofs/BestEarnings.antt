@@ -48,10 +48,12 @@ use Rattle.tables.specs.declared.rolling_stock.Kind.TheVariants.{Two, Three, Fou
 use Rattle.tables.specs.declared.roster.Company.{Company}
 
 -- of so many trains of one kind all are counted, or none
-number_of_all : (kind counted : Kind) (n : ℕ) → in_number counted (replicate n kind) ≡ (if same_kind kind counted then n else 0)
+number_of_all : (kind counted : Kind) (n : ℕ) → in_number counted (replicate n kind)
+    ≡ (if same_kind kind counted then n else 0)
 number_of_all kind counted n = by_test (same_kind kind counted) n refl
   where
-    by_test : (test : Bool) (n : ℕ) → same_kind kind counted ≡ test → in_number counted (replicate n kind) ≡ (if test then n else 0)
+    by_test : (test : Bool) (n : ℕ) → same_kind kind counted ≡ test
+        → in_number counted (replicate n kind) ≡ (if test then n else 0)
     by_test true zero is = refl
     by_test true (suc n) is = rw is (omega (arith, by_test true n is))
     by_test false zero is = refl
@@ -60,7 +62,8 @@ number_of_all kind counted n = by_test (same_kind kind counted) n refl
 -- and behind others
 number_behind :
     (counted kind : Kind) (n : ℕ) (trains : List Kind) →
-    in_number counted (trains ++ replicate n kind) ≡ in_number counted trains + (if same_kind kind counted then n else 0)
+    in_number counted (trains ++ replicate n kind)
+    ≡ in_number counted trains + (if same_kind kind counted then n else 0)
 number_behind counted kind n [] = omega (arith, number_of_all kind counted n)
 number_behind counted kind n (train ∷ trains) = omega (arith, number_behind counted kind n trains)
 
@@ -77,7 +80,8 @@ module _ (events : List Event) (company : Company) where
   of_kinds some = fold (with_those_held events company) [] some
 
   one_more : (counted kind : Kind) (some : List Kind) →
-      in_number counted (with_those_held events company (of_kinds some) kind) ≡ in_number counted (of_kinds some) + if_counted counted kind
+      in_number counted (with_those_held events company (of_kinds some) kind)
+      ≡ in_number counted (of_kinds some) + if_counted counted kind
   one_more counted kind some = number_behind counted kind (held_of kind) (of_kinds some)
 
   -- its trains of all kinds
@@ -112,7 +116,8 @@ walks_of (run ∷ runs) = run.steps ∷ walks_of runs
 
 -- a walk that crosses none of the borders of some runs shares none with any of them
 apart_from :
-    (steps : List Step) (runs : List TrainRun) → ((border : ℕ) → IsAmong border (crossed steps) → ¬ IsAmong border (all_crossed (walks_of runs))) →
+    (steps : List Step) (runs : List TrainRun) → ((border : ℕ) → IsAmong border (crossed steps)
+    → ¬ IsAmong border (all_crossed (walks_of runs))) →
     AllByRecursion (λ (other : TrainRun). ShareNoBorder steps other.steps) runs
 apart_from steps [] free = tt
 apart_from steps (other ∷ runs) free =
@@ -129,7 +134,8 @@ each_of P (first ∷ others) such one (inr among) = each_of P others such.1 one 
 
 -- one more of a kind is counted, and no other
 counted_more :
-    (counts : List ℤ) (at other n m : ℕ) → at < length counts → get_or counts at (pos 0) ≡ pos m → get_or counts other (pos 0) ≡ pos n →
+    (counts : List ℤ) (at other n m : ℕ) → at < length counts → get_or counts at (pos 0) ≡ pos m
+    → get_or counts other (pos 0) ≡ pos n →
     get_or (set counts at (get_or counts at (pos 0) +ℤ pos 1)) other (pos 0) ≡ pos ((if at == other then 1 else 0) + n)
 counted_more counts at other n m low is rest =
     elim (cases_eq other at) [
@@ -183,12 +189,14 @@ module _ (by : Operator) (first : InTurn) where
       }
 
   -- after a ruling
-  after_ruling : (runs : List TrainRun) (now : InTurn) (line : Numbered) (ruling : Ruling) → HaveRun runs now → HaveRun runs (told by now line ruling)
+  after_ruling : (runs : List TrainRun) (now : InTurn) (line : Numbered) (ruling : Ruling) → HaveRun runs now
+      → HaveRun runs (told by now line ruling)
   after_ruling runs now line ruling have =
       let its = event.Ruled by.president line.number ruling in
       record {
         map_state = ap position_of (same_map_state now.game.events its refl refl refl) ∙ have.map_state;
-        held = λ kind. trains_at_before now.game.events its (train_owner_place (Some by.company)) kind refl ∙ have.held kind;
+        held = λ kind. trains_at_before now.game.events its (train_owner_place (Some by.company)) kind refl
+            ∙ have.held kind;
         set = have.set;
         marks = have.marks;
         for_each = have.for_each;
@@ -199,21 +207,27 @@ module _ (by : Operator) (first : InTurn) where
   -- with one more run the set is legal
   set_more :
       (runs : List TrainRun) (kind : Kind) (steps : List Step) → IsLegalSet there by.company trains runs →
-      IsLegalRun there by.company kind (all_crossed (walks_of runs)) steps → in_number kind (trains_that_run runs) < so_many (held_first kind) →
+      IsLegalRun there by.company kind (all_crossed (walks_of runs)) steps
+      → in_number kind (trains_that_run runs) < so_many (held_first kind) →
       IsLegalSet there by.company trains (record { kind = kind; steps = steps } ∷ runs)
   set_more runs kind steps set legal room =
       let used = all_crossed (walks_of runs) in
       record {
         legal = (legal_over there by.company kind used [] (λ border among. absurd among) steps legal, set.legal);
         each_once = λ other. enough other (same_kind kind other) refl;
-        apart = (apart_from steps runs (each_of (λ border. ¬ IsAmong border used) (crossed steps) legal.no_used_border), set.apart);
+        apart = (
+          apart_from steps runs (each_of (λ border. ¬ IsAmong border used) (crossed steps)
+              legal.no_used_border),
+          set.apart,
+        );
       }
     where
       enough : (other : Kind) (test : Bool) → same_kind kind other ≡ test →
           (if test then 1 else 0) + in_number other (trains_that_run runs) ≤ in_number other trains
       enough other false is = omega (arith, set.each_once other)
       enough other true is =
-          subst (λ (its : Kind). 1 + in_number its (trains_that_run runs) ≤ in_number its trains) (kind_is kind other is)
+          subst (λ (its : Kind). 1 + in_number its (trains_that_run runs) ≤ in_number its trains)
+          (kind_is kind other is)
           (omega (arith, room, held_now first.game.events by.company kind))
 
   -- a run that is obeyed, and those before it
@@ -222,18 +236,21 @@ module _ (by : Operator) (first : InTurn) where
 
   -- it is legal where their borders are used
   run_legal :
-      (runs : List TrainRun) (now : InTurn) (kind : Kind) (run : List Place) (ran : CompletedRun) → judged_run now by.company kind run ≡ Ok ran →
+      (runs : List TrainRun) (now : InTurn) (kind : Kind) (run : List Place) (ran : CompletedRun)
+      → judged_run now by.company kind run ≡ Ok ran →
       HaveRun runs now → IsLegalRun there by.company kind (all_crossed (walks_of runs)) (steps_now now.game.events run)
   run_legal runs now kind run ran judged have =
       let steps : List Step = steps_now now.game.events run in
       let used : List ℕ = all_crossed (walks_of runs) in
       let position : Position = position_now now.game.events in
       subst (λ (its : Position). IsLegalRun its by.company kind used steps) have.map_state
-      ((legal_by_marks position by.company kind used now.progress.runs.borders steps have.marks).0 (judged_legal now by.company kind run ran judged))
+      ((legal_by_marks position by.company kind used now.progress.runs.borders steps have.marks).0
+      (judged_legal now by.company kind run ran judged))
 
   -- and a train is left for it
   run_room :
-      (runs : List TrainRun) (now : InTurn) (kind : Kind) (run : List Place) (ran : CompletedRun) → judged_run now by.company kind run ≡ Ok ran →
+      (runs : List TrainRun) (now : InTurn) (kind : Kind) (run : List Place) (ran : CompletedRun)
+      → judged_run now by.company kind run ≡ Ok ran →
       HaveRun runs now → in_number kind (trains_that_run runs) < so_many (held_first kind)
   run_room runs now kind run ran judged have =
       let count : ℕ = in_number kind (trains_that_run runs) in
@@ -244,8 +261,10 @@ module _ (by : Operator) (first : InTurn) where
 
   -- after it
   after_obeyed :
-      (runs : List TrainRun) (now : InTurn) (line : Numbered) (its : Order) (kind : Kind) (run : List Place) (ran : CompletedRun) →
-      judged_run now by.company kind run ≡ Ok ran → HaveRun runs now → HaveRun (with_run now kind run runs) (run_ruled by now line its (Ok ran))
+      (runs : List TrainRun) (now : InTurn) (line : Numbered) (its : Order) (kind : Kind) (run : List Place)
+      (ran : CompletedRun) →
+      judged_run now by.company kind run ≡ Ok ran → HaveRun runs now
+      → HaveRun (with_run now kind run runs) (run_ruled by now line its (Ok ran))
   after_obeyed runs now line its kind run ran judged have =
       let steps : List Step = steps_now now.game.events run in
       let done : Runs = now.progress.runs in
@@ -256,36 +275,46 @@ module _ (by : Operator) (first : InTurn) where
       (sym (judged_ran now by.company kind run ran judged))
       (record {
         map_state = ap position_of (same_map_state ruled.game.events earns refl refl refl) ∙ after.map_state;
-        held = λ other. trains_at_before ruled.game.events earns (train_owner_place (Some by.company)) other refl ∙ after.held other;
-        set = set_more runs kind steps have.set (run_legal runs now kind run ran judged have) (run_room runs now kind run ran judged have);
+        held = λ other. trains_at_before ruled.game.events earns (train_owner_place (Some by.company)) other refl
+            ∙ after.held other;
+        set = set_more runs kind steps have.set (run_legal runs now kind run ran judged have)
+            (run_room runs now kind run ran judged have);
         marks = crossed_used (all_crossed (walks_of runs)) done.borders steps have.marks;
         for_each = length-set done.trains (place_of_kind kind) (has_run done kind +ℤ pos 1) ∙ have.for_each;
         counted = λ other.
-            counted_more done.trains (place_of_kind kind) (place_of_kind other) (in_number other (trains_that_run runs)) (in_number kind (trains_that_run runs))
+            counted_more done.trains (place_of_kind kind) (place_of_kind other)
+            (in_number other (trains_that_run runs)) (in_number kind (trains_that_run runs))
             (omega (arith, kind_low kind, have.for_each)) (have.counted kind) (have.counted other);
         sum = omega (arith, have.sum, ap (λ (position : Position). earned position steps) have.map_state);
       })
 
   -- after a RUN, obeyed or refused
   after_judged :
-      (runs : List TrainRun) (now : InTurn) (line : Numbered) (its : Order) (kind : Kind) (run : List Place) (judged : Result CompletedRun RunRule) →
-      judged_run now by.company kind run ≡ judged → HaveRun runs now → (more : List TrainRun) × HaveRun more (run_ruled by now line its judged)
-  after_judged runs now line its kind run (Err rule) is have = (runs, after_ruling runs now line (Refused (refusal.Run rule) line.condition its) have)
+      (runs : List TrainRun) (now : InTurn) (line : Numbered) (its : Order) (kind : Kind) (run : List Place)
+      (judged : Result CompletedRun RunRule) →
+      judged_run now by.company kind run ≡ judged → HaveRun runs now
+      → (more : List TrainRun) × HaveRun more (run_ruled by now line its judged)
+  after_judged runs now line its kind run (Err rule) is have =
+      (runs, after_ruling runs now line (Refused (refusal.Run rule) line.condition its) have)
   after_judged runs now line its kind run (Ok ran) is have =
       (with_run now kind run runs, after_obeyed runs now line its kind run ran is have)
 
   -- after a RUN that is asked for its condition
   after_asked :
       (runs : List TrainRun) (now next : InTurn) (line : Numbered) (kind : Kind) (run : List Place) (held : Bool) →
-      AskedLeads by now line (order.Run kind run) held next → HaveRun runs now → (more : List TrainRun) × HaveRun more next
-  after_asked runs now next line kind run true leads have = (runs, subst (HaveRun runs) (sym leads) (after_ruling runs now line _ have))
+      AskedLeads by now line (order.Run kind run) held next → HaveRun runs now
+      → (more : List TrainRun) × HaveRun more next
+  after_asked runs now next line kind run true leads have =
+      (runs, subst (HaveRun runs) (sym leads) (after_ruling runs now line _ have))
   after_asked runs now next line kind run false leads have =
-      let after = after_judged runs now line (order.Run kind run) kind run (judged_run now by.company kind run) refl have in
+      let after = after_judged runs now line (order.Run kind run) kind run (judged_run now by.company kind run) refl
+      have in
       (after.0, subst (HaveRun after.0) (sym leads) after.1)
 
   -- after a line that orders a run
   after_line :
-      (runs : List TrainRun) (now next : InTurn) (line : Numbered) → OrdersRun line → LineLeads by now line next → HaveRun runs now →
+      (runs : List TrainRun) (now next : InTurn) (line : Numbered) → OrdersRun line → LineLeads by now line next
+      → HaveRun runs now →
       (more : List TrainRun) × HaveRun more next
   after_line runs now next line (kind, run, reads) leads have =
       after_asked runs now next line kind run (is_held now.game.events line.condition (order.Run kind run))
@@ -293,7 +322,8 @@ module _ (by : Operator) (first : InTurn) where
 
   -- after such lines
   after_lines :
-      (runs : List TrainRun) (now : InTurn) (lines : List Numbered) (new : InTurn) → AllByRecursion OrdersRun lines → LinesLead by now lines new →
+      (runs : List TrainRun) (now : InTurn) (lines : List Numbered) (new : InTurn) → AllByRecursion OrdersRun lines
+      → LinesLead by now lines new →
       HaveRun runs now → (more : List TrainRun) × HaveRun more new
   after_lines runs now [] new orders leads have = (runs, subst (HaveRun runs) (sym leads) have)
   after_lines runs now (line ∷ lines) new orders leads have =

@@ -44,13 +44,16 @@ regrouped [] ys zs = refl
 regrouped (x ∷ xs) ys zs = ap (λ (rest : List _). x ∷ rest) (regrouped xs ys zs)
 
 -- one more train behind so many of its kind
-pub one_more_train : (first : List Kind) (kind : Kind) (n : ℕ) → (first ++ replicate n kind) ++ kind ∷ [] ≡ first ++ replicate (n + 1) kind
+pub one_more_train : (first : List Kind) (kind : Kind) (n : ℕ)
+    → (first ++ replicate n kind) ++ kind ∷ [] ≡ first ++ replicate (n + 1) kind
 one_more_train first kind n =
-    rw add-one (regrouped first (replicate n kind) (kind ∷ []) ∙ ap (λ (rest : List Kind). first ++ rest) (one_behind kind n))
+    rw add-one (regrouped first (replicate n kind) (kind ∷ [])
+    ∙ ap (λ (rest : List Kind). first ++ rest) (one_behind kind n))
 
 -- a greatest revenue is small
 pub small_greatest :
-    AGreatestExists → OneGreatest → (position : Position) (company : Company) (trains : List Kind) (revenue : ℕ) → IsLawful position →
+    AGreatestExists → OneGreatest → (position : Position) (company : Company) (trains : List Kind) (revenue : ℕ)
+    → IsLawful position →
     IsGreatest position company trains revenue → revenue ≤ 50000
 small_greatest exists one position company trains revenue lawful greatest =
     let there = exists position company trains lawful in
@@ -96,8 +99,10 @@ module _ (exists : AGreatestExists) (one : OneGreatest) where
 
   -- so it is by the board and the trains that it was asked of
   pub told_greatest :
-      (laid map_state : MapState) (company : Company) (trains held : List Kind) (money : ℤ) (amount : ℕ) → laid ≡ map_state → trains ≡ held →
-      IsLawful (position_of laid) → pos amount ≡ to_z w128 (of_z w128 money) → IsGreatestMoney (position_of laid) company trains money →
+      (laid map_state : MapState) (company : Company) (trains held : List Kind) (money : ℤ) (amount : ℕ)
+      → laid ≡ map_state → trains ≡ held →
+      IsLawful (position_of laid) → pos amount ≡ to_z w128 (of_z w128 money)
+      → IsGreatestMoney (position_of laid) company trains money →
       IsGreatest (position_of map_state) company held amount × (amount ≤ 50000)
   told_greatest laid map_state company trains held money amount is_laid are_held lawful kept greatest =
       let told = as_amount (position_of laid) company trains money amount lawful kept greatest in (

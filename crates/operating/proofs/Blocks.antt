@@ -8,14 +8,18 @@ use Rattle.turns.proofs.Small.{parts_small}
 use Rattle.turns.specs.Small.{AreSmall, GroupsAreSmall}
 
 -- those of the company's first block among some
-small_in : (company : Company) (parts : List Part) → GroupsAreSmall (map (λ (part : Part). part.lines) parts) → AreSmall (block_in company parts)
+small_in : (company : Company) (parts : List Part) → GroupsAreSmall (map (λ (part : Part). part.lines) parts)
+    → AreSmall (block_in company parts)
 small_in company [] small = tt
 small_in company (part ∷ parts) small =
-    elim (opens_block_of company part.head.reading) as (λ (b : Bool). AreSmall (if b then part.lines else block_in company parts)) [
+    elim (opens_block_of company part.head.reading) as
+    (λ (b : Bool). AreSmall (if b then part.lines else block_in company parts)) [
       | true ↦ small.0
       | false ↦ small_in company parts small.1
     ]
 
 -- those of its block in a sheet
-pub block_small : (file : List ℕ) (round : Round) (seat : ℕ) (company : Company) → AreSmall (block_for file round seat company)
-block_small file round seat company = small_in company (parts_for file round seat).opened (parts_small file round seat).1
+pub block_small : (file : List ℕ) (round : Round) (seat : ℕ) (company : Company)
+    → AreSmall (block_for file round seat company)
+block_small file round seat company = small_in company (parts_for file round seat).opened
+    (parts_small file round seat).1

@@ -50,10 +50,12 @@ neither true b is = absurd (cc)
 neither false b is = (refl, is)
 
 -- the first kind that is left is left
-first_is_left : (events : List Event) (some : List Kind) (kind : Kind) → is_kind (first_left_of events some) kind ≡ true → is_left events kind ≡ true
+first_is_left : (events : List Event) (some : List Kind) (kind : Kind)
+    → is_kind (first_left_of events some) kind ≡ true → is_left events kind ≡ true
 first_is_left events [] kind named = absurd (cc)
 first_is_left events (first ∷ others) kind named =
-    elim (is_left events first) as (λ (b : Bool). is_left events first ≡ b → is_kind (if b then Some first else first_left_of events others) kind ≡ true → is_left events kind ≡ true) [
+    elim (is_left events first) as (λ (b : Bool). is_left events first ≡ b
+    → is_kind (if b then Some first else first_left_of events others) kind ≡ true → is_left events kind ≡ true) [
       | true ↦ λ left is. subst (λ (k : Kind). is_left events k ≡ true) (same_kind_is first kind is) left
       | false ↦ λ none is. first_is_left events others kind is
     ]
@@ -69,23 +71,31 @@ fewer_sold (Some m) sold n left is =
 -- a D has no number
 no_number : (kind : Kind) (n : ℕ) → same_kind kind Diesel ≡ true → (trains_of kind).number ≡ Some n → ⊥
 no_number kind n same is =
-    let none : None ≡ Some n = sym (ap (λ (k : Kind). (trains_of k).number) (same_kind_is kind Diesel same)) ∙ is in absurd (cc)
+    let none : None ≡ Some n = sym (ap (λ (k : Kind). (trains_of k).number) (same_kind_is kind Diesel same))
+    ∙ is in absurd (cc)
 
 -- what is on sale is there
-on_sale_there : (events : List Event) (buyer : Company) (from : TrainSeller) (kind : Kind) → is_on_sale events from kind ≡ true →
+on_sale_there : (events : List Event) (buyer : Company) (from : TrainSeller) (kind : Kind)
+    → is_on_sale events from kind ≡ true →
     is_not_sellers events buyer kind from ≡ false → IsThere events from kind
 on_sale_there events buyer seller.Bank kind on has = λ n number.
-    elim (either (is_kind (first_left_of events numbered_kinds) kind) (same_kind kind Diesel && nat_lt 0 (trains_sold events Six)) on) [
-      | inl first ↦ fewer_sold (trains_of kind).number (trains_sold events kind) n (first_is_left events numbered_kinds kind first) number
-      | inr diesel ↦ absurd (no_number kind n (both (same_kind kind Diesel) (nat_lt 0 (trains_sold events Six)) diesel).0 number)
+    elim (either (is_kind (first_left_of events numbered_kinds) kind)
+    (same_kind kind Diesel && nat_lt 0 (trains_sold events Six)) on) [
+      | inl first ↦ fewer_sold (trains_of kind).number (trains_sold events kind) n
+          (first_is_left events numbered_kinds kind first) number
+      | inr diesel ↦ absurd (no_number kind n (both (same_kind kind Diesel) (nat_lt 0 (trains_sold events Six))
+          diesel).0 number)
     ]
 on_sale_there events buyer seller.BankPool kind on has = grind (arith, ints, on)
 on_sale_there events buyer (seller.Company company) kind on has =
-    let held = so (has_train events company kind) (neither (not (has_train events company kind)) (same_company buyer company) has).0 in
+    let held = so (has_train events company kind) (neither (not (has_train events company kind))
+    (same_company buyer company) has).0 in
     grind (arith, ints, held)
 
 -- a train that may be traded in is the company's
-traded_is_held : (events : List Event) (company : Company) (kind : Kind) (trade_in : Option Kind) (old : Kind) → is_no_trade_in events company kind trade_in ≡ false → trade_in ≡ Some old → pos 1 ≤ℤ trains_held events (Some company) old
+traded_is_held : (events : List Event) (company : Company) (kind : Kind) (trade_in : Option Kind) (old : Kind)
+    → is_no_trade_in events company kind trade_in ≡ false → trade_in ≡ Some old
+    → pos 1 ≤ℤ trains_held events (Some company) old
 traded_is_held events company kind None old kept is = absurd (cc)
 traded_is_held events company kind (Some one) old kept is =
     let same : one ≡ old = cc in
@@ -105,7 +115,8 @@ IsAnother buyer seller.BankPool = Unit
 IsAnother buyer (seller.Company company) = same_company buyer company ≡ false
 
 -- so it is where it is the seller
-is_another : (events : List Event) (buyer : Company) (from : TrainSeller) (kind : Kind) → is_not_sellers events buyer kind from ≡ false → IsAnother buyer from
+is_another : (events : List Event) (buyer : Company) (from : TrainSeller) (kind : Kind)
+    → is_not_sellers events buyer kind from ≡ false → IsAnother buyer from
 is_another events buyer seller.Bank kind has = tt
 is_another events buyer seller.BankPool kind has = tt
 is_another events buyer (seller.Company company) kind has =
@@ -118,28 +129,34 @@ pub record MayBuy (game : Game) (company : Company) (purchase : Purchase) : Type
   pub pays : pos (cost_of purchase) ≤ℤ cash_of game.seats game.events (party_of_company company)
   pub trades : (old : Kind) → purchase.trade_in ≡ Some old → pos 1 ≤ℤ trains_held game.events (Some company) old
 
-pub may_buy : (game : Game) (company : Company) (purchase : Purchase) → train_judgement game company purchase ≡ None → MayBuy game company purchase
+pub may_buy : (game : Game) (company : Company) (purchase : Purchase) → train_judgement game company purchase ≡ None
+    → MayBuy game company purchase
 may_buy game company purchase none =
     let kept = none_broken (train_purchase_rules game company purchase) none in
     let cheap = kept.1.1.0 in
     record {
-      there = on_sale_there game.events company purchase.from purchase.kind (so (is_on_sale game.events purchase.from purchase.kind) kept.0) kept.1.1.1.1.0;
+      there = on_sale_there game.events company purchase.from purchase.kind
+          (so (is_on_sale game.events purchase.from purchase.kind) kept.0) kept.1.1.1.1.0;
       another = is_another game.events company purchase.from purchase.kind kept.1.1.1.1.0;
       pays = not_less (cash_of game.seats game.events (party_of_company company)) (pos (cost_of purchase)) cheap;
       trades = λ old is. traded_is_held game.events company purchase.kind purchase.trade_in old kept.1.1.1.1.1.0 is;
     }
 
 -- a train that is traded in goes from the company
-traded_sound : (game : Game) (company : Company) (trade_in : Option Kind) → ((old : Kind) → trade_in ≡ Some old → pos 1 ≤ℤ trains_held game.events (Some company) old) → IsSound game → IsSound (with_trade game company trade_in)
+traded_sound : (game : Game) (company : Company) (trade_in : Option Kind)
+    → ((old : Kind) → trade_in ≡ Some old → pos 1 ≤ℤ trains_held game.events (Some company) old) → IsSound game
+    → IsSound (with_trade game company trade_in)
 traded_sound game company None has sound = sound
 traded_sound game company (Some kind) has sound = trade_sound game company kind (has kind refl) sound
 
 -- no train leaves the pool where one is traded in
-pool_keeps : (company : Company) (old kind : Kind) → train_goes place.BankPool kind (train_moved (event.Traded company old)) ≡ false
+pool_keeps : (company : Company) (old kind : Kind)
+    → train_goes place.BankPool kind (train_moved (event.Traded company old)) ≡ false
 pool_keeps company old kind = grind arith
 
 -- and the bank sells none
-bank_keeps : (company : Company) (old kind : Kind) → train_goes place.Bank kind (train_moved (event.Traded company old)) ≡ false
+bank_keeps : (company : Company) (old kind : Kind)
+    → train_goes place.Bank kind (train_moved (event.Traded company old)) ≡ false
 bank_keeps company old kind = grind arith
 
 -- and none leaves another company
@@ -152,30 +169,55 @@ seller_keeps company other old kind apart =
     ]
 
 -- and the one that is to be bought is still there
-there_after_trade : (events : List Event) (company : Company) (old : Kind) (from : TrainSeller) (kind : Kind) → IsAnother company from → IsThere events from kind →
+there_after_trade : (events : List Event) (company : Company) (old : Kind) (from : TrainSeller) (kind : Kind)
+    → IsAnother company from → IsThere events from kind →
     IsThere (events ++ event.Traded company old ∷ []) from kind
 there_after_trade events company old seller.Bank kind another there = λ n number.
     let fewer = there n number in
     omega (arith, sold_at_end events (event.Traded company old) kind, ap one_if (bank_keeps company old kind))
 there_after_trade events company old seller.BankPool kind another there =
-    omega (arith, ints, trains_at_end events (event.Traded company old) place.BankPool kind, ap one_if (pool_keeps company old kind))
+    omega (
+      arith,
+      ints,
+      trains_at_end events (event.Traded company old) place.BankPool kind,
+      ap one_if
+          (pool_keeps company old kind),
+    )
 there_after_trade events company old (seller.Company other) kind another there =
-    omega (arith, ints, trains_at_end events (event.Traded company old) (place.Company other) kind, ap one_if (seller_keeps company other old kind another))
+    omega (
+      arith,
+      ints,
+      trains_at_end events (event.Traded company old) (place.Company other) kind,
+      ap one_if
+          (seller_keeps company other old kind another),
+    )
 
-pub there_traded : (game : Game) (company : Company) (trade_in : Option Kind) (from : TrainSeller) (kind : Kind) → IsAnother company from → IsThere game.events from kind → IsThere (with_trade game company trade_in).events from kind
+pub there_traded : (game : Game) (company : Company) (trade_in : Option Kind) (from : TrainSeller) (kind : Kind)
+    → IsAnother company from → IsThere game.events from kind
+    → IsThere (with_trade game company trade_in).events from kind
 there_traded game company None from kind another there = there
-there_traded game company (Some old) from kind another there = there_after_trade game.events company old from kind another there
+there_traded game company (Some old) from kind another there =
+    there_after_trade game.events company old from kind another there
 
 -- and the cash is what it was
-cash_traded : (game : Game) (company : Company) (trade_in : Option Kind) (party : Party) → cash_of (with_trade game company trade_in).seats (with_trade game company trade_in).events party ≡ cash_of game.seats game.events party
+cash_traded : (game : Game) (company : Company) (trade_in : Option Kind) (party : Party)
+    → cash_of (with_trade game company trade_in).seats (with_trade game company trade_in).events party
+    ≡ cash_of game.seats game.events party
 cash_traded game company None party = refl
 cash_traded game company (Some old) party = cash_of_before game.seats game.events (event.Traded company old) party refl
 
 -- so the list is sound once the train has come to the company
-pub train_sound : (game : Game) (company : Company) (purchase : Purchase) → train_judgement game company purchase ≡ None → IsSound game → IsSound (with_event (with_trade game company purchase.trade_in) (event.Train company purchase.kind purchase.from (cost_of purchase)))
+pub train_sound : (game : Game) (company : Company) (purchase : Purchase)
+    → train_judgement game company purchase ≡ None → IsSound game
+    → IsSound (with_event (with_trade game company purchase.trade_in)
+    (event.Train company purchase.kind purchase.from (cost_of purchase)))
 train_sound game company purchase none sound =
     let may = may_buy game company purchase none in
     let traded = with_trade game company purchase.trade_in in
     let price = cost_of purchase in
-    let enough : pos price ≤ℤ cash_of traded.seats traded.events (party_of_company company) = subst (λ cash. pos price ≤ℤ cash) (sym (cash_traded game company purchase.trade_in (party_of_company company))) may.pays in
-    train_purchase_sound traded company purchase.kind purchase.from price (there_traded game company purchase.trade_in purchase.from purchase.kind may.another may.there) enough (traded_sound game company purchase.trade_in may.trades sound)
+    let enough : pos price ≤ℤ cash_of traded.seats traded.events (party_of_company company) =
+    subst (λ cash. pos price ≤ℤ cash) (sym (cash_traded game company purchase.trade_in
+    (party_of_company company))) may.pays in
+    train_purchase_sound traded company purchase.kind purchase.from price
+    (there_traded game company purchase.trade_in purchase.from purchase.kind may.another may.there) enough
+    (traded_sound game company purchase.trade_in may.trades sound)

@@ -113,4 +113,5 @@ closed_stays_closed file round company old new turn =
       both = λ a b c one two private closed. two private (one private closed);
     } in
     of_game_turn company StillClosed (by_each company StillClosed on (of_each company))
-    (λ game its is no_tile no_train no_phase. others_keep_closed game.events its (forced_names_none its is)) file round old new turn
+    (λ game its is no_tile no_train no_phase. others_keep_closed game.events its (forced_names_none its is)) file
+    round old new turn

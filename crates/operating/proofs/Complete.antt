@@ -18,7 +18,8 @@ use Rattle.tables.specs.declared.rolling_stock.Kind.{Kind}
 use Rattle.tables.specs.declared.rolling_stock.Kind.TheVariants.{Two, Three, Four, Five, Six, Diesel}
 
 -- those that are there are all but those that have left play
-pub there_is : (events : List Event) (kind : Kind) (number : ℕ) → trains_there events kind number ≡ pos number -ℤ trains_at events place.OutOfPlay kind
+pub there_is : (events : List Event) (kind : Kind) (number : ℕ)
+    → trains_there events kind number ≡ pos number -ℤ trains_at events place.OutOfPlay kind
 there_is events kind number = omega (arith, ints, trains_stay events kind)
 
 -- between a game and a later one the bank sells none of a kind, and none of it leaves play
@@ -35,7 +36,9 @@ alike_on kind =
     }
 
 -- of an event that neither takes such a train from the bank nor out of play
-alike_by : (kind : Kind) (game : Game) (event : Event) → train_goes place.Bank kind (train_moved event) ≡ false → train_comes place.OutOfPlay kind (train_moved event) ≡ false → train_goes place.OutOfPlay kind (train_moved event) ≡ false → Alike kind game (with_event game event)
+alike_by : (kind : Kind) (game : Game) (event : Event) → train_goes place.Bank kind (train_moved event) ≡ false
+    → train_comes place.OutOfPlay kind (train_moved event) ≡ false
+    → train_goes place.OutOfPlay kind (train_moved event) ≡ false → Alike kind game (with_event game event)
 alike_by kind game event sells comes goes =
     record {
       sold = omega (arith, sold_at_end game.events event kind, ap one_if sells);
@@ -49,11 +52,13 @@ never false = refl
 
 pub alike_traded : (kind : Kind) → OfTrades (Alike kind)
 alike_traded kind game company old =
-    alike_by kind game (event.Traded company old) (never (same_kind old kind)) (never (same_kind old kind)) (never (same_kind old kind))
+    alike_by kind game (event.Traded company old) (never (same_kind old kind)) (never (same_kind old kind))
+    (never (same_kind old kind))
 
 pub alike_discarded : (kind : Kind) → OfDiscards (Alike kind)
 alike_discarded kind game company old =
-    alike_by kind game (event.Discarded company old) (never (same_kind old kind)) (never (same_kind old kind)) (never (same_kind old kind))
+    alike_by kind game (event.Discarded company old) (never (same_kind old kind)) (never (same_kind old kind))
+    (never (same_kind old kind))
 
 pub alike_closed : (kind : Kind) → OfClosings (Alike kind)
 alike_closed kind game private = alike_by kind game (event.Closed private) refl refl refl
@@ -64,7 +69,10 @@ alike_phase kind game phase = alike_by kind game (event.Phase phase) refl refl r
 -- trains of another kind rust
 pub alike_rusted : (kind other : Kind) → same_kind other kind ≡ false → OfRustings (Alike kind) other
 alike_rusted kind other apart game owner =
-    alike_by kind game (event.Rusted owner other) (ap (λ (b : Bool). b && same_train_place (train_owner_place owner) place.Bank) apart) (ap (λ (b : Bool). b && true) apart) (ap (λ (b : Bool). b && same_train_place (train_owner_place owner) place.OutOfPlay) apart)
+    alike_by kind game (event.Rusted owner other) (ap
+    (λ (b : Bool). b && same_train_place (train_owner_place owner) place.Bank) apart)
+    (ap (λ (b : Bool). b && true) apart) (ap (λ (b : Bool). b
+    && same_train_place (train_owner_place owner) place.OutOfPlay) apart)
 
 -- no kind has rusted in the phase of the 2
 none_gone : (kind : Kind) → has_come Two (rusting_of kind) ≡ true → ⊥
@@ -90,12 +98,15 @@ pub stand_at_first : TrainsStandAtFirst
 stand_at_first = record { held = no_trains; all = all_at_first }
 
 -- an event that begins no phase
-pub phase_kept : (events : List Event) (event : Event) → phase_set event ≡ None → phase_of (events ++ event ∷ []) ≡ phase_of events
+pub phase_kept : (events : List Event) (event : Event) → phase_set event ≡ None
+    → phase_of (events ++ event ∷ []) ≡ phase_of events
 phase_kept events event none =
-    ap (λ (said : Option Kind). unwrap_or said Two) (last_said_before phase_set (events ++ event ∷ []) events event refl none)
+    ap (λ (said : Option Kind). unwrap_or said Two)
+    (last_said_before phase_set (events ++ event ∷ []) events event refl none)
 
 -- an event by which no train moves
-sold_same : (events : List Event) (event : Event) (kind : Kind) → train_moved event ≡ None → trains_sold (events ++ event ∷ []) kind ≡ trains_sold events kind
+sold_same : (events : List Event) (event : Event) (kind : Kind) → train_moved event ≡ None
+    → trains_sold (events ++ event ∷ []) kind ≡ trains_sold events kind
 sold_same events event kind none =
     omega (arith, sold_at_end events event kind, ap (λ move. one_if (train_goes place.Bank kind move)) none)
 
@@ -104,11 +115,32 @@ pub others_keep_all : OthersKeepAll
 others_keep_all events event none no_phase all =
     let phase = phase_kept events event no_phase in
     record {
-      until = λ kind number there stays. let was = all.until kind number there (ap (λ p. has_come p (rusting_of kind)) (sym phase) ∙ stays) in omega (arith, ints, there_is events kind number, there_is (events ++ event ∷ []) kind number, trains_at_before events event place.OutOfPlay kind none);
-      after = λ kind number there gone. let was = all.after kind number there (ap (λ p. has_come p (rusting_of kind)) (sym phase) ∙ gone) in omega (arith, ints, there_is events kind number, there_is (events ++ event ∷ []) kind number, trains_at_before events event place.OutOfPlay kind none);
-      begun = λ later. subst (λ p. 0 < trains_sold (events ++ event ∷ []) p) (sym phase) (let was = all.begun (subst (λ p. 0 < place_of_kind p) phase later) in omega (arith, sold_same events event (phase_of events) none));
-      latest = λ kind sold. let was = all.latest kind (subst (λ n. 0 < n) (sold_same events event kind none) sold) in omega (arith, ap place_of_kind phase);
-      in_order = λ earlier later number there numbered before sold. sold_same events event earlier none ∙ all.in_order earlier later number there numbered before (subst (λ n. 0 < n) (sold_same events event later none) sold);
+      until = λ kind number there stays. let was = all.until kind number there
+          (ap (λ p. has_come p (rusting_of kind)) (sym phase) ∙ stays) in omega (
+            arith,
+            ints,
+            there_is events kind number,
+            there_is (events ++ event ∷ []) kind number,
+            trains_at_before
+                events event place.OutOfPlay kind none,
+          );
+      after = λ kind number there gone. let was = all.after kind number there
+          (ap (λ p. has_come p (rusting_of kind)) (sym phase) ∙ gone) in omega (
+            arith,
+            ints,
+            there_is events kind number,
+            there_is (events ++ event ∷ []) kind number,
+            trains_at_before
+                events event place.OutOfPlay kind none,
+          );
+      begun = λ later. subst (λ p. 0 < trains_sold (events ++ event ∷ []) p) (sym phase)
+          (let was = all.begun (subst (λ p. 0 < place_of_kind p) phase later) in omega
+          (arith, sold_same events event (phase_of events) none));
+      latest = λ kind sold. let was = all.latest kind
+          (subst (λ n. 0 < n) (sold_same events event kind none) sold) in omega (arith, ap place_of_kind phase);
+      in_order = λ earlier later number there numbered before sold. sold_same events event earlier none
+          ∙ all.in_order earlier later number there numbered before
+          (subst (λ n. 0 < n) (sold_same events event later none) sold);
     }
 
 -- and nobody has fewer than none then

@@ -56,8 +56,10 @@ module _ (position : Position) (company : Company) (lawful : IsLawful position) 
       (link_marked position company lawful all.marks all.arrive all.tokens all.closed link)
       (both_decided (IsAmong link (links_of position link.hex)) (CanEnterEither position company all.marks link)
       (among_decided link_ghosts.eq same_link link_same link (links_of position link.hex))
-      (either_decided (CanEnter position company all.marks (spot_at link.hex link.a)) (CanEnter position company all.marks (spot_at link.hex link.b))
-      (can_enter_decided position company all.marks (spot_at link.hex link.a)) (can_enter_decided position company all.marks (spot_at link.hex link.b))))
+      (either_decided (CanEnter position company all.marks (spot_at link.hex link.a))
+      (CanEnter position company all.marks (spot_at link.hex link.b))
+      (can_enter_decided position company all.marks (spot_at link.hex link.a))
+      (can_enter_decided position company all.marks (spot_at link.hex link.b))))
 
   -- a stop is reached
   stop_decided : (stop : Stop) → Decided (ReachesStop position company stop)
@@ -66,7 +68,8 @@ module _ (position : Position) (company : Company) (lawful : IsLawful position) 
       decided_by (IsMarkedStop all.marks stop) (ReachesStop position company stop)
       (stop_reached position company lawful all.marks all.arrive all.tokens all.closed stop)
       (stop_marked position company lawful all.marks all.arrive all.tokens all.closed stop)
-      (both_decided (joined_stop_of stop ≡ stop) (IsMarked all.marks (spot_at stop.hex (AtStop stop.number))) (own_name stop)
+      (both_decided (joined_stop_of stop ≡ stop) (IsMarked all.marks (spot_at stop.hex (AtStop stop.number)))
+      (own_name stop)
       (mark_decided all.marks (spot_at stop.hex (AtStop stop.number))))
 
   -- a piece of a tile is reached
@@ -75,17 +78,22 @@ module _ (position : Position) (company : Company) (lawful : IsLawful position) 
       let by_link : Type 0 = (link : Link) × IsAmong link (laid_links_of lay) × ReachesLink position company link in
       let by_stop : Type 0 = (number : StopNumber) × ReachesStop position company (stop_at lay.hex number) in
       tested (IsConnected position company lay)
-      (decided_by (by_link ⊎ by_stop) (IsConnected position company lay) (λ piece. record { piece = piece }) (λ connected. connected.piece)
+      (decided_by (by_link ⊎ by_stop) (IsConnected position company lay) (λ piece. record { piece = piece })
+      (λ connected. connected.piece)
       (either_decided by_link by_stop (any_among (ReachesLink position company) link_decided (laid_links_of lay))
-      (any_number (λ number. ReachesStop position company (stop_at lay.hex number)) (λ number. stop_decided (stop_at lay.hex number)))))
+      (any_number (λ number. ReachesStop position company (stop_at lay.hex number))
+      (λ number. stop_decided (stop_at lay.hex number)))))
 
   -- the stop of a place is reached
-  named_decided : (place : Place) (found : Option Stop) → stop_of place ≡ found → Decided (IsReachedPlace position company place)
-  named_decided place None none = inr (λ reached. let wrong : None ≡ Some reached.stop = sym none ∙ reached.is in let no : ⊥ = cc in no)
+  named_decided : (place : Place) (found : Option Stop) → stop_of place ≡ found
+      → Decided (IsReachedPlace position company place)
+  named_decided place None none = inr (λ reached. let wrong : None ≡ Some reached.stop =
+      sym none ∙ reached.is in let no : ⊥ = cc in no)
   named_decided place (Some stop) is =
       decided_by (ReachesStop position company (joined_stop_of stop)) (IsReachedPlace position company place)
       (λ reached. record { stop = stop; is = is; reached = reached })
-      (λ reached. let same : reached.stop ≡ stop = (let both : Some reached.stop ≡ Some stop = sym reached.is ∙ is in cc) in subst
+      (λ reached. let same : reached.stop ≡ stop = (let both : Some reached.stop ≡ Some stop =
+      sym reached.is ∙ is in cc) in subst
       (λ (s : Stop). ReachesStop position company (joined_stop_of s)) same reached.reached)
       (stop_decided (joined_stop_of stop))
 

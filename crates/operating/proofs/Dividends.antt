@@ -25,19 +25,23 @@ use Rattle.tables.specs.declared.roster.Company.{Company}
 use Rattle.tables.specs.declared.seat.Seat.{Seat}
 
 -- seats have no fewer than no tenths together
-held_not_under : (events : List Event) (company : Company) (seats : List Seat) → TenthsAreHeld events → pos 0 ≤ℤ held_by events company seats
+held_not_under : (events : List Event) (company : Company) (seats : List Seat) → TenthsAreHeld events
+    → pos 0 ≤ℤ held_by events company seats
 held_not_under events company [] held = omega (arith, ints)
 held_not_under events company (seat ∷ others) held =
     let here = held company (OfSeat seat) in omega (arith, ints, held_not_under events company others held)
 
 -- one of them has no more than all
-one_of_all : (events : List Event) (company : Company) (seat : Seat) (from count : ℕ) → TenthsAreHeld events → from ≤ seat.0 → seat.0 < from + count → shares_of events company (OfSeat seat) ≤ℤ held_by events company (map seat_at (range_with_len from count))
+one_of_all : (events : List Event) (company : Company) (seat : Seat) (from count : ℕ) → TenthsAreHeld events
+    → from ≤ seat.0 → seat.0 < from + count → shares_of events company (OfSeat seat) ≤ℤ held_by events company
+    (map seat_at (range_with_len from count))
 one_of_all events company seat from zero held low high = absurd (omega arith)
 one_of_all events company seat from (suc count) held low high =
     let rest : List Seat = map seat_at (range_with_len (from + 1) count) in
     elim (cases_eq from seat.0) [
       | inl same ↦
-          let its : shares_of events company (OfSeat (seat_at from)) ≡ shares_of events company (OfSeat seat) = ap (λ (n : ℕ). shares_of events company (OfSeat (seat_at n))) same in
+          let its : shares_of events company (OfSeat (seat_at from)) ≡ shares_of events company (OfSeat seat) =
+          ap (λ (n : ℕ). shares_of events company (OfSeat (seat_at n))) same in
           omega (arith, ints, held_not_under events company rest held)
       | inr apart ↦
           let here = held company (OfSeat (seat_at from)) in
@@ -45,7 +49,8 @@ one_of_all events company seat from (suc count) held low high =
     ]
 
 -- a seat at the table has at most ten
-pub seat_most : (game : Game) (company : Company) (seat : Seat) → seat.0 < game.seats → IsSound game → shares_of game.events company (OfSeat seat) ≤ℤ pos 10
+pub seat_most : (game : Game) (company : Company) (seat : Seat) → seat.0 < game.seats → IsSound game
+    → shares_of game.events company (OfSeat seat) ≤ℤ pos 10
 seat_most game company seat seated sound =
     let ten = sound.ten company in
     let offered = sound.held company InitialOffering in
@@ -60,18 +65,26 @@ pool_most game company sound =
     omega (arith, ints, held_not_under game.events company (all_seats game.seats) sound.held)
 
 -- a dividend keeps a list sound, with the word that the bank is broken
-pub dividend_recorded_sound : (game paid new : Game) (company : Company) (to : Holder) (amount : ℕ) → IsParty game.seats (party.Holder to) → paid ≡ with_event game (event.Dividend company to amount) → new ≡ broken_recorded paid → IsSound game → IsSound new
+pub dividend_recorded_sound : (game paid new : Game) (company : Company) (to : Holder) (amount : ℕ)
+    → IsParty game.seats (party.Holder to) → paid ≡ with_event game (event.Dividend company to amount)
+    → new ≡ broken_recorded paid → IsSound game → IsSound new
 dividend_recorded_sound game paid new company to amount of_game is_paid is_new sound =
     subst IsSound (sym (is_new ∙ ap broken_recorded is_paid))
-    (broken_sound (with_event game (event.Dividend company to amount)) (dividend_sound game company to amount of_game sound))
+    (broken_sound (with_event game (event.Dividend company to amount))
+    (dividend_sound game company to amount of_game sound))
 
 -- a table keeps its seats
-pub paid_seats : (game : Game) (company : Company) (to : Holder) (amount : ℕ) → (paid_to company to amount game).seats ≡ game.seats
+pub paid_seats : (game : Game) (company : Company) (to : Holder) (amount : ℕ)
+    → (paid_to company to amount game).seats ≡ game.seats
 paid_seats game company to amount =
-    elim (amount == 0) as (λ (none : Bool). (if none then game else broken_recorded (with_event game (event.Dividend company to amount))).seats ≡ game.seats) [ true ↦ refl | false ↦ refl ]
+    elim (amount == 0) as (λ (none : Bool). (if none then game else broken_recorded
+    (with_event game (event.Dividend company to amount))).seats ≡ game.seats) [ true ↦ refl | false ↦ refl ]
 
 -- where the dividends of the seats that are left lead after the next, they lead before it
-pub seats_go_on : (company : Company) (revenue : ℕ) (old new : Game) (seat : Seat) (i seats : ℕ) → i < seats → seat ≡ seat_at i → new ≡ paid_for company (holder.Seat seat) (OfSeat seat) revenue old → paid_to_seats company revenue new (map seat_at (range_with_len (i + 1) (seats - (i + 1)))) ≡ paid_to_seats company revenue old (map seat_at (range_with_len i (seats - i)))
+pub seats_go_on : (company : Company) (revenue : ℕ) (old new : Game) (seat : Seat) (i seats : ℕ) → i < seats
+    → seat ≡ seat_at i → new ≡ paid_for company (holder.Seat seat) (OfSeat seat) revenue old
+    → paid_to_seats company revenue new (map seat_at (range_with_len (i + 1) (seats - (i + 1))))
+    ≡ paid_to_seats company revenue old (map seat_at (range_with_len i (seats - i)))
 seats_go_on company revenue old new seat i seats below is told =
     let more : seats - i ≡ suc (seats - (i + 1)) = omega arith in
     ap (λ (game : Game). paid_to_seats company revenue game (map seat_at (range_with_len (i + 1) (seats - (i + 1)))))
@@ -79,7 +92,10 @@ seats_go_on company revenue old new seat i seats below is told =
     ∙ sym (ap (λ (k : ℕ). paid_to_seats company revenue old (map seat_at (range_with_len i k))) more)
 
 -- after the last seat the company is paid
-pub all_are_paid : (company : Company) (revenue : ℕ) (old paid new : Game) (i seats : ℕ) → old.seats ≡ seats → seats ≤ i → paid_to_seats company revenue paid (map seat_at (range_with_len i (seats - i))) ≡ paid_to_seats company revenue old (all_seats seats) → new ≡ paid_for company (holder.Company company) BankPool revenue paid → new ≡ all_paid company revenue old
+pub all_are_paid : (company : Company) (revenue : ℕ) (old paid new : Game) (i seats : ℕ) → old.seats ≡ seats
+    → seats ≤ i → paid_to_seats company revenue paid (map seat_at (range_with_len i (seats - i)))
+    ≡ paid_to_seats company revenue old (all_seats seats)
+    → new ≡ paid_for company (holder.Company company) BankPool revenue paid → new ≡ all_paid company revenue old
 all_are_paid company revenue old paid new i seats same over leads told =
     let none : seats - i ≡ 0 = omega arith in
     told
@@ -89,7 +105,8 @@ all_are_paid company revenue old paid new i seats same over leads told =
     ∙ sym (ap (λ (k : ℕ). paid_to_seats company revenue old (all_seats k)) same))
 
 -- what paying out brings, step by step
-pub paid_out_steps : (game paid new : Game) (company : Company) (revenue : ℕ) → paid ≡ all_paid company revenue game → new.seats ≡ paid.seats → new.events ≡ with_move right_of paid.events company → new ≡ paid_out game company revenue
+pub paid_out_steps : (game paid new : Game) (company : Company) (revenue : ℕ) → paid ≡ all_paid company revenue game
+    → new.seats ≡ paid.seats → new.events ≡ with_move right_of paid.events company → new ≡ paid_out game company revenue
 paid_out_steps game paid new company revenue is_paid seats events =
     let made : ℕ → List Event → Game = λ seats events. record { seats = seats; events = events } in
     ap (λ (n : ℕ). made n new.events) seats

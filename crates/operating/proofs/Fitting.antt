@@ -38,23 +38,31 @@ use Rattle.tables.specs.declared.rolling_stock.Kind.{Kind}
 use Rattle.tables.specs.declared.rolling_stock.Kind.TheVariants.{Two}
 
 -- the tiles of some events, with that of one more
-pub lays_more : (events : List Event) (i : ℕ) (d : Event) → i < length events → lays_of (take (i + 1) events) ≡ lays_of (take i events) ++ lays_of (get_or events i d ∷ [])
+pub lays_more : (events : List Event) (i : ℕ) (d : Event) → i < length events
+    → lays_of (take (i + 1) events) ≡ lays_of (take i events) ++ lays_of (get_or events i d ∷ [])
 lays_more events i d below = ap lays_of (take_more events i d below) ∙ lays_grow (take i events) (get_or events i d)
 
 -- and the tokens
-pub tokens_more : (events : List Event) (i : ℕ) (d : Event) → i < length events → tokens_of (take (i + 1) events) ≡ tokens_of (take i events) ++ tokens_of (get_or events i d ∷ [])
-tokens_more events i d below = ap tokens_of (take_more events i d below) ∙ tokens_grow (take i events) (get_or events i d)
+pub tokens_more : (events : List Event) (i : ℕ) (d : Event) → i < length events
+    → tokens_of (take (i + 1) events) ≡ tokens_of (take i events) ++ tokens_of (get_or events i d ∷ [])
+tokens_more events i d below = ap tokens_of (take_more events i d below)
+    ∙ tokens_grow (take i events) (get_or events i d)
 
 -- the phase is the same after an event that begins none
-same_phase : (events : List Event) (event : Event) → phase_set event ≡ None → phase_of (events ++ event ∷ []) ≡ phase_of events
+same_phase : (events : List Event) (event : Event) → phase_set event ≡ None
+    → phase_of (events ++ event ∷ []) ≡ phase_of events
 same_phase events event none =
-    ap (λ (said : Option Kind). unwrap_or said Two) (last_said_before phase_set (events ++ event ∷ []) events event refl none)
+    ap (λ (said : Option Kind). unwrap_or said Two)
+    (last_said_before phase_set (events ++ event ∷ []) events event refl none)
 
 -- the same lies after an event that lays no tile, places no token and begins no phase
-pub same_map_state : (events : List Event) (event : Event) → tile_laid event ≡ None → token_placed event ≡ None → phase_set event ≡ None → map_state_now (events ++ event ∷ []) ≡ map_state_now events
+pub same_map_state : (events : List Event) (event : Event) → tile_laid event ≡ None → token_placed event ≡ None
+    → phase_set event ≡ None → map_state_now (events ++ event ∷ []) ≡ map_state_now events
 same_map_state events event no_tile no_token no_phase =
-    ap (λ (lays : List Lay). map_state_of lays (tokens_of (events ++ event ∷ [])) (phase_of (events ++ event ∷ []))) (lays_before events event no_tile)
-    ∙ ap (λ (tokens : List (Place × Company)). map_state_of (lays_of events) tokens (phase_of (events ++ event ∷ []))) (tokens_before events event no_token)
+    ap (λ (lays : List Lay). map_state_of lays (tokens_of (events ++ event ∷ [])) (phase_of (events ++ event ∷ [])))
+    (lays_before events event no_tile)
+    ∙ ap (λ (tokens : List (Place × Company)). map_state_of (lays_of events) tokens (phase_of (events ++ event ∷ [])))
+    (tokens_before events event no_token)
     ∙ ap (map_state_of (lays_of events) (tokens_of events)) (same_phase events event no_phase)
 
 -- what lies by a list fits, as it lies now
@@ -63,53 +71,73 @@ unfolding LiesFit
 fits_now events fit = fit
 
 -- what lies fits after an event where the tiles and tokens are fit that lie then
-fit_then : (events : List Event) (event : Event) → AreFitWithHomes (lays_of events ++ lays_of (event ∷ [])) (tokens_of events ++ tokens_of (event ∷ [])) → LiesFit (events ++ event ∷ [])
+fit_then : (events : List Event) (event : Event)
+    → AreFitWithHomes (lays_of events ++ lays_of (event ∷ [])) (tokens_of events ++ tokens_of (event ∷ []))
+    → LiesFit (events ++ event ∷ [])
 unfolding LiesFit
 fit_then events event fit =
     subst (λ (lays : List Lay). AreFitWithHomes lays (tokens_of (events ++ event ∷ []))) (sym (lays_grow events event))
     (subst (AreFitWithHomes (lays_of events ++ lays_of (event ∷ []))) (sym (tokens_grow events event)) fit)
 
 -- a lay by the rules
-pub lay_fits : (events : List Event) (asker : Asker) (lay : Lay) (cost : ℕ) → first_broken (map_rules (map_state_now events) asker lay) ≡ None → LiesFit events → LiesFit (events ++ event.Laid asker.company lay cost ∷ [])
+pub lay_fits : (events : List Event) (asker : Asker) (lay : Lay) (cost : ℕ)
+    → first_broken (map_rules (map_state_now events) asker lay) ≡ None → LiesFit events
+    → LiesFit (events ++ event.Laid asker.company lay cost ∷ [])
 lay_fits events asker lay cost allowed fit =
     fit_then events (event.Laid asker.company lay cost)
-    (subst (AreFitWithHomes (lays_of events ++ lay ∷ [])) (sym (append-nil (tokens_of events))) (lay_keeps_fit (map_state_now events) asker lay (fits_now events fit) allowed))
+    (subst (AreFitWithHomes (lays_of events ++ lay ∷ [])) (sym (append-nil (tokens_of events)))
+    (lay_keeps_fit (map_state_now events) asker lay (fits_now events fit) allowed))
 
 -- a token by the rules
-pub token_fits : (events : List Event) (asker : Asker) (place : Place) (cost : ℕ) → first_broken (slot_rules (map_state_now events) asker place) ≡ None → LiesFit events → LiesFit (events ++ event.Token asker.company place cost ∷ [])
+pub token_fits : (events : List Event) (asker : Asker) (place : Place) (cost : ℕ)
+    → first_broken (slot_rules (map_state_now events) asker place) ≡ None → LiesFit events
+    → LiesFit (events ++ event.Token asker.company place cost ∷ [])
 token_fits events asker place cost allowed fit =
     fit_then events (event.Token asker.company place cost)
-    (subst (λ (lays : List Lay). AreFitWithHomes lays (tokens_of events ++ (place, asker.company) ∷ [])) (sym (append-nil (lays_of events))) (token_keeps_fit (map_state_now events) asker place (fits_now events fit) allowed))
+    (subst (λ (lays : List Lay). AreFitWithHomes lays (tokens_of events ++ (place, asker.company) ∷ []))
+    (sym (append-nil (lays_of events))) (token_keeps_fit (map_state_now events) asker place (fits_now events fit)
+    allowed))
 
 -- the home token of a company that has none at its home
-home_fits : (events : List Event) (company : Company) → has_home_token events company ≡ false → LiesFit events → LiesFit (events ++ event.Home company (place_of (home_of company)) ∷ [])
+home_fits : (events : List Event) (company : Company) → has_home_token events company ≡ false → LiesFit events
+    → LiesFit (events ++ event.Home company (place_of (home_of company)) ∷ [])
 home_fits events company none fit =
     fit_then events (event.Home company (place_of (home_of company)))
-    (subst (λ (lays : List Lay). AreFitWithHomes lays (tokens_of events ++ (place_of (home_of company), company) ∷ [])) (sym (append-nil (lays_of events))) (home_keeps_fit (map_state_now events) company (fits_now events fit) none))
+    (subst (λ (lays : List Lay). AreFitWithHomes lays
+    (tokens_of events ++ (place_of (home_of company), company) ∷ [])) (sym (append-nil (lays_of events)))
+    (home_keeps_fit (map_state_now events) company (fits_now events fit) none))
 
 -- it keeps a list sound
-pub home_sound_after : (game new : Game) (company : Company) (stop : Stop) (place : Place) → stop ≡ home_of company → place ≡ place_of stop → new ≡ with_event game (event.Home company place) → has_home_token game.events company ≡ false → IsSound game → IsSound new
+pub home_sound_after : (game new : Game) (company : Company) (stop : Stop) (place : Place) → stop ≡ home_of company
+    → place ≡ place_of stop → new ≡ with_event game (event.Home company place)
+    → has_home_token game.events company ≡ false → IsSound game → IsSound new
 home_sound_after game new company stop place is_home is_place told none sound =
-    subst IsSound (sym (told ∙ ap (λ (at : Place). with_event game (event.Home company at)) (is_place ∙ ap place_of is_home)))
+    subst IsSound (sym (told ∙ ap (λ (at : Place). with_event game (event.Home company at))
+    (is_place ∙ ap place_of is_home)))
     (home_sound game company (place_of (home_of company)) (home_fits game.events company none sound.fit) sound)
 
 -- the word that the bank is broken keeps a list sound
 pub broken_sound : (game : Game) → IsSound game → IsSound (broken_recorded game)
 broken_sound game sound =
-    elim (breaks game.seats game.events) as (λ (b : Bool). IsSound (record { seats = game.seats; events = if b then game.events ++ event.Broken ∷ [] else game.events })) [
+    elim (breaks game.seats game.events) as (λ (b : Bool). IsSound
+    (record { seats = game.seats; events = if b then game.events ++ event.Broken ∷ [] else game.events })) [
       | true ↦ quiet_sound game event.Broken broken_quiet sound
       | false ↦ sound
     ]
 
 -- what a company withholds keeps a list sound
-pub withheld_sound : (game new : Game) (company : Company) (amount : ℕ) → new ≡ withheld game company amount → IsSound game → IsSound new
+pub withheld_sound : (game new : Game) (company : Company) (amount : ℕ) → new ≡ withheld game company amount
+    → IsSound game → IsSound new
 withheld_sound game new company amount is sound =
     let told = broken_recorded (with_event game (event.Withheld company amount)) in
     subst IsSound (sym is)
-    (move_sound square_left_of told (withheld game company amount) company refl refl (broken_sound (with_event game (event.Withheld company amount)) (withholding_sound game company amount sound)))
+    (move_sound square_left_of told (withheld game company amount) company refl refl
+    (broken_sound (with_event game (event.Withheld company amount)) (withholding_sound game company amount sound)))
 
 -- what a withholding brings, step by step
-pub withheld_steps : (game paid told new : Game) (company : Company) (amount : ℕ) → paid ≡ with_event game (event.Withheld company amount) → told ≡ broken_recorded paid → new.seats ≡ told.seats → new.events ≡ with_move square_left_of told.events company → new ≡ withheld game company amount
+pub withheld_steps : (game paid told new : Game) (company : Company) (amount : ℕ)
+    → paid ≡ with_event game (event.Withheld company amount) → told ≡ broken_recorded paid → new.seats ≡ told.seats
+    → new.events ≡ with_move square_left_of told.events company → new ≡ withheld game company amount
 withheld_steps game paid told new company amount is_paid is_told seats events =
     let made : ℕ → List Event → Game = λ seats events. record { seats = seats; events = events } in
     ap (λ (n : ℕ). made n new.events) seats

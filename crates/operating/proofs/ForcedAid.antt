@@ -49,15 +49,18 @@ over_some (negsuc n) some = absurd (some refl)
 pub no_aid : (by : Operator) (game : Game) → so_many (lack_of game by.company) ≡ 0 → game ≡ with_aid by game
 unfolding with_aid
 no_aid by game none =
-    ap (λ (b : Bool). if b then with_event game (event.Aid by.president by.company (so_many (lack_of game by.company))) else game)
+    ap (λ (b : Bool). if b then with_event game (event.Aid by.president by.company
+    (so_many (lack_of game by.company))) else game)
     (sym (over_none (lack_of game by.company) none))
 
-pub aid_recorded : (by : Operator) (game new : Game) (amount : ℕ) → amount ≡ so_many (lack_of game by.company) → (amount ≡ 0 → ⊥) → new ≡ with_event game (event.Aid by.president by.company amount) → new ≡ with_aid by game
+pub aid_recorded : (by : Operator) (game new : Game) (amount : ℕ) → amount ≡ so_many (lack_of game by.company)
+    → (amount ≡ 0 → ⊥) → new ≡ with_event game (event.Aid by.president by.company amount) → new ≡ with_aid by game
 unfolding with_aid
 aid_recorded by game new amount is some told =
     told
     ∙ ap (λ (n : ℕ). with_event game (event.Aid by.president by.company n)) is
-    ∙ ap (λ (b : Bool). if b then with_event game (event.Aid by.president by.company (so_many (lack_of game by.company))) else game)
+    ∙ ap (λ (b : Bool). if b then with_event game (event.Aid by.president by.company
+    (so_many (lack_of game by.company))) else game)
     (sym (over_some (lack_of game by.company) (λ none. some (is ∙ none))))
 
 -- the president who does not fall short has it
@@ -65,15 +68,20 @@ has_it : (free lack : ℤ) → pos 0 ≤ℤ free → lt_z free lack ≡ false �
 has_it free (pos n) some enough = let least : pos n ≤ℤ free = grind (arith, ints, enough) in least
 has_it free (negsuc n) some enough = some
 
-pub aid_keeps_sound : (by : Operator) (game new : Game) (amount : ℕ) → amount ≡ so_many (lack_of game by.company) → by.president.0 < game.seats → falls_short by game ≡ false → new ≡ with_event game (event.Aid by.president by.company amount) → IsSound game → IsSound new
+pub aid_keeps_sound : (by : Operator) (game new : Game) (amount : ℕ) → amount ≡ so_many (lack_of game by.company)
+    → by.president.0 < game.seats → falls_short by game ≡ false
+    → new ≡ with_event game (event.Aid by.president by.company amount) → IsSound game → IsSound new
 unfolding falls_short
 aid_keeps_sound by game new amount is seated enough told sound =
     subst IsSound (sym told)
     (aid_sound game by.president by.company amount seated
-    (subst (λ (n : ℕ). pos n ≤ℤ free_cash_of game.seats game.events by.president) (sym is) (has_it (free_cash_of game.seats game.events by.president) (lack_of game by.company) (sound.solvent by.president) enough)) sound)
+    (subst (λ (n : ℕ). pos n ≤ℤ free_cash_of game.seats game.events by.president) (sym is)
+    (has_it (free_cash_of game.seats game.events by.president) (lack_of game by.company)
+    (sound.solvent by.president) enough)) sound)
 
 -- a company that was paid what it lacks has exactly the price
-paid_exactly : (cash lack : ℤ) (cost : ℕ) (same : Bool) → same ≡ true → lack ≡ (pos cost -ℤ cash) → lt_z (pos 0) lack ≡ true → ((cash +ℤ pos (if same then so_many lack else 0)) -ℤ pos 0) ≡ pos cost
+paid_exactly : (cash lack : ℤ) (cost : ℕ) (same : Bool) → same ≡ true → lack ≡ (pos cost -ℤ cash)
+    → lt_z (pos 0) lack ≡ true → ((cash +ℤ pos (if same then so_many lack else 0)) -ℤ pos 0) ≡ pos cost
 paid_exactly cash lack cost false is lacks more = absurd cc
 paid_exactly cash (pos amount) cost true is lacks more = omega (arith, ints, lacks)
 paid_exactly cash (negsuc under) cost true is lacks more =
@@ -85,11 +93,14 @@ aid_is_what_lacks by game more =
     let cost : ℕ = cost_of (cheapest game.events) in
     let cash : ℤ = cash_of game.seats game.events (party_of_company by.company) in
     let its : Event = event.Aid by.president by.company (so_many (pos cost -ℤ cash)) in
-    ap (λ (b : Bool). let paid : Game = if b then with_event game its else game in cash_of paid.seats paid.events (party_of_company by.company)) more
+    ap (λ (b : Bool). let paid : Game = if b then with_event game its else game in cash_of paid.seats paid.events
+    (party_of_company by.company)) more
     ∙ cash_of_at_end game.seats game.events its (party_of_company by.company)
-    ∙ paid_exactly cash (pos cost -ℤ cash) cost (same_company by.company by.company) (company_itself by.company) refl more
+    ∙ paid_exactly cash (pos cost -ℤ cash) cost (same_company by.company by.company) (company_itself by.company) refl
+    more
 
 pub no_aid_without_lack : NoAidWithoutLack
 unfolding with_aid
 no_aid_without_lack by game none =
-    ap (λ (b : Bool). if b then with_event game (event.Aid by.president by.company (so_many (lack_of game by.company))) else game) none
+    ap (λ (b : Bool). if b then with_event game (event.Aid by.president by.company
+    (so_many (lack_of game by.company))) else game) none

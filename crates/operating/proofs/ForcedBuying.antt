@@ -46,10 +46,13 @@ or_second false b is = is
 
 module _ (events : List Event) where
   -- what is not the first that is left is not left
-  none_left : (some : List Kind) → first_left_of events some ≡ None → AllByRecursion (λ kind. is_left events kind ≡ false) some
+  none_left : (some : List Kind) → first_left_of events some ≡ None
+      → AllByRecursion (λ kind. is_left events kind ≡ false) some
   none_left [] none = tt
   none_left (kind ∷ others) none =
-      elim (is_left events kind) as (λ (b : Bool). is_left events kind ≡ b → (if b then Some kind else first_left_of events others) ≡ None → AllByRecursion (λ its. is_left events its ≡ false) (kind ∷ others)) [
+      elim (is_left events kind) as (λ (b : Bool). is_left events kind ≡ b
+      → (if b then Some kind else first_left_of events others) ≡ None
+      → AllByRecursion (λ its. is_left events its ≡ false) (kind ∷ others)) [
         | true ↦ λ is wrong. absurd cc
         | false ↦ λ is rest. (is, none_left others rest)
       ]
@@ -59,7 +62,8 @@ module _ (events : List Event) where
   first_among : (some : List Kind) (kind : Kind) → first_left_of events some ≡ Some kind → IsAmong kind some
   first_among [] kind is = absurd cc
   first_among (first ∷ others) kind is =
-      elim (is_left events first) as (λ (b : Bool). (if b then Some first else first_left_of events others) ≡ Some kind → IsAmong kind (first ∷ others)) [
+      elim (is_left events first) as (λ (b : Bool). (if b then Some first else first_left_of events others)
+      ≡ Some kind → IsAmong kind (first ∷ others)) [
         | true ↦ λ same. inl (let one : first ≡ kind = cc in one)
         | false ↦ λ later. inr (first_among others kind later)
       ]
@@ -93,7 +97,8 @@ module _ (events : List Event) where
       refl
 
   -- it sells one of the others where it does not sell the first
-  sells_other : (kind : Kind) (others : List Kind) → sells events kind ≡ false → SellsOne (kind ∷ others) → SellsOne others
+  sells_other : (kind : Kind) (others : List Kind) → sells events kind ≡ false → SellsOne (kind ∷ others)
+      → SellsOne others
   sells_other kind others not_it (inl diesel) = inl diesel
   sells_other kind others not_it (inr one) =
       elim one.1 [
@@ -106,15 +111,22 @@ module _ (events : List Event) where
   is_pooled kind = lt_z (pos 0) (trains_held events None kind)
 
   -- what is bought first is for sale
-  on_sale : (some : List Kind) → SellsOne some → is_on_sale events (first_on_sale events some).from (first_on_sale events some).kind ≡ true
+  on_sale : (some : List Kind) → SellsOne some → is_on_sale events (first_on_sale events some).from
+      (first_on_sale events some).kind ≡ true
   unfolding first_on_sale
   on_sale [] (inl diesel) = diesel
   on_sale [] (inr one) = absurd one.1
   on_sale (kind ∷ others) one =
-      elim (sells events kind) as (λ (b : Bool). sells events kind ≡ b → is_on_sale events (if b then plain kind seller.Bank else (if is_pooled kind then plain kind seller.BankPool else first_on_sale events others)).from (if b then plain kind seller.Bank else (if is_pooled kind then plain kind seller.BankPool else first_on_sale events others)).kind ≡ true) [
+      elim (sells events kind) as (λ (b : Bool). sells events kind ≡ b
+      → is_on_sale events (if b then plain kind seller.Bank else (if is_pooled kind then plain kind
+      seller.BankPool else first_on_sale events others)).from
+      (if b then plain kind seller.Bank else (if is_pooled kind then plain kind seller.BankPool else first_on_sale
+      events others)).kind ≡ true) [
         | true ↦ λ is. is
         | false ↦ λ not_it.
-            elim (is_pooled kind) as (λ (b : Bool). is_pooled kind ≡ b → is_on_sale events (if b then plain kind seller.BankPool else first_on_sale events others).from (if b then plain kind seller.BankPool else first_on_sale events others).kind ≡ true) [
+            elim (is_pooled kind) as (λ (b : Bool). is_pooled kind ≡ b
+            → is_on_sale events (if b then plain kind seller.BankPool else first_on_sale events others).from
+            (if b then plain kind seller.BankPool else first_on_sale events others).kind ≡ true) [
               | true ↦ λ is. is
               | false ↦ λ none. on_sale others (sells_other kind others not_it one)
             ]
@@ -134,10 +146,13 @@ module _ (events : List Event) where
   unfolding first_on_sale
   first_plain [] = (Diesel, inl refl)
   first_plain (kind ∷ others) =
-      elim (sells events kind) as (λ (b : Bool). IsPlain (if b then plain kind seller.Bank else (if is_pooled kind then plain kind seller.BankPool else first_on_sale events others))) [
+      elim (sells events kind) as (λ (b : Bool). IsPlain
+      (if b then plain kind seller.Bank else (if is_pooled kind then plain kind seller.BankPool else first_on_sale
+      events others))) [
         | true ↦ (kind, inl refl)
         | false ↦
-            elim (is_pooled kind) as (λ (b : Bool). IsPlain (if b then plain kind seller.BankPool else first_on_sale events others)) [
+            elim (is_pooled kind) as (λ (b : Bool). IsPlain
+            (if b then plain kind seller.BankPool else first_on_sale events others)) [
               | true ↦ (kind, inr refl)
               | false ↦ first_plain others
             ]
@@ -154,7 +169,8 @@ module _ (events : List Event) (its : Event) (none : train_moved its ≡ None) w
 
   same_sold : (kind : Kind) → trains_sold after kind ≡ trains_sold events kind
   same_sold kind =
-      let goes : one_if (train_goes place.Bank kind (train_moved its)) ≡ 0 = ap (λ move. one_if (train_goes place.Bank kind move)) none in
+      let goes : one_if (train_goes place.Bank kind (train_moved its)) ≡ 0 =
+      ap (λ move. one_if (train_goes place.Bank kind move)) none in
       omega (arith, sold_at_end events its kind, goes)
 
   same_left : (kind : Kind) → is_left after kind ≡ is_left events kind
@@ -168,7 +184,8 @@ module _ (events : List Event) (its : Event) (none : train_moved its ≡ None) w
 
   pub same_sale : (from : TrainSeller) (kind : Kind) → is_on_sale after from kind ≡ is_on_sale events from kind
   same_sale seller.Bank kind =
-      ap (λ (found : Option Kind). is_kind found kind || (same_kind kind Diesel && sells_diesels after)) (same_first numbered_kinds)
+      ap (λ (found : Option Kind). is_kind found kind || (same_kind kind Diesel && sells_diesels after))
+      (same_first numbered_kinds)
       ∙ ap (λ (sold : ℕ). is_kind (first_left events) kind || (same_kind kind Diesel && nat_lt 0 sold)) (same_sold Six)
   same_sale seller.BankPool kind = ap (lt_z (pos 0)) (trains_at_before events its (train_owner_place None) kind none)
   same_sale (seller.Company company) kind = refl
@@ -188,14 +205,16 @@ less_is a b less = by_test (lt_z a b) refl
   where
     by_test : (test : Bool) → lt_z a b ≡ test → lt_z a b ≡ true
     by_test true is = is
-    by_test false is = let not_so : b ≤ℤ a = grind (arith, ints, is) in let wrong : 1 ≤ 0 = omega (arith, ints, not_so, less) in absurd (omega arith)
+    by_test false is = let not_so : b ≤ℤ a = grind (arith, ints, is) in let wrong : 1 ≤ 0 =
+        omega (arith, ints, not_so, less) in absurd (omega arith)
 
 pub not_less_is : (a b : ℤ) → b ≤ℤ a → lt_z a b ≡ false
 not_less_is a b least = by_test (lt_z a b) refl
   where
     by_test : (test : Bool) → lt_z a b ≡ test → lt_z a b ≡ false
     by_test false is = is
-    by_test true is = let so : a <ℤ b = grind (arith, ints, is) in let wrong : 1 ≤ 0 = omega (arith, ints, so, least) in absurd (omega arith)
+    by_test true is = let so : a <ℤ b = grind (arith, ints, is) in let wrong : 1 ≤ 0 =
+        omega (arith, ints, so, least) in absurd (omega arith)
 
 not_so : (b : Bool) → b ≡ true → not b ≡ false
 not_so true is = refl
@@ -208,7 +227,10 @@ room size limit none low =
 
 -- none of six rules is broken
 none_of : (a b c : Bool) → a ≡ false → b ≡ false → c ≡ false →
-    first_broken {Code = TrainRule} (record { code = NotOnSale; broken = a } ∷ record { code = TrainLimit; broken = b } ∷ record { code = CashTooSmall; broken = c } ∷ record { code = NoConsent; broken = false } ∷ record { code = NotSellers; broken = false } ∷ record { code = NoTradeIn; broken = false } ∷ []) ≡ None
+    first_broken {Code = TrainRule} (record { code = NotOnSale; broken = a }
+    ∷ record { code = TrainLimit; broken = b } ∷ record { code = CashTooSmall; broken = c }
+    ∷ record { code = NoConsent; broken = false } ∷ record { code = NotSellers; broken = false }
+    ∷ record { code = NoTradeIn; broken = false } ∷ []) ≡ None
 none_of true b c first second third = absurd cc
 none_of false true c first second third = absurd cc
 none_of false false true first second third = absurd cc
@@ -216,19 +238,32 @@ none_of false false false first second third = refl
 
 module _ (game : Game) (company : Company) (none : has_trains game.events company ≡ false) where
   -- a purchase of the bank or of the pool
-  from_there : (from : TrainSeller) (kind : Kind) (a : Bool) → a ≡ false → is_too_dear game company (plain kind from) ≡ false → first_broken {Code = TrainRule} (record { code = NotOnSale; broken = a } ∷ record { code = TrainLimit; broken = is_at_train_limit game.events company None } ∷ record { code = CashTooSmall; broken = is_too_dear game company (plain kind from) } ∷ record { code = NoConsent; broken = false } ∷ record { code = NotSellers; broken = false } ∷ record { code = NoTradeIn; broken = false } ∷ []) ≡ None
+  from_there : (from : TrainSeller) (kind : Kind) (a : Bool) → a ≡ false
+      → is_too_dear game company (plain kind from) ≡ false
+      → first_broken {Code = TrainRule} (record { code = NotOnSale; broken = a }
+      ∷ record { code = TrainLimit; broken = is_at_train_limit game.events company None }
+      ∷ record { code = CashTooSmall; broken = is_too_dear game company (plain kind from) }
+      ∷ record { code = NoConsent; broken = false } ∷ record { code = NotSellers; broken = false }
+      ∷ record { code = NoTradeIn; broken = false } ∷ []) ≡ None
   from_there from kind a sale enough =
-      none_of a (is_at_train_limit game.events company None) (is_too_dear game company (plain kind from)) sale (room (train_count game.events (Some company)) (limit_of (phase_of game.events)) none (limit_low (phase_of game.events))) enough
+      none_of a (is_at_train_limit game.events company None) (is_too_dear game company (plain kind from)) sale
+      (room (train_count game.events (Some company)) (limit_of (phase_of game.events)) none
+      (limit_low (phase_of game.events))) enough
 
   abbrev Allows : Purchase → Type 0
-  Allows purchase = is_on_sale game.events purchase.from purchase.kind ≡ true → is_too_dear game company purchase ≡ false → train_judgement game company purchase ≡ None
+  Allows purchase = is_on_sale game.events purchase.from purchase.kind ≡ true
+      → is_too_dear game company purchase ≡ false → train_judgement game company purchase ≡ None
 
   -- of what is for sale, by a company without trains that has the price, breaks no rule
   plain_allowed : (events : List Event) (purchase : Purchase) → IsPlain events purchase → Allows purchase
   plain_allowed events purchase its =
       elim its.1 [
-        | inl is ↦ subst Allows (sym is) (λ sale enough. from_there seller.Bank its.0 (not (is_on_sale game.events seller.Bank its.0)) (not_so (is_on_sale game.events seller.Bank its.0) sale) enough)
-        | inr is ↦ subst Allows (sym is) (λ sale enough. from_there seller.BankPool its.0 (not (is_on_sale game.events seller.BankPool its.0)) (not_so (is_on_sale game.events seller.BankPool its.0) sale) enough)
+        | inl is ↦ subst Allows (sym is) (λ sale enough. from_there seller.Bank its.0
+            (not (is_on_sale game.events seller.Bank its.0)) (not_so (is_on_sale game.events seller.Bank its.0) sale)
+            enough)
+        | inr is ↦ subst Allows (sym is) (λ sale enough. from_there seller.BankPool its.0
+            (not (is_on_sale game.events seller.BankPool its.0))
+            (not_so (is_on_sale game.events seller.BankPool its.0) sale) enough)
       ]
 
 -- a company is itself
@@ -236,14 +271,16 @@ pub company_itself : (company : Company) → same_company company company ≡ tr
 company_itself company = grind (arith, nat_tests)
 
 -- what a company has once it was paid what it lacks
-paid_up : (cash lack : ℤ) (cost : ℕ) (same : Bool) → same ≡ true → lack ≡ (pos cost -ℤ cash) → lt_z (pos 0) lack ≡ true → lt_z ((cash +ℤ pos (if same then so_many lack else 0)) -ℤ pos 0) (pos cost) ≡ false
+paid_up : (cash lack : ℤ) (cost : ℕ) (same : Bool) → same ≡ true → lack ≡ (pos cost -ℤ cash)
+    → lt_z (pos 0) lack ≡ true → lt_z ((cash +ℤ pos (if same then so_many lack else 0)) -ℤ pos 0) (pos cost) ≡ false
 paid_up cash lack cost false is lacks more = absurd cc
 paid_up cash (pos amount) cost true is lacks more =
     not_less_is ((cash +ℤ pos amount) -ℤ pos 0) (pos cost) (omega (arith, ints, lacks))
 paid_up cash (negsuc under) cost true is lacks more =
     absurd (let over : pos 0 <ℤ negsuc under = grind (arith, ints, more) in omega (arith, ints, over))
 
-enough_before : (cash lack : ℤ) (cost : ℕ) → lack ≡ (pos cost -ℤ cash) → lt_z (pos 0) lack ≡ false → lt_z cash (pos cost) ≡ false
+enough_before : (cash lack : ℤ) (cost : ℕ) → lack ≡ (pos cost -ℤ cash) → lt_z (pos 0) lack ≡ false
+    → lt_z cash (pos cost) ≡ false
 enough_before cash lack cost lacks none =
     let few : lack ≤ℤ pos 0 = grind (arith, ints, none) in
     not_less_is cash (pos cost) (omega (arith, ints, lacks, few))
@@ -257,32 +294,42 @@ aided by game =
     let cash : ℤ = cash_of game.seats game.events (party_of_company by.company) in
     let lack : ℤ = pos cost -ℤ cash in
     let its : Event = event.Aid by.president by.company (so_many lack) in
-    elim (lt_z (pos 0) lack) as (λ (b : Bool). lt_z (pos 0) lack ≡ b → is_too_dear (if b then with_event game its else game) by.company purchase ≡ false) [
+    elim (lt_z (pos 0) lack) as (λ (b : Bool). lt_z (pos 0) lack ≡ b
+    → is_too_dear (if b then with_event game its else game) by.company purchase ≡ false) [
       | true ↦ λ more.
-          ap (λ (has : ℤ). lt_z has (pos cost)) (cash_of_at_end game.seats game.events its (party_of_company by.company))
+          ap (λ (has : ℤ). lt_z has (pos cost)) (cash_of_at_end game.seats game.events its
+          (party_of_company by.company))
           ∙ paid_up cash lack cost (same_company by.company by.company) (company_itself by.company) refl more
       | false ↦ λ enough. enough_before cash lack cost refl enough
     ]
     refl
 
 -- with that the company still has no train, and what is for sale still is
-aid_keeps : (by : Operator) (game : Game) → has_trains game.events by.company ≡ false → (has_trains (with_aid by game).events by.company ≡ false) × (is_on_sale (with_aid by game).events (cheapest game.events).from (cheapest game.events).kind ≡ true)
+aid_keeps : (by : Operator) (game : Game) → has_trains game.events by.company ≡ false
+    → (has_trains (with_aid by game).events by.company ≡ false)
+    × (is_on_sale (with_aid by game).events (cheapest game.events).from (cheapest game.events).kind ≡ true)
 unfolding with_aid
 aid_keeps by game none =
     let its : Event = event.Aid by.president by.company (so_many (lack_of game by.company)) in
-    elim (lt_z (pos 0) (lack_of game by.company)) as (λ (b : Bool). (has_trains (if b then with_event game its else game).events by.company ≡ false) × (is_on_sale (if b then with_event game its else game).events (cheapest game.events).from (cheapest game.events).kind ≡ true)) [
+    elim (lt_z (pos 0) (lack_of game by.company)) as
+    (λ (b : Bool). (has_trains (if b then with_event game its else game).events by.company ≡ false)
+    × (is_on_sale (if b then with_event game its else game).events (cheapest game.events).from
+    (cheapest game.events).kind ≡ true)) [
       | true ↦ (
         ap (lt_z (pos 0)) (size_before game.events its (Some by.company) refl) ∙ none,
-        same_sale game.events its refl (cheapest game.events).from (cheapest game.events).kind ∙ cheapest_on_sale game.events,
+        same_sale game.events its refl (cheapest game.events).from (cheapest game.events).kind
+            ∙ cheapest_on_sale game.events,
       )
       | false ↦ (none, cheapest_on_sale game.events)
     ]
 
 -- the purchase breaks no rule
-pub forced_allowed : (by : Operator) (game : Game) → has_trains game.events by.company ≡ false → train_judgement (with_aid by game) by.company (cheapest game.events) ≡ None
+pub forced_allowed : (by : Operator) (game : Game) → has_trains game.events by.company ≡ false
+    → train_judgement (with_aid by game) by.company (cheapest game.events) ≡ None
 forced_allowed by game none =
     let kept = aid_keeps by game none in
-    plain_allowed (with_aid by game) by.company kept.0 game.events (cheapest game.events) (cheapest_plain game.events) kept.1 (aided by game)
+    plain_allowed (with_aid by game) by.company kept.0 game.events (cheapest game.events) (cheapest_plain game.events)
+    kept.1 (aided by game)
 
 -- and costs at most 1,100
 price_low : (kind : Kind) → (trains_of kind).price ≤ 1100

@@ -82,12 +82,14 @@ forced_names_none other is = absurd is
 
 -- it holds of these
 abbrev pub OfForced : (Game → Game → Type 0) → Type 0
-OfForced R = (game : Game) (its : Event) → IsOfForced its → tile_laid its ≡ None → train_moved its ≡ None → phase_set its ≡ None →
+OfForced R = (game : Game) (its : Event) → IsOfForced its → tile_laid its ≡ None → train_moved its ≡ None
+    → phase_set its ≡ None →
     R game (with_event game its)
 
 -- it holds of each presidency that passes
 abbrev pub OfPresidents : (Game → Game → Type 0) → Type 0
-OfPresidents R = (game : Game) (company : Company) (seat : Seat) → R game (with_event game (event.President company seat))
+OfPresidents R = (game : Game) (company : Company) (seat : Seat)
+    → R game (with_event game (event.President company seat))
 
 -- it holds of the sales by the rules by which money is raised
 abbrev pub OfSales : Operator → (Game → Game → Type 0) → Type 0
@@ -99,40 +101,50 @@ OfBankruptcies by R = (game : Game) → R game (with_event game (event.Bankrupt 
 
 module _ (by : Operator) (R : Game → Game → Type 0) (of : OfEvents by.company R) (presidents : OfPresidents R) where
   -- of either of two lists
-  of_list : (test : Bool) (game : Game) (some others : List Event) → R game (with_events game some) → R game (with_events game others) → R game (with_events game (if test then some else others))
+  of_list : (test : Bool) (game : Game) (some others : List Event) → R game (with_events game some)
+      → R game (with_events game others) → R game (with_events game (if test then some else others))
   of_list true game some others first second = first
   of_list false game some others first second = second
 
   -- of a bank that breaks
-  of_break : (game : Game) (events : List Event) → R game (with_events game events) → R game (with_events game (if breaks game.seats events then events ++ event.Broken ∷ [] else events))
+  of_break : (game : Game) (events : List Event) → R game (with_events game events)
+      → R game (with_events game (if breaks game.seats events then events ++ event.Broken ∷ [] else events))
   of_break game events so_far =
       of_list (breaks game.seats events) game (events ++ event.Broken ∷ []) events
-      (of.on.both game (with_events game events) (with_events game (events ++ event.Broken ∷ [])) so_far (of.others (with_events game events) event.Broken tt refl refl refl)) so_far
+      (of.on.both game (with_events game events) (with_events game (events ++ event.Broken ∷ [])) so_far
+      (of.others (with_events game events) event.Broken tt refl refl refl)) so_far
 
   -- of a presidency that passes
-  of_succession : (game : Game) (company : Company) (old : Option Seat) → R game (with_events game (with_successor game.seats game.events company old))
+  of_succession : (game : Game) (company : Company) (old : Option Seat)
+      → R game (with_events game (with_successor game.seats game.events company old))
   of_succession game company None = of.on.same game
   of_succession game company (Some old) =
       let new : Seat = successor_of game.seats game.events company old in
-      of_list (new.0 == old.0) game game.events (game.events ++ event.President company new ∷ []) (of.on.same game) (presidents game company new)
+      of_list (new.0 == old.0) game game.events (game.events ++ event.President company new ∷ []) (of.on.same game)
+      (presidents game company new)
 
   -- of the token of a company that moves
-  of_token_moved : (move : Square → Square) (game : Game) (company : Company) (square : Option Square) → R game (with_events game (moved_from move game.events company square))
+  of_token_moved : (move : Square → Square) (game : Game) (company : Company) (square : Option Square)
+      → R game (with_events game (moved_from move game.events company square))
   of_token_moved move game company None = of.on.same game
   of_token_moved move game company (Some square) =
-      of_list (same_square (move square) square) game game.events (game.events ++ event.Moves company (move square) ∷ []) (of.on.same game) (of.others game (event.Moves company (move square)) tt refl refl refl)
+      of_list (same_square (move square) square) game game.events
+      (game.events ++ event.Moves company (move square) ∷ []) (of.on.same game)
+      (of.others game (event.Moves company (move square)) tt refl refl refl)
 
   -- of a sale
   pub of_sale : OfSales by R
   of_sale game sale none =
       let company = sale.company in
-      let sells : Event = event.Sells company by.president sale.tenths (sale.tenths * market_price_of game.events company) in
+      let sells : Event = event.Sells company by.president sale.tenths
+      (sale.tenths * market_price_of game.events company) in
       let told : Game = with_event game sells in
       let paid : Game = with_events game (sold game.seats game.events by.president company sale.tenths) in
       let led : Game = with_events game (with_president game.seats paid.events company) in
       let first : R game paid = of_break game told.events (of.others game sells tt refl refl refl) in
       let second : R paid led = of_succession paid company (president_of paid.events company) in
-      of.on.both game led (with_sale by game sale) (of.on.both game paid led first second) (of_token_moved (fallen sale.tenths) led company (square_of led.events company))
+      of.on.both game led (with_sale by game sale) (of.on.both game paid led first second)
+      (of_token_moved (fallen sale.tenths) led company (square_of led.events company))
 
 -- once the purchase is told and the money is raised
 abbrev pub gained_of : Operator → List Numbered → Game → Game
@@ -148,17 +160,21 @@ gained_none by lines game none =
 
 module _ (by : Operator) (R : Game → Game → Type 0) (of : OfEvents by.company R) (sales : OfSales by R) where
   -- of a RAISE
-  of_raise_ruled : (due : Bool) (game : Game) (line : Numbered) (sale : Sale) (broken : Option Refusal) → raise_rule due by game line.condition sale ≡ broken →
+  of_raise_ruled : (due : Bool) (game : Game) (line : Numbered) (sale : Sale) (broken : Option Refusal)
+      → raise_rule due by game line.condition sale ≡ broken →
       R game (raise_ruled by game line sale broken)
   of_raise_ruled due game line sale None none =
       let obeyed : Ruling = Obeyed line.condition (order.Raise sale.company sale.tenths) in
       let ruled : Game = with_ruling by game line obeyed in
-      of.on.both game ruled (with_sale by ruled sale) (of.others game (event.Ruled by.president line.number obeyed) tt refl refl refl)
+      of.on.both game ruled (with_sale by ruled sale)
+      (of.others game (event.Ruled by.president line.number obeyed) tt refl refl refl)
       (sales ruled sale (still_allowed by game line obeyed sale (raise_obeyed due by game line.condition sale none)))
   of_raise_ruled due game line sale (Some rule) some =
-      of.others game (event.Ruled by.president line.number (Refused rule line.condition (order.Raise sale.company sale.tenths))) tt refl refl refl
+      of.others game (event.Ruled by.president line.number
+      (Refused rule line.condition (order.Raise sale.company sale.tenths))) tt refl refl refl
 
-  of_raise_line : (due : Bool) (game : Game) (line : Numbered) (reading : Result Order Fault) → R game (after_raise_line due by game line reading)
+  of_raise_line : (due : Bool) (game : Game) (line : Numbered) (reading : Result Order Fault)
+      → R game (after_raise_line due by game line reading)
   of_raise_line due game line (Ok (order.Raise company tenths)) =
       let sale : Sale = record { company = company; tenths = tenths } in
       of_raise_ruled due game line sale (raise_rule due by game line.condition sale) refl
@@ -168,22 +184,26 @@ module _ (by : Operator) (R : Game → Game → Type 0) (of : OfEvents by.compan
   of_raises due [] game = of.on.same game
   of_raises due (line ∷ lines) game =
       let next : Game = after_raise_line due by game line line.reading in
-      of.on.both game next (after_raises due by next lines) (of_raise_line due game line line.reading) (of_raises due lines next)
+      of.on.both game next (after_raises due by next lines) (of_raise_line due game line line.reading)
+      (of_raises due lines next)
 
   -- of single tenths
-  of_one_sold : (game : Game) (found : Option Company) → next_to_sell by game ≡ found → R game (with_one_sold by game found)
+  of_one_sold : (game : Game) (found : Option Company) → next_to_sell by game ≡ found
+      → R game (with_one_sold by game found)
   of_one_sold game None none = of.on.same game
   of_one_sold game (Some company) found = sales game (one_tenth company) (next_allowed by game company found)
 
   of_further : (game : Game) → R game (sold_further by game)
   unfolding sold_further
   of_further game =
-      of_choice R (falls_short by game) game (with_one_sold by game (next_to_sell by game)) game (of_one_sold game (next_to_sell by game) refl) (of.on.same game)
+      of_choice R (falls_short by game) game (with_one_sold by game (next_to_sell by game)) game
+      (of_one_sold game (next_to_sell by game) refl) (of.on.same game)
 
   of_times : (n : ℕ) (game : Game) → R game (iterate (sold_further by) n game)
   of_times zero game = of.on.same game
   of_times (suc n) game =
-      of.on.both game (iterate (sold_further by) n game) (iterate (sold_further by) (suc n) game) (of_times n game) (of_further (iterate (sold_further by) n game))
+      of.on.both game (iterate (sold_further by) n game) (iterate (sold_further by) (suc n) game) (of_times n game)
+      (of_further (iterate (sold_further by) n game))
 
   of_singly : (game : Game) → R game (sold_singly by game)
   unfolding sold_singly
@@ -202,36 +222,45 @@ module _ (by : Operator) (R : Game → Game → Type 0) (of : OfEvents by.compan
   unfolding with_aid
   of_aid game =
       let its : Event = event.Aid by.president by.company (so_many (lack_of game by.company)) in
-      of_choice R (lt_z (pos 0) (lack_of game by.company)) game (with_event game its) game (of.others game its tt refl refl refl) (of.on.same game)
+      of_choice R (lt_z (pos 0) (lack_of game by.company)) game (with_event game its) game
+      (of.others game its tt refl refl refl) (of.on.same game)
 
   -- of a purchase for which none is traded in
   of_plain : (game : Game) (events : List Event) (purchase : Purchase) → IsPlain events purchase →
       train_judgement game by.company purchase ≡ None → R game (after_train game by.company purchase)
   of_plain game events purchase its =
-      let Goes : Purchase → Type 0 = λ bought. train_judgement game by.company bought ≡ None → R game (after_train game by.company bought) in
+      let Goes : Purchase → Type 0 = λ bought. train_judgement game by.company bought ≡ None
+      → R game (after_train game by.company bought) in
       elim its.1 [
         | inl is ↦ subst Goes (sym is) (of.purchases game its.0 source.Bank)
         | inr is ↦ subst Goes (sym is) (of.purchases game its.0 source.BankPool)
       ]
 
   -- of what he pays, and of the purchase
-  pub of_bought : (game : Game) → has_trains game.events by.company ≡ false → R game (after_train (with_aid by game) by.company (cheapest game.events))
+  pub of_bought : (game : Game) → has_trains game.events by.company ≡ false
+      → R game (after_train (with_aid by game) by.company (cheapest game.events))
   of_bought game none =
-      of.on.both game (with_aid by game) (after_train (with_aid by game) by.company (cheapest game.events)) (of_aid game)
-      (of_plain (with_aid by game) game.events (cheapest game.events) (cheapest_plain game.events) (forced_allowed by game none))
+      of.on.both game (with_aid by game) (after_train (with_aid by game) by.company (cheapest game.events))
+      (of_aid game)
+      (of_plain (with_aid by game) game.events (cheapest game.events) (cheapest_plain game.events)
+      (forced_allowed by game none))
 
   -- of the purchase, or the bankruptcy
-  of_concluded : OfBankruptcies by R → (game : Game) → has_trains game.events by.company ≡ false → R game (concluded by game)
+  of_concluded : OfBankruptcies by R → (game : Game) → has_trains game.events by.company ≡ false
+      → R game (concluded by game)
   unfolding concluded
   of_concluded fails game none =
-      of_choice R (falls_short by game) game (with_event game (event.Bankrupt by.president)) (after_train (with_aid by game) by.company (cheapest game.events))
+      of_choice R (falls_short by game) game (with_event game (event.Bankrupt by.president))
+      (after_train (with_aid by game) by.company (cheapest game.events))
       (fails game) (of_bought game none)
 
-  of_forced : OfBankruptcies by R → (lines : List Numbered) (game : Game) → has_trains game.events by.company ≡ false → R game (after_forced by lines game)
+  of_forced : OfBankruptcies by R → (lines : List Numbered) (game : Game) → has_trains game.events by.company ≡ false
+      → R game (after_forced by lines game)
   unfolding after_forced
   of_forced fails lines game none =
       let gained : Game = gained_of by lines game in
-      of.on.both game gained (concluded by gained) (of_gained lines game) (of_concluded fails gained (gained_none by lines game none))
+      of.on.both game gained (concluded by gained) (of_gained lines game)
+      (of_concluded fails gained (gained_none by lines game none))
 
   -- of the end of the turn
   pub of_end : OfBankruptcies by R → (lines : List Numbered) (game new : Game) → EndLeads by lines game new → R game new
@@ -245,7 +274,8 @@ operator company seat = record { company = company; president = seat }
 module _ (company : Company) (R : Game → Game → Type 0) (of : OfEvents company R) where
   -- of what a block brings at the end of the turn, where a president sells and may be bankrupt
   pub of_presided_end : (file : List ℕ) (round : Round) (game : Game) (president : Option Seat) (new : Game) →
-      ((seat : Seat) → president ≡ Some seat → OfSales (operator company seat) R × OfBankruptcies (operator company seat) R) →
+      ((seat : Seat) → president ≡ Some seat → OfSales (operator company seat) R
+      × OfBankruptcies (operator company seat) R) →
       BlockEnds file round company game president new → R game new
   of_presided_end file round game None new presided ends = subst (R game) (sym ends) (of.on.same game)
   of_presided_end file round game (Some seat) new presided ends =
@@ -254,7 +284,8 @@ module _ (company : Company) (R : Game → Game → Type 0) (of : OfEvents compa
 
   -- so of the whole turn
   pub of_presided_turn : (file : List ℕ) (round : Round) (old new : Game) →
-      ((seat : Seat) → president_of old.events company ≡ Some seat → OfSales (operator company seat) R × OfBankruptcies (operator company seat) R) →
+      ((seat : Seat) → president_of old.events company ≡ Some seat
+      → OfSales (operator company seat) R × OfBankruptcies (operator company seat) R) →
       IsCompanyTurn file round company old new → R old new
   of_presided_turn file round old new presided turn =
       let paid : Game = (settled company turn.last).game in
@@ -276,5 +307,7 @@ module _ (company : Company) (R : Game → Game → Type 0) (of : OfEvents compa
       of_presided_end company R of file round game president new (λ seat is. of_president seat) ends
 
   -- and of the whole turn
-  pub of_game_turn : (file : List ℕ) (round : Round) (old new : Game) → IsCompanyTurn file round company old new → R old new
-  of_game_turn file round old new turn = of_presided_turn company R of file round old new (λ seat is. of_president seat) turn
+  pub of_game_turn : (file : List ℕ) (round : Round) (old new : Game) → IsCompanyTurn file round company old new
+      → R old new
+  of_game_turn file round old new turn = of_presided_turn company R of file round old new
+      (λ seat is. of_president seat) turn

@@ -88,7 +88,8 @@ module _ (company : Company) (own : Kind) where
 
   -- after an event that moves no train
   by_other : (game : Game) (its : Event) → train_moved its ≡ None → Stays game (with_event game its)
-  by_other game its none one kind = trains_at_before game.events its (train_owner_place (Some company)) kind none ∙ one kind
+  by_other game its none one kind = trains_at_before game.events its (train_owner_place (Some company)) kind none
+      ∙ one kind
 
   -- what it has of a kind of which it has none stays none as trains of the kind rust
   none_still : (rusting : Kind) (owner : Option Company) (game : Game) → has rusting (Some company) game ≡ pos 0 →
@@ -96,7 +97,8 @@ module _ (company : Company) (own : Kind) where
   none_still rusting owner game none =
       by_train_owner (λ count. count ≡ pos 0) rusting owner (Some company) game
       (λ same.
-      let here : has rusting owner game ≡ pos 0 = ap (λ place. trains_at game.events place rusting) (same_train_place_is (train_owner_place owner) (train_owner_place (Some company)) same) ∙ none in
+      let here : has rusting owner game ≡ pos 0 = ap (λ place. trains_at game.events place rusting)
+      (same_train_place_is (train_owner_place owner) (train_owner_place (Some company)) same) ∙ none in
       all_go rusting owner game (subst (λ (count : ℤ). pos 0 ≤ℤ count) (sym here) (omega (arith, ints))))
       none
 
@@ -108,18 +110,29 @@ module _ (company : Company) (own : Kind) where
       let now : Game = iterate (with_one_rusted owner rusting) n game in
       let its : Event = event.Rusted owner rusting in
       let place = train_owner_place (Some company) in
-      let none : (place_test : Bool) → one_if (same_kind rusting kind && place_test) ≡ 0 = λ place_test. ap (λ (b : Bool). one_if (b && place_test)) apart in
-      omega (arith, ints, trains_at_end now.events its place kind, none (same_train_place (train_owner_place owner) place), none false)
+      let none : (place_test : Bool) → one_if (same_kind rusting kind && place_test) ≡ 0 =
+      λ place_test. ap (λ (b : Bool). one_if (b && place_test)) apart in
+      omega (
+        arith,
+        ints,
+        trains_at_end now.events its place kind,
+        none
+            (same_train_place (train_owner_place owner) place),
+        none false,
+      )
       ∙ other_kind rusting kind owner n game apart
 
   -- so it is as trains of another kind rust
-  by_rust : (rusting : Kind) → same_kind own rusting ≡ false → (owner : Option Company) (game : Game) → Stays game (with_trains_rusted owner rusting game)
+  by_rust : (rusting : Kind) → same_kind own rusting ≡ false → (owner : Option Company) (game : Game)
+      → Stays game (with_trains_rusted owner rusting game)
   by_rust rusting another owner game one kind =
       elim (truth (same_kind rusting kind)) [
         | inl same ↦
             let is : rusting ≡ kind = same_kind_is rusting kind same in
-            let zero_of : (its : Kind) → same_kind own its ≡ false → has its (Some company) game ≡ pos 0 = λ its apart. one its ∙ ap (λ (b : Bool). pos (one_if b)) apart in
-            subst (λ (its : Kind). has its (Some company) (with_trains_rusted owner rusting game) ≡ pos (one_if (same_kind own its))) is
+            let zero_of : (its : Kind) → same_kind own its ≡ false → has its (Some company) game ≡ pos 0 =
+            λ its apart. one its ∙ ap (λ (b : Bool). pos (one_if b)) apart in
+            subst (λ (its : Kind). has its (Some company) (with_trains_rusted owner rusting game)
+            ≡ pos (one_if (same_kind own its))) is
             (none_still rusting owner game (zero_of rusting another) ∙ ap (λ (b : Bool). pos (one_if b)) (sym another))
         | inr apart ↦ other_kind rusting kind owner (so_many (has rusting owner game)) game apart ∙ one kind
       ]
@@ -128,7 +141,8 @@ module _ (company : Company) (own : Kind) where
   by_rusts game =
       of_fold Stays (with_kind_rusted_at own) on
       (λ now kind.
-      elim (rusts_at (rusting_of kind) own) as (λ (b : Bool). rusts_at (rusting_of kind) own ≡ b → Stays now (if b then with_kind_rusted now kind else now)) [
+      elim (rusts_at (rusting_of kind) own) as (λ (b : Bool). rusts_at (rusting_of kind) own ≡ b
+      → Stays now (if b then with_kind_rusted now kind else now)) [
         | true ↦ λ rusts. of_kind Stays on kind (by_rust kind (rusts_another kind own rusts)) now
         | false ↦ λ keeps. on.same now
       ]
@@ -138,7 +152,8 @@ module _ (company : Company) (own : Kind) where
   -- it has one train in all
   one_in_all : (game : Game) → HasOne game → train_count game.events (Some company) ≡ pos 1
   one_in_all game one =
-      elim own as (λ (its : Kind). ((kind : Kind) → trains_held game.events (Some company) kind ≡ pos (one_if (same_kind its kind))) → train_count game.events (Some company) ≡ pos 1) [
+      elim own as (λ (its : Kind). ((kind : Kind) → trains_held game.events (Some company) kind
+      ≡ pos (one_if (same_kind its kind))) → train_count game.events (Some company) ≡ pos 1) [
         | Two ↦ λ all. omega (arith, ints, all Two, all Three, all Four, all Five, all Six, all Diesel)
         | Three ↦ λ all. omega (arith, ints, all Two, all Three, all Four, all Five, all Six, all Diesel)
         | Four ↦ λ all. omega (arith, ints, all Two, all Three, all Four, all Five, all Six, all Diesel)
@@ -153,24 +168,31 @@ module _ (company : Company) (own : Kind) where
   none_over size limit one low = few_are_none (size -ℤ pos limit) (omega (arith, ints, one, low))
 
   -- a discard of another company
-  by_discard : (game : Game) (other : Company) (kind : Kind) → same_company other company ≡ false → Stays game (with_event game (event.Discarded other kind))
+  by_discard : (game : Game) (other : Company) (kind : Kind) → same_company other company ≡ false
+      → Stays game (with_event game (event.Discarded other kind))
   by_discard game other discarded apart one kind =
       let place = train_owner_place (Some company) in
-      let none : one_if (same_kind discarded kind && same_company other company) ≡ 0 = ap (λ (b : Bool). one_if (same_kind discarded kind && b)) apart ∙ ap one_if (and_false (same_kind discarded kind)) in
+      let none : one_if (same_kind discarded kind && same_company other company) ≡ 0 =
+      ap (λ (b : Bool). one_if (same_kind discarded kind && b)) apart
+      ∙ ap one_if (and_false (same_kind discarded kind)) in
       let comes : one_if (same_kind discarded kind && false) ≡ 0 = ap one_if (and_false (same_kind discarded kind)) in
-      omega (arith, ints, trains_at_end game.events (event.Discarded other discarded) place kind, none, comes) ∙ one kind
+      omega (arith, ints, trains_at_end game.events (event.Discarded other discarded) place kind, none, comes)
+      ∙ one kind
 
   by_limit : (game : Game) (other : Company) → Stays game (with_limit_kept game other)
   by_limit game other one =
       elim (truth (same_company other company)) [
         | inl same ↦
             let is : other ≡ company = same_company_is other company same in
-            let none : excess_of game other ≡ 0 = none_over (train_count game.events (Some other)) (limit_of (phase_of game.events))
-            (ap (λ (its : Company). train_count game.events (Some its)) is ∙ one_in_all game one) (limit_low (phase_of game.events)) in
+            let none : excess_of game other ≡ 0 = none_over (train_count game.events (Some other))
+            (limit_of (phase_of game.events))
+            (ap (λ (its : Company). train_count game.events (Some its)) is ∙ one_in_all game one)
+            (limit_low (phase_of game.events)) in
             subst (λ (n : ℕ). HasOne (iterate (with_next_discarded other) n game)) (sym none) one
         | inr apart ↦
             of_iterate Stays (with_next_discarded other) on
-            (λ now. elim (next_discard now.events other) as (λ (found : Option Kind). Stays now (with_discarded now other found)) [
+            (λ now. elim (next_discard now.events other) as
+            (λ (found : Option Kind). Stays now (with_discarded now other found)) [
               | None ↦ on.same now
               | Some kind ↦ by_discard now other kind apart
             ])
@@ -190,21 +212,37 @@ module _ (company : Company) (own : Kind) where
       (of_fold Stays with_limit_kept on by_limit closed companies)))
 
   -- the train comes to a company that has none
-  by_train : (game : Game) (from : TrainSeller) (price : ℕ) → ((kind : Kind) → trains_held game.events (Some company) kind ≡ pos 0) →
-      same_train_place (place_of_seller from) (train_owner_place (Some company)) ≡ false → HasOne (with_event game (event.Train company own from price))
+  by_train : (game : Game) (from : TrainSeller) (price : ℕ)
+      → ((kind : Kind) → trains_held game.events (Some company) kind ≡ pos 0) →
+      same_train_place (place_of_seller from) (train_owner_place (Some company)) ≡ false
+      → HasOne (with_event game (event.Train company own from price))
   by_train game from price none apart kind =
       let place = train_owner_place (Some company) in
-      let comes : one_if (same_kind own kind && same_company company company) ≡ one_if (same_kind own kind) = ap (λ (b : Bool). one_if (same_kind own kind && b)) (company_itself company) ∙ ap one_if (and_true (same_kind own kind)) in
-      let goes : one_if (same_kind own kind && same_train_place (place_of_seller from) place) ≡ 0 = ap (λ (b : Bool). one_if (same_kind own kind && b)) apart ∙ ap one_if (and_false (same_kind own kind)) in
-      omega (arith, ints, trains_at_end game.events (event.Train company own from price) place kind, comes, goes, none kind)
+      let comes : one_if (same_kind own kind && same_company company company) ≡ one_if (same_kind own kind) =
+      ap (λ (b : Bool). one_if (same_kind own kind && b)) (company_itself company)
+      ∙ ap one_if (and_true (same_kind own kind)) in
+      let goes : one_if (same_kind own kind && same_train_place (place_of_seller from) place) ≡ 0 =
+      ap (λ (b : Bool). one_if (same_kind own kind && b)) apart ∙ ap one_if (and_false (same_kind own kind)) in
+      omega (
+        arith,
+        ints,
+        trains_at_end game.events (event.Train company own from price) place kind,
+        comes,
+        goes,
+        none
+            kind,
+      )
 
   -- so it is after the whole purchase
-  by_purchase : (game : Game) (from : TrainSeller) → ((kind : Kind) → trains_held game.events (Some company) kind ≡ pos 0) →
-      same_train_place (place_of_seller from) (train_owner_place (Some company)) ≡ false → HasOne (after_train game company (plain own from))
+  by_purchase : (game : Game) (from : TrainSeller)
+      → ((kind : Kind) → trains_held game.events (Some company) kind ≡ pos 0) →
+      same_train_place (place_of_seller from) (train_owner_place (Some company)) ≡ false
+      → HasOne (after_train game company (plain own from))
   by_purchase game from none apart =
       let came : Game = with_event game (event.Train company own from (cost_of (plain own from))) in
       let all : Game = bought game company (plain own from) in
-      let first : HasOne all = of_bop Stays on (λ now private. by_other now (event.Closed private) refl) came company (by_train game from (cost_of (plain own from)) none apart) in
+      let first : HasOne all = of_bop Stays on (λ now private. by_other now (event.Closed private) refl) came company
+      (by_train game from (cost_of (plain own from)) none apart) in
       elim (begins_phase game.events from own) as (λ (b : Bool). HasOne (if b then with_phase all own else all)) [
         | true ↦ by_phase all first
         | false ↦ first
@@ -215,7 +253,8 @@ not_over : (size : ℤ) → lt_z (pos 0) size ≡ false → size ≤ℤ pos 0
 not_over size none = grind (arith, ints, none)
 
 -- a company that has no trains has none of any kind
-none_of_any : (game : Game) (company : Company) → TrainsAreHeld game.events → has_trains game.events company ≡ false → (kind : Kind) → trains_held game.events (Some company) kind ≡ pos 0
+none_of_any : (game : Game) (company : Company) → TrainsAreHeld game.events → has_trains game.events company ≡ false
+    → (kind : Kind) → trains_held game.events (Some company) kind ≡ pos 0
 none_of_any game company held none kind =
     let owner : Option Company = Some company in
     let few : train_count game.events owner ≤ℤ pos 0 = not_over (train_count game.events owner) none in
@@ -235,11 +274,13 @@ none_of_any game company held none kind =
     ]
 
 -- what the president pays moves no train
-none_with_aid : (by : Operator) (game : Game) (kind : Kind) → trains_held game.events (Some by.company) kind ≡ pos 0 → trains_held (with_aid by game).events (Some by.company) kind ≡ pos 0
+none_with_aid : (by : Operator) (game : Game) (kind : Kind) → trains_held game.events (Some by.company) kind ≡ pos 0
+    → trains_held (with_aid by game).events (Some by.company) kind ≡ pos 0
 unfolding with_aid
 none_with_aid by game kind none =
     let its : Event = event.Aid by.president by.company (so_many (lack_of game by.company)) in
-    elim (lt_z (pos 0) (lack_of game by.company)) as (λ (b : Bool). trains_held (if b then with_event game its else game).events (Some by.company) kind ≡ pos 0) [
+    elim (lt_z (pos 0) (lack_of game by.company)) as
+    (λ (b : Bool). trains_held (if b then with_event game its else game).events (Some by.company) kind ≡ pos 0) [
       | true ↦ trains_at_before game.events its (train_owner_place (Some by.company)) kind refl ∙ none
       | false ↦ none
     ]
@@ -250,11 +291,14 @@ has_bought : (by : Operator) (game : Game) → TrainsAreHeld game.events → has
 has_bought by game held none =
     let company : Company = by.company in
     let aided : Game = with_aid by game in
-    let nothing : (kind : Kind) → trains_held aided.events (Some company) kind ≡ pos 0 = λ kind. none_with_aid by game kind (none_of_any game company held none kind) in
+    let nothing : (kind : Kind) → trains_held aided.events (Some company) kind ≡ pos 0 =
+    λ kind. none_with_aid by game kind (none_of_any game company held none kind) in
     let Has : Purchase → Type 0 = λ purchase. has_trains (after_train aided company purchase).events company ≡ true in
-    let from_there : (kind : Kind) (from : TrainSeller) → same_train_place (place_of_seller from) (train_owner_place (Some company)) ≡ false → Has (plain kind from) =
+    let from_there : (kind : Kind) (from : TrainSeller)
+    → same_train_place (place_of_seller from) (train_owner_place (Some company)) ≡ false → Has (plain kind from) =
     λ kind from apart.
-    ap (lt_z (pos 0)) (one_in_all company kind (after_train aided company (plain kind from)) (by_purchase company kind aided from nothing apart))
+    ap (lt_z (pos 0)) (one_in_all company kind (after_train aided company (plain kind from))
+    (by_purchase company kind aided from nothing apart))
     in
     let its = cheapest_plain game.events in
     elim its.1 [
@@ -271,14 +315,24 @@ alike_same : (game : Game) → Alike game game
 alike_same game = record { map_state = refl; size = λ company. refl }
 
 alike_both : (a b c : Game) → Alike a b → Alike b c → Alike a c
-alike_both a b c one two = record { map_state = two.map_state ∙ one.map_state; size = λ company. two.size company ∙ one.size company }
+alike_both a b c one two = record {
+  map_state = two.map_state ∙ one.map_state;
+  size =
+      λ company. two.size company ∙ one.size company;
+}
 
-alike_ruled : (by : Operator) (game : Game) (line : Numbered) (ruling : Ruling) → Alike game (with_ruling by game line ruling)
+alike_ruled : (by : Operator) (game : Game) (line : Numbered) (ruling : Ruling)
+    → Alike game (with_ruling by game line ruling)
 alike_ruled by game line ruling =
     let its : Event = event.Ruled by.president line.number ruling in
-    record { map_state = same_map_state game.events its refl refl refl; size = λ company. size_before game.events its (Some company) refl }
+    record {
+      map_state = same_map_state game.events its refl refl refl;
+      size =
+          λ company. size_before game.events its (Some company) refl;
+    }
 
-alike_line : (by : Operator) (game : Game) (line : Numbered) (reading : Result Order Fault) → Alike game (after_raise_line false by game line reading)
+alike_line : (by : Operator) (game : Game) (line : Numbered) (reading : Result Order Fault)
+    → Alike game (after_raise_line false by game line reading)
 unfolding raise_rule
 alike_line by game line (Ok (order.Raise company tenths)) = alike_ruled by game line _
 alike_line by game line other = alike_same game
@@ -287,46 +341,63 @@ alike_raises : (by : Operator) (lines : List Numbered) (game : Game) → Alike g
 alike_raises by [] game = alike_same game
 alike_raises by (line ∷ lines) game =
     let next : Game = after_raise_line false by game line line.reading in
-    alike_both game next (after_raises false by next lines) (alike_line by game line line.reading) (alike_raises by lines next)
+    alike_both game next (after_raises false by next lines) (alike_line by game line line.reading)
+    (alike_raises by lines next)
 
 -- the company owns a train, or its president is bankrupt, or it could run none
 abbrev Served : Company → Game → Type 0
-Served company game = (has_trains game.events company ≡ true) ⊎ ((bankrupt_in game.events ≡ true) ⊎ (¬ CanRun (position_of (map_state_now game.events)) company))
+Served company game = (has_trains game.events company ≡ true)
+    ⊎ ((bankrupt_in game.events ≡ true) ⊎ (¬ CanRun (position_of (map_state_now game.events)) company))
 
 -- so it is once it has bought, or its president is bankrupt
-served_bought : (by : Operator) (gained new : Game) → new ≡ concluded by gained → TrainsAreHeld gained.events → has_trains gained.events by.company ≡ false → Served by.company new
+served_bought : (by : Operator) (gained new : Game) → new ≡ concluded by gained → TrainsAreHeld gained.events
+    → has_trains gained.events by.company ≡ false → Served by.company new
 unfolding concluded
 served_bought by gained new is held none =
-    elim (falls_short by gained) as (λ (b : Bool). new ≡ (if b then with_event gained (event.Bankrupt by.president) else after_train (with_aid by gained) by.company (cheapest gained.events)) → Served by.company new) [
-      | true ↦ λ told. inr (inl (ap (λ (game : Game). bankrupt_in game.events) told ∙ now_bankrupt gained.events by.president))
-      | false ↦ λ buys. inl (ap (λ (game : Game). has_trains game.events by.company) buys ∙ has_bought by gained held none)
+    elim (falls_short by gained) as (λ (b : Bool). new
+    ≡ (if b then with_event gained (event.Bankrupt by.president) else after_train (with_aid by gained) by.company
+    (cheapest gained.events)) → Served by.company new) [
+      | true ↦ λ told. inr (inl (ap (λ (game : Game). bankrupt_in game.events) told
+          ∙ now_bankrupt gained.events by.president))
+      | false ↦ λ buys. inl (ap (λ (game : Game). has_trains game.events by.company) buys
+          ∙ has_bought by gained held none)
     ]
     is
 
 -- and where it has to buy nothing
-served_free : (by : Operator) (lines : List Numbered) (game new : Game) → new ≡ after_raises false by game lines → (¬ IsDue game by.company) → Served by.company new
+served_free : (by : Operator) (lines : List Numbered) (game new : Game) → new ≡ after_raises false by game lines
+    → (¬ IsDue game by.company) → Served by.company new
 served_free by lines game new is free =
     let alike : Alike game new = subst (Alike game) (sym is) (alike_raises by lines game) in
-    let size : has_trains new.events by.company ≡ has_trains game.events by.company = ap (lt_z (pos 0)) (alike.size by.company) in
+    let size : has_trains new.events by.company ≡ has_trains game.events by.company =
+    ap (lt_z (pos 0)) (alike.size by.company) in
     elim (truth (has_trains game.events by.company)) [
       | inl owns ↦ inl (size ∙ owns)
-      | inr none ↦ inr (inr (λ can. free (none, subst (λ map_state. CanRun (position_of map_state) by.company) alike.map_state can)))
+      | inr none ↦ inr (inr (λ can. free (
+        none,
+        subst (λ map_state. CanRun (position_of map_state) by.company)
+            alike.map_state can,
+      )))
     ]
 
-served : (by : Operator) (lines : List Numbered) (game new : Game) → EndLeads by lines game new → TrainsStand game.events → Served by.company new
+served : (by : Operator) (lines : List Numbered) (game new : Game) → EndLeads by lines game new
+    → TrainsStand game.events → Served by.company new
 unfolding after_forced
 served by lines game new (inl due) stand =
     let gained : Game = gained_of by lines game in
-    let sales = of_sale by StillStand (stands_by by.company) (λ now company seat. more_stand now (event.President company seat) tt refl refl refl) in
+    let sales = of_sale by StillStand (stands_by by.company)
+    (λ now company seat. more_stand now (event.President company seat) tt refl refl refl) in
     let still : TrainsStand gained.events = of_gained by StillStand (stands_by by.company) sales lines game stand in
     served_bought by gained new due.1 still.held (gained_none by lines game due.0.0)
 served by lines game new (inr none) stand = served_free by lines game new none.1 none.0
 
 -- so it is in each turn of a company that has a president
-of_block : (file : List ℕ) (round : Round) (company : Company) (game new : Game) (president : Option Seat) (seat : Seat) → president ≡ Some seat →
+of_block : (file : List ℕ) (round : Round) (company : Company) (game new : Game) (president : Option Seat)
+    (seat : Seat) → president ≡ Some seat →
     BlockEnds file round company game president new → TrainsStand game.events → Served company new
 of_block file round company game new None seat is ends stand = absurd cc
-of_block file round company game new (Some its) seat is ends stand = served (operator company its) (block_for file round its.0 company) game new ends stand
+of_block file round company game new (Some its) seat is ends stand =
+    served (operator company its) (block_for file round its.0 company) game new ends stand
 
 pub turns_end_with_trains : TurnsEndWithTrains
 turns_end_with_trains file round company old new president stand presides turn =

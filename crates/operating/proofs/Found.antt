@@ -30,7 +30,8 @@ use Rattle.reach.specs.declared.walk.Step.{Step}
 use Rattle.tables.specs.declared.roster.Company.{Company}
 
 -- one of a list is so
-pub any_among : {A : Type 0} (P : A → Type 0) → ((a : A) → Decided (P a)) → (things : List A) → Decided ((a : A) × IsAmong a things × P a)
+pub any_among : {A : Type 0} (P : A → Type 0) → ((a : A) → Decided (P a)) → (things : List A)
+    → Decided ((a : A) × IsAmong a things × P a)
 any_among P each [] = inr (λ any. absurd any.1)
 any_among P each (thing ∷ things) =
     elim (each thing) [
@@ -69,18 +70,21 @@ any_hex P each =
         index_of any.0,
         index_low any.0,
         subst P
-            (sym (same_index (get_or hexes (index_of any.0) A9) any.0 (hexes_at (index_of any.0) A9 (index_low any.0)))) any.1,
+            (sym (same_index (get_or hexes (index_of any.0) A9) any.0
+            (hexes_at (index_of any.0) A9 (index_low any.0)))) any.1,
       ))
     ]
 
 -- a stop of a hex
-pub any_number : (P : StopNumber → Type 0) → ((number : StopNumber) → Decided (P number)) → Decided ((number : StopNumber) × P number)
+pub any_number : (P : StopNumber → Type 0) → ((number : StopNumber) → Decided (P number))
+    → Decided ((number : StopNumber) × P number)
 any_number P each =
     elim (each First) [
       | inl is ↦ inl (First, is)
       | inr off ↦ elim (each Second) [
         | inl is ↦ inl (Second, is)
-        | inr neither ↦ inr (λ any. (elim any.0 as (λ (number : StopNumber). P number → ⊥) [ First ↦ off | Second ↦ neither ]) any.1)
+        | inr neither ↦ inr (λ any. (elim any.0 as (λ (number : StopNumber). P number → ⊥)
+            [ First ↦ off | Second ↦ neither ]) any.1)
       ]
     ]
 
@@ -88,7 +92,8 @@ any_number P each =
 number_low : (hex : Hex) (end : End) → number_at hex end < 744
 number_low hex (AtSide side) = omega (arith, index_low hex, side_low side)
 number_low hex (AtStop number) =
-    let joined = joined_stop_of (stop_at hex number) in omega (arith, index_low joined.hex, stop_index_low joined.number)
+    let joined = joined_stop_of (stop_at hex number) in omega
+    (arith, index_low joined.hex, stop_index_low joined.number)
 
 -- what is not marked
 unmarked : (mark : Bool) → ¬ (mark ≡ true) → mark ≡ false
@@ -114,12 +119,15 @@ module _ (position : Position) (company : Company) (lawful : IsLawful position) 
   abbrev IsNewToken : List Bool → Stop → Type 0
   IsNewToken marks stop = HasToken position (joined_stop_of stop) company × ¬ IsMarked marks (spot_of stop)
 
-  new_token : (marks : List Bool) → Decided ((hex : Hex) × ((number : StopNumber) × IsNewToken marks (stop_at hex number)))
+  new_token : (marks : List Bool) → Decided ((hex : Hex)
+      × ((number : StopNumber) × IsNewToken marks (stop_at hex number)))
   new_token marks =
       any_hex (λ hex. (number : StopNumber) × IsNewToken marks (stop_at hex number))
       (λ hex. any_number (λ number. IsNewToken marks (stop_at hex number))
-      (λ number. let stop = stop_at hex number in both_decided (HasToken position (joined_stop_of stop) company) (¬ IsMarked marks (spot_of stop))
-      (token_decided position (joined_stop_of stop) company) (not_decided (IsMarked marks (spot_of stop)) (mark_decided marks (spot_of stop)))))
+      (λ number. let stop = stop_at hex number in both_decided (HasToken position (joined_stop_of stop) company)
+      (¬ IsMarked marks (spot_of stop))
+      (token_decided position (joined_stop_of stop) company)
+      (not_decided (IsMarked marks (spot_of stop)) (mark_decided marks (spot_of stop)))))
 
   -- a step from what is marked to what is not
   abbrev IsNewStep : List Bool → Step → Type 0
@@ -128,37 +136,49 @@ module _ (position : Position) (company : Company) (lawful : IsLawful position) 
   step_decided : (marks : List Bool) (step : Step) → Decided (IsNewStep marks step)
   step_decided marks step =
       both_decided (CanEnter position company marks (entered_at step)) (¬ IsMarked marks (left_at step))
-      (can_enter_decided position company marks (entered_at step)) (not_decided (IsMarked marks (left_at step)) (mark_decided marks (left_at step)))
+      (can_enter_decided position company marks (entered_at step))
+      (not_decided (IsMarked marks (left_at step)) (mark_decided marks (left_at step)))
 
   -- along a link, one way or the other
   abbrev IsNewLink : List Bool → Link → Type 0
-  IsNewLink marks link = IsNewStep marks (record { link = link; turned = false }) ⊎ IsNewStep marks (record { link = link; turned = true })
+  IsNewLink marks link = IsNewStep marks (record { link = link; turned = false })
+      ⊎ IsNewStep marks (record { link = link; turned = true })
 
-  new_link : (marks : List Bool) → Decided ((hex : Hex) × ((link : Link) × IsAmong link (links_of position hex) × IsNewLink marks link))
+  new_link : (marks : List Bool) → Decided ((hex : Hex)
+      × ((link : Link) × IsAmong link (links_of position hex) × IsNewLink marks link))
   new_link marks =
       any_hex (λ hex. (link : Link) × IsAmong link (links_of position hex) × IsNewLink marks link)
       (λ hex. any_among (IsNewLink marks)
-      (λ link. either_decided (IsNewStep marks (record { link = link; turned = false })) (IsNewStep marks (record { link = link; turned = true }))
-      (step_decided marks (record { link = link; turned = false })) (step_decided marks (record { link = link; turned = true }))) (links_of position hex))
+      (λ link. either_decided (IsNewStep marks (record { link = link; turned = false }))
+      (IsNewStep marks (record { link = link; turned = true }))
+      (step_decided marks (record { link = link; turned = false }))
+      (step_decided marks (record { link = link; turned = true }))) (links_of position hex))
 
   -- a step of the one or the other way is one along its link
-  either_way : (marks : List Bool) (link : Link) (turned : Bool) → IsNewStep marks (record { link = link; turned = turned }) → IsNewLink marks link
+  either_way : (marks : List Bool) (link : Link) (turned : Bool)
+      → IsNewStep marks (record { link = link; turned = turned }) → IsNewLink marks link
   either_way marks link true new = inr new
   either_way marks link false new = inl new
 
   -- a token is marked
-  by_token : (old : List Bool) → length old ≡ 744 → AllArrive position company old → (stop : Stop) → IsNewToken old stop → Further position company old
+  by_token : (old : List Bool) → length old ≡ 744 → AllArrive position company old → (stop : Stop)
+      → IsNewToken old stop → Further position company old
   by_token old long arrive stop is =
       let number : ℕ = spot_number (spot_of stop) in
       record {
         new = set old number true;
         long = length-set old number true ∙ long;
         arrive = token_arrives position company old stop (stop_order stop) refl is.0 arrive (set old number true) refl;
-        more = omega (arith, one_more old number (omega (arith, long, number_low stop.hex (AtStop stop.number))) (unmarked (get_or old number false) is.1));
+        more = omega (
+          arith,
+          one_more old number (omega (arith, long, number_low stop.hex (AtStop stop.number)))
+              (unmarked (get_or old number false) is.1),
+        );
       }
 
   -- the end of a step is
-  by_step : (old : List Bool) → length old ≡ 744 → AllArrive position company old → (step : Step) → IsTrack position step → IsNewStep old step →
+  by_step : (old : List Bool) → length old ≡ 744 → AllArrive position company old → (step : Step)
+      → IsTrack position step → IsNewStep old step →
       Further position company old
   by_step old long arrive step track is =
       let number : ℕ = spot_number (left_at step) in
@@ -169,7 +189,8 @@ module _ (position : Position) (company : Company) (lawful : IsLawful position) 
       let any : Link → Type 0 = λ link. Unit {0} in
       let kept : IsKept step.link any any = record { here = tt; stay = λ other is. tt; only = λ other is. inl tt } in
       let spreads =
-      spreads_followed position company lawful step track (entered_at step) old [] any (set old number true) (left_at step ∷ []) any is.0
+      spreads_followed position company lawful step track (entered_at step) old [] any (set old number true)
+      (left_at step ∷ []) any is.0
       (record { entered = λ same. marking; link = λ same. kept; other = λ apart. absurd (apart refl) }) in
       record {
         new = set old number true;
@@ -178,22 +199,27 @@ module _ (position : Position) (company : Company) (lawful : IsLawful position) 
         more = omega (arith, one_more old number low off);
       }
 
-  by_link : (old : List Bool) → length old ≡ 744 → AllArrive position company old → (link : Link) → IsAmong link (links_of position link.hex) →
+  by_link : (old : List Bool) → length old ≡ 744 → AllArrive position company old → (link : Link)
+      → IsAmong link (links_of position link.hex) →
       IsNewLink old link → Further position company old
-  by_link old long arrive link track (inl forward) = by_step old long arrive (record { link = link; turned = false }) track forward
-  by_link old long arrive link track (inr back) = by_step old long arrive (record { link = link; turned = true }) track back
+  by_link old long arrive link track (inl forward) =
+      by_step old long arrive (record { link = link; turned = false }) track forward
+  by_link old long arrive link track (inr back) =
+      by_step old long arrive (record { link = link; turned = true }) track back
 
   -- what is not new is marked
   known : (marks : List Bool) (spot : Spot) → ¬ (¬ IsMarked marks spot) → IsMarked marks spot
   known marks spot is = elim (mark_decided marks spot) [ inl here ↦ here | inr off ↦ absurd (is off) ]
 
   -- there are more marks, or all is found
-  next : (old : List Bool) → length old ≡ 744 → AllArrive position company old → Further position company old ⊎ Search position company
+  next : (old : List Bool) → length old ≡ 744 → AllArrive position company old
+      → Further position company old ⊎ Search position company
   next old long arrive =
       elim (new_token old) [
         | inl token ↦ inl (by_token old long arrive (stop_at token.0 token.1.0) token.1.1)
         | inr no_token ↦ elim (new_link old) [
-          | inl new ↦ inl (let link = new.1.0 in by_link old long arrive link (own_hex position lawful new.0 link new.1.1) new.1.2)
+          | inl new ↦ inl (let link = new.1.0 in by_link old long arrive link
+              (own_hex position lawful new.0 link new.1.1) new.1.2)
           | inr no_link ↦ inr (record {
             marks = old;
             arrive = arrive;
@@ -206,10 +232,18 @@ module _ (position : Position) (company : Company) (lawful : IsLawful position) 
       ]
 
   -- the search ends: each time there is more, and there are no more marks than spots
-  until_nothing : (left : ℕ) (old : List Bool) → length old ≡ 744 → 744 ≤ marked old + left → AllArrive position company old → Search position company
+  until_nothing : (left : ℕ) (old : List Bool) → length old ≡ 744 → 744 ≤ marked old + left
+      → AllArrive position company old → Search position company
   until_nothing zero old long few arrive =
       elim (next old long arrive) [
-        | inl further ↦ absurd (omega (arith, further.more, further.long, count_by-le-length (λ mark. mark) further.new, few))
+        | inl further ↦ absurd (omega (
+          arith,
+          further.more,
+          further.long,
+          count_by-le-length (λ mark. mark)
+              further.new,
+          few,
+        ))
         | inr all ↦ all
       ]
   until_nothing (suc left) old long few arrive =

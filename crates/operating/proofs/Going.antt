@@ -16,26 +16,32 @@ use Rattle.tables.specs.declared.rolling_stock.Kind.{Kind}
 
 -- after a line
 pub after_line :
-    (old new : CompanyTurn) (line : Numbered) (reading : Result Order Fault) → ReadingLeads old.by (state old) line reading (state new) →
+    (old new : CompanyTurn) (line : Numbered) (reading : Result Order Fault)
+    → ReadingLeads old.by (state old) line reading (state new) →
     GoesOn old new → IsInOrder new
 after_line old new line reading leads on =
     record {
       sound = on.sound;
-      front = front_on new.board.value old.history new.history (line_adds old.by (state old) line reading (state new) leads) on.front;
+      front = front_on new.board.value old.history new.history
+          (line_adds old.by (state old) line reading (state new) leads) on.front;
     }
 
 -- and after what the company withholds by itself
-pub after_settling : (old new : CompanyTurn) → state new ≡ settled old.by.company (state old) → GoesOn old new → IsInOrder new
+pub after_settling : (old new : CompanyTurn) → state new ≡ settled old.by.company (state old) → GoesOn old new
+    → IsInOrder new
 after_settling old new is on =
     record {
       sound = on.sound;
-      front = front_on new.board.value old.history new.history (settled_adds old.by.company old.history new.history old.progress new.progress is) on.front;
+      front = front_on new.board.value old.history new.history
+          (settled_adds old.by.company old.history new.history old.progress new.progress is) on.front;
     }
 
 -- a TRAIN line, where what the company withholds by itself leaves whose turn it is
 pub train_leads_on :
-    (by same : Operator) (turn paid : InTurn) (line : Numbered) (its : Order) (kind : Kind) (from : TrainSource) (new : InTurn) →
-    its ≡ order.BuyTrain kind from → same ≡ by → paid ≡ settled by.company turn → new ≡ after_buying same paid line kind from →
+    (by same : Operator) (turn paid : InTurn) (line : Numbered) (its : Order) (kind : Kind) (from : TrainSource)
+    (new : InTurn) →
+    its ≡ order.BuyTrain kind from → same ≡ by → paid ≡ settled by.company turn
+    → new ≡ after_buying same paid line kind from →
     OrderLeads by turn line its new
 train_leads_on by same turn paid line its kind from new is is_by is_paid ruled =
     train_leads by turn paid line its kind from new is is_paid

@@ -29,13 +29,17 @@ use Rattle.tables.specs.declared.roster.Company.TheVariants.{Pennsylvania}
 
 -- a token of a company lies at a stop by some events or by those after them
 by_either : (stop : Stop) (company : Company) (before after : List Event) →
-    has_token (tokens_of (before ++ after)) stop company ≡ (has_token (tokens_of before) stop company || has_token (tokens_of after) stop company)
+    has_token (tokens_of (before ++ after)) stop company
+    ≡ (has_token (tokens_of before) stop company || has_token (tokens_of after) stop company)
 by_either stop company before after =
-    ap (λ (tokens : List (Place × Company)). has_token tokens stop company) (filter_map-append token_placed before after)
-    ∙ list_any-append (λ (token : Place × Company). names stop token.0 && same_company token.1 company) (tokens_of before) (tokens_of after)
+    ap (λ (tokens : List (Place × Company)). has_token tokens stop company)
+    (filter_map-append token_placed before after)
+    ∙ list_any-append (λ (token : Place × Company). names stop token.0 && same_company token.1 company)
+    (tokens_of before) (tokens_of after)
 
 -- HOME places it at the company's home
-lies_by_home : (company : Company) → has_home_token (event.Home company (place_of (home_of company)) ∷ []) company ≡ true
+lies_by_home : (company : Company) → has_home_token (event.Home company (place_of (home_of company)) ∷ []) company
+    ≡ true
 unfolding index_of
 lies_by_home Pennsylvania = refl
 lies_by_home company = refl
@@ -58,8 +62,10 @@ pub home_token_lies : HomeTokenLies
 home_token_lies file round company old new turn more =
     let first = (begun old company).game in
     let paid = (settled company turn.last).game in
-    let before : OnlyAdds first paid = of_turn company _ (of_steps company OnlyAdds (adds_by company)) file round old new turn in
-    let ended : OnlyAdds paid new = of_block_end company OnlyAdds (adds_by company) more_adds file round paid (president_of old.events company) new turn.after in
+    let before : OnlyAdds first paid = of_turn company _ (of_steps company OnlyAdds (adds_by company)) file round old
+    new turn in
+    let ended : OnlyAdds paid new = of_block_end company OnlyAdds (adds_by company) more_adds file round paid
+    (president_of old.events company) new turn.after in
     let adds : OnlyAdds first new = (adds_by company).on.both first paid new before ended in
     ap (λ (game : Game). has_home_token (game.events ++ more) company) adds.added
     ∙ ap (λ (events : List Event). has_home_token events company) (append_assoc first.events adds.more more)

@@ -38,14 +38,20 @@ second_none None second none = none
 second_none (Some thing) second none = absurd (cc)
 
 -- a run that is done is legal by the marks of the used borders
-pub judged_legal : (turn : InTurn) (company : Company) (kind : Kind) (run : List Place) (ran : CompletedRun) → judged_run turn company kind run ≡ Ok ran → IsLegalRun (position_now turn.game.events) company kind (borders_used turn.progress.runs.borders) (steps_now turn.game.events run)
+pub judged_legal : (turn : InTurn) (company : Company) (kind : Kind) (run : List Place) (ran : CompletedRun)
+    → judged_run turn company kind run ≡ Ok ran → IsLegalRun (position_now turn.game.events) company kind
+    (borders_used turn.progress.runs.borders) (steps_now turn.game.events run)
 judged_legal turn company kind run ran is =
     let position = position_now turn.game.events in
     let used = borders_used turn.progress.runs.borders in
     let fault = run_fault position company kind used run in
-    let judged : run_judgement turn company kind run ≡ None = none_broken (ran_by position kind turn.progress.runs.borders run) ran (run_judgement turn company kind run) is in
-    let unbroken : fault ≡ None = second_none (first_broken (rules_of_turn turn.game company turn.progress kind)) fault judged in
-    let legal : NameLegalRun position company kind used run = (legal_where_unbroken position company kind used run).0 unbroken in
+    let judged : run_judgement turn company kind run ≡ None =
+    none_broken (ran_by position kind turn.progress.runs.borders run) ran (run_judgement turn company kind run)
+    is in
+    let unbroken : fault ≡ None = second_none (first_broken (rules_of_turn turn.game company turn.progress kind))
+    fault judged in
+    let legal : NameLegalRun position company kind used run =
+    (legal_where_unbroken position company kind used run).0 unbroken in
     subst (λ (steps : List Step). IsLegalRun position company kind used steps) (sym (ap steps_of legal.1)) legal.2
 
 -- what is done is what the run does
@@ -55,20 +61,25 @@ done_is ran done (Some rule) is = absurd (cc)
 
 -- what the run does that is done
 pub judged_ran :
-    (turn : InTurn) (company : Company) (kind : Kind) (run : List Place) (ran : CompletedRun) → judged_run turn company kind run ≡ Ok ran →
+    (turn : InTurn) (company : Company) (kind : Kind) (run : List Place) (ran : CompletedRun)
+    → judged_run turn company kind run ≡ Ok ran →
     ran ≡ ran_by (position_now turn.game.events) kind turn.progress.runs.borders run
 judged_ran turn company kind run ran is =
-    done_is (ran_by (position_now turn.game.events) kind turn.progress.runs.borders run) ran (run_judgement turn company kind run) is
+    done_is (ran_by (position_now turn.game.events) kind turn.progress.runs.borders run) ran
+    (run_judgement turn company kind run) is
 
 -- the borders that are marked then
 pub judged_borders :
-    (turn : InTurn) (company : Company) (kind : Kind) (run : List Place) (ran : CompletedRun) → judged_run turn company kind run ≡ Ok ran →
+    (turn : InTurn) (company : Company) (kind : Kind) (run : List Place) (ran : CompletedRun)
+    → judged_run turn company kind run ≡ Ok ran →
     ran.borders ≡ marked turn.progress.runs.borders (crossed (steps_now turn.game.events run))
-judged_borders turn company kind run ran is = ap (λ (r : CompletedRun). r.borders) (judged_ran turn company kind run ran is)
+judged_borders turn company kind run ran is = ap (λ (r : CompletedRun). r.borders)
+    (judged_ran turn company kind run ran is)
 
 -- where neither rule of the turn is broken, not all trains of the kind have run
 neither_broken :
-    (past best all : Bool) → first_broken (rule run_rule.StepUsed past ∷ rule run_rule.NoTrain (best || all) ∷ []) ≡ None → all ≡ false
+    (past best all : Bool) → first_broken (rule run_rule.StepUsed past ∷ rule run_rule.NoTrain (best || all) ∷ [])
+    ≡ None → all ≡ false
 neither_broken past best false none = refl
 neither_broken true best true none = cc
 neither_broken false true true none = cc
@@ -81,15 +92,18 @@ first_none (Some thing) second none = absurd (cc)
 
 -- a run is done only where some train of its kind has not run
 pub judged_room :
-    (turn : InTurn) (company : Company) (kind : Kind) (run : List Place) (ran : CompletedRun) → judged_run turn company kind run ≡ Ok ran →
+    (turn : InTurn) (company : Company) (kind : Kind) (run : List Place) (ran : CompletedRun)
+    → judged_run turn company kind run ≡ Ok ran →
     le_z (trains_held turn.game.events (Some company) kind) (has_run turn.progress.runs kind) ≡ false
 judged_room turn company kind run ran is =
     let position = position_now turn.game.events in
     let marks = turn.progress.runs.borders in
-    let judged : run_judgement turn company kind run ≡ None = none_broken (ran_by position kind marks run) ran (run_judgement turn company kind run) is in
+    let judged : run_judgement turn company kind run ≡ None =
+    none_broken (ran_by position kind marks run) ran (run_judgement turn company kind run) is in
     neither_broken (is_past_runs turn.progress) turn.progress.best_run
     (le_z (trains_held turn.game.events (Some company) kind) (has_run turn.progress.runs kind))
-    (first_none (first_broken (rules_of_turn turn.game company turn.progress kind)) (broken_by position company kind marks run) judged)
+    (first_none (first_broken (rules_of_turn turn.game company turn.progress kind))
+    (broken_by position company kind marks run) judged)
 
 -- a sum that a run earns is kept whole
 sum_kept : (money : ℤ) (sum : ℕ) → money ≡ pos sum → sum ≤ 94640 → unsigned_abs (to_z w128 (of_z w128 money)) ≡ sum
@@ -98,11 +112,17 @@ sum_kept money sum is small =
     ap unsigned_abs kept
 
 -- a run that breaks no rule of runs may be done
-pub run_counted : (position : Position) (company : Company) (kind : Kind) (done seen : Done) (run : List Place) (borders : List Bool) (money : ℤ) → done ≡ seen → IsBounded done.trains done.borders done.revenue → IsLawful position → RunsEarnByBorders → run_fault position company kind (borders_used done.borders) run ≡ None → money ≡ pos (earned position (named_steps position run)) → borders ≡ marked done.borders (crossed (named_steps position run)) → has_run seen kind ≤ℤ runs_most → IsCounted seen (record { kind = kind; earned = unsigned_abs (to_z w128 (of_z w128 money)); borders = borders })
+pub run_counted : (position : Position) (company : Company) (kind : Kind) (done seen : Done) (run : List Place)
+    (borders : List Bool) (money : ℤ) → done ≡ seen → IsBounded done.trains done.borders done.revenue
+    → IsLawful position → RunsEarnByBorders → run_fault position company kind (borders_used done.borders) run ≡ None
+    → money ≡ pos (earned position (named_steps position run))
+    → borders ≡ marked done.borders (crossed (named_steps position run)) → has_run seen kind ≤ℤ runs_most
+    → IsCounted seen (record { kind = kind; earned = unsigned_abs (to_z w128 (of_z w128 money)); borders = borders })
 run_counted position company kind done seen run borders money view within lawful law unbroken earns crosses few =
     let sum : ℕ = earned position (named_steps position run) in
     let after : List Bool = marked done.borders (crossed (named_steps position run)) in
-    let bounded : sum + 160 * unused after ≤ 160 * unused done.borders = law position company kind done.borders run within.marks lawful unbroken in
+    let bounded : sum + 160 * unused after ≤ 160 * unused done.borders =
+    law position company kind done.borders run within.marks lawful unbroken in
     let small : sum ≤ 94640 = omega (arith, bounded, within.bounded) in
     let made : ℕ → List Bool → CompletedRun = λ sum marks. record { kind = kind; earned = sum; borders = marks } in
     let is : made sum after ≡ made (unsigned_abs (to_z w128 (of_z w128 money))) borders =

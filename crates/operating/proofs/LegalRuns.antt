@@ -41,7 +41,8 @@ AreWalks walks turn = MarksAre (all_crossed walks) (marks_in turn)
 
 -- a run that is obeyed marks its own
 after_run :
-    (by : Operator) (turn : InTurn) (line : Numbered) (its : Order) (kind : Kind) (run : List Place) (before : List (List Step)) (judged : Result CompletedRun RunRule) →
+    (by : Operator) (turn : InTurn) (line : Numbered) (its : Order) (kind : Kind) (run : List Place)
+    (before : List (List Step)) (judged : Result CompletedRun RunRule) →
     judged_run turn by.company kind run ≡ judged → AreWalks before turn →
     AreWalks (walk_if_ran (steps_now turn.game.events run) judged ++ before) (run_ruled by turn line its judged)
 after_run by turn line its kind run before (Err rule) is are = are
@@ -51,12 +52,14 @@ after_run by turn line its kind run before (Ok ran) is are =
     (crossed_used (all_crossed before) (marks_in turn) (steps_now turn.game.events run) are)
 
 -- the marks that an order leaves
-left_as : (before : List (List Step)) (turn new : InTurn) → marks_in new ≡ marks_in turn → AreWalks before turn → AreWalks before new
+left_as : (before : List (List Step)) (turn new : InTurn) → marks_in new ≡ marks_in turn → AreWalks before turn
+    → AreWalks before new
 left_as before turn new same are = subst (λ (marks : List Bool). MarksAre (all_crossed before) marks) (sym same) are
 
 -- after an order
 after_order :
-    (by : Operator) (turn : InTurn) (line : Numbered) (before : List (List Step)) (its : Order) (new : InTurn) → OrderLeads by turn line its new →
+    (by : Operator) (turn : InTurn) (line : Numbered) (before : List (List Step)) (its : Order) (new : InTurn)
+    → OrderLeads by turn line its new →
     AreWalks before turn → AreWalks (walk_ordered by.company turn its ++ before) new
 after_order by turn line before (order.Run kind run) new leads are =
     subst (λ (next : InTurn). AreWalks (walk_ordered by.company turn (order.Run kind run) ++ before) next) (sym leads)
@@ -64,29 +67,36 @@ after_order by turn line before (order.Run kind run) new leads are =
 after_order by turn line before order.RunBest new leads are =
     left_as before turn new (after_best by turn line (best_judgement turn by.company) new leads) are
 after_order by turn line before other new leads are =
-    left_as before turn new (ap (λ (done : Bool × Runs). done.1.borders) (after_other by turn line other new tt leads)) are
+    left_as before turn new (ap (λ (done : Bool × Runs). done.1.borders)
+    (after_other by turn line other new tt leads)) are
 
 -- after an order that is asked for its condition
 after_asked :
-    (by : Operator) (turn : InTurn) (line : Numbered) (before : List (List Step)) (its : Order) (held : Bool) (new : InTurn) →
-    AskedLeads by turn line its held new → AreWalks before turn → AreWalks (walk_asked by.company turn its held ++ before) new
+    (by : Operator) (turn : InTurn) (line : Numbered) (before : List (List Step)) (its : Order) (held : Bool)
+    (new : InTurn) →
+    AskedLeads by turn line its held new → AreWalks before turn
+    → AreWalks (walk_asked by.company turn its held ++ before) new
 after_asked by turn line before its true new leads are = left_as before turn new (ap marks_in leads) are
 after_asked by turn line before its false new leads are = after_order by turn line before its new leads are
 
 -- after a line
 after_line :
-    (by : Operator) (turn : InTurn) (line : Numbered) (before : List (List Step)) (reading : Result Order Fault) (new : InTurn) →
-    ReadingLeads by turn line reading new → AreWalks before turn → AreWalks (walk_obeyed by.company turn line reading ++ before) new
+    (by : Operator) (turn : InTurn) (line : Numbered) (before : List (List Step)) (reading : Result Order Fault)
+    (new : InTurn) →
+    ReadingLeads by turn line reading new → AreWalks before turn
+    → AreWalks (walk_obeyed by.company turn line reading ++ before) new
 after_line by turn line before (Err fault) new leads are = left_as before turn new (ap marks_in leads) are
 after_line by turn line before (Ok its) new leads are =
     after_asked by turn line before its (is_held turn.game.events line.condition its) new leads are
 
 -- after some lines
 after_lines :
-    (by : Operator) (turn : InTurn) (before : List (List Step)) (lines : List Numbered) (new : InTurn) (all : List (List Step)) →
+    (by : Operator) (turn : InTurn) (before : List (List Step)) (lines : List Numbered) (new : InTurn)
+    (all : List (List Step)) →
     AreWalks before turn → LinesRun by turn before lines new all → AreWalks all new
 after_lines by turn before [] new all are ran =
-    subst (λ (walks : List (List Step)). AreWalks walks new) (sym ran.1) (left_as before turn new (ap marks_in ran.0) are)
+    subst (λ (walks : List (List Step)). AreWalks walks new) (sym ran.1)
+    (left_as before turn new (ap marks_in ran.0) are)
 after_lines by turn before (line ∷ lines) new all are ran =
     after_lines by ran.0 (walk_obeyed by.company turn line line.reading ++ before) lines new all
     (after_line by turn line before line.reading ran.0 ran.1 are) ran.2

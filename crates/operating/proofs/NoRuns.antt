@@ -36,10 +36,12 @@ abbrev is_some_run : ℤ → Bool
 is_some_run count = lt_z (pos 0) count
 
 -- one of some counts is over 0 once one is set so
-any_set : (counts : List ℤ) (at : ℕ) (count : ℤ) → at < length counts → pos 0 <ℤ count → list_any is_some_run (set counts at count) ≡ true
+any_set : (counts : List ℤ) (at : ℕ) (count : ℤ) → at < length counts → pos 0 <ℤ count
+    → list_any is_some_run (set counts at count) ≡ true
 any_set [] at count low over = absurd (omega arith)
 any_set (first ∷ counts) zero count low over = rw (less_is (pos 0) count over) refl
-any_set (first ∷ counts) (suc at) count low over = second (is_some_run first) _ (any_set counts at count (omega arith) over)
+any_set (first ∷ counts) (suc at) count low over =
+    second (is_some_run first) _ (any_set counts at count (omega arith) over)
   where
     second : (a b : Bool) → b ≡ true → (a || b) ≡ true
     second true b is = refl
@@ -47,7 +49,8 @@ any_set (first ∷ counts) (suc at) count low over = second (is_some_run first) 
 
 -- none is under 0 once one is set that is not
 least_set :
-    (counts : List ℤ) (at other : ℕ) (count : ℤ) → at < length counts → pos 0 ≤ℤ count → pos 0 ≤ℤ get_or counts other (pos 0) →
+    (counts : List ℤ) (at other : ℕ) (count : ℤ) → at < length counts → pos 0 ≤ℤ count
+    → pos 0 ≤ℤ get_or counts other (pos 0) →
     pos 0 ≤ℤ get_or (set counts at count) other (pos 0)
 least_set counts at other count low least rest =
     elim (cases_eq other at) [
@@ -84,51 +87,62 @@ with_run best runs ran are =
     let low : at < length runs.trains = omega (arith, kind_low ran.kind, are.for_each) in
     record {
       for_each = length-set runs.trains at count ∙ are.for_each;
-      least = λ kind. least_set runs.trains at (place_of_kind kind) count low (omega (arith, ints, before)) (are.least kind);
+      least = λ kind. least_set runs.trains at (place_of_kind kind) count low (omega (arith, ints, before))
+          (are.least kind);
       none = λ none.
-          absurd (or_holds best (list_any is_some_run (set runs.trains at count)) (any_set runs.trains at count low (omega (arith, ints, before))) none);
+          absurd (or_holds best (list_any is_some_run (set runs.trains at count))
+          (any_set runs.trains at count low (omega (arith, ints, before))) none);
     }
 
 -- once the best has been run
-with_best : (best : Bool) (runs : Runs) (revenue : ℕ) → AreKept best runs → AreKept true (record runs { revenue = revenue })
+with_best : (best : Bool) (runs : Runs) (revenue : ℕ) → AreKept best runs
+    → AreKept true (record runs { revenue = revenue })
 with_best best runs revenue are = record { for_each = are.for_each; least = are.least; none = λ none. cc }
 
 -- after a RUN
 after_run :
-    (by : Operator) (turn : InTurn) (line : Numbered) (its : Order) (judged : Result CompletedRun RunRule) → IsKeptIn turn → IsKeptIn (run_ruled by turn line its judged)
+    (by : Operator) (turn : InTurn) (line : Numbered) (its : Order) (judged : Result CompletedRun RunRule)
+    → IsKeptIn turn → IsKeptIn (run_ruled by turn line its judged)
 after_run by turn line its (Err rule) are = are
 after_run by turn line its (Ok ran) are = with_run turn.progress.best_run turn.progress.runs ran are
 
 -- after a RUN BEST
 after_best :
-    (by : Operator) (turn : InTurn) (line : Numbered) (rule : Option RunRule) (new : InTurn) → BestRuled by turn line rule new → IsKeptIn turn → IsKeptIn new
+    (by : Operator) (turn : InTurn) (line : Numbered) (rule : Option RunRule) (new : InTurn)
+    → BestRuled by turn line rule new → IsKeptIn turn → IsKeptIn new
 after_best by turn line (Some rule) new leads are = subst IsKeptIn (sym leads) are
 after_best by turn line None new leads are =
     subst IsKeptIn (sym leads.2) (with_best turn.progress.best_run turn.progress.runs leads.0 are)
 
 -- after an order
-after_order : (by : Operator) (turn : InTurn) (line : Numbered) (its : Order) (new : InTurn) → OrderLeads by turn line its new →
+after_order : (by : Operator) (turn : InTurn) (line : Numbered) (its : Order) (new : InTurn)
+    → OrderLeads by turn line its new →
     IsKeptIn turn → IsKeptIn new
 after_order by turn line (order.Run kind run) new leads are =
     subst IsKeptIn (sym leads) (after_run by turn line (order.Run kind run) (judged_run turn by.company kind run) are)
-after_order by turn line order.RunBest new leads are = after_best by turn line (best_judgement turn by.company) new leads are
+after_order by turn line order.RunBest new leads are =
+    after_best by turn line (best_judgement turn by.company) new leads are
 after_order by turn line other new leads are =
     subst (λ (done : Bool × Runs). AreKept done.0 done.1) (sym (after_other by turn line other new tt leads)) are
 
 -- after an order that is asked for its condition
-after_asked : (by : Operator) (turn : InTurn) (line : Numbered) (its : Order) (held : Bool) (new : InTurn) → AskedLeads by turn line its held new →
+after_asked : (by : Operator) (turn : InTurn) (line : Numbered) (its : Order) (held : Bool) (new : InTurn)
+    → AskedLeads by turn line its held new →
     IsKeptIn turn → IsKeptIn new
 after_asked by turn line its true new leads are = subst IsKeptIn (sym leads) are
 after_asked by turn line its false new leads are = after_order by turn line its new leads are
 
 -- after a line
-after_line : (by : Operator) (turn : InTurn) (line : Numbered) (reading : Result Order Fault) (new : InTurn) → ReadingLeads by turn line reading new →
+after_line : (by : Operator) (turn : InTurn) (line : Numbered) (reading : Result Order Fault) (new : InTurn)
+    → ReadingLeads by turn line reading new →
     IsKeptIn turn → IsKeptIn new
 after_line by turn line (Err fault) new leads are = subst IsKeptIn (sym leads) are
-after_line by turn line (Ok its) new leads are = after_asked by turn line its (is_held turn.game.events line.condition its) new leads are
+after_line by turn line (Ok its) new leads are =
+    after_asked by turn line its (is_held turn.game.events line.condition its) new leads are
 
 -- after some lines
-after_lines : (by : Operator) (turn : InTurn) (lines : List Numbered) (new : InTurn) → LinesLead by turn lines new → IsKeptIn turn → IsKeptIn new
+after_lines : (by : Operator) (turn : InTurn) (lines : List Numbered) (new : InTurn) → LinesLead by turn lines new
+    → IsKeptIn turn → IsKeptIn new
 after_lines by turn [] new leads are = subst IsKeptIn (sym leads) are
 after_lines by turn (line ∷ lines) new leads are =
     after_lines by leads.0 lines new leads.2 (after_line by turn line line.reading leads.0 leads.1 are)
@@ -146,14 +160,16 @@ none_kept : AreKept false no_runs
 none_kept = record { for_each = refl; least = λ kind. omega (arith, ints, none_counted kind); none = λ none. refl }
 
 -- a RUN BEST that breaks no rule finds that no train has run
-none_ran : (past held ran : Bool) → first_broken (rule run_rule.StepUsed past ∷ rule run_rule.NoTrain (not held || ran) ∷ []) ≡ None → ran ≡ false
+none_ran : (past held ran : Bool) → first_broken
+    (rule run_rule.StepUsed past ∷ rule run_rule.NoTrain (not held || ran) ∷ []) ≡ None → ran ≡ false
 none_ran past held false none = refl
 none_ran true held true none = cc
 none_ran false true true none = cc
 none_ran false false true none = cc
 
 -- so nothing is set down where it is obeyed
-pub nothing_ran : (by : Operator) (game : Game) (lines : List Numbered) (turn : InTurn) → LinesLead by (begun game by.company) lines turn →
+pub nothing_ran : (by : Operator) (game : Game) (lines : List Numbered) (turn : InTurn)
+    → LinesLead by (begun game by.company) lines turn →
     best_judgement turn by.company ≡ None → turn.progress.runs ≡ no_runs
 nothing_ran by game lines turn leads none =
     (after_lines by (begun game by.company) lines turn leads none_kept).none

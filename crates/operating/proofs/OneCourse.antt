@@ -5,7 +5,8 @@ use Rattle.operating.specs.Calls.{Call, Course, IsFront, SomeTimesThen, Then, Ti
 
 -- calls before those of a front
 behind :
-    {Fault : Type 0} (memory : Fault) (Tells : Fault → RunnerFault → Call → Type 0) (fault : Fault) (earlier some all : List Call) →
+    {Fault : Type 0} (memory : Fault) (Tells : Fault → RunnerFault → Call → Type 0) (fault : Fault)
+    (earlier some all : List Call) →
     IsFront memory Tells fault some all → IsFront memory Tells fault (earlier ++ some) (earlier ++ all)
 behind memory Tells fault earlier some all front =
     elim front [
@@ -13,7 +14,8 @@ behind memory Tells fault earlier some all front =
         first.0,
         record {
           later = first.1.later;
-          are = ap (λ (calls : List Call). earlier ++ calls) first.1.are ∙ sym (append_assoc earlier some first.1.later);
+          are = ap (λ (calls : List Call). earlier ++ calls) first.1.are
+              ∙ sym (append_assoc earlier some first.1.later);
         },
       )
       | inr short ↦ inr (
@@ -22,7 +24,8 @@ behind memory Tells fault earlier some all front =
           earlier = earlier ++ short.1.earlier;
           next = short.1.next;
           later = short.1.later;
-          are = ap (λ (calls : List Call). earlier ++ calls) short.1.are ∙ sym (append_assoc earlier short.1.earlier (short.1.next ∷ short.1.later));
+          are = ap (λ (calls : List Call). earlier ++ calls) short.1.are
+              ∙ sym (append_assoc earlier short.1.earlier (short.1.next ∷ short.1.later));
           cut =
               ap (λ (calls : List Call). earlier ++ calls) short.1.cut
               ∙ sym (append_assoc earlier short.1.earlier (unanswered short.0 short.1.next ∷ []));
@@ -33,7 +36,8 @@ behind memory Tells fault earlier some all front =
 
 -- calls after those of which some are a front
 ahead :
-    {Fault : Type 0} (memory : Fault) (Tells : Fault → RunnerFault → Call → Type 0) (fault : Fault) (some all more : List Call) →
+    {Fault : Type 0} (memory : Fault) (Tells : Fault → RunnerFault → Call → Type 0) (fault : Fault)
+    (some all more : List Call) →
     IsFront memory Tells fault some all → IsFront memory Tells fault some (all ++ more)
 ahead memory Tells fault some all more front =
     elim front [
@@ -61,16 +65,20 @@ ahead memory Tells fault some all more front =
 
 -- no call is the first of all
 pub none_first :
-    {Fault : Type 0} (memory : Fault) (Tells : Fault → RunnerFault → Call → Type 0) (fault : Fault) (some all : List Call) →
+    {Fault : Type 0} (memory : Fault) (Tells : Fault → RunnerFault → Call → Type 0) (fault : Fault)
+    (some all : List Call) →
     fault ≡ memory → some ≡ [] → IsFront memory Tells fault some all
 none_first memory Tells fault some all refused none =
     inl (refused, record { later = all; are = sym (ap (λ (calls : List Call). calls ++ all) none) })
 
 -- from each place two courses lead to one end by the same calls; and where the first is broken off, its calls are a front of
 -- those of the other
-pub record Agree {A B Fault : Type 0} (memory : Fault) (Tells : Fault → RunnerFault → Call → Type 0) (one other : Course A B Fault) : Type 0 where
-  pub once : (from : A) (a b : B) (some others : List Call) → one from (Ok a) some → other from (Ok b) others → (a ≡ b) × (some ≡ others)
-  pub front : (from : A) (fault : Fault) (to : B) (some all : List Call) → one from (Err fault) some → other from (Ok to) all → IsFront memory Tells fault some all
+pub record Agree {A B Fault : Type 0} (memory : Fault) (Tells : Fault → RunnerFault → Call → Type 0)
+    (one other : Course A B Fault) : Type 0 where
+  pub once : (from : A) (a b : B) (some others : List Call) → one from (Ok a) some → other from (Ok b) others
+      → (a ≡ b) × (some ≡ others)
+  pub front : (from : A) (fault : Fault) (to : B) (some all : List Call) → one from (Err fault) some
+      → other from (Ok to) all → IsFront memory Tells fault some all
 
 module _ {Fault : Type 0} (memory : Fault) (Tells : Fault → RunnerFault → Call → Type 0) where
   -- a course without calls that leads to one end agrees with itself
@@ -96,8 +104,10 @@ module _ {Fault : Type 0} (memory : Fault) (Tells : Fault → RunnerFault → Ca
               | inr way ↦ elim other [
                 | inl never ↦ absurd never
                 | inr way_too ↦
-                    let mid = firsts.once from way.between way_too.between way.earlier way_too.earlier way.leads way_too.leads in
-                    let later = seconds.once way.between a b way.later way_too.later way.goes_on (subst (λ (at : B). second_too at (Ok b) way_too.later) (sym mid.0) way_too.goes_on) in
+                    let mid = firsts.once from way.between way_too.between way.earlier way_too.earlier way.leads
+                    way_too.leads in
+                    let later = seconds.once way.between a b way.later way_too.later way.goes_on
+                    (subst (λ (at : B). second_too at (Ok b) way_too.later) (sym mid.0) way_too.goes_on) in
                     (later.0, way.all ∙ (λ i. mid.1 i ++ later.1 i) ∙ sym way_too.all)
               ]
             ];
@@ -107,13 +117,18 @@ module _ {Fault : Type 0} (memory : Fault) (Tells : Fault → RunnerFault → Ca
               | inr way_too ↦ elim one [
                 | inl breaks ↦
                     subst (λ (calls : List Call). IsFront memory Tells fault some calls) (sym way_too.all)
-                    (ahead memory Tells fault some way_too.earlier way_too.later (firsts.front from fault way_too.between some way_too.earlier breaks way_too.leads))
+                    (ahead memory Tells fault some way_too.earlier way_too.later
+                    (firsts.front from fault way_too.between some way_too.earlier breaks way_too.leads))
                 | inr way ↦
-                    let mid = firsts.once from way.between way_too.between way.earlier way_too.earlier way.leads way_too.leads in
-                    let later = seconds.front way.between fault to way.later way_too.later way.goes_on (subst (λ (at : B). second_too at (Ok to) way_too.later) (sym mid.0) way_too.goes_on) in
-                    let whole : all ≡ way.earlier ++ way_too.later = way_too.all ∙ ap (λ (calls : List Call). calls ++ way_too.later) (sym mid.1) in
+                    let mid = firsts.once from way.between way_too.between way.earlier way_too.earlier way.leads
+                    way_too.leads in
+                    let later = seconds.front way.between fault to way.later way_too.later way.goes_on
+                    (subst (λ (at : B). second_too at (Ok to) way_too.later) (sym mid.0) way_too.goes_on) in
+                    let whole : all ≡ way.earlier ++ way_too.later =
+                    way_too.all ∙ ap (λ (calls : List Call). calls ++ way_too.later) (sym mid.1) in
                     subst (λ (calls : List Call). IsFront memory Tells fault calls all) (sym way.all)
-                    (subst (λ (calls : List Call). IsFront memory Tells fault (way.earlier ++ way.later) calls) (sym whole)
+                    (subst (λ (calls : List Call). IsFront memory Tells fault (way.earlier ++ way.later) calls)
+                    (sym whole)
                     (behind memory Tells fault way.earlier way.later way_too.later later))
               ]
             ];
@@ -122,10 +137,12 @@ module _ {Fault : Type 0} (memory : Fault) (Tells : Fault → RunnerFault → Ca
   module _
       {A B : Type 0} (course : Course A A Fault) (leads : A → B → Type 0) (agrees : Agree memory Tells course course)
       (only : (from : A) (a b : B) → leads from a → leads from b → a ≡ b)
-      (apart : (from : A) (to : B) (outcome : Result A Fault) (calls : List Call) → leads from to → course from outcome calls → ⊥)
+      (apart : (from : A) (to : B) (outcome : Result A Fault) (calls : List Call) → leads from to
+      → course from outcome calls → ⊥)
     where
       -- so does a course that is gone so often until one without calls can be, which it then cannot
-      times_agree : (times more : ℕ) → Agree memory Tells (TimesThen times course (Unasked memory leads)) (TimesThen more course (Unasked memory leads))
+      times_agree : (times more : ℕ) → Agree memory Tells (TimesThen times course (Unasked memory leads))
+          (TimesThen more course (Unasked memory leads))
       times_agree zero zero = unasked_agrees leads only
       times_agree zero (suc more) =
           record {
@@ -150,10 +167,12 @@ module _ {Fault : Type 0} (memory : Fault) (Tells : Fault → RunnerFault → Ca
                 ];
           }
       times_agree (suc times) (suc more) =
-          then_agree course course (TimesThen times course (Unasked memory leads)) (TimesThen more course (Unasked memory leads)) agrees (times_agree times more)
+          then_agree course course (TimesThen times course (Unasked memory leads))
+          (TimesThen more course (Unasked memory leads)) agrees (times_agree times more)
 
       -- so it does some times
-      pub some_times_agree : Agree memory Tells (SomeTimesThen course (Unasked memory leads)) (SomeTimesThen course (Unasked memory leads))
+      pub some_times_agree : Agree memory Tells (SomeTimesThen course (Unasked memory leads))
+          (SomeTimesThen course (Unasked memory leads))
       some_times_agree =
           record {
             once = λ from a b some others one other.

@@ -36,13 +36,24 @@ asks_once : (round : Round) (company : Company) → IsOne round company (Asks co
 asks_once round company =
     record {
       once = λ events a b some others first second.
-          let same : a ≡ b = one_greatest (position_now events) company (trains_now events company) a b first.0 second.0 in
-          (same, first.1 ∙ ap (λ (revenue : ℕ). asked company round events (Ok (pos revenue)) ∷ []) same ∙ sym second.1);
+          let same : a ≡ b = one_greatest (position_now events) company (trains_now events company) a b first.0
+          second.0 in (
+            same,
+            first.1 ∙ ap (λ (revenue : ℕ). asked company round events (Ok (pos revenue)) ∷ []) same
+                ∙ sym second.1,
+          );
       front = λ events fault to some all broken led.
           elim broken [
             | inl cut ↦ inr (
               fault,
-              record { earlier = []; next = asked company round events (Ok (pos to)); later = []; are = led.1; cut = cut },
+              record {
+                earlier = [];
+                next = asked company round events (Ok (pos to));
+                later = [];
+                are = led.1;
+                cut =
+                    cut;
+              },
               (refl, refl, refl),
             )
             | inr before ↦ none_first Memory (TellsOf round company) fault some all before.0 before.1
@@ -54,14 +65,18 @@ module _ (all : AllLawful) (by : Operator) (round : Round) where
   best_once : (line : Numbered) (turn : InTurn) (rule : Option RunRule) →
       IsOne round by.company (λ (from : InTurn). BestCalls by round line rule turn)
   best_once line turn (Some rule) =
-      let ruled = unasked_agrees Memory (TellsOf round by.company) (λ old new. BestRuled by old line (Some rule) new) (λ from a b first second. first ∙ sym second) in
+      let ruled = unasked_agrees Memory (TellsOf round by.company) (λ old new. BestRuled by old line (Some rule) new)
+      (λ from a b first second. first ∙ sym second) in
       record {
         once = λ from. ruled.once turn;
         front = λ from. ruled.front turn;
       }
   best_once line turn None =
-      let credited = unasked_agrees Memory (TellsOf round by.company) (IsCredited by turn line) (λ from a b first second. first ∙ sym second) in
-      let both = then_agree Memory (TellsOf round by.company) (Asks by.company round) (Asks by.company round) (Unasked Memory (IsCredited by turn line)) (Unasked Memory (IsCredited by turn line)) (asks_once round by.company) credited in
+      let credited = unasked_agrees Memory (TellsOf round by.company) (IsCredited by turn line)
+      (λ from a b first second. first ∙ sym second) in
+      let both = then_agree Memory (TellsOf round by.company) (Asks by.company round) (Asks by.company round)
+      (Unasked Memory (IsCredited by turn line)) (Unasked Memory (IsCredited by turn line))
+      (asks_once round by.company) credited in
       record {
         once = λ from. both.once turn.game.events;
         front = λ from. both.front turn.game.events;
@@ -70,7 +85,8 @@ module _ (all : AllLawful) (by : Operator) (round : Round) where
   -- an order
   order_called_once : (line : Numbered) (its : Order) → IsOne round by.company (OrderCalls by round line its)
   order_called_once line its =
-      let led = unasked_agrees Memory (TellsOf round by.company) (λ old new. OrderLeads by old line its new) (λ from a b first second. order_once all by from line its a b first second) in
+      let led = unasked_agrees Memory (TellsOf round by.company) (λ old new. OrderLeads by old line its new)
+      (λ from a b first second. order_once all by from line its a b first second) in
       record {
         once = λ from a b some others first second.
             let best = best_once line from (best_judgement from by.company) in
@@ -99,13 +115,16 @@ module _ (all : AllLawful) (by : Operator) (round : Round) where
       }
 
   -- an order that is asked for its condition
-  asked_once : (line : Numbered) (its : Order) (held : Bool) → IsOne round by.company (AskedCalls by round line its held)
+  asked_once : (line : Numbered) (its : Order) (held : Bool)
+      → IsOne round by.company (AskedCalls by round line its held)
   asked_once line its true =
-      unasked_agrees Memory (TellsOf round by.company) (λ turn new. AskedLeads by turn line its true new) (λ from a b first second. first ∙ sym second)
+      unasked_agrees Memory (TellsOf round by.company) (λ turn new. AskedLeads by turn line its true new)
+      (λ from a b first second. first ∙ sym second)
   asked_once line its false = order_called_once line its
 
   -- a line
-  reading_called_once : (line : Numbered) (reading : Result Order Fault) → IsOne round by.company (ReadingCalls by round line reading)
+  reading_called_once : (line : Numbered) (reading : Result Order Fault)
+      → IsOne round by.company (ReadingCalls by round line reading)
   reading_called_once line (Ok its) =
       record {
         once = λ from.
@@ -114,40 +133,57 @@ module _ (all : AllLawful) (by : Operator) (round : Round) where
             let one = asked_once line its (is_held from.game.events line.condition its) in one.front from;
       }
   reading_called_once line (Err fault) =
-      unasked_agrees Memory (TellsOf round by.company) (λ turn new. new ≡ told by turn line (Faulty fault)) (λ from a b first second. first ∙ sym second)
+      unasked_agrees Memory (TellsOf round by.company) (λ turn new. new ≡ told by turn line (Faulty fault))
+      (λ from a b first second. first ∙ sym second)
 
   -- lines
   lines_called_once : (lines : List Numbered) → IsOne round by.company (LinesCall by round lines)
-  lines_called_once [] = unasked_agrees Memory (TellsOf round by.company) (λ turn new. new ≡ turn) (λ from a b first second. first ∙ sym second)
+  lines_called_once [] = unasked_agrees Memory (TellsOf round by.company) (λ turn new. new ≡ turn)
+      (λ from a b first second. first ∙ sym second)
   lines_called_once (line ∷ lines) =
-      then_agree Memory (TellsOf round by.company) (LineCalls by round line) (LineCalls by round line) (LinesCall by round lines) (LinesCall by round lines) (reading_called_once line line.reading) (lines_called_once lines)
+      then_agree Memory (TellsOf round by.company) (LineCalls by round line) (LineCalls by round line)
+      (LinesCall by round lines) (LinesCall by round lines) (reading_called_once line line.reading)
+      (lines_called_once lines)
 
 module _ (all : AllLawful) (file : List ℕ) (round : Round) (company : Company) where
   -- a block
   block_called_once : (president : Option Seat) → IsOne round company (BlockCalls file round company president)
-  block_called_once None = unasked_agrees Memory (TellsOf round company) (λ turn new. new ≡ turn) (λ from a b first second. first ∙ sym second)
+  block_called_once None = unasked_agrees Memory (TellsOf round company) (λ turn new. new ≡ turn)
+      (λ from a b first second. first ∙ sym second)
   block_called_once (Some seat) =
       lines_called_once all (record { company = company; president = seat }) round (block_for file round seat.0 company)
 
   -- a turn that has begun
   begun_called_once : (president : Option Seat) → IsOne round company (BegunCalls file round company president)
   begun_called_once president =
-      then_agree Memory (TellsOf round company) (BlockCalls file round company president) (BlockCalls file round company president) (EndCalls file round company president) (EndCalls file round company president)
+      then_agree Memory (TellsOf round company) (BlockCalls file round company president)
+      (BlockCalls file round company president) (EndCalls file round company president)
+      (EndCalls file round company president)
       (block_called_once president)
-      (unasked_agrees Memory (TellsOf round company) (λ last new. BlockEnds file round company (settled company last).game president new) (λ from a b first second. block_end_once all file round company (settled company from).game president a b first second))
+      (unasked_agrees Memory (TellsOf round company)
+      (λ last new. BlockEnds file round company (settled company last).game president new)
+      (λ from a b first second. block_end_once all file round company (settled company from).game president a b
+      first second))
 
   -- and a whole turn
   turn_called_once : IsOne round company (TurnCalls file round company)
   turn_called_once =
-      let start = unasked_agrees Memory (TellsOf round company) (λ game turn. turn ≡ begun game company) (λ from a b first second. first ∙ sym second) in
+      let start = unasked_agrees Memory (TellsOf round company) (λ game turn. turn ≡ begun game company)
+      (λ from a b first second. first ∙ sym second) in
       record {
         once = λ old.
             let president : Option Seat = president_of old.events company in
-            let whole = then_agree Memory (TellsOf round company) (Unasked Memory (λ game turn. turn ≡ begun game company)) (Unasked Memory (λ game turn. turn ≡ begun game company)) (BegunCalls file round company president) (BegunCalls file round company president) start (begun_called_once president) in
+            let whole = then_agree Memory (TellsOf round company)
+            (Unasked Memory (λ game turn. turn ≡ begun game company))
+            (Unasked Memory (λ game turn. turn ≡ begun game company)) (BegunCalls file round company president)
+            (BegunCalls file round company president) start (begun_called_once president) in
             whole.once old;
         front = λ old.
             let president : Option Seat = president_of old.events company in
-            let whole = then_agree Memory (TellsOf round company) (Unasked Memory (λ game turn. turn ≡ begun game company)) (Unasked Memory (λ game turn. turn ≡ begun game company)) (BegunCalls file round company president) (BegunCalls file round company president) start (begun_called_once president) in
+            let whole = then_agree Memory (TellsOf round company)
+            (Unasked Memory (λ game turn. turn ≡ begun game company))
+            (Unasked Memory (λ game turn. turn ≡ begun game company)) (BegunCalls file round company president)
+            (BegunCalls file round company president) start (begun_called_once president) in
             whole.front old;
       }
 

@@ -39,14 +39,16 @@ or_true false = refl
 
 -- what was said before and by the event at the end, which begins no round
 word_more : (begins : Bool) (word : Option Company) (before : Option (Option Company)) → begins ≡ false →
-    is_some (option_flatten (option_or (if begins then Some None else option_map Some word) before)) ≡ (is_some (option_flatten before) || is_some word)
+    is_some (option_flatten (option_or (if begins then Some None else option_map Some word) before))
+    ≡ (is_some (option_flatten before) || is_some word)
 word_more true word before none = absurd (cc)
 word_more false None before none = sym (or_false (is_some (option_flatten before)))
 word_more false (Some company) before none = sym (or_true (is_some (option_flatten before)))
 
 -- a company has operated once one more event stands at the end
 one_more : (company : Company) (events : List Event) (its : Event) → is_some (round_begun_by its) ≡ false →
-    has_operated (events ++ its ∷ []) company ≡ (has_operated events company || is_some (turn_said company (operated_by its)))
+    has_operated (events ++ its ∷ []) company ≡ (has_operated events company
+    || is_some (turn_said company (operated_by its)))
 one_more company events its none =
     let says : Event → Option (Option Company) = in_round (λ its. turn_said company (operated_by its)) in
     ap (λ (said : Option (Option Company)). is_some (option_flatten said)) (last_said_at_end says events its)
@@ -54,7 +56,8 @@ one_more company events its none =
 
 -- between a game and a later one none but the company has operated, and each that had has
 record Operates (company : Company) (before after : Game) : Type 0 where
-  others : (other : Company) → same_company company other ≡ false → has_operated after.events other ≡ has_operated before.events other
+  others : (other : Company) → same_company company other ≡ false
+      → has_operated after.events other ≡ has_operated before.events other
   still : (other : Company) → has_operated before.events other ≡ true → has_operated after.events other ≡ true
 
 -- so it is by each event of the company's turn
@@ -71,7 +74,8 @@ by_events company =
     })
     (λ game its is. record {
       others = λ other apart. one_more other game.events its (begins_none company game its is)
-          ∙ ap (λ (b : Bool). has_operated game.events other || b) (own_alone company other game its is apart) ∙ or_false (has_operated game.events other);
+          ∙ ap (λ (b : Bool). has_operated game.events other || b) (own_alone company other game its is apart)
+          ∙ or_false (has_operated game.events other);
       still = λ other has. one_more other game.events its (begins_none company game its is)
           ∙ ap (λ (b : Bool). b || is_some (turn_said other (operated_by its))) has;
     })
@@ -81,19 +85,22 @@ more_events : (company : Company) → OfForced (Operates company)
 more_events company game its is no_tile no_train no_phase =
     record {
       others = λ other apart. one_more other game.events its (forced_begins_none its is)
-          ∙ ap (λ (word : Option Company). has_operated game.events other || is_some (turn_said other word)) (forced_operates_none its is)
+          ∙ ap (λ (word : Option Company). has_operated game.events other || is_some (turn_said other word))
+          (forced_operates_none its is)
           ∙ or_false (has_operated game.events other);
       still = λ other has. one_more other game.events its (forced_begins_none its is)
           ∙ ap (λ (b : Bool). b || is_some (turn_said other (operated_by its))) has;
     }
 
 -- a company has operated by an event that says so
-now_has : (company : Company) (game : Game) (its : Event) → is_some (round_begun_by its) ≡ false → operated_by its ≡ Some company →
+now_has : (company : Company) (game : Game) (its : Event) → is_some (round_begun_by its) ≡ false
+    → operated_by its ≡ Some company →
     has_operated (with_event game its).events company ≡ true
 now_has company game its none says =
     one_more company game.events its none
     ∙ ap (λ (word : Option Company). has_operated game.events company || is_some (turn_said company word)) says
-    ∙ ap (λ (b : Bool). has_operated game.events company || is_some (if b then Some company else None)) (company_is_same company company refl)
+    ∙ ap (λ (b : Bool). has_operated game.events company || is_some (if b then Some company else None))
+    (company_is_same company company refl)
     ∙ or_true (has_operated game.events company)
 
 -- the turn is past its pay, or the trains of the company have earned something
@@ -105,7 +112,8 @@ abbrev Has : Company → InTurn → Type 0
 Has company turn = has_done turn.progress ≡ true → has_operated turn.game.events company ≡ true
 
 -- PAY that is obeyed finds a revenue
-some_revenue : (past none : Bool) → first_broken {Code = PayRule} (record { code = NothingToPay; broken = past || none } ∷ []) ≡ None → none ≡ false
+some_revenue : (past none : Bool) → first_broken {Code = PayRule}
+    (record { code = NothingToPay; broken = past || none } ∷ []) ≡ None → none ≡ false
 some_revenue true none kept = cc
 some_revenue false true kept = cc
 some_revenue false false kept = refl
@@ -117,15 +125,20 @@ has_steps company =
     record {
       same = λ turn has. has;
       both = λ a b c one two has. two (one has);
-      more = λ turn its is no_tile no_train no_phase has done. (on.more turn its is no_tile no_train no_phase).still company (has done);
-      laid = λ turn lays asker lay cost rules has done. (on.laid turn lays asker lay cost rules).still company (has done);
+      more = λ turn its is no_tile no_train no_phase has done. (on.more turn its is no_tile no_train no_phase).still
+          company (has done);
+      laid = λ turn lays asker lay cost rules has done. (on.laid turn lays asker lay cost rules).still company
+          (has done);
       placed = λ turn asker at cost is rules has earned. (on.placed turn asker at cost is rules).still company
-          (has (ap (λ (b : Bool). not (is_unpaid turn.progress) || b) earned ∙ or_true (not (is_unpaid turn.progress))));
+          (has (ap (λ (b : Bool). not (is_unpaid turn.progress) || b) earned
+          ∙ or_true (not (is_unpaid turn.progress))));
       ran = λ turn progress revenue has done. now_has company turn.game (event.Runs company revenue) refl refl;
       paid = λ turn rules has done. (on.paid turn rules).still company
           (has (ap (λ (b : Bool). not (is_unpaid turn.progress) || not b)
-          (some_revenue (is_past_pay turn.progress) (turn.progress.runs.revenue == 0) rules) ∙ or_true (not (is_unpaid turn.progress))));
-      kept = λ turn has done. (after_withheld company (Operates company) (by_events company) turn.game turn.progress.runs.revenue).still company
+          (some_revenue (is_past_pay turn.progress) (turn.progress.runs.revenue == 0) rules)
+          ∙ or_true (not (is_unpaid turn.progress))));
+      kept = λ turn has done. (after_withheld company (Operates company) (by_events company) turn.game
+          turn.progress.runs.revenue).still company
           (now_has company turn.game (event.Withheld company turn.progress.runs.revenue) refl refl);
       bought = λ turn kind from rules has done. (on.bought turn kind from rules).still company (has done);
     }
@@ -134,25 +147,29 @@ has_steps company =
 settled_past : (company : Company) (turn : InTurn) → is_unpaid (settled company turn).progress ≡ false
 settled_past company turn =
     elim (is_unpaid turn.progress) as (λ (b : Bool). is_unpaid turn.progress ≡ b →
-    is_unpaid (if b then in_turn (withheld turn.game company turn.progress.runs.revenue) (pay_done turn.progress) else turn).progress ≡ false) [
+    is_unpaid (if b then in_turn (withheld turn.game company turn.progress.runs.revenue)
+    (pay_done turn.progress) else turn).progress ≡ false) [
       | true ↦ λ unpaid. refl
       | false ↦ λ past. past
     ]
     refl
 
 -- after its turn the company has operated
-has_at_end : (company : Company) (file : List ℕ) (round : Round) (old new : Game) → IsCompanyTurn file round company old new →
+has_at_end : (company : Company) (file : List ℕ) (round : Round) (old new : Game)
+    → IsCompanyTurn file round company old new →
     has_operated new.events company ≡ true
 has_at_end company file round old new turn =
     let last = settled company turn.last in
-    (of_block_end company (Operates company) (by_events company) (more_events company) file round last.game (president_of old.events company) new turn.after).still company
+    (of_block_end company (Operates company) (by_events company) (more_events company) file round last.game
+    (president_of old.events company) new turn.after).still company
     (of_turn company _ (has_steps company) file round old new turn (λ none. cc)
     (ap (λ (b : Bool). not b || not (last.progress.runs.revenue == 0)) (settled_past company turn.last)))
 
 -- and no other that had not before
 pub company_operates : CompanyOperates
 company_operates file round company old new turn other =
-    let by = of_game_turn company (Operates company) (by_events company) (more_events company) file round old new turn in
+    let by = of_game_turn company (Operates company) (by_events company) (more_events company) file round old new
+    turn in
     elim (same_company company other) as (λ (b : Bool). same_company company other ≡ b →
     has_operated new.events other ≡ (has_operated old.events other || b)) [
       | true ↦ λ same. subst (λ (c : Company). has_operated new.events c ≡ true) (company_is company other same)

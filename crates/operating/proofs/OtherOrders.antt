@@ -57,7 +57,8 @@ after_pay by turn line its (Some rule) after = refl
 after_settling : (company : Company) (turn : InTurn) → did (settled company turn) ≡ did turn
 after_settling company turn =
     elim (is_unpaid turn.progress) as
-    (λ (b : Bool). did (if b then in_turn (withheld turn.game company turn.progress.runs.revenue) (pay_done turn.progress) else turn) ≡ did turn) [
+    (λ (b : Bool). did (if b then in_turn (withheld turn.game company turn.progress.runs.revenue)
+    (pay_done turn.progress) else turn) ≡ did turn) [
       | true ↦ refl
       | false ↦ refl
     ]
@@ -78,16 +79,20 @@ after_private by turn line private price (Some rule) = refl
 
 -- what an order leaves that runs no train
 pub after_other :
-    (by : Operator) (turn : InTurn) (line : Numbered) (its : Order) (new : InTurn) → RunsNone its → OrderLeads by turn line its new →
+    (by : Operator) (turn : InTurn) (line : Numbered) (its : Order) (new : InTurn) → RunsNone its
+    → OrderLeads by turn line its new →
     did new ≡ did turn
 after_other by turn line (order.Run kind run) new none leads = absurd none
 after_other by turn line order.RunBest new none leads = absurd none
 after_other by turn line (order.Lay lay) new none leads = ap did leads.after ∙ after_lay by turn line lay leads.answer
-after_other by turn line (order.Token place) new none leads = ap did leads.after ∙ after_token by turn line place leads.answer
+after_other by turn line (order.Token place) new none leads =
+    ap did leads.after ∙ after_token by turn line place leads.answer
 after_other by turn line order.Pay new none leads =
-    ap did leads ∙ after_pay by turn line order.Pay (pay_judgement turn.progress) (λ game. paid_out game by.company turn.progress.runs.revenue)
+    ap did leads ∙ after_pay by turn line order.Pay (pay_judgement turn.progress)
+    (λ game. paid_out game by.company turn.progress.runs.revenue)
 after_other by turn line order.Withhold new none leads =
-    ap did leads ∙ after_pay by turn line order.Withhold (withhold_judgement turn.progress) (λ game. withheld game by.company turn.progress.runs.revenue)
+    ap did leads ∙ after_pay by turn line order.Withhold (withhold_judgement turn.progress)
+    (λ game. withheld game by.company turn.progress.runs.revenue)
 after_other by turn line (order.BuyTrain kind from) new none leads =
     let paid = settled by.company turn in
     let purchase = purchase_of kind from in

@@ -55,7 +55,8 @@ same_tests false true first second = let wrong : false ≡ true = first.1 (secon
 same_break : {Code : Type 0} (first : List (Rule Code)) (later : Bool → List (Rule Code)) (a b : Bool) →
     (first_broken first ≡ None → a ≡ b) → first_broken (first ++ later a) ≡ first_broken (first ++ later b)
 same_break {Code} first later a b same =
-    elim (first_broken first) as (λ (found : Option Code). first_broken first ≡ found → first_broken (first ++ later a) ≡ first_broken (first ++ later b)) [
+    elim (first_broken first) as (λ (found : Option Code). first_broken first ≡ found
+    → first_broken (first ++ later a) ≡ first_broken (first ++ later b)) [
       | None ↦ λ is. ap (λ (test : Bool). first_broken (first ++ later test)) (same is)
       | Some code ↦ λ is. earlier first (later a) code is ∙ sym (earlier first (later b) code is)
     ]
@@ -75,25 +76,31 @@ module _ (all : AllLawful) where
         it = cost_or (lay_cost_of laid.lays lay.hex) (first_broken (lay_rules laid asker lay tested.test));
         so = record { reached = tested.test; exact = λ none. tested.exact; given = refl };
         only = λ other its. its.given
-            ∙ ap (cost_or (lay_cost_of laid.lays lay.hex)) (same_break (map_rules laid asker lay) (lay_reach_rules laid asker lay) its.reached tested.test
-            (λ none. same_tests {P = IsConnected (position_of (with_lay laid lay)) asker.company lay} its.reached tested.test (its.exact none) tested.exact));
+            ∙ ap (cost_or (lay_cost_of laid.lays lay.hex))
+            (same_break (map_rules laid asker lay) (lay_reach_rules laid asker lay) its.reached tested.test
+            (λ none. same_tests {P = IsConnected (position_of (with_lay laid lay)) asker.company lay} its.reached
+            tested.test (its.exact none) tested.exact));
       }
 
   -- so has a token
   one_token_answer : (laid : MapState) (asker : Asker) (place : Place) → IsOne (IsTokenAnswer laid asker place)
   one_token_answer laid asker place =
-      let tested : IsTested (IsReachedPlace (position_of laid) asker.company place) = place_tested (position_of laid) asker.company (all laid) place in
+      let tested : IsTested (IsReachedPlace (position_of laid) asker.company place) =
+      place_tested (position_of laid) asker.company (all laid) place in
       record {
-        it = cost_or (token_cost_of laid.tokens asker place.hex) (first_broken (token_rules laid asker place tested.test));
+        it = cost_or (token_cost_of laid.tokens asker place.hex)
+            (first_broken (token_rules laid asker place tested.test));
         so = record { reached = tested.test; exact = λ none. tested.exact; given = refl };
         only = λ other its. its.given
             ∙ ap (cost_or (token_cost_of laid.tokens asker place.hex))
             (same_break (slot_rules laid asker place) (token_reach_rules laid asker place) its.reached tested.test
-            (λ none. same_tests {P = IsReachedPlace (position_of laid) asker.company place} its.reached tested.test (its.exact none) tested.exact));
+            (λ none. same_tests {P = IsReachedPlace (position_of laid) asker.company place} its.reached tested.test
+            (its.exact none) tested.exact));
       }
 
   -- so has the run of the best: there is a greatest revenue, and no second one
-  one_best : (by : Operator) (turn : InTurn) (line : Numbered) (rule : Option RunRule) → IsOne (BestRuled by turn line rule)
+  one_best : (by : Operator) (turn : InTurn) (line : Numbered) (rule : Option RunRule)
+      → IsOne (BestRuled by turn line rule)
   one_best by turn line (Some rule) = record { it = _; so = refl; only = λ new leads. leads }
   one_best by turn line None =
       let position : Position = position_now turn.game.events in
@@ -103,7 +110,8 @@ module _ (all : AllLawful) where
         it = best_earned by turn line greatest.0;
         so = (greatest.0, greatest.1, refl);
         only = λ new leads. leads.2
-            ∙ ap (best_earned by turn line) (one_greatest position by.company trains leads.0 greatest.0 leads.1 greatest.1);
+            ∙ ap (best_earned by turn line) (one_greatest position by.company trains leads.0 greatest.0 leads.1
+            greatest.1);
       }
 
   -- an order leads to one turn
@@ -116,26 +124,32 @@ module _ (all : AllLawful) where
         only = λ new leads. leads.after ∙ ap (lay_answered by turn line lay) (answer.only leads.answer leads.answered);
       }
   one_order by turn line (order.Token place) =
-      let answer = one_token_answer (map_state_now turn.game.events) (asker_of turn.game by.company turn.progress) place in
+      let answer = one_token_answer (map_state_now turn.game.events) (asker_of turn.game by.company turn.progress)
+      place in
       record {
         it = token_answered by turn line place answer.it;
         so = record { answer = answer.it; answered = answer.so; after = refl };
-        only = λ new leads. leads.after ∙ ap (token_answered by turn line place) (answer.only leads.answer leads.answered);
+        only = λ new leads. leads.after ∙ ap (token_answered by turn line place)
+            (answer.only leads.answer leads.answered);
       }
   one_order by turn line order.RunBest = one_best by turn line (best_judgement turn by.company)
   one_order by turn line other = record { it = _; so = refl; only = λ new leads. leads }
 
   -- two turns to which an order leads are the same
-  pub order_once : (by : Operator) (turn : InTurn) (line : Numbered) (its : Order) (a b : InTurn) → OrderLeads by turn line its a → OrderLeads by turn line its b → a ≡ b
-  order_once by turn line its a b first second = let one = one_order by turn line its in one.only a first ∙ sym (one.only b second)
+  pub order_once : (by : Operator) (turn : InTurn) (line : Numbered) (its : Order) (a b : InTurn)
+      → OrderLeads by turn line its a → OrderLeads by turn line its b → a ≡ b
+  order_once by turn line its a b first second = let one =
+      one_order by turn line its in one.only a first ∙ sym (one.only b second)
 
   -- one that is asked for its condition does
-  one_asked : (by : Operator) (turn : InTurn) (line : Numbered) (its : Order) (held : Bool) → IsOne (AskedLeads by turn line its held)
+  one_asked : (by : Operator) (turn : InTurn) (line : Numbered) (its : Order) (held : Bool)
+      → IsOne (AskedLeads by turn line its held)
   one_asked by turn line its true = record { it = _; so = refl; only = λ new leads. leads }
   one_asked by turn line its false = one_order by turn line its
 
   -- a line does
-  one_line : (by : Operator) (turn : InTurn) (line : Numbered) (reading : Result Order Fault) → IsOne (ReadingLeads by turn line reading)
+  one_line : (by : Operator) (turn : InTurn) (line : Numbered) (reading : Result Order Fault)
+      → IsOne (ReadingLeads by turn line reading)
   one_line by turn line (Err fault) = record { it = _; so = refl; only = λ new leads. leads }
   one_line by turn line (Ok its) = one_asked by turn line its (is_held turn.game.events line.condition its)
 
@@ -148,7 +162,8 @@ module _ (all : AllLawful) where
       record {
         it = rest.it;
         so = (first.it, first.so, rest.so);
-        only = λ new leads. rest.only new (subst (λ (next : InTurn). LinesLead by next lines new) (first.only leads.0 leads.1) leads.2);
+        only = λ new leads. rest.only new (subst (λ (next : InTurn). LinesLead by next lines new)
+            (first.only leads.0 leads.1) leads.2);
       }
 
   -- a block does
@@ -164,7 +179,8 @@ module _ (all : AllLawful) where
       elim (can_run_decided (position_of (map_state_now game.events)) (all (map_state_now game.events)) company) [
         | inr none ↦ inr (λ due. none due.1)
         | inl can ↦
-            elim (has_trains game.events company) as (λ (b : Bool). has_trains game.events company ≡ b → Decided (IsDue game company)) [
+            elim (has_trains game.events company) as (λ (b : Bool). has_trains game.events company ≡ b
+            → Decided (IsDue game company)) [
               | true ↦ λ some. inr (λ due. let wrong : true ≡ false = sym some ∙ due.0 in cc)
               | false ↦ λ none. inl (none, can)
             ]
@@ -195,13 +211,15 @@ module _ (all : AllLawful) where
       one_end (record { company = company; president = seat }) (block_for file round seat.0 company) game
 
   -- two games to which that leads are the same
-  pub block_end_once : (file : List ℕ) (round : Round) (company : Company) (game : Game) (president : Option Seat) (a b : Game) →
+  pub block_end_once : (file : List ℕ) (round : Round) (company : Company) (game : Game) (president : Option Seat)
+      (a b : Game) →
       BlockEnds file round company game president a → BlockEnds file round company game president b → a ≡ b
   block_end_once file round company game president a b first second =
       let one = one_block_end file round company game president in one.only a first ∙ sym (one.only b second)
 
   -- and a turn
-  outcome : (file : List ℕ) (round : Round) (company : Company) (old : Game) → IsOne (IsCompanyTurn file round company old)
+  outcome : (file : List ℕ) (round : Round) (company : Company) (old : Game)
+      → IsOne (IsCompanyTurn file round company old)
   outcome file round company old =
       let president : Option Seat = president_of old.events company in
       let block = one_block file round company (begun old company) president in
@@ -210,7 +228,8 @@ module _ (all : AllLawful) where
       record {
         it = end.it;
         so = record { last = block.it; block = block.so; after = end.so };
-        only = λ new turn. end.only new (subst (λ (last : InTurn). BlockEnds file round company (settled company last).game president new) (block.only turn.last turn.block) turn.after);
+        only = λ new turn. end.only new (subst (λ (last : InTurn). BlockEnds file round company
+            (settled company last).game president new) (block.only turn.last turn.block) turn.after);
       }
 
   -- it has at most one outcome

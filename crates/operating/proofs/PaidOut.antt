@@ -29,22 +29,35 @@ as_many (negsuc n) least = absurd (omega (arith, ints))
 
 module _ (company : Company) where
   -- the bank has so much less after a dividend
-  paid_cash : (table : ℕ) (game : Game) (to : Holder) (amount : ℕ) → cash_of table (paid_to company to amount game).events party.Bank ≡ cash_of table game.events party.Bank -ℤ pos amount
+  paid_cash : (table : ℕ) (game : Game) (to : Holder) (amount : ℕ)
+      → cash_of table (paid_to company to amount game).events party.Bank
+      ≡ cash_of table game.events party.Bank -ℤ pos amount
   paid_cash table game to amount =
       let paid = with_event game (event.Dividend company to amount) in
-      elim (amount == 0) as (λ (none : Bool). (amount == 0) ≡ none → cash_of table (if none then game else broken_recorded paid).events party.Bank ≡ cash_of table game.events party.Bank -ℤ pos amount) [
+      elim (amount == 0) as (λ (none : Bool). (amount == 0) ≡ none
+      → cash_of table (if none then game else broken_recorded paid).events party.Bank
+      ≡ cash_of table game.events party.Bank -ℤ pos amount) [
         | true ↦ λ none. let zero : amount ≡ 0 = eqb-true amount 0 none in omega (arith, ints)
-        | false ↦ λ some. omega (arith, ints, (told_same paid).cash table party.Bank, cash_of_at_end table game.events (event.Dividend company to amount) party.Bank)
+        | false ↦ λ some. omega (
+          arith,
+          ints,
+          (told_same paid).cash table party.Bank,
+          cash_of_at_end table game.events
+              (event.Dividend company to amount) party.Bank,
+        )
       ]
       refl
 
   -- and tenths lie as before
-  paid_shares : (game : Game) (to : Holder) (amount : ℕ) (place : Shareholder) → shares_of (paid_to company to amount game).events company place ≡ shares_of game.events company place
+  paid_shares : (game : Game) (to : Holder) (amount : ℕ) (place : Shareholder)
+      → shares_of (paid_to company to amount game).events company place ≡ shares_of game.events company place
   paid_shares game to amount place =
       let paid = with_event game (event.Dividend company to amount) in
-      elim (amount == 0) as (λ (none : Bool). shares_of (if none then game else broken_recorded paid).events company place ≡ shares_of game.events company place) [
+      elim (amount == 0) as (λ (none : Bool). shares_of (if none then game else broken_recorded paid).events company
+      place ≡ shares_of game.events company place) [
         | true ↦ refl
-        | false ↦ (told_same paid).shares company place ∙ shares_of_before game.events (event.Dividend company to amount) company place refl
+        | false ↦ (told_same paid).shares company place
+            ∙ shares_of_before game.events (event.Dividend company to amount) company place refl
       ]
 
   -- how many tenths some seats hold
@@ -53,10 +66,17 @@ module _ (company : Company) where
   count events (seat ∷ others) = so_many (shares_of events company (OfSeat seat)) + count events others
 
   -- they are those that the seats hold together
-  count_is : (events : List Event) (seats : List Seat) → TenthsAreHeld events → pos (count events seats) ≡ held_by events company seats
+  count_is : (events : List Event) (seats : List Seat) → TenthsAreHeld events
+      → pos (count events seats) ≡ held_by events company seats
   count_is events [] held = refl
   count_is events (seat ∷ others) held =
-      omega (arith, ints, as_many (shares_of events company (OfSeat seat)) (held company (OfSeat seat)), count_is events others held)
+      omega (
+        arith,
+        ints,
+        as_many (shares_of events company (OfSeat seat)) (held company (OfSeat seat)),
+        count_is
+            events others held,
+      )
 
   module _ (revenue : ℕ) where
     -- what some seats are paid
@@ -72,39 +92,69 @@ module _ (company : Company) where
         ∙ sym (add-mul (so_many (shares_of events company (OfSeat seat))) (count events others) (per_tenth revenue))
 
     -- the same where tenths lie as before
-    sum_same : (before after : List Event) → ((place : Shareholder) → shares_of after company place ≡ shares_of before company place) → (seats : List Seat) → sum after seats ≡ sum before seats
+    sum_same : (before after : List Event) → ((place : Shareholder)
+        → shares_of after company place ≡ shares_of before company place) → (seats : List Seat)
+        → sum after seats ≡ sum before seats
     sum_same before after same [] = refl
     sum_same before after same (seat ∷ others) =
         ap (λ (tenths : ℤ). so_many tenths * per_tenth revenue + sum after others) (same (OfSeat seat))
         ∙ ap (λ (rest : ℕ). dividend_of before company (OfSeat seat) revenue + rest) (sum_same before after same others)
 
     -- tenths lie as before once seats are paid
-    seats_shares : (game : Game) (seats : List Seat) (place : Shareholder) → shares_of (paid_to_seats company revenue game seats).events company place ≡ shares_of game.events company place
+    seats_shares : (game : Game) (seats : List Seat) (place : Shareholder)
+        → shares_of (paid_to_seats company revenue game seats).events company place
+        ≡ shares_of game.events company place
     seats_shares game [] place = refl
     seats_shares game (seat ∷ others) place =
         seats_shares (paid_for company (holder.Seat seat) (OfSeat seat) revenue game) others place
         ∙ paid_shares game (holder.Seat seat) (dividend_of game.events company (OfSeat seat) revenue) place
 
     -- and the bank has so much less
-    seats_cash : (table : ℕ) (game : Game) (seats : List Seat) → cash_of table (paid_to_seats company revenue game seats).events party.Bank ≡ cash_of table game.events party.Bank -ℤ pos (sum game.events seats)
+    seats_cash : (table : ℕ) (game : Game) (seats : List Seat)
+        → cash_of table (paid_to_seats company revenue game seats).events party.Bank
+        ≡ cash_of table game.events party.Bank -ℤ pos (sum game.events seats)
     seats_cash table game [] = omega (arith, ints)
     seats_cash table game (seat ∷ others) =
         let amount = dividend_of game.events company (OfSeat seat) revenue in
         let next = paid_to company (holder.Seat seat) amount game in
-        omega (arith, ints, seats_cash table next others, paid_cash table game (holder.Seat seat) amount, sum_same game.events next.events (paid_shares game (holder.Seat seat) amount) others)
+        omega (
+          arith,
+          ints,
+          seats_cash table next others,
+          paid_cash table game (holder.Seat seat) amount,
+          sum_same
+              game.events next.events (paid_shares game (holder.Seat seat) amount) others,
+        )
 
     -- what all are paid is that of the seats and of the pool
-    all_cash : (table : ℕ) (game : Game) → cash_of table (all_paid company revenue game).events party.Bank ≡ cash_of table game.events party.Bank -ℤ pos (sum game.events (all_seats game.seats) + dividend_of game.events company BankPool revenue)
+    all_cash : (table : ℕ) (game : Game) → cash_of table (all_paid company revenue game).events party.Bank
+        ≡ cash_of table game.events party.Bank -ℤ pos (sum game.events (all_seats game.seats)
+        + dividend_of game.events company BankPool revenue)
     all_cash table game =
         let seats = paid_to_seats company revenue game (all_seats game.seats) in
         let amount = dividend_of seats.events company BankPool revenue in
-        let same : amount ≡ dividend_of game.events company BankPool revenue = ap (λ (tenths : ℤ). so_many tenths * per_tenth revenue) (seats_shares game (all_seats game.seats) BankPool) in
-        omega (arith, ints, paid_cash table seats (holder.Company company) amount, seats_cash table game (all_seats game.seats), same)
+        let same : amount ≡ dividend_of game.events company BankPool revenue =
+        ap (λ (tenths : ℤ). so_many tenths * per_tenth revenue)
+        (seats_shares game (all_seats game.seats) BankPool) in
+        omega (
+          arith,
+          ints,
+          paid_cash table seats (holder.Company company) amount,
+          seats_cash table game
+              (all_seats game.seats),
+          same,
+        )
 
     -- ten tenths of a revenue are at most the revenue
     ten_most : (seats pool : ℕ) → seats + pool ≤ 10 → seats * per_tenth revenue + pool * per_tenth revenue ≤ revenue
     ten_most seats pool few =
-        omega (arith, add-mul seats pool (per_tenth revenue), mul-le-mul_right (per_tenth revenue) few, mul-div-le revenue 10)
+        omega (
+          arith,
+          add-mul seats pool (per_tenth revenue),
+          mul-le-mul_right (per_tenth revenue) few,
+          mul-div-le
+              revenue 10,
+        )
 
 -- so the bank pays no more
 pub no_more_is_paid : NoMoreIsPaid
@@ -113,5 +163,13 @@ no_more_is_paid game company revenue sound =
     let ten = sound.ten company in
     let offered = sound.held company InitialOffering in
     let pool = as_many (shares_of game.events company BankPool) (sound.held company BankPool) in
-    let few : count company game.events seats + so_many (shares_of game.events company BankPool) ≤ 10 = omega (arith, ints, count_is company game.events seats sound.held) in
-    omega (arith, ints, all_cash company revenue game.seats game, sum_is company revenue game.events seats, ten_most company revenue (count company game.events seats) (so_many (shares_of game.events company BankPool)) few)
+    let few : count company game.events seats + so_many (shares_of game.events company BankPool) ≤ 10 =
+    omega (arith, ints, count_is company game.events seats sound.held) in
+    omega (
+      arith,
+      ints,
+      all_cash company revenue game.seats game,
+      sum_is company revenue game.events seats,
+      ten_most
+          company revenue (count company game.events seats) (so_many (shares_of game.events company BankPool)) few,
+    )

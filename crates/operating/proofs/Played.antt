@@ -23,25 +23,38 @@ use Rattle.tables.specs.declared.round.Round.{Round}
 use Rattle.tables.specs.declared.seat.Seat.{Seat}
 
 -- the home token, the block and the end make the turn
-pub turn_of_parts : (file : List ℕ) (round : Round) (company : Company) (old first ruled paid new : Game) (progress last : Progress) (president : Option Seat) → president ≡ president_of old.events company → first ≡ with_home old company → BlockLeads file round company (in_turn first at_start) president (in_turn ruled progress) → in_turn paid last ≡ settled company (in_turn ruled progress) → BlockEnds file round company paid president new → IsCompanyTurn file round company old new
-turn_of_parts file round company old first ruled paid new progress last president is_president is_first block is_settled ends =
-    let is_paid : paid ≡ (settled company (in_turn ruled progress)).game = ap (λ (turn : InTurn). turn.game) is_settled in
+pub turn_of_parts : (file : List ℕ) (round : Round) (company : Company) (old first ruled paid new : Game)
+    (progress last : Progress) (president : Option Seat) → president ≡ president_of old.events company
+    → first ≡ with_home old company → BlockLeads file round company (in_turn first at_start) president
+    (in_turn ruled progress) → in_turn paid last ≡ settled company (in_turn ruled progress)
+    → BlockEnds file round company paid president new → IsCompanyTurn file round company old new
+turn_of_parts file round company old first ruled paid new progress last president is_president is_first block
+    is_settled ends =
+    let is_paid : paid ≡ (settled company (in_turn ruled progress)).game =
+    ap (λ (turn : InTurn). turn.game) is_settled in
     record {
       last = in_turn ruled progress;
-      block = subst (λ (game : Game). BlockLeads file round company (in_turn game at_start) (president_of old.events company) (in_turn ruled progress)) is_first
-          (subst (λ (seat : Option Seat). BlockLeads file round company (in_turn first at_start) seat (in_turn ruled progress)) is_president block);
+      block = subst (λ (game : Game). BlockLeads file round company (in_turn game at_start)
+          (president_of old.events company) (in_turn ruled progress)) is_first
+          (subst (λ (seat : Option Seat). BlockLeads file round company (in_turn first at_start) seat
+          (in_turn ruled progress)) is_president block);
       after = subst (λ (game : Game). BlockEnds file round company game (president_of old.events company) new) is_paid
           (subst (λ (seat : Option Seat). BlockEnds file round company paid seat new) is_president ends);
     }
 
 -- the seats are as they were once the company has paid or withheld
-pub paid_seats : (file : List ℕ) (round : Round) (company : Company) (old first ruled paid : Game) (progress last : Progress) (president : Option Seat) → first ≡ with_home old company → BlockLeads file round company (in_turn first at_start) president (in_turn ruled progress) → in_turn paid last ≡ settled company (in_turn ruled progress) → paid.seats ≡ old.seats
+pub paid_seats : (file : List ℕ) (round : Round) (company : Company) (old first ruled paid : Game)
+    (progress last : Progress) (president : Option Seat) → first ≡ with_home old company
+    → BlockLeads file round company (in_turn first at_start) president (in_turn ruled progress)
+    → in_turn paid last ≡ settled company (in_turn ruled progress) → paid.seats ≡ old.seats
 paid_seats file round company old first ruled paid progress last president is_first block is_settled =
     let adds = adds_by company in
     let steps = of_steps company OnlyAdds adds in
     let home : OnlyAdds old (with_home old company) = of_home company OnlyAdds adds old in
-    let lines : OnlyAdds first ruled = of_block company _ steps file round (in_turn first at_start) president (in_turn ruled progress) block in
-    let end : OnlyAdds ruled (settled company (in_turn ruled progress)).game = of_settled company _ steps (in_turn ruled progress) in
+    let lines : OnlyAdds first ruled = of_block company _ steps file round (in_turn first at_start) president
+    (in_turn ruled progress) block in
+    let end : OnlyAdds ruled (settled company (in_turn ruled progress)).game =
+    of_settled company _ steps (in_turn ruled progress) in
     ap (λ (turn : InTurn). turn.game.seats) is_settled
     ∙ ap (λ (game : Game). game.seats) end.added
     ∙ ap (λ (game : Game). game.seats) lines.added
@@ -49,18 +62,23 @@ paid_seats file round company old first ruled paid progress last president is_fi
     ∙ ap (λ (game : Game). game.seats) home.added
 
 -- the president of a company that has floated is at the table then
-pub president_there : (old paid : Game) (company : Company) (president : Option Seat) → IsSound old → is_floated old.events company ≡ true → president ≡ president_of old.events company → paid.seats ≡ old.seats → IfSome president (λ seat. seat.0 < paid.seats)
+pub president_there : (old paid : Game) (company : Company) (president : Option Seat) → IsSound old
+    → is_floated old.events company ≡ true → president ≡ president_of old.events company → paid.seats ≡ old.seats
+    → IfSome president (λ seat. seat.0 < paid.seats)
 president_there old paid company None sound floated is same = tt
 president_there old paid company (Some seat) sound floated is same =
     subst (λ (n : ℕ). seat.0 < n) (sym same) (president_seated old company seat sound floated (sym is))
 
 -- a TRAIN line, from what the company withholds by itself and what then becomes of the line
-pub train_leads : (by : Operator) (turn paid : InTurn) (line : Numbered) (its : Order) (kind : Kind) (from : TrainSource) (new : InTurn) → its ≡ order.BuyTrain kind from → paid ≡ settled by.company turn → new ≡ after_buying by paid line kind from → OrderLeads by turn line its new
+pub train_leads : (by : Operator) (turn paid : InTurn) (line : Numbered) (its : Order) (kind : Kind)
+    (from : TrainSource) (new : InTurn) → its ≡ order.BuyTrain kind from → paid ≡ settled by.company turn
+    → new ≡ after_buying by paid line kind from → OrderLeads by turn line its new
 train_leads by turn paid line its kind from new is is_paid ruled =
     subst (λ (o : Order). OrderLeads by turn line o new) (sym is)
     (subst (λ (t : InTurn). new ≡ after_buying by t line kind from) is_paid ruled)
 
 -- a turn leaves the seats as they are
-pub seats_stay : (file : List ℕ) (round : Round) (company : Company) (old new : Game) → IsCompanyTurn file round company old new → new.seats ≡ old.seats
+pub seats_stay : (file : List ℕ) (round : Round) (company : Company) (old new : Game)
+    → IsCompanyTurn file round company old new → new.seats ≡ old.seats
 seats_stay file round company old new turn =
     ap (λ (game : Game). game.seats) (only_adds file round company old new turn).added

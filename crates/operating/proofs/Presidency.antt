@@ -45,9 +45,11 @@ most_stays : (events : List Event) (company : Company) (tenths : Seat → ℤ) (
     one_has events company (tenths first +ℤ pos 1) others ≡ false → with_most tenths first others ≡ first
 most_stays events company tenths first [] fewer none = refl
 most_stays events company tenths first (other ∷ others) fewer none =
-    let parts = neither (le_z (tenths first +ℤ pos 1) (shares_of events company (OfSeat other))) (one_has events company (tenths first +ℤ pos 1) others) none in
+    let parts = neither (le_z (tenths first +ℤ pos 1) (shares_of events company (OfSeat other)))
+    (one_has events company (tenths first +ℤ pos 1) others) none in
     let under : shares_of events company (OfSeat other) <ℤ (tenths first +ℤ pos 1) = grind (arith, ints, parts.0) in
-    let no_more : lt_z (tenths first) (tenths other) ≡ false = not_less_is (tenths first) (tenths other) (omega (arith, ints, fewer other, under)) in
+    let no_more : lt_z (tenths first) (tenths other) ≡ false =
+    not_less_is (tenths first) (tenths other) (omega (arith, ints, fewer other, under)) in
     ap (λ (b : Bool). with_most tenths (if b then other else first) others) no_more
     ∙ most_stays events company tenths first others fewer parts.1
 
@@ -62,10 +64,12 @@ all_taken true false tenths first second = absurd cc
 all_taken false b tenths first second = absurd cc
 
 -- where nothing comes there are no more then, and the rest is what did not go
-fewer_then : (before after : ℤ) (brought taken : ℕ) → after ≡ ((before +ℤ pos brought) -ℤ pos taken) → brought ≡ 0 → after ≤ℤ before
+fewer_then : (before after : ℤ) (brought taken : ℕ) → after ≡ ((before +ℤ pos brought) -ℤ pos taken) → brought ≡ 0
+    → after ≤ℤ before
 fewer_then before after brought taken is none = omega (arith, ints, is, none)
 
-rest_then : (before after : ℤ) (brought taken tenths : ℕ) → after ≡ ((before +ℤ pos brought) -ℤ pos taken) → brought ≡ 0 → taken ≡ tenths → after ≡ before -ℤ pos tenths
+rest_then : (before after : ℤ) (brought taken tenths : ℕ) → after ≡ ((before +ℤ pos brought) -ℤ pos taken)
+    → brought ≡ 0 → taken ≡ tenths → after ≡ before -ℤ pos tenths
 rest_then before after brought taken tenths is none all = omega (arith, ints, is, none, all)
 
 -- a number is itself
@@ -85,25 +89,29 @@ module _ (game : Game) (seat : Seat) (sale : Sale) where
   -- a bank that breaks moves no tenths and no presidency
   same_shares : (other : Seat) → shares_of paid company (OfSeat other) ≡ shares_of told company (OfSeat other)
   same_shares other =
-      elim (breaks game.seats told) as (λ (b : Bool). shares_of (if b then told ++ event.Broken ∷ [] else told) company (OfSeat other) ≡ shares_of told company (OfSeat other)) [
+      elim (breaks game.seats told) as (λ (b : Bool). shares_of (if b then told ++ event.Broken ∷ [] else told)
+      company (OfSeat other) ≡ shares_of told company (OfSeat other)) [
         | true ↦ shares_of_before told event.Broken company (OfSeat other) refl
         | false ↦ refl
       ]
 
   same_president : (its : Company) → president_of paid its ≡ president_of game.events its
   same_president its =
-      elim (breaks game.seats told) as (λ (b : Bool). president_of (if b then told ++ event.Broken ∷ [] else told) its ≡ president_of told its) [
+      elim (breaks game.seats told) as (λ (b : Bool). president_of (if b then told ++ event.Broken ∷ [] else told) its
+      ≡ president_of told its) [
         | true ↦ president_of_before told event.Broken its refl
         | false ↦ refl
       ]
-      ∙ president_of_before game.events (event.Sells company seat sale.tenths (sale.tenths * market_price_of game.events company)) its refl
+      ∙ president_of_before game.events (event.Sells company seat sale.tenths
+      (sale.tenths * market_price_of game.events company)) its refl
 
   -- after it nobody has more tenths
   no_more_held : (other : Seat) → shares_of paid company (OfSeat other) ≤ℤ shares_of game.events company (OfSeat other)
   no_more_held other =
       subst (λ (held : ℤ). held ≤ℤ shares_of game.events company (OfSeat other)) (sym (same_shares other))
       (fewer_then (shares_of game.events company (OfSeat other)) (shares_of told company (OfSeat other)) _ _
-      (shares_of_at_end game.events (event.Sells company seat sale.tenths (sale.tenths * market_price_of game.events company)) company (OfSeat other))
+      (shares_of_at_end game.events (event.Sells company seat sale.tenths
+      (sale.tenths * market_price_of game.events company)) company (OfSeat other))
       (none_brought (same_company company company) sale.tenths))
 
   -- and the seat has what it keeps
@@ -111,12 +119,14 @@ module _ (game : Game) (seat : Seat) (sale : Sale) where
   keeps_rest =
       same_shares seat
       ∙ rest_then (shares_of game.events company (OfSeat seat)) (shares_of told company (OfSeat seat)) _ _ sale.tenths
-      (shares_of_at_end game.events (event.Sells company seat sale.tenths (sale.tenths * market_price_of game.events company)) company (OfSeat seat))
+      (shares_of_at_end game.events (event.Sells company seat sale.tenths
+      (sale.tenths * market_price_of game.events company)) company (OfSeat seat))
       (none_brought (same_company company company) sale.tenths)
       (all_taken (same_company company company) (seat.0 == seat.0) sale.tenths (company_itself company) (itself seat.0))
 
   -- so it still presides, where the sale is not to move the presidency
-  stays_president : one_has game.events company (kept_after game.events seat sale +ℤ pos 1) (others_from game.seats seat) ≡ false →
+  stays_president : one_has game.events company (kept_after game.events seat sale +ℤ pos 1)
+      (others_from game.seats seat) ≡ false →
       successor_of game.seats paid company seat ≡ seat
   stays_president none =
       most_stays game.events company (seat_tenths_of paid company) seat (others_from game.seats seat) no_more_held
@@ -131,20 +141,26 @@ module _ (game : Game) (seat : Seat) (sale : Sale) where
       Leads its seat (with_president game.seats paid company)
   of_same its same leads none =
       let found : president_of paid company ≡ Some seat = ap (president_of paid) (sym same) ∙ leads in
-      let stays : ((successor_of game.seats paid company seat).0 == seat.0) ≡ true = ap (λ (new : Seat). new.0 == seat.0) (stays_president none) ∙ itself seat.0 in
+      let stays : ((successor_of game.seats paid company seat).0 == seat.0) ≡ true =
+      ap (λ (new : Seat). new.0 == seat.0) (stays_president none) ∙ itself seat.0 in
       ap (λ (old : Option Seat). president_of (with_successor game.seats paid company old) its) found
-      ∙ ap (λ (b : Bool). president_of (if b then paid else paid ++ event.President company (successor_of game.seats paid company seat) ∷ []) its) stays
+      ∙ ap (λ (b : Bool). president_of (if b then paid else paid
+      ++ event.President company (successor_of game.seats paid company seat) ∷ []) its) stays
       ∙ leads
 
-  of_other : (its : Company) (leader : Seat) → same_company company its ≡ false → Leads its leader paid → Leads its leader (with_president game.seats paid company)
+  of_other : (its : Company) (leader : Seat) → same_company company its ≡ false → Leads its leader paid
+      → Leads its leader (with_president game.seats paid company)
   of_other its leader apart leads =
-      elim (president_of paid company) as (λ (old : Option Seat). Leads its leader (with_successor game.seats paid company old)) [
+      elim (president_of paid company) as (λ (old : Option Seat). Leads its leader
+      (with_successor game.seats paid company old)) [
         | None ↦ leads
         | Some old ↦
             let new : Seat = successor_of game.seats paid company old in
-            elim (new.0 == old.0) as (λ (b : Bool). Leads its leader (if b then paid else paid ++ event.President company new ∷ [])) [
+            elim (new.0 == old.0) as (λ (b : Bool). Leads its leader
+            (if b then paid else paid ++ event.President company new ∷ [])) [
               | true ↦ leads
-              | false ↦ last_said_before (λ e. president_said its (office_of e)) (paid ++ event.President company new ∷ []) paid (event.President company new) refl
+              | false ↦ last_said_before (λ e. president_said its (office_of e))
+                  (paid ++ event.President company new ∷ []) paid (event.President company new) refl
                   (ap (λ (b : Bool). if b then Some new else None) apart)
                   ∙ leads
             ]
@@ -161,40 +177,54 @@ not_another true another none same = none
 not_another false another none same = absurd cc
 
 -- what the rules of such a sale leave
-stays_where_allowed : (by : Operator) (game : Game) (sale : Sale) → sale_rule by game sale ≡ None → must_stay game.seats game.events by.president sale (Some by.company) ≡ false
+stays_where_allowed : (by : Operator) (game : Game) (sale : Sale) → sale_rule by game sale ≡ None
+    → must_stay game.seats game.events by.president sale (Some by.company) ≡ false
 unfolding sale_rule sale_judgement
 stays_where_allowed by game sale none =
     (none_broken (sale_rules game.seats game.events by.president sale (Some by.company)) none).1.1.1.0
 
-none_over : (by : Operator) (game : Game) (sale : Sale) → sale_rule by game sale ≡ None → by.company ≡ sale.company → president_of game.events by.company ≡ Some by.president →
-    one_has game.events sale.company (kept_after game.events by.president sale +ℤ pos 1) (others_from game.seats by.president) ≡ false
+none_over : (by : Operator) (game : Game) (sale : Sale) → sale_rule by game sale ≡ None → by.company ≡ sale.company
+    → president_of game.events by.company ≡ Some by.president →
+    one_has game.events sale.company (kept_after game.events by.president sale +ℤ pos 1)
+    (others_from game.seats by.president) ≡ false
 unfolding must_stay
 none_over by game sale none same leads =
-    let found : president_of game.events sale.company ≡ Some by.president = ap (president_of game.events) (sym same) ∙ leads in
-    let he : presides by.president (president_of game.events sale.company) ≡ true = ap (presides by.president) found ∙ itself by.president.0 in
+    let found : president_of game.events sale.company ≡ Some by.president =
+    ap (president_of game.events) (sym same) ∙ leads in
+    let he : presides by.president (president_of game.events sale.company) ≡ true =
+    ap (presides by.president) found ∙ itself by.president.0 in
     let moves : moves_operating game.seats game.events by.president sale (Some by.company) ≡ false =
-    no_move (presides by.president (president_of game.events sale.company)) (leaves_none game.seats game.events by.president sale) (moves_operating game.seats game.events by.president sale (Some by.company)) (stays_where_allowed by game sale none) he
+    no_move (presides by.president (president_of game.events sale.company))
+    (leaves_none game.seats game.events by.president sale)
+    (moves_operating game.seats game.events by.president sale (Some by.company))
+    (stays_where_allowed by game sale none) he
     in
-    not_another (same_company by.company sale.company) _ moves (ap (λ (its : Company). same_company by.company its) (sym same) ∙ company_itself by.company)
+    not_another (same_company by.company sale.company) _ moves
+    (ap (λ (its : Company). same_company by.company its) (sym same) ∙ company_itself by.company)
 
 -- a token that moves leaves it too
-token_leaves : (move : Square → Square) (events : List Event) (moved its : Company) (square : Option Square) → president_of (moved_from move events moved square) its ≡ president_of events its
+token_leaves : (move : Square → Square) (events : List Event) (moved its : Company) (square : Option Square)
+    → president_of (moved_from move events moved square) its ≡ president_of events its
 token_leaves move events moved its None = refl
 token_leaves move events moved its (Some square) =
-    elim (same_square (move square) square) as (λ (b : Bool). president_of (if b then events else events ++ event.Moves moved (move square) ∷ []) its ≡ president_of events its) [
+    elim (same_square (move square) square) as (λ (b : Bool). president_of
+    (if b then events else events ++ event.Moves moved (move square) ∷ []) its ≡ president_of events its) [
       | true ↦ refl
       | false ↦ president_of_before events (event.Moves moved (move square)) its refl
     ]
 
 -- after the whole sale
-sale_leaves : (by : Operator) (game : Game) (sale : Sale) → sale_rule by game sale ≡ None → president_of game.events by.company ≡ Some by.president →
+sale_leaves : (by : Operator) (game : Game) (sale : Sale) → sale_rule by game sale ≡ None
+    → president_of game.events by.company ≡ Some by.president →
     president_of (with_sale by game sale).events by.company ≡ Some by.president
 sale_leaves by game sale none leads =
     let paid : List Event = sold game.seats game.events by.president sale.company sale.tenths in
     let led : List Event = with_president game.seats paid sale.company in
-    let kept : president_of paid by.company ≡ Some by.president = same_president game by.president sale by.company ∙ leads in
+    let kept : president_of paid by.company ≡ Some by.president =
+    same_president game by.president sale by.company ∙ leads in
     let stays : president_of led by.company ≡ Some by.president =
-    elim (same_company sale.company by.company) as (λ (b : Bool). same_company sale.company by.company ≡ b → president_of led by.company ≡ Some by.president) [
+    elim (same_company sale.company by.company) as
+    (λ (b : Bool). same_company sale.company by.company ≡ b → president_of led by.company ≡ Some by.president) [
       | true ↦ λ same.
           let is : by.company ≡ sale.company = sym (same_company_is sale.company by.company same) in
           of_same game by.president sale by.company is kept (none_over by game sale none is leads)
@@ -211,17 +241,20 @@ no_office operating game other is = refl
 
 -- whoever presided still does
 abbrev Stays : Company → Option Seat → Game → Game → Type 0
-Stays company president old new = president_of old.events company ≡ president → president_of new.events company ≡ president
+Stays company president old new = president_of old.events company ≡ president
+    → president_of new.events company ≡ president
 
 of_turn_events : (company : Company) (president : Option Seat) → OfEvents company (Stays company president)
 of_turn_events company president =
-    let on : IsPassedOn (Stays company president) = record { same = λ game leads. leads; both = λ a b c one two leads. two (one leads) } in
+    let on : IsPassedOn (Stays company president) =
+    record { same = λ game leads. leads; both = λ a b c one two leads. two (one leads) } in
     by_each company (Stays company president) on
     (λ game its is leads. president_of_before game.events its company (no_office company game its is) ∙ leads)
 
 -- so it is of the sales of a president, and of his bankruptcy
 of_his : (company : Company) (president : Option Seat) (seat : Seat) → president ≡ Some seat →
-    OfSales (operator company seat) (Stays company president) × OfBankruptcies (operator company seat) (Stays company president)
+    OfSales (operator company seat) (Stays company president)
+    × OfBankruptcies (operator company seat) (Stays company president)
 of_his company president seat is = (
   λ game sale none leads. sale_leaves (operator company seat) game sale none (leads ∙ is) ∙ sym is,
   λ game leads. president_of_before game.events (event.Bankrupt seat) company refl ∙ leads,

@@ -48,7 +48,8 @@ face_small CamdenAmboy = omega arith
 face_small BaltimoreOhio = omega arith
 
 -- what is not over so many is as small
-no_more : (few many : Bool) (face price : ℕ) → nat_lt (face + face) price ≡ many → (few || many) ≡ false → price ≤ face + face
+no_more : (few many : Bool) (face price : ℕ) → nat_lt (face + face) price ≡ many → (few || many) ≡ false
+    → price ≤ face + face
 no_more true many face price is kept = absurd (cc)
 no_more false many face price is kept = grind (arith, nat_tests, is, kept)
 
@@ -57,10 +58,12 @@ pub record MaySell (game : Game) (company : Company) (price : ℕ) : Type 0 wher
   pub small : price ≤ 440
   pub pays : pos price ≤ℤ cash_of game.seats game.events (party_of_company company)
 
-pub may_sell : (game : Game) (company : Company) (private : Private) (price : ℕ) → private_judgement game company private price ≡ None → MaySell game company price
+pub may_sell : (game : Game) (company : Company) (private : Private) (price : ℕ)
+    → private_judgement game company private price ≡ None → MaySell game company price
 may_sell game company private price none =
     let kept = none_broken (private_rules game company private price) none in
-    let most = no_more (nat_lt (price + price) (face_of private)) (nat_lt (face_of private + face_of private) price) (face_of private) price refl kept.1.0 in
+    let most = no_more (nat_lt (price + price) (face_of private)) (nat_lt (face_of private + face_of private) price)
+    (face_of private) price refl kept.1.0 in
     record {
       small = omega (arith, most, face_small private);
       pays = not_less (cash_of game.seats game.events (party_of_company company)) (pos price) kept.1.1.1.1.0;
@@ -72,7 +75,8 @@ module _ (events : List Event) (seat : Seat) (line : Numbered) (private : Privat
   obeyed = Ruled seat line.number (Obeyed line.condition (BuyOwnedPrivate private price))
 
   -- it offers nothing
-  offers_none : (giver : Seat) (sale : Offer) → in_round (λ its. said_by giver (offered_in sale) (obeyed_of its)) obeyed ≡ None
+  offers_none : (giver : Seat) (sale : Offer) → in_round (λ its. said_by giver (offered_in sale) (obeyed_of its))
+      obeyed ≡ None
   offers_none giver sale =
       elim (seat.0 == giver.0) as (λ (b : Bool). option_map {T = Offer} Some (if b then None else None) ≡ None) [
         | true ↦ refl
@@ -84,7 +88,8 @@ module _ (events : List Event) (seat : Seat) (line : Numbered) (private : Privat
       is_given_by (events ++ obeyed ∷ []) owner taker sale ≡ is_given_by events owner taker sale
   same_given (Some (holder.Seat giver)) (Some taker) sale =
       ap (λ (said : Option (Option Offer)). giver.0 == taker.0 || is_some (option_flatten said))
-      (last_said_before (in_round (λ its. said_by giver (offered_in sale) (obeyed_of its))) (events ++ obeyed ∷ []) events obeyed refl (offers_none giver sale))
+      (last_said_before (in_round (λ its. said_by giver (offered_in sale) (obeyed_of its))) (events ++ obeyed ∷ [])
+      events obeyed refl (offers_none giver sale))
   same_given (Some (holder.Seat giver)) None sale = refl
   same_given (Some (holder.Company owner)) taker sale = refl
   same_given None taker sale = refl
@@ -92,31 +97,37 @@ module _ (events : List Event) (seat : Seat) (line : Numbered) (private : Privat
   -- the same owns it
   same_owner : owner_of (events ++ obeyed ∷ []) private ≡ owner_of events private
   same_owner =
-      ap option_flatten (last_said_before (λ its. owner_said private (ownership_of its)) (events ++ obeyed ∷ []) events obeyed refl refl)
+      ap option_flatten (last_said_before (λ its. owner_said private (ownership_of its)) (events ++ obeyed ∷ [])
+      events obeyed refl refl)
 
   -- so the same is given
-  same_sale : (company : Company) → is_given (events ++ obeyed ∷ []) company private price ≡ is_given events company private price
+  same_sale : (company : Company) → is_given (events ++ obeyed ∷ []) company private price
+      ≡ is_given events company private price
   same_sale company =
       let sale : Offer = offer.Private private company price in
       let after = events ++ obeyed ∷ [] in
       same_given (owner_of after private) (president_of after company) sale
       ∙ ap (λ (owner : Option Holder). is_given_by events owner (president_of after company) sale) same_owner
-      ∙ ap (λ (taker : Option Seat). is_given_by events (owner_of events private) taker sale) (president_of_before events obeyed company refl)
+      ∙ ap (λ (taker : Option Seat). is_given_by events (owner_of events private) taker sale)
+      (president_of_before events obeyed company refl)
 
   -- the phase is the same
   same_phase : phase_of (events ++ obeyed ∷ []) ≡ phase_of events
   same_phase =
-      ap (λ (said : Option Kind). unwrap_or said Two) (last_said_before phase_set (events ++ obeyed ∷ []) events obeyed refl refl)
+      ap (λ (said : Option Kind). unwrap_or said Two)
+      (last_said_before phase_set (events ++ obeyed ∷ []) events obeyed refl refl)
 
 -- a table of the rules of the purchase of a private
 abbrev table_of : Bool → Bool → Bool → Bool → Bool → Option PrivateRule
 table_of early wrong given never dear =
     first_broken
-    (record { code = TooEarly; broken = early } ∷ record { code = WrongPrice; broken = wrong } ∷ record { code = NoConsent; broken = not given }
+    (record { code = TooEarly; broken = early } ∷ record { code = WrongPrice; broken = wrong }
+    ∷ record { code = NoConsent; broken = not given }
     ∷ record { code = NeverSold; broken = never } ∷ record { code = CashTooSmall; broken = dear } ∷ [])
 
 -- the rules say the same
-pub same_after_line : (game ruled : Game) (seat : Seat) (line : Numbered) (company : Company) (private : Private) (price : ℕ) →
+pub same_after_line : (game ruled : Game) (seat : Seat) (line : Numbered) (company : Company) (private : Private)
+    (price : ℕ) →
     ruled ≡ with_event game (Ruled seat line.number (Obeyed line.condition (BuyOwnedPrivate private price))) →
     private_judgement ruled company private price ≡ private_judgement game company private price
 same_after_line game ruled seat line company private price is =
@@ -129,16 +140,23 @@ same_after_line game ruled seat line company private price is =
     let early = λ (phase : Kind). nat_lt (place_of_kind phase) (place_of_kind Three) in
     let cash = λ (g : Game). cash_of g.seats g.events (party_of_company company) in
     ap (λ (g : Game). private_judgement g company private price) is
-    ∙ ap (λ (phase : Kind). table_of (early phase) wrong (is_given after.events company private price) never (dear (cash after))) (same_phase events seat line private price)
-    ∙ ap (λ (given : Bool). table_of (early (phase_of events)) wrong given never (dear (cash after))) (same_sale events seat line private price company)
-    ∙ ap (λ (has : ℤ). table_of (early (phase_of events)) wrong (is_given events company private price) never (dear has)) (cash_of_before game.seats events obeyed (party_of_company company) refl)
+    ∙ ap (λ (phase : Kind). table_of (early phase) wrong (is_given after.events company private price) never
+    (dear (cash after))) (same_phase events seat line private price)
+    ∙ ap (λ (given : Bool). table_of (early (phase_of events)) wrong given never (dear (cash after)))
+    (same_sale events seat line private price company)
+    ∙ ap (λ (has : ℤ). table_of (early (phase_of events)) wrong (is_given events company private price) never
+    (dear has)) (cash_of_before game.seats events obeyed (party_of_company company) refl)
 
 -- a PRIVATE that breaks no rule leads where its purchase does
-pub sold_steps : (by : Operator) (turn : InTurn) (line : Numbered) (private : Private) (price : ℕ) (its : Order) (ruled new : Game) →
+pub sold_steps : (by : Operator) (turn : InTurn) (line : Numbered) (private : Private) (price : ℕ) (its : Order)
+    (ruled new : Game) →
     its ≡ BuyOwnedPrivate private price → private_judgement turn.game by.company private price ≡ None →
-    ruled ≡ with_event turn.game (Ruled by.president line.number (Obeyed line.condition its)) → new ≡ private_bought ruled by.company private price →
+    ruled ≡ with_event turn.game (Ruled by.president line.number (Obeyed line.condition its))
+    → new ≡ private_bought ruled by.company private price →
     in_turn new turn.progress ≡ after_private by turn line private price
 sold_steps by turn line private price its ruled new is_its none is_ruled is_new =
-    ap (λ (game : Game). in_turn game turn.progress) (is_new ∙ ap (λ (game : Game). private_bought game by.company private price) is_ruled)
-    ∙ ap (λ (one : Order). in_turn (private_bought (told by turn line (Obeyed line.condition one)).game by.company private price) turn.progress) is_its
+    ap (λ (game : Game). in_turn game turn.progress)
+    (is_new ∙ ap (λ (game : Game). private_bought game by.company private price) is_ruled)
+    ∙ ap (λ (one : Order). in_turn (private_bought (told by turn line (Obeyed line.condition one)).game by.company
+    private price) turn.progress) is_its
     ∙ ap (private_ruled by turn line private price) (sym none)

@@ -23,14 +23,16 @@ use Rattle.tables.specs.declared.roster.Company.{Company}
 -- a line is read as an order under a condition exactly where it spells it
 abbrev pub ReadWhereSpelt : Type 0
 ReadWhereSpelt =
-    (version : Version) (line : List ℕ) (spelt : Ordered) → (reading_in version line ≡ Ok spelt) ↔ SpellsInVersion version line spelt
+    (version : Version) (line : List ℕ) (spelt : Ordered)
+    → (reading_in version line ≡ Ok spelt) ↔ SpellsInVersion version line spelt
 
 -- the first of these words is one with which a RAISE begins
 abbrev may_begin : List ℕ → Bool
 may_begin word = same_word word (codes "RAISE") || same_word word (codes "IF")
 
 -- words of which the first is this begin with it
-begins_with : (first : List ℕ) (others : List (List ℕ) → Type 0) (words : List (List ℕ)) → Then (IsWord first) others words →
+begins_with : (first : List ℕ) (others : List (List ℕ) → Type 0) (words : List (List ℕ))
+    → Then (IsWord first) others words →
     first_of_words words ≡ first
 begins_with first others [] is = absurd is
 begins_with first others (word ∷ words) is = is.0
@@ -42,7 +44,8 @@ begins version None company tenths words are = ap may_begin (begins_with (codes 
 begins One (Some condition) company tenths words are = absurd are
 begins Two (Some condition) company tenths words are = ap may_begin (begins_with (codes "IF") _ words are)
 
-module _ (law : ReadWhereSpelt) (due : Bool) (by : Operator) (game : Game) (line : Numbered) (version : Version) (text : List ℕ) (differs : may_spell_raise text ≡ false) where
+module _ (law : ReadWhereSpelt) (due : Bool) (by : Operator) (game : Game) (line : Numbered) (version : Version)
+    (text : List ℕ) (differs : may_spell_raise text ≡ false) where
   -- an order that is spelt by a line with another first word changes nothing
   other_order : (condition : Option Condition) (its : Order) → AreWordsUnder version condition its (words_of text) →
       after_raise_line due by game line (Ok its) ≡ game
@@ -52,12 +55,14 @@ module _ (law : ReadWhereSpelt) (due : Bool) (by : Operator) (game : Game) (line
   other_order condition other are = refl
 
   -- nor does what is read of such a line
-  unchanged : (reading : Result Ordered Fault) → reading_in version text ≡ reading → after_raise_line due by game line (order_read reading) ≡ game
+  unchanged : (reading : Result Ordered Fault) → reading_in version text ≡ reading
+      → after_raise_line due by game line (order_read reading) ≡ game
   unchanged (Ok spelt) is = other_order spelt.condition spelt.order ((law version text spelt).0 is).loosely.words
   unchanged (Err fault) is = refl
 
   -- nor does it where it stands
-  pub no_raise : (number : ℕ) → after_raise_line due by game line (reading_at number (order_read (reading_in version text))) ≡ game
+  pub no_raise : (number : ℕ) → after_raise_line due by game line
+      (reading_at number (order_read (reading_in version text))) ≡ game
   no_raise number =
       elim (cases_Bool (ltb lines_most number)) [
         | inl past ↦ rw past refl

@@ -42,16 +42,21 @@ at_table seats (OfSeat seat) low = omega arith
 abbrev table : ℕ → List Event → Game
 table seats events = record { seats = seats; events = events }
 
-one_more : (seats : ℕ) (events : List Event) (event : Event) → above_in (transfer_of event) ≤ seats → AreTenInAll (table seats events) → AreTenInAll (table seats (events ++ event ∷ []))
+one_more : (seats : ℕ) (events : List Event) (event : Event) → above_in (transfer_of event) ≤ seats
+    → AreTenInAll (table seats events) → AreTenInAll (table seats (events ++ event ∷ []))
 one_more seats events event low ten = by_transfer (transfer_of event) refl low
   where
-    by_transfer : (found : Option Transfer) → transfer_of event ≡ found → above_in found ≤ seats → AreTenInAll (table seats (events ++ event ∷ []))
+    by_transfer : (found : Option Transfer) → transfer_of event ≡ found → above_in found ≤ seats
+        → AreTenInAll (table seats (events ++ event ∷ []))
     by_transfer None is low = ten_kept (table seats events) event is ten
     by_transfer (Some transfer) is low =
-        ten_after (table seats events) event transfer is (at_table seats transfer.from (omega arith)) (at_table seats transfer.to (omega arith)) ten
+        ten_after (table seats events) event transfer is (at_table seats transfer.from (omega arith))
+        (at_table seats transfer.to (omega arith)) ten
 
-ten_along : (seats : ℕ) (rest before : List Event) → bound_of rest ≤ seats → AreTenInAll (table seats before) → AreTenInAll (table seats (before ++ rest))
-ten_along seats [] before low ten = subst (λ (events : List Event). AreTenInAll (table seats events)) (sym (append-nil before)) ten
+ten_along : (seats : ℕ) (rest before : List Event) → bound_of rest ≤ seats → AreTenInAll (table seats before)
+    → AreTenInAll (table seats (before ++ rest))
+ten_along seats [] before low ten = subst (λ (events : List Event). AreTenInAll (table seats events))
+    (sym (append-nil before)) ten
 ten_along seats (event ∷ rest) before low ten =
     subst (λ (events : List Event). AreTenInAll (table seats events)) (append_assoc before (event ∷ []) rest)
     (ten_along seats rest (before ++ event ∷ []) (omega arith) (one_more seats before event (omega arith) ten))
@@ -63,17 +68,21 @@ none_held company (seat ∷ others) = omega (arith, ints, none_held company othe
 ten_first : (seats : ℕ) → AreTenInAll (table seats [])
 ten_first seats company = omega (arith, ints, none_held company (all_seats seats))
 
-module _ (events : List Event) (company : Company) (held : (place : Shareholder) → pos 0 ≤ℤ shares_of events company place) where
+module _ (events : List Event) (company : Company)
+    (held : (place : Shareholder) → pos 0 ≤ℤ shares_of events company place) where
   abbrev together : ℕ → ℤ
   together seats = held_by events company (all_seats seats)
 
-  held_end : (seats : List Seat) (seat : Seat) → held_by events company (seats ++ seat ∷ []) ≡ held_by events company seats +ℤ shares_of events company (OfSeat seat)
+  held_end : (seats : List Seat) (seat : Seat) → held_by events company (seats ++ seat ∷ [])
+      ≡ held_by events company seats +ℤ shares_of events company (OfSeat seat)
   held_end [] seat = omega (arith, ints)
   held_end (other ∷ others) seat = omega (arith, ints, held_end others seat)
 
-  one_seat_more : (seats : ℕ) → together (seats + 1) ≡ together seats +ℤ shares_of events company (OfSeat (seat_at seats))
+  one_seat_more : (seats : ℕ) → together (seats + 1)
+      ≡ together seats +ℤ shares_of events company (OfSeat (seat_at seats))
   one_seat_more seats =
-      ap (held_by events company) (map-range_with_len_more seat_at 0 seats seats (omega arith)) ∙ held_end (all_seats seats) (seat_at seats)
+      ap (held_by events company) (map-range_with_len_more seat_at 0 seats seats (omega arith))
+      ∙ held_end (all_seats seats) (seat_at seats)
 
   grown : (seats more : ℕ) → together seats ≤ℤ together (seats + more)
   grown seats zero =
@@ -85,7 +94,8 @@ module _ (events : List Event) (company : Company) (held : (place : Shareholder)
       (omega (arith, ints, grown seats more, one_seat_more (seats + more), held (OfSeat (seat_at (seats + more)))))
 
 -- who holds a tenth is at the table
-pub holder_seated : (game : Game) (company : Company) (seat : Seat) → IsSound game → pos 1 ≤ℤ shares_of game.events company (OfSeat seat) → seat.0 < game.seats
+pub holder_seated : (game : Game) (company : Company) (seat : Seat) → IsSound game
+    → pos 1 ≤ℤ shares_of game.events company (OfSeat seat) → seat.0 < game.seats
 holder_seated game company seat sound holds = by_test (nat_lt seat.0 game.seats) refl
   where
     outside : game.seats ≤ seat.0 → ⊥
@@ -96,9 +106,14 @@ holder_seated game company seat sound holds = by_test (nat_lt seat.0 game.seats)
         let all : tenths_in_all n events company ≡ pos 10 = ten_along n events [] (omega arith) (ten_first n) company in
         let here : tenths_in_all game.seats events company ≡ pos 10 = sound.ten company in
         let up_to : game.seats + (seat.0 - game.seats) ≡ seat.0 = omega arith in
-        let first : held_by events company (all_seats game.seats) ≤ℤ held_by events company (all_seats seat.0) = subst (λ (m : ℕ). held_by events company (all_seats game.seats) ≤ℤ held_by events company (all_seats m)) up_to (grown events company held game.seats (seat.0 - game.seats)) in
-        let his : held_by events company (all_seats (seat.0 + 1)) ≡ held_by events company (all_seats seat.0) +ℤ shares_of events company (OfSeat seat) = one_seat_more events company held seat.0 in
-        let last : held_by events company (all_seats (seat.0 + 1)) ≤ℤ held_by events company (all_seats n) = grown events company held (seat.0 + 1) (bound_of events) in
+        let first : held_by events company (all_seats game.seats) ≤ℤ held_by events company (all_seats seat.0) =
+        subst (λ (m : ℕ). held_by events company (all_seats game.seats) ≤ℤ held_by events company (all_seats m))
+        up_to (grown events company held game.seats (seat.0 - game.seats)) in
+        let his : held_by events company (all_seats (seat.0 + 1))
+        ≡ held_by events company (all_seats seat.0) +ℤ shares_of events company (OfSeat seat) =
+        one_seat_more events company held seat.0 in
+        let last : held_by events company (all_seats (seat.0 + 1)) ≤ℤ held_by events company (all_seats n) =
+        grown events company held (seat.0 + 1) (bound_of events) in
         let wrong : 1 ≤ 0 = omega (arith, ints, all, here, first, his, last, holds) in
         omega (arith, wrong)
 
@@ -107,11 +122,13 @@ holder_seated game company seat sound holds = by_test (nat_lt seat.0 game.seats)
     by_test false is = absurd (outside (ltb-false seat.0 game.seats is))
 
 -- so is the president of a company that has floated
-pub president_seated : (game : Game) (company : Company) (seat : Seat) → IsSound game → is_floated game.events company ≡ true → president_of game.events company ≡ Some seat → seat.0 < game.seats
+pub president_seated : (game : Game) (company : Company) (seat : Seat) → IsSound game
+    → is_floated game.events company ≡ true → president_of game.events company ≡ Some seat → seat.0 < game.seats
 president_seated game company seat sound floated presides =
     let led : IsLed game.events company = sound.floated company floated in
     let both : Some led.president ≡ Some seat = sym led.has_president ∙ presides in
     let same : led.president ≡ seat = cc in
     let two : pos 2 ≤ℤ shares_of game.events company (OfSeat led.president) = led.holds_two in
-    let his : pos 2 ≤ℤ shares_of game.events company (OfSeat seat) = subst (λ (s : Seat). pos 2 ≤ℤ shares_of game.events company (OfSeat s)) same two in
+    let his : pos 2 ≤ℤ shares_of game.events company (OfSeat seat) =
+    subst (λ (s : Seat). pos 2 ≤ℤ shares_of game.events company (OfSeat s)) same two in
     holder_seated game company seat sound (omega (arith, ints, his))

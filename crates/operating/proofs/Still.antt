@@ -50,16 +50,20 @@ module _ (events : List Event) (seat : Seat) (line : Numbered) (ruling : Ruling)
   same_sold : (kind : Kind) → trains_sold after kind ≡ trains_sold events kind
   same_sold kind =
       let goes : Event → ℕ = λ (event : Event). cond (train_goes train_place.Bank kind (train_moved event)) 1 0 in
-      let sum : trains_sold after kind ≡ trains_sold events kind + 0 = sum_by-append goes events (Ruled seat line.number ruling ∷ []) in
+      let sum : trains_sold after kind ≡ trains_sold events kind + 0 =
+      sum_by-append goes events (Ruled seat line.number ruling ∷ []) in
       omega (arith, sum)
 
   -- as many lie with a company, or the pool
   same_held : (owner : Option Company) (kind : Kind) → trains_held after owner kind ≡ trains_held events owner kind
   same_held owner kind =
-      balance_before 0 (λ event. one_if (train_comes (train_owner_place owner) kind (train_moved event))) (λ event. one_if (train_goes (train_owner_place owner) kind (train_moved event))) events (Ruled seat line.number ruling) refl refl
+      balance_before 0 (λ event. one_if (train_comes (train_owner_place owner) kind (train_moved event)))
+      (λ event. one_if (train_goes (train_owner_place owner) kind (train_moved event))) events
+      (Ruled seat line.number ruling) refl refl
 
   -- of all kinds together
-  same_kinds : (owner : Option Company) (some : List Kind) → trains_of_kinds after owner some ≡ trains_of_kinds events owner some
+  same_kinds : (owner : Option Company) (some : List Kind)
+      → trains_of_kinds after owner some ≡ trains_of_kinds events owner some
   same_kinds owner [] = refl
   same_kinds owner (kind ∷ others) =
       ap (λ (n : ℤ). n +ℤ trains_of_kinds after owner others) (same_held owner kind)
@@ -68,7 +72,8 @@ module _ (events : List Event) (seat : Seat) (line : Numbered) (ruling : Ruling)
   -- the phase is the same
   phase_stays : phase_of after ≡ phase_of events
   phase_stays =
-      ap (λ (said : Option Kind). unwrap_or said Two) (last_said_before phase_set after events (Ruled seat line.number ruling) refl refl)
+      ap (λ (said : Option Kind). unwrap_or said Two)
+      (last_said_before phase_set after events (Ruled seat line.number ruling) refl refl)
 
   -- the same kinds are left
   same_left : (kind : Kind) → is_left after kind ≡ is_left events kind
@@ -83,19 +88,24 @@ module _ (events : List Event) (seat : Seat) (line : Numbered) (ruling : Ruling)
   -- the same is on sale
   same_sale : (from : TrainSeller) (kind : Kind) → is_on_sale after from kind ≡ is_on_sale events from kind
   same_sale seller.Bank kind =
-      ap (λ (found : Option Kind). is_kind found kind || (same_kind kind Diesel && sells_diesels after)) (same_first numbered_kinds)
+      ap (λ (found : Option Kind). is_kind found kind || (same_kind kind Diesel && sells_diesels after))
+      (same_first numbered_kinds)
       ∙ ap (λ (sold : ℕ). is_kind (first_left events) kind || (same_kind kind Diesel && nat_lt 0 sold)) (same_sold Six)
   same_sale seller.BankPool kind = ap (lt_z (pos 0)) (same_held None kind)
   same_sale (seller.Company company) kind = refl
 
   -- the same is full
-  same_full : (company : Company) (trade_in : Option Kind) → is_at_train_limit after company trade_in ≡ is_at_train_limit events company trade_in
+  same_full : (company : Company) (trade_in : Option Kind)
+      → is_at_train_limit after company trade_in ≡ is_at_train_limit events company trade_in
   same_full company trade_in =
-      ap (λ (size : ℤ). not (lt_z (size -ℤ pos (traded_count trade_in)) (pos (limit_of (phase_of after))))) (same_kinds (Some company) kinds)
-      ∙ ap (λ (phase : Kind). not (lt_z (train_count events (Some company) -ℤ pos (traded_count trade_in)) (pos (limit_of phase)))) phase_stays
+      ap (λ (size : ℤ). not (lt_z (size -ℤ pos (traded_count trade_in)) (pos (limit_of (phase_of after)))))
+      (same_kinds (Some company) kinds)
+      ∙ ap (λ (phase : Kind). not (lt_z (train_count events (Some company) -ℤ pos (traded_count trade_in))
+      (pos (limit_of phase)))) phase_stays
 
   -- the same is the seller's
-  same_seller : (buyer : Company) (kind : Kind) (from : TrainSeller) → is_not_sellers after buyer kind from ≡ is_not_sellers events buyer kind from
+  same_seller : (buyer : Company) (kind : Kind) (from : TrainSeller)
+      → is_not_sellers after buyer kind from ≡ is_not_sellers events buyer kind from
   same_seller buyer kind seller.Bank = refl
   same_seller buyer kind seller.BankPool = refl
   same_seller buyer kind (seller.Company company) =
@@ -106,10 +116,12 @@ module _ (events : List Event) (seat : Seat) (line : Numbered) (ruling : Ruling)
   same_president company = president_of_before events (Ruled seat line.number ruling) company refl
 
   -- the same may be traded in
-  same_trade : (company : Company) (kind : Kind) (trade_in : Option Kind) → is_no_trade_in after company kind trade_in ≡ is_no_trade_in events company kind trade_in
+  same_trade : (company : Company) (kind : Kind) (trade_in : Option Kind)
+      → is_no_trade_in after company kind trade_in ≡ is_no_trade_in events company kind trade_in
   same_trade company kind None = refl
   same_trade company kind (Some trade_in) =
-      ap (λ (held : ℤ). not (same_kind kind Diesel && (may_be_traded trade_in && lt_z (pos 0) held))) (same_held (Some company) trade_in)
+      ap (λ (held : ℤ). not (same_kind kind Diesel && (may_be_traded trade_in && lt_z (pos 0) held)))
+      (same_held (Some company) trade_in)
 
 module _ (events : List Event) (seat : Seat) (line : Numbered) (kind : Kind) (from : TrainSource) where
   -- the ruling of a line TRAIN that is obeyed
@@ -117,7 +129,8 @@ module _ (events : List Event) (seat : Seat) (line : Numbered) (kind : Kind) (fr
   obeyed = Ruled seat line.number (Obeyed line.condition (BuyTrain kind from))
 
   -- it offers nothing
-  offers_none : (giver : Seat) (sale : Offer) → in_round (λ its. said_by giver (offered_in sale) (obeyed_of its)) obeyed ≡ None
+  offers_none : (giver : Seat) (sale : Offer) → in_round (λ its. said_by giver (offered_in sale) (obeyed_of its))
+      obeyed ≡ None
   offers_none giver sale =
       elim (seat.0 == giver.0) as (λ (b : Bool). option_map {T = Offer} Some (if b then None else None) ≡ None) [
         | true ↦ refl
@@ -125,10 +138,12 @@ module _ (events : List Event) (seat : Seat) (line : Numbered) (kind : Kind) (fr
       ]
 
   -- so the same consent
-  same_consent : (giver taker : Seat) (sale : Offer) → has_consent (events ++ obeyed ∷ []) giver taker sale ≡ has_consent events giver taker sale
+  same_consent : (giver taker : Seat) (sale : Offer)
+      → has_consent (events ++ obeyed ∷ []) giver taker sale ≡ has_consent events giver taker sale
   same_consent giver taker sale =
       ap (λ (said : Option (Option Offer)). giver.0 == taker.0 || is_some (option_flatten said))
-      (last_said_before (in_round (λ its. said_by giver (offered_in sale) (obeyed_of its))) (events ++ obeyed ∷ []) events obeyed refl (offers_none giver sale))
+      (last_said_before (in_round (λ its. said_by giver (offered_in sale) (obeyed_of its))) (events ++ obeyed ∷ [])
+      events obeyed refl (offers_none giver sale))
 
   same_agreement : (giver taker : Option Seat) (sale : Offer) →
       presidents_agree (events ++ obeyed ∷ []) giver taker sale ≡ presidents_agree events giver taker sale
@@ -146,18 +161,23 @@ module _ (events : List Event) (seat : Seat) (line : Numbered) (kind : Kind) (fr
       let ruling : Ruling = Obeyed line.condition (BuyTrain kind from) in
       ap (λ (agree : Bool). cost_of purchase == 0 || not agree)
       (same_agreement (president_of (events ++ obeyed ∷ []) company) (president_of (events ++ obeyed ∷ []) buyer) sale
-      ∙ ap (λ (giver : Option Seat). presidents_agree events giver (president_of (events ++ obeyed ∷ []) buyer) sale) (same_president events seat line ruling company)
-      ∙ ap (λ (taker : Option Seat). presidents_agree events (president_of events company) taker sale) (same_president events seat line ruling buyer))
+      ∙ ap (λ (giver : Option Seat). presidents_agree events giver (president_of (events ++ obeyed ∷ []) buyer) sale)
+      (same_president events seat line ruling company)
+      ∙ ap (λ (taker : Option Seat). presidents_agree events (president_of events company) taker sale)
+      (same_president events seat line ruling buyer))
 
 -- a table of the rules of a purchase
 abbrev table_of : Bool → Bool → Bool → Bool → Bool → Bool → Option TrainRule
 table_of sale full dear lacks other trade =
     first_broken
-    (record { code = NotOnSale; broken = not sale } ∷ record { code = TrainLimit; broken = full } ∷ record { code = CashTooSmall; broken = dear }
-    ∷ record { code = NoConsent; broken = lacks } ∷ record { code = NotSellers; broken = other } ∷ record { code = NoTradeIn; broken = trade } ∷ [])
+    (record { code = NotOnSale; broken = not sale } ∷ record { code = TrainLimit; broken = full }
+    ∷ record { code = CashTooSmall; broken = dear }
+    ∷ record { code = NoConsent; broken = lacks } ∷ record { code = NotSellers; broken = other }
+    ∷ record { code = NoTradeIn; broken = trade } ∷ [])
 
 -- the rules say the same
-pub same_judgement : (game ruled : Game) (seat : Seat) (line : Numbered) (kind : Kind) (from : TrainSource) (company : Company) (purchase : Purchase) →
+pub same_judgement : (game ruled : Game) (seat : Seat) (line : Numbered) (kind : Kind) (from : TrainSource)
+    (company : Company) (purchase : Purchase) →
     ruled ≡ with_event game (Ruled seat line.number (Obeyed line.condition (BuyTrain kind from))) →
     train_judgement ruled company purchase ≡ train_judgement game company purchase
 same_judgement game ruled seat line kind from company purchase is =
@@ -171,19 +191,34 @@ same_judgement game ruled seat line kind from company purchase is =
     let full = is_at_train_limit events company purchase.trade_in in
     let dear = is_too_dear game company purchase in
     ap (λ (g : Game). train_judgement g company purchase) is
-    ∙ ap (λ (b : Bool). table_of b (is_at_train_limit after.events company purchase.trade_in) (is_too_dear after company purchase) (lacks after.events) (other after.events) (trade after.events)) (same_sale events seat line ruling purchase.from purchase.kind)
-    ∙ ap (λ (b : Bool). table_of sale b (is_too_dear after company purchase) (lacks after.events) (other after.events) (trade after.events)) (same_full events seat line ruling company purchase.trade_in)
-    ∙ ap (λ (cash : ℤ). table_of sale full (lt_z cash (pos (cost_of purchase))) (lacks after.events) (other after.events) (trade after.events)) (cash_of_before game.seats events (Ruled seat line.number ruling) (party_of_company company) refl)
-    ∙ ap (λ (b : Bool). table_of sale full dear b (other after.events) (trade after.events)) (same_lack events seat line kind from company purchase purchase.from)
-    ∙ ap (λ (b : Bool). table_of sale full dear (lacks events) b (trade after.events)) (same_seller events seat line ruling company purchase.kind purchase.from)
-    ∙ ap (λ (b : Bool). table_of sale full dear (lacks events) (other events) b) (same_trade events seat line ruling company purchase.kind purchase.trade_in)
+    ∙ ap (λ (b : Bool). table_of b (is_at_train_limit after.events company purchase.trade_in)
+    (is_too_dear after company purchase) (lacks after.events) (other after.events) (trade after.events))
+    (same_sale events seat line ruling purchase.from purchase.kind)
+    ∙ ap (λ (b : Bool). table_of sale b (is_too_dear after company purchase) (lacks after.events) (other after.events)
+    (trade after.events)) (same_full events seat line ruling company purchase.trade_in)
+    ∙ ap (λ (cash : ℤ). table_of sale full (lt_z cash (pos (cost_of purchase))) (lacks after.events)
+    (other after.events) (trade after.events)) (cash_of_before game.seats events (Ruled seat line.number ruling)
+    (party_of_company company) refl)
+    ∙ ap (λ (b : Bool). table_of sale full dear b (other after.events) (trade after.events))
+    (same_lack events seat line kind from company purchase purchase.from)
+    ∙ ap (λ (b : Bool). table_of sale full dear (lacks events) b (trade after.events))
+    (same_seller events seat line ruling company purchase.kind purchase.from)
+    ∙ ap (λ (b : Bool). table_of sale full dear (lacks events) (other events) b)
+    (same_trade events seat line ruling company purchase.kind purchase.trade_in)
 
 -- a TRAIN that breaks no rule leads where its purchase does
-pub bought_steps : (by : Operator) (turn : InTurn) (line : Numbered) (kind : Kind) (from : TrainSource) (purchase : Purchase) (its : Order) (ruled new : Game) → purchase ≡ purchase_of kind from → its ≡ BuyTrain kind from → train_judgement turn.game by.company purchase ≡ None → ruled ≡ with_event turn.game (Ruled by.president line.number (Obeyed line.condition its)) → new ≡ after_train ruled by.company purchase → in_turn new turn.progress ≡ after_buying by turn line kind from
+pub bought_steps : (by : Operator) (turn : InTurn) (line : Numbered) (kind : Kind) (from : TrainSource)
+    (purchase : Purchase) (its : Order) (ruled new : Game) → purchase ≡ purchase_of kind from
+    → its ≡ BuyTrain kind from → train_judgement turn.game by.company purchase ≡ None
+    → ruled ≡ with_event turn.game (Ruled by.president line.number (Obeyed line.condition its))
+    → new ≡ after_train ruled by.company purchase → in_turn new turn.progress ≡ after_buying by turn line kind from
 bought_steps by turn line kind from purchase its ruled new is_purchase is_its none is_ruled is_new =
     let ordered : Purchase = purchase_of kind from in
-    let allowed : train_judgement turn.game by.company ordered ≡ None = ap (train_judgement turn.game by.company) (sym is_purchase) ∙ none in
-    ap (λ (game : Game). in_turn game turn.progress) (is_new ∙ ap (λ (game : Game). after_train game by.company purchase) is_ruled)
-    ∙ ap (λ (one : Order). in_turn (after_train (told by turn line (Obeyed line.condition one)).game by.company purchase) turn.progress) is_its
+    let allowed : train_judgement turn.game by.company ordered ≡ None =
+    ap (train_judgement turn.game by.company) (sym is_purchase) ∙ none in
+    ap (λ (game : Game). in_turn game turn.progress)
+    (is_new ∙ ap (λ (game : Game). after_train game by.company purchase) is_ruled)
+    ∙ ap (λ (one : Order). in_turn (after_train (told by turn line (Obeyed line.condition one)).game by.company
+    purchase) turn.progress) is_its
     ∙ ap (λ (one : Purchase). train_ruled by turn line (BuyTrain kind from) one None) is_purchase
     ∙ ap (train_ruled by turn line (BuyTrain kind from) ordered) (sym allowed)

@@ -18,16 +18,23 @@ home_adds : (old first : Game) (company : Company) → first ≡ with_home old c
 home_adds old first company is = subst (OnlyAdds old) (sym is) (of_home company OnlyAdds (adds_by company) old)
 
 -- once the home token lies
-pub home_front : (laid : MapState) (old first : Game) (company : Company) → first ≡ with_home old company → IsFront laid old.events → IsFront laid first.events
+pub home_front : (laid : MapState) (old first : Game) (company : Company) → first ≡ with_home old company
+    → IsFront laid old.events → IsFront laid first.events
 home_front laid old first company is front = front_on laid old first (home_adds old first company is) front
 
 -- and once a company without a president has withheld
-pub idle_front : (laid : MapState) (old first new : Game) (company : Company) (amount : ℕ) → first ≡ with_home old company → new ≡ withheld first company amount → IsFront laid old.events → IsFront laid new.events
+pub idle_front : (laid : MapState) (old first new : Game) (company : Company) (amount : ℕ)
+    → first ≡ with_home old company → new ≡ withheld first company amount → IsFront laid old.events
+    → IsFront laid new.events
 idle_front laid old first new company amount is_first is_new front =
-    front_on laid first new (subst (OnlyAdds first) (sym is_new) (of_withheld company OnlyAdds (adds_by company) first amount))
+    front_on laid first new (subst (OnlyAdds first) (sym is_new)
+    (of_withheld company OnlyAdds (adds_by company) first amount))
     (home_front laid old first company is_first front)
 
 -- and after what a block brings at the end of the turn
-pub end_front : (file : List ℕ) (round : Round) (company : Company) (laid : MapState) (paid new : Game) (president : Option Seat) → BlockEnds file round company paid president new → IsFront laid paid.events → IsFront laid new.events
+pub end_front : (file : List ℕ) (round : Round) (company : Company) (laid : MapState) (paid new : Game)
+    (president : Option Seat) → BlockEnds file round company paid president new → IsFront laid paid.events
+    → IsFront laid new.events
 end_front file round company laid paid new president ends front =
-    front_on laid paid new (of_block_end company OnlyAdds (adds_by company) more_adds file round paid president new ends) front
+    front_on laid paid new (of_block_end company OnlyAdds (adds_by company) more_adds file round paid president new
+    ends) front

@@ -68,7 +68,8 @@ one_for_one true false = refl
 one_for_one false true = refl
 one_for_one false false = refl
 
-none_for_none : (new old there : Bool) → cond there 1 0 + cond (old && false) 1 0 ≡ cond there 1 0 + cond (new && false) 1 0
+none_for_none : (new old there : Bool) → cond there 1 0 + cond (old && false) 1 0
+    ≡ cond there 1 0 + cond (new && false) 1 0
 none_for_none true true there = refl
 none_for_none true false there = refl
 none_for_none false true there = refl
@@ -87,7 +88,8 @@ module _ (lays : List Lay) (lay : Lay) (tile : TileNo) where
       cond (is_tile tile (cond same (Some lay) (tile_on lays hex))) 1 0 + cond (replaced && same) 1 0
       ≡ cond (is_tile tile (tile_on lays hex)) 1 0 + cond (laid && same) 1 0
   at_hex hex true here =
-      subst (λ (h : Hex). cond laid 1 0 + cond (replaced && true) 1 0 ≡ cond (is_tile tile (tile_on lays h)) 1 0 + cond (laid && true) 1 0)
+      subst (λ (h : Hex). cond laid 1 0 + cond (replaced && true) 1 0
+      ≡ cond (is_tile tile (tile_on lays h)) 1 0 + cond (laid && true) 1 0)
       (same_index lay.hex hex (eqb-true (index_of lay.hex) (index_of hex) here)) (one_for_one laid replaced)
   at_hex hex false apart = none_for_none laid replaced (is_tile tile (tile_on lays hex))
 
@@ -95,9 +97,11 @@ module _ (lays : List Lay) (lay : Lay) (tile : TileNo) where
   lie_then : on_map_of (lays ++ lay ∷ []) tile + cond replaced 1 0 ≡ on_map_of lays tile + cond laid 1 0
   unfolding on_map_of
   lie_then =
-      let all = counts_agree (λ hex. is_tile tile (tile_on (lays ++ lay ∷ []) hex)) (λ hex. replaced && same_hex lay.hex hex)
+      let all = counts_agree (λ hex. is_tile tile (tile_on (lays ++ lay ∷ []) hex))
+      (λ hex. replaced && same_hex lay.hex hex)
       (λ hex. is_tile tile (tile_on lays hex)) (λ hex. laid && same_hex lay.hex hex) hexes
-      (λ hex. ap (λ (found : Option Lay). cond (is_tile tile found) 1 0 + cond (replaced && same_hex lay.hex hex) 1 0) (last_lies lays lay hex)
+      (λ hex. ap (λ (found : Option Lay). cond (is_tile tile found) 1 0 + cond (replaced && same_hex lay.hex hex) 1 0)
+      (last_lies lays lay hex)
       ∙ at_hex hex (same_hex lay.hex hex) refl) in
       ap (λ (n : ℕ). on_map_of (lays ++ lay ∷ []) tile + n) (sym (counts_where replaced lay.hex))
       ∙ all ∙ ap (λ (n : ℕ). on_map_of lays tile + n) (counts_where laid lay.hex)
@@ -109,7 +113,8 @@ module _ (lays : List Lay) (lay : Lay) (tile : TileNo) where
   returned_then : returned_of (lays ++ lay ∷ []) tile ≡ returned_of lays tile + cond replaced 1 0
   returned_then =
       ap (returned_by tile) (reverse-append lays (lay ∷ []))
-      ∙ ap (λ (before : List Lay). returned_of lays tile + cond (is_tile tile (tile_on before lay.hex)) 1 0) (reverse-reverse lays)
+      ∙ ap (λ (before : List Lay). returned_of lays tile + cond (is_tile tile (tile_on before lay.hex)) 1 0)
+      (reverse-reverse lays)
 
 -- of each number those on the map and those in the stock are as many as the manifest has
 record AreAll (lays : List Lay) : Type 0 where
@@ -134,7 +139,8 @@ tiles_at_first =
 pub others_keep_tiles : OthersKeepTiles
 others_keep_tiles events event none tiles =
     same_tiles (events ++ event ∷ []) (lays_of events)
-    (lays_grow events event ∙ ap (λ (found : Option Lay). lays_of events ++ cons_option found []) none ∙ append-nil (lays_of events))
+    (lays_grow events event ∙ ap (λ (found : Option Lay). lays_of events ++ cons_option found []) none
+    ∙ append-nil (lays_of events))
     (record { all = tiles.all; owes_none = tiles.owes_none })
 
 -- the sums of a stock and of what lies
@@ -156,15 +162,19 @@ pub lays_keep_tiles : LaysKeepTiles
 lays_keep_tiles game company asker lay cost rules tiles =
     let lays = lays_of game.events in
     let few = lay_keeps_stock (map_state_now game.events) asker lay
-    (λ tile. stocked (entry_of tile).count (on_map_of lays tile) (stock_of lays tile) (tiles.all tile) (tiles.owes_none tile)) rules in
-    let all = λ (tile : TileNo). sums_stay (entry_of tile).count (on_map_of lays tile) (taken_of lays tile) (returned_of lays tile)
+    (λ tile. stocked (entry_of tile).count (on_map_of lays tile) (stock_of lays tile) (tiles.all tile)
+    (tiles.owes_none tile)) rules in
+    let all = λ (tile : TileNo). sums_stay (entry_of tile).count (on_map_of lays tile) (taken_of lays tile)
+    (returned_of lays tile)
     (cond (laid lays lay tile) 1 0) (cond (replaced lays lay tile) 1 0)
     (on_map_of (lays ++ lay ∷ []) tile) (taken_of (lays ++ lay ∷ []) tile) (returned_of (lays ++ lay ∷ []) tile)
     (lie_then lays lay tile) (taken_then lays lay tile) (returned_then lays lay tile) (tiles.all tile) in
-    same_tiles (with_event game (event.Laid company lay cost)).events (lays ++ lay ∷ []) (lays_grow game.events (event.Laid company lay cost))
+    same_tiles (with_event game (event.Laid company lay cost)).events (lays ++ lay ∷ [])
+    (lays_grow game.events (event.Laid company lay cost))
     (record {
       all = all;
-      owes_none = λ tile. owes (entry_of tile).count (on_map_of (lays ++ lay ∷ []) tile) (stock_of (lays ++ lay ∷ []) tile) (all tile) (few tile);
+      owes_none = λ tile. owes (entry_of tile).count (on_map_of (lays ++ lay ∷ []) tile)
+          (stock_of (lays ++ lay ∷ []) tile) (all tile) (few tile);
     })
 
 -- the tiles are all there in a later game if they were before
@@ -174,7 +184,11 @@ StillAll before after = TilesAreAll before.events → TilesAreAll after.events
 -- so it is in a turn
 pub turns_keep_tiles : TurnsKeepTiles
 turns_keep_tiles file round company old new turn =
-    let on : IsPassedOn StillAll = record { same = λ game tiles. tiles; both = λ a b c one two tiles. two (one tiles) } in
+    let on : IsPassedOn StillAll = record {
+      same = λ game tiles. tiles;
+      both =
+          λ a b c one two tiles. two (one tiles);
+    } in
     of_game_turn company StillAll
     (record {
       on = on;

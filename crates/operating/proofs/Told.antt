@@ -10,7 +10,8 @@ use Rattle.tables.specs.declared.seat.Seat.{Seat}
 use Rattle.turns.specs.Ruling.{judged}
 
 -- no rule of its own kind is broken where no rule is
-pub kept_all : {Rule : Type 0} (broken : Option Rule) (refusal : Option Refusal) → is_none refusal ≡ true → is_some refusal ≡ is_some broken →
+pub kept_all : {Rule : Type 0} (broken : Option Rule) (refusal : Option Refusal) → is_none refusal ≡ true
+    → is_some refusal ≡ is_some broken →
     broken ≡ None
 kept_all None refusal none same = refl
 kept_all (Some rule) None none same = absurd (cc)
@@ -18,7 +19,8 @@ kept_all (Some rule) (Some other) none same = absurd (cc)
 
 -- a list gained the ruling that the order is obeyed
 pub told_obeyed : (game told : Game) (seat : Seat) (line : Numbered) (order : Order) (refusal : Option Refusal) →
-    told ≡ with_event game (event.Ruled seat line.number (judged line.condition order refusal)) → is_none refusal ≡ true →
+    told ≡ with_event game (event.Ruled seat line.number (judged line.condition order refusal))
+    → is_none refusal ≡ true →
     told ≡ with_event game (event.Ruled seat line.number (Obeyed line.condition order))
 told_obeyed game told seat line order None is_told none = is_told
 told_obeyed game told seat line order (Some rule) is_told none = absurd (cc)

@@ -35,17 +35,21 @@ module _ {Runner : Type 0} (earns : Earns Runner) where
 
   -- a line led on, and those after it
   pub line_calls_on :
-      (by : Operator) (round : Round) (all : List Numbered) (line : Numbered) (lines : List Numbered) (turn next : InTurn)
+      (by : Operator) (round : Round) (all : List Numbered) (line : Numbered) (lines : List Numbered)
+      (turn next : InTurn)
       (outcome : Result InTurn RunnerFault) (before between after : Runner) →
       all ≡ line ∷ lines → Makes earns before (LineCalls by round line turn (Ok next)) between →
-      Makes earns between (LinesCall by round lines next outcome) after → Makes earns before (LinesCall by round all turn outcome) after
+      Makes earns between (LinesCall by round lines next outcome) after
+      → Makes earns before (LinesCall by round all turn outcome) after
   line_calls_on by round all line lines turn next outcome before between after are one others =
       subst (λ (these : List Numbered). Makes earns before (LinesCall by round these turn outcome) after) (sym are)
-      (joined earns (LineCalls by round line) (LinesCall by round lines) turn next outcome before between after one others)
+      (joined earns (LineCalls by round line) (LinesCall by round lines) turn next outcome before between after one
+      others)
 
   -- a line was broken off
   pub line_calls_end :
-      (by : Operator) (round : Round) (all : List Numbered) (line : Numbered) (lines : List Numbered) (turn : InTurn) (fault : RunnerFault)
+      (by : Operator) (round : Round) (all : List Numbered) (line : Numbered) (lines : List Numbered) (turn : InTurn)
+      (fault : RunnerFault)
       (before after : Runner) →
       all ≡ line ∷ lines → Makes earns before (LineCalls by round line turn (Err fault)) after →
       Makes earns before (LinesCall by round all turn (Err fault)) after
@@ -62,21 +66,29 @@ module _ {Runner : Type 0} (earns : Earns Runner) where
       Makes earns before (TurnCalls file round company old outcome) after
   of_begun file round company old placed president outcome before after is_president is_placed rest =
       let is_begun : in_turn placed at_start ≡ begun old company = λ i. in_turn (is_placed i) at_start in
-      joined earns (Unasked Memory (λ (game : Game) (turn : InTurn). turn ≡ begun game company)) (BegunCalls file round company (president_of old.events company)) old (in_turn placed at_start) outcome before before after
-      (silent earns Memory (λ (game : Game) (turn : InTurn). turn ≡ begun game company) old (in_turn placed at_start) before before is_begun refl)
-      (subst (λ (seat : Option Seat). Makes earns before (BegunCalls file round company seat (in_turn placed at_start) outcome) after) is_president rest)
+      joined earns (Unasked Memory (λ (game : Game) (turn : InTurn). turn ≡ begun game company))
+      (BegunCalls file round company (president_of old.events company)) old (in_turn placed at_start) outcome
+      before before after
+      (silent earns Memory (λ (game : Game) (turn : InTurn). turn ≡ begun game company) old (in_turn placed at_start)
+      before before is_begun refl)
+      (subst (λ (seat : Option Seat). Makes earns before
+      (BegunCalls file round company seat (in_turn placed at_start) outcome) after) is_president rest)
 
   -- the home token, the block and the end make the calls of the turn
   pub turn_calls :
-      (file : List ℕ) (round : Round) (company : Company) (old placed ruled : Game) (progress : Progress) (president : Option Seat)
+      (file : List ℕ) (round : Round) (company : Company) (old placed ruled : Game) (progress : Progress)
+      (president : Option Seat)
       (outcome : Result Game RunnerFault) (before after : Runner) →
       president ≡ president_of old.events company → placed ≡ with_home old company →
-      Makes earns before (BlockCalls file round company president (in_turn placed at_start) (Ok (in_turn ruled progress))) after →
+      Makes earns before (BlockCalls file round company president (in_turn placed at_start)
+      (Ok (in_turn ruled progress))) after →
       Makes earns after (EndCalls file round company president (in_turn ruled progress) outcome) after →
       Makes earns before (TurnCalls file round company old outcome) after
-  turn_calls file round company old placed ruled progress president outcome before after is_president is_placed block end =
+  turn_calls file round company old placed ruled progress president outcome before after is_president is_placed block
+      end =
       of_begun file round company old placed president outcome before after is_president is_placed
-      (joined earns (BlockCalls file round company president) (EndCalls file round company president) (in_turn placed at_start) (in_turn ruled progress) outcome before after after block end)
+      (joined earns (BlockCalls file round company president) (EndCalls file round company president)
+      (in_turn placed at_start) (in_turn ruled progress) outcome before after after block end)
 
   -- where the block is broken off, its calls are those of the turn
   pub turn_broken_off :
@@ -87,15 +99,18 @@ module _ {Runner : Type 0} (earns : Earns Runner) where
       Makes earns before (TurnCalls file round company old (Err fault)) after
   turn_broken_off file round company old placed president fault before after is_president is_placed block =
       of_begun file round company old placed president (Err fault) before after is_president is_placed
-      (broken_off earns (BlockCalls file round company president) (EndCalls file round company president) (in_turn placed at_start) fault before after block)
+      (broken_off earns (BlockCalls file round company president) (EndCalls file round company president)
+      (in_turn placed at_start) fault before after block)
 
   -- what ends a turn makes no call
   pub end_calls :
-      (file : List ℕ) (round : Round) (company : Company) (ruled paid new : Game) (progress last : Progress) (president : Option Seat) (runner : Runner) →
+      (file : List ℕ) (round : Round) (company : Company) (ruled paid new : Game) (progress last : Progress)
+      (president : Option Seat) (runner : Runner) →
       in_turn paid last ≡ settled company (in_turn ruled progress) → BlockEnds file round company paid president new →
       Makes earns runner (EndCalls file round company president (in_turn ruled progress) (Ok new)) runner
   end_calls file round company ruled paid new progress last president runner is_settled ends =
-      silent earns Memory (λ (from : InTurn) (to : Game). BlockEnds file round company (settled company from).game president to) (in_turn ruled progress) new runner runner
+      silent earns Memory (λ (from : InTurn) (to : Game). BlockEnds file round company (settled company from).game
+      president to) (in_turn ruled progress) new runner runner
       (subst (λ (turn : InTurn). BlockEnds file round company turn.game president new) is_settled ends) refl
 
 -- an order to run the best that makes these calls leads on as it is ruled
@@ -123,14 +138,16 @@ order_leads by round line its turn new calls course =
 
 -- so does one that is asked for its condition
 asked_leads :
-    (by : Operator) (round : Round) (line : Numbered) (its : Order) (held : Bool) (turn new : InTurn) (calls : List Call) →
+    (by : Operator) (round : Round) (line : Numbered) (its : Order) (held : Bool) (turn new : InTurn)
+    (calls : List Call) →
     AskedCalls by round line its held turn (Ok new) calls → AskedLeads by turn line its held new
 asked_leads by round line its true turn new calls course = course.0
 asked_leads by round line its false turn new calls course = order_leads by round line its turn new calls course
 
 -- so does a line
 reading_leads :
-    (by : Operator) (round : Round) (line : Numbered) (reading : Result Order Fault) (turn new : InTurn) (calls : List Call) →
+    (by : Operator) (round : Round) (line : Numbered) (reading : Result Order Fault) (turn new : InTurn)
+    (calls : List Call) →
     ReadingCalls by round line reading turn (Ok new) calls → ReadingLeads by turn line reading new
 reading_leads by round line (Ok its) turn new calls course =
     asked_leads by round line its (is_held turn.game.events line.condition its) turn new calls course
@@ -153,11 +170,13 @@ lines_lead by round (line ∷ lines) turn new calls course =
 
 -- so does a block
 block_leads :
-    (file : List ℕ) (round : Round) (company : Company) (president : Option Seat) (turn new : InTurn) (calls : List Call) →
+    (file : List ℕ) (round : Round) (company : Company) (president : Option Seat) (turn new : InTurn)
+    (calls : List Call) →
     BlockCalls file round company president turn (Ok new) calls → BlockLeads file round company turn president new
 block_leads file round company None turn new calls course = course.0
 block_leads file round company (Some seat) turn new calls course =
-    lines_lead (record { company = company; president = seat }) round (block_for file round seat.0 company) turn new calls course
+    lines_lead (record { company = company; president = seat }) round (block_for file round seat.0 company) turn new
+    calls course
 
 -- and so does a turn
 pub turn_leads :
@@ -171,8 +190,10 @@ turn_leads file round company old new calls course =
         | inr rest ↦ record {
           last = rest.between;
           block =
-              subst (λ (turn : InTurn). BlockLeads file round company turn (president_of old.events company) rest.between) first.leads.0
-              (block_leads file round company (president_of old.events company) first.between rest.between rest.earlier rest.leads);
+              subst (λ (turn : InTurn). BlockLeads file round company turn (president_of old.events company)
+              rest.between) first.leads.0
+              (block_leads file round company (president_of old.events company) first.between rest.between
+              rest.earlier rest.leads);
           after = rest.goes_on.0;
         }
       ]
@@ -227,16 +248,26 @@ lines_called by round (line ∷ lines) turn new leads =
     let first = reading_called by round line line.reading turn leads.0 leads.1 in
     let rest = lines_called by round lines leads.0 new leads.2 in (
       first.0 ++ rest.0,
-      inr (record { between = leads.0; earlier = first.0; later = rest.0; leads = first.1; goes_on = rest.1; all = refl }),
+      inr (record {
+        between = leads.0;
+        earlier = first.0;
+        later = rest.0;
+        leads = first.1;
+        goes_on = rest.1;
+        all =
+            refl;
+      }),
     )
 
 -- so does a block
 block_called :
     (file : List ℕ) (round : Round) (company : Company) (president : Option Seat) (turn new : InTurn) →
-    BlockLeads file round company turn president new → (calls : List Call) × BlockCalls file round company president turn (Ok new) calls
+    BlockLeads file round company turn president new
+    → (calls : List Call) × BlockCalls file round company president turn (Ok new) calls
 block_called file round company None turn new leads = ([], (leads, refl))
 block_called file round company (Some seat) turn new leads =
-    lines_called (record { company = company; president = seat }) round (block_for file round seat.0 company) turn new leads
+    lines_called (record { company = company; president = seat }) round (block_for file round seat.0 company) turn new
+    leads
 
 -- and so does a turn
 pub turn_called : SomeTurnCalls
@@ -249,7 +280,15 @@ turn_called file round company old new turn =
         earlier = [];
         later = block.0;
         leads = (refl, refl);
-        goes_on = inr (record { between = turn.last; earlier = block.0; later = []; leads = block.1; goes_on = (turn.after, refl); all = sym (append-nil block.0) });
+        goes_on = inr (record {
+          between = turn.last;
+          earlier = block.0;
+          later = [];
+          leads = block.1;
+          goes_on =
+              (turn.after, refl);
+          all = sym (append-nil block.0);
+        });
         all = refl;
       }),
     )

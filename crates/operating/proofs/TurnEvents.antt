@@ -47,9 +47,11 @@ begins_none company game (event.Round round) is = absurd is
 begins_none company game other is = refl
 
 -- what names one company says nothing of another
-named : (by company other : Company) → by ≡ company → same_company company other ≡ false → is_some (turn_said other (Some by)) ≡ false
+named : (by company other : Company) → by ≡ company → same_company company other ≡ false
+    → is_some (turn_said other (Some by)) ≡ false
 named by company other is apart =
-    subst (λ (c : Company). is_some (turn_said other (Some c)) ≡ false) (sym is) (ap (λ (b : Bool). is_some (if b then Some company else None)) apart)
+    subst (λ (c : Company). is_some (turn_said other (Some c)) ≡ false) (sym is)
+    (ap (λ (b : Bool). is_some (if b then Some company else None)) apart)
 
 -- nobody but the company operates by one
 pub own_alone : (company other : Company) (game : Game) (its : Event) → IsOfTurn company game its →

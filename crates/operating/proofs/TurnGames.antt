@@ -43,18 +43,22 @@ use Rattle.tables.specs.declared.squares.Square.{Square}
 -- each event of the turn that lays no tile, moves no train and begins no phase, of a lay and of a purchase by the rules
 pub record OfEvents (company : Company) (R : Game → Game → Type 0) : Type 0 where
   pub on : IsPassedOn R
-  pub others : (game : Game) (its : Event) → IsOfTurn company game its → tile_laid its ≡ None → train_moved its ≡ None → phase_set its ≡ None →
+  pub others : (game : Game) (its : Event) → IsOfTurn company game its → tile_laid its ≡ None → train_moved its ≡ None
+      → phase_set its ≡ None →
       R game (with_event game its)
-  pub lays : (game : Game) (asker : Asker) (lay : Lay) (cost : ℕ) → first_broken (map_rules (map_state_now game.events) asker lay) ≡ None →
+  pub lays : (game : Game) (asker : Asker) (lay : Lay) (cost : ℕ)
+      → first_broken (map_rules (map_state_now game.events) asker lay) ≡ None →
       R game (with_event game (event.Laid company lay cost))
-  pub purchases : (game : Game) (kind : Kind) (from : TrainSource) → train_judgement game company (purchase_of kind from) ≡ None →
+  pub purchases : (game : Game) (kind : Kind) (from : TrainSource)
+      → train_judgement game company (purchase_of kind from) ≡ None →
       R game (after_train game company (purchase_of kind from))
 
 -- what holds of each event of a turn that lays no tile holds of a purchase that is agreed
 pub of_purchase : (company : Company) (R : Game → Game → Type 0) → IsPassedOn R →
     ((game : Game) (its : Event) → IsOfTurn company game its → tile_laid its ≡ None → R game (with_event game its)) →
     (game : Game) (purchase : Purchase) →
-    IsAgreed (with_trade game company purchase.trade_in).events (event.Train company purchase.kind purchase.from (cost_of purchase)) →
+    IsAgreed (with_trade game company purchase.trade_in).events
+    (event.Train company purchase.kind purchase.from (cost_of purchase)) →
     R game (after_train game company purchase)
 of_purchase company R on each game purchase agreed =
     let closes : OfClosings R = λ now private. each now (event.Closed private) tt refl in
@@ -64,8 +68,10 @@ of_purchase company R on each game purchase agreed =
     let all = bought game company purchase in
     let phase = event.Phase purchase.kind in
     let followed = with_phase all purchase.kind in
-    let trade : R game traded = of_trade R on (λ now its kind. each now (event.Traded its kind) tt refl) game company purchase.trade_in in
-    let first : R game all = on.both game came all (on.both game traded came trade (each traded train agreed refl)) (of_bop R on closes came company) in
+    let trade : R game traded = of_trade R on (λ now its kind. each now (event.Traded its kind) tt refl) game company
+    purchase.trade_in in
+    let first : R game all = on.both game came all (on.both game traded came trade (each traded train agreed refl))
+    (of_bop R on closes came company) in
     let later : R (with_event all phase) followed = of_phase R on closes
     (λ kind. of_train_owner R on kind (λ now owner. each now (event.Rusted owner kind) tt refl))
     (of_next R on (λ now its kind. each now (event.Discarded its kind) tt refl)) all purchase.kind in
@@ -80,7 +86,8 @@ by_each company R on each =
       on = on;
       others = λ game its is no_tile no_train no_phase. each game its is;
       lays = λ game asker lay cost rules. each game (event.Laid company lay cost) tt;
-      purchases = λ game kind from rules. of_purchase company R on (λ now its is no_tile. each now its is) game (purchase_of kind from)
+      purchases = λ game kind from rules. of_purchase company R on (λ now its is no_tile. each now its is) game
+          (purchase_of kind from)
           (train_agreed company game kind from rules);
     }
 
@@ -95,29 +102,37 @@ module _ (company : Company) (R : Game → Game → Type 0) (of : OfEvents compa
       ]
 
   -- of the move of a token on the chart
-  of_move : (move : Square → Square) (game : Game) → R game (record { seats = game.seats; events = with_move move game.events company })
+  of_move : (move : Square → Square) (game : Game)
+      → R game (record { seats = game.seats; events = with_move move game.events company })
   of_move move game =
       elim (square_of game.events company) as (λ (found : Option Square). R game
       (record { seats = game.seats; events = moved_from move game.events company found })) [
         | None ↦ of.on.same game
         | Some square ↦
             elim (same_square (move square) square) as (λ (b : Bool). R game
-            (record { seats = game.seats; events = if b then game.events else game.events ++ event.Moves company (move square) ∷ [] })) [
+            (record {
+              seats = game.seats;
+              events = if b then game.events else game.events
+                  ++ event.Moves company (move square) ∷ [];
+            })) [
               | true ↦ of.on.same game
               | false ↦ of.others game (event.Moves company (move square)) tt refl refl refl
             ]
       ]
 
   -- of what the company withholds, and of what follows
-  pub after_withheld : (game : Game) (amount : ℕ) → R (with_event game (event.Withheld company amount)) (withheld game company amount)
+  pub after_withheld : (game : Game) (amount : ℕ)
+      → R (with_event game (event.Withheld company amount)) (withheld game company amount)
   after_withheld game amount =
       let paid = with_event game (event.Withheld company amount) in
-      of.on.both paid (broken_recorded paid) (withheld game company amount) (of_broken paid) (of_move square_left_of (broken_recorded paid))
+      of.on.both paid (broken_recorded paid) (withheld game company amount) (of_broken paid)
+      (of_move square_left_of (broken_recorded paid))
 
   pub of_withheld : (game : Game) (amount : ℕ) → R game (withheld game company amount)
   of_withheld game amount =
       let its = event.Withheld company amount in
-      of.on.both game (with_event game its) (withheld game company amount) (of.others game its refl refl refl refl) (after_withheld game amount)
+      of.on.both game (with_event game its) (withheld game company amount) (of.others game its refl refl refl refl)
+      (after_withheld game amount)
 
   -- of a dividend
   of_dividend : (to : Holder) (amount : ℕ) (game : Game) → R game (paid_to company to amount game)
@@ -132,7 +147,8 @@ module _ (company : Company) (R : Game → Game → Type 0) (of : OfEvents compa
   of_seats_paid revenue game [] = of.on.same game
   of_seats_paid revenue game (seat ∷ seats) =
       let next = paid_for company (holder.Seat seat) (place.Seat seat) revenue game in
-      of.on.both game next (paid_to_seats company revenue game (seat ∷ seats)) (of_dividend (holder.Seat seat) _ game) (of_seats_paid revenue next seats)
+      of.on.both game next (paid_to_seats company revenue game (seat ∷ seats)) (of_dividend (holder.Seat seat) _ game)
+      (of_seats_paid revenue next seats)
 
   -- of all that the company pays out
   of_paid_out : (game : Game) (revenue : ℕ) → R game (paid_out game company revenue)
@@ -140,13 +156,15 @@ module _ (company : Company) (R : Game → Game → Type 0) (of : OfEvents compa
       let seats = paid_to_seats company revenue game (all_seats game.seats) in
       let all = all_paid company revenue game in
       of.on.both game all (paid_out game company revenue)
-      (of.on.both game seats all (of_seats_paid revenue game (all_seats game.seats)) (of_dividend (holder.Company company) _ seats)) (of_move right_of all)
+      (of.on.both game seats all (of_seats_paid revenue game (all_seats game.seats))
+      (of_dividend (holder.Company company) _ seats)) (of_move right_of all)
 
   -- of its home token
   pub of_home : (game : Game) → R game (with_home game company)
   of_home game =
       let home = event.Home company (place_of (home_of company)) in
-      of_choice R (has_home_token game.events company) game game (with_event game home) (of.on.same game) (of.others game home tt refl refl refl)
+      of_choice R (has_home_token game.events company) game game (with_event game home) (of.on.same game)
+      (of.others game home tt refl refl refl)
 
   -- so of the steps of its turn
   pub of_steps : OfSteps company (λ (old new : InTurn). R old.game new.game)
@@ -164,7 +182,9 @@ module _ (company : Company) (R : Game → Game → Type 0) (of : OfEvents compa
       }
 
   -- and of the turn up to where the company has paid or withheld
-  pub of_paid_turn : (file : List ℕ) (round : Round) (old new : Game) (turn : IsCompanyTurn file round company old new) →
+  pub of_paid_turn : (file : List ℕ) (round : Round) (old new : Game)
+      (turn : IsCompanyTurn file round company old new) →
       R old (settled company turn.last).game
   of_paid_turn file round old new turn =
-      of.on.both old (begun old company).game (settled company turn.last).game (of_home old) (of_turn company _ of_steps file round old new turn)
+      of.on.both old (begun old company).game (settled company turn.last).game (of_home old)
+      (of_turn company _ of_steps file round old new turn)

@@ -42,9 +42,12 @@ adds_on =
       };
       both = λ a b c one two. record {
         more = one.more ++ two.more;
-        added = two.added ∙ ap (λ (game : Game). record { seats = game.seats; events = game.events ++ two.more }) one.added
-            ∙ ap (λ (events : List Event). record { seats = a.seats; events = events }) (append_assoc a.events one.more two.more);
-        no_round = list_any-append (λ its. is_some (round_begun_by its)) one.more two.more ∙ neither _ _ one.no_round two.no_round;
+        added = two.added ∙ ap (λ (game : Game). record { seats = game.seats; events = game.events ++ two.more })
+            one.added
+            ∙ ap (λ (events : List Event). record { seats = a.seats; events = events })
+            (append_assoc a.events one.more two.more);
+        no_round = list_any-append (λ its. is_some (round_begun_by its)) one.more two.more
+            ∙ neither _ _ one.no_round two.no_round;
       };
     }
 
@@ -52,7 +55,12 @@ adds_on =
 pub adds_by : (company : Company) → OfEvents company OnlyAdds
 adds_by company =
     by_each company OnlyAdds adds_on
-    (λ game its is. record { more = its ∷ []; added = refl; no_round = ap (λ (b : Bool). b || false) (begins_none company game its is) })
+    (λ game its is. record {
+      more = its ∷ [];
+      added = refl;
+      no_round =
+          ap (λ (b : Bool). b || false) (begins_none company game its is);
+    })
 
 -- and of each of a forced purchase
 pub more_adds : OfForced OnlyAdds
@@ -61,13 +69,15 @@ more_adds game its is no_tile no_train no_phase =
 
 -- a turn only adds events, and begins no round
 pub only_adds : TurnOnlyAdds
-only_adds file round company old new turn = of_game_turn company OnlyAdds (adds_by company) more_adds file round old new turn
+only_adds file round company old new turn = of_game_turn company OnlyAdds (adds_by company) more_adds file round old
+    new turn
 
 -- a line leaves the seats as they are
 pub line_seats : (by : Operator) (turn : InTurn) (line : Numbered) (reading : Result Order Fault) (new : InTurn) →
     ReadingLeads by turn line reading new → new.game.seats ≡ turn.game.seats
 line_seats by turn line reading new leads =
-    ap (λ (game : Game). game.seats) (of_line by _ (of_steps by.company OnlyAdds (adds_by by.company)) turn line reading new leads).added
+    ap (λ (game : Game). game.seats) (of_line by _ (of_steps by.company OnlyAdds (adds_by by.company)) turn line
+    reading new leads).added
 
 -- trains stand in a later game if they did before
 abbrev pub StillStand : Game → Game → Type 0
@@ -78,8 +88,10 @@ pub stands_by : (company : Company) → OfEvents company StillStand
 stands_by company =
     record {
       on = record { same = λ game stand. stand; both = λ a b c one two stand. two (one stand) };
-      others = λ game its is no_tile no_train no_phase stand. others_keep_standing game.events its no_train no_phase stand;
-      lays = λ game asker lay cost rules stand. others_keep_standing game.events (event.Laid company lay cost) refl refl stand;
+      others = λ game its is no_tile no_train no_phase stand. others_keep_standing game.events its no_train no_phase
+          stand;
+      lays = λ game asker lay cost rules stand. others_keep_standing game.events (event.Laid company lay cost) refl
+          refl stand;
       purchases = λ game kind from rules. purchases_keep_all game company (purchase_of kind from) rules;
     }
 
@@ -101,8 +113,13 @@ phases_go_on_in_turns file round company old new turn =
     of_game_turn company GoesOn
     (record {
       on = record { same = λ game. omega arith; both = λ a b c one two. omega arith };
-      others = λ game its is no_tile no_train no_phase. omega (arith, ap place_of_kind (phase_kept game.events its no_phase));
-      lays = λ game asker lay cost rules. omega (arith, ap place_of_kind (phase_kept game.events (event.Laid company lay cost) refl));
+      others = λ game its is no_tile no_train no_phase. omega
+          (arith, ap place_of_kind (phase_kept game.events its no_phase));
+      lays = λ game asker lay cost rules. omega (
+        arith,
+        ap place_of_kind
+            (phase_kept game.events (event.Laid company lay cost) refl),
+      );
       purchases = λ game kind from rules. phases_go_on game company (purchase_of kind from);
     })
     (λ game its is no_tile no_train no_phase. omega (arith, ap place_of_kind (phase_kept game.events its no_phase)))

@@ -64,7 +64,8 @@ use Rattle.tables.specs.declared.seat.Seat.{Seat}
 pub record OfSteps (company : Company) (R : InTurn → InTurn → Type 0) : Type 0 where
   pub same : (turn : InTurn) → R turn turn
   pub both : (a b c : InTurn) → R a b → R b c → R a c
-  pub more : (turn : InTurn) (its : Event) → IsOfTurn company turn.game its → tile_laid its ≡ None → train_moved its ≡ None → phase_set its ≡ None →
+  pub more : (turn : InTurn) (its : Event) → IsOfTurn company turn.game its → tile_laid its ≡ None
+      → train_moved its ≡ None → phase_set its ≡ None →
       R turn (in_turn (with_event turn.game its) turn.progress)
   pub laid : (turn : InTurn) (lays : List Lay) (asker : Asker) (lay : Lay) (cost : ℕ) →
       first_broken (map_rules (map_state_now turn.game.events) asker lay) ≡ None →
@@ -72,11 +73,14 @@ pub record OfSteps (company : Company) (R : InTurn → InTurn → Type 0) : Type
   pub placed : (turn : InTurn) (asker : Asker) (at : Place) (cost : ℕ) → asker.pointer ≡ turn.progress.pointer →
       first_broken (slot_rules (map_state_now turn.game.events) asker at) ≡ None →
       R turn (in_turn (after_token turn.game company at cost) (token_done turn.progress))
-  pub ran : (turn : InTurn) (progress : Progress) (revenue : ℕ) → R turn (in_turn (with_event turn.game (event.Runs company revenue)) progress)
+  pub ran : (turn : InTurn) (progress : Progress) (revenue : ℕ)
+      → R turn (in_turn (with_event turn.game (event.Runs company revenue)) progress)
   pub paid : (turn : InTurn) → pay_judgement turn.progress ≡ None →
       R turn (in_turn (paid_out turn.game company turn.progress.runs.revenue) (pay_done turn.progress))
-  pub kept : (turn : InTurn) → R turn (in_turn (withheld turn.game company turn.progress.runs.revenue) (pay_done turn.progress))
-  pub bought : (turn : InTurn) (kind : Kind) (from : TrainSource) → train_judgement turn.game company (purchase_of kind from) ≡ None →
+  pub kept : (turn : InTurn) → R turn (in_turn (withheld turn.game company turn.progress.runs.revenue)
+      (pay_done turn.progress))
+  pub bought : (turn : InTurn) (kind : Kind) (from : TrainSource)
+      → train_judgement turn.game company (purchase_of kind from) ≡ None →
       R turn (in_turn (after_train turn.game company (purchase_of kind from)) turn.progress)
 
 module _ (company : Company) (R : InTurn → InTurn → Type 0) (steps : OfSteps company R) where
@@ -95,18 +99,22 @@ module _ (by : Operator) (R : InTurn → InTurn → Type 0) (steps : OfSteps by.
   of_ruling turn line ruling = steps.more turn (event.Ruled by.president line.number ruling) tt refl refl refl
 
   -- of an obeyed line and what it brings
-  after_ruling : (turn : InTurn) (line : Numbered) (its : Order) (new : InTurn) → R (told by turn line (Obeyed line.condition its)) new → R turn new
+  after_ruling : (turn : InTurn) (line : Numbered) (its : Order) (new : InTurn)
+      → R (told by turn line (Obeyed line.condition its)) new → R turn new
   after_ruling turn line its new brings =
-      steps.both turn (told by turn line (Obeyed line.condition its)) new (of_ruling turn line (Obeyed line.condition its)) brings
+      steps.both turn (told by turn line (Obeyed line.condition its)) new
+      (of_ruling turn line (Obeyed line.condition its)) brings
 
   -- of LAY
   of_lay : (turn : InTurn) (line : Numbered) (lay : Lay) (answer : Result ℤ LayRule) →
-      IsLayAnswer (map_state_now turn.game.events) (asker_of turn.game by.company turn.progress) lay answer → R turn (lay_answered by turn line lay answer)
+      IsLayAnswer (map_state_now turn.game.events) (asker_of turn.game by.company turn.progress) lay answer
+      → R turn (lay_answered by turn line lay answer)
   of_lay turn line lay (Err rule) answered = of_ruling turn line _
   of_lay turn line lay (Ok cost) answered =
       let asker : Asker = asker_of turn.game by.company turn.progress in
       let ruled = told by turn line (Obeyed line.condition (order.Lay lay)) in
-      let same = same_after_ruling turn.game ruled.game by.president line (Obeyed line.condition (order.Lay lay)) refl in
+      let same = same_after_ruling turn.game ruled.game by.president line (Obeyed line.condition (order.Lay lay))
+      refl in
       after_ruling turn line (order.Lay lay) (lay_answered by turn line lay (Ok cost))
       (steps.laid ruled (lays_of turn.game.events) asker lay (unsigned_abs cost)
       (subst (λ (g : MapState). first_broken (map_rules g asker lay) ≡ None) (sym same)
@@ -114,25 +122,30 @@ module _ (by : Operator) (R : InTurn → InTurn → Type 0) (steps : OfSteps by.
 
   -- of TOKEN
   of_token : (turn : InTurn) (line : Numbered) (at : Place) (answer : Result ℤ TokenRule) →
-      IsTokenAnswer (map_state_now turn.game.events) (asker_of turn.game by.company turn.progress) at answer → R turn (token_answered by turn line at answer)
+      IsTokenAnswer (map_state_now turn.game.events) (asker_of turn.game by.company turn.progress) at answer
+      → R turn (token_answered by turn line at answer)
   of_token turn line at (Err rule) answered = of_ruling turn line _
   of_token turn line at (Ok cost) answered =
       let asker : Asker = asker_of turn.game by.company turn.progress in
       let ruled = told by turn line (Obeyed line.condition (order.Token at)) in
-      let same = same_after_ruling turn.game ruled.game by.president line (Obeyed line.condition (order.Token at)) refl in
+      let same = same_after_ruling turn.game ruled.game by.president line (Obeyed line.condition (order.Token at))
+      refl in
       after_ruling turn line (order.Token at) (token_answered by turn line at (Ok cost))
       (steps.placed ruled asker at (unsigned_abs cost) refl
       (subst (λ (g : MapState). first_broken (slot_rules g asker at) ≡ None) (sym same)
       (token_allowed (map_state_now turn.game.events) asker at cost answered).allowed))
 
   -- of RUN
-  of_run : (turn : InTurn) (line : Numbered) (its : Order) (judged : Result CompletedRun RunRule) → R turn (run_ruled by turn line its judged)
+  of_run : (turn : InTurn) (line : Numbered) (its : Order) (judged : Result CompletedRun RunRule)
+      → R turn (run_ruled by turn line its judged)
   of_run turn line its (Err rule) = of_ruling turn line _
   of_run turn line its (Ok ran) =
-      after_ruling turn line its (run_ruled by turn line its (Ok ran)) (steps.ran (told by turn line (Obeyed line.condition its)) (run_done turn.progress ran) ran.earned)
+      after_ruling turn line its (run_ruled by turn line its (Ok ran))
+      (steps.ran (told by turn line (Obeyed line.condition its)) (run_done turn.progress ran) ran.earned)
 
   -- of RUN BEST
-  of_best : (turn : InTurn) (line : Numbered) (rule : Option RunRule) (new : InTurn) → BestRuled by turn line rule new → R turn new
+  of_best : (turn : InTurn) (line : Numbered) (rule : Option RunRule) (new : InTurn) → BestRuled by turn line rule new
+      → R turn new
   of_best turn line (Some rule) new leads = subst (R turn) (sym leads) (of_ruling turn line _)
   of_best turn line None new leads =
       subst (R turn) (sym leads.2)
@@ -141,7 +154,8 @@ module _ (by : Operator) (R : InTurn → InTurn → Type 0) (steps : OfSteps by.
 
   -- of PAY or WITHHOLD
   of_pay : (turn : InTurn) (line : Numbered) (its : Order) (rule : Option PayRule) (after : Game → Game) →
-      (rule ≡ None → R (told by turn line (Obeyed line.condition its)) (in_turn (after (told by turn line (Obeyed line.condition its)).game) (pay_done turn.progress))) →
+      (rule ≡ None → R (told by turn line (Obeyed line.condition its))
+      (in_turn (after (told by turn line (Obeyed line.condition its)).game) (pay_done turn.progress))) →
       R turn (pay_ruled by turn line its rule after)
   of_pay turn line its (Some rule) after brings = of_ruling turn line _
   of_pay turn line its None after brings =
@@ -157,11 +171,14 @@ module _ (by : Operator) (R : InTurn → InTurn → Type 0) (steps : OfSteps by.
       let purchase = purchase_of kind from in
       let ruled = told by turn line (Obeyed line.condition its) in
       after_ruling turn line its (train_ruled by turn line its purchase None)
-      (steps.bought ruled kind from (same_judgement turn.game ruled.game by.president line kind from by.company purchase refl ∙ none))
+      (steps.bought ruled kind from (same_judgement turn.game ruled.game by.president line kind from by.company
+      purchase refl ∙ none))
 
   -- of PRIVATE
-  of_sale : (turn : InTurn) (private : Private) (price : ℕ) (owner : Option Holder) → owner_of turn.game.events private ≡ owner →
-      private_judgement turn.game by.company private price ≡ None → R turn (in_turn (sold_by turn.game by.company private price owner) turn.progress)
+  of_sale : (turn : InTurn) (private : Private) (price : ℕ) (owner : Option Holder)
+      → owner_of turn.game.events private ≡ owner →
+      private_judgement turn.game by.company private price ≡ None
+      → R turn (in_turn (sold_by turn.game by.company private price owner) turn.progress)
   of_sale turn private price (Some (holder.Seat seller)) owns none =
       steps.more turn (event.PrivateBought private by.company seller price)
       (private_agreed by.company turn.game private price seller owns none) refl refl refl
@@ -169,7 +186,8 @@ module _ (by : Operator) (R : InTurn → InTurn → Type 0) (steps : OfSteps by.
   of_sale turn private price None owns none = steps.same turn
 
   of_private : (turn : InTurn) (line : Numbered) (private : Private) (price : ℕ) (rule : Option PrivateRule) →
-      private_judgement turn.game by.company private price ≡ rule → R turn (private_ruled by turn line private price rule)
+      private_judgement turn.game by.company private price ≡ rule
+      → R turn (private_ruled by turn line private price rule)
   of_private turn line private price (Some rule) broken = of_ruling turn line _
   of_private turn line private price None none =
       let ruled = told by turn line (Obeyed line.condition (order.BuyOwnedPrivate private price)) in
@@ -178,7 +196,8 @@ module _ (by : Operator) (R : InTurn → InTurn → Type 0) (steps : OfSteps by.
       (same_after_line turn.game ruled.game by.president line by.company private price refl ∙ none))
 
   -- of an order
-  of_order : (turn : InTurn) (line : Numbered) (its : Order) (new : InTurn) → OrderLeads by turn line its new → R turn new
+  of_order : (turn : InTurn) (line : Numbered) (its : Order) (new : InTurn) → OrderLeads by turn line its new
+      → R turn new
   of_order turn line (order.Lay lay) new leads =
       subst (R turn) (sym leads.after) (of_lay turn line lay leads.answer leads.answered)
   of_order turn line (order.Token at) new leads =
@@ -188,31 +207,37 @@ module _ (by : Operator) (R : InTurn → InTurn → Type 0) (steps : OfSteps by.
   of_order turn line order.RunBest new leads = of_best turn line (best_judgement turn by.company) new leads
   of_order turn line order.Pay new leads =
       subst (R turn) (sym leads)
-      (of_pay turn line order.Pay (pay_judgement turn.progress) (λ game. paid_out game by.company turn.progress.runs.revenue)
+      (of_pay turn line order.Pay (pay_judgement turn.progress)
+      (λ game. paid_out game by.company turn.progress.runs.revenue)
       (steps.paid (told by turn line (Obeyed line.condition order.Pay))))
   of_order turn line order.Withhold new leads =
       subst (R turn) (sym leads)
-      (of_pay turn line order.Withhold (withhold_judgement turn.progress) (λ game. withheld game by.company turn.progress.runs.revenue)
+      (of_pay turn line order.Withhold (withhold_judgement turn.progress)
+      (λ game. withheld game by.company turn.progress.runs.revenue)
       (λ rules. steps.kept (told by turn line (Obeyed line.condition order.Withhold))))
   of_order turn line (order.BuyTrain kind from) new leads =
       let paid = settled by.company turn in
       let purchase = purchase_of kind from in
       let rule = train_judgement paid.game by.company purchase in
       subst (R turn) (sym leads)
-      (steps.both turn paid (train_ruled by paid line (order.BuyTrain kind from) purchase rule) (of_settled by.company R steps turn)
+      (steps.both turn paid (train_ruled by paid line (order.BuyTrain kind from) purchase rule)
+      (of_settled by.company R steps turn)
       (of_train paid line kind from rule refl))
   of_order turn line (order.BuyOwnedPrivate private price) new leads =
-      subst (R turn) (sym leads) (of_private turn line private price (private_judgement turn.game by.company private price) refl)
+      subst (R turn) (sym leads) (of_private turn line private price
+      (private_judgement turn.game by.company private price) refl)
   of_order turn line (order.Raise company tenths) new leads = subst (R turn) (sym leads) (steps.same turn)
   of_order turn line other new leads = subst (R turn) (sym leads) (of_ruling turn line _)
 
   -- of an order that is asked for its condition
-  of_asked : (turn : InTurn) (line : Numbered) (its : Order) (held : Bool) (new : InTurn) → AskedLeads by turn line its held new → R turn new
+  of_asked : (turn : InTurn) (line : Numbered) (its : Order) (held : Bool) (new : InTurn)
+      → AskedLeads by turn line its held new → R turn new
   of_asked turn line its true new leads = subst (R turn) (sym leads) (of_ruling turn line _)
   of_asked turn line its false new leads = of_order turn line its new leads
 
   -- of a line
-  pub of_line : (turn : InTurn) (line : Numbered) (reading : Result Order Fault) (new : InTurn) → ReadingLeads by turn line reading new → R turn new
+  pub of_line : (turn : InTurn) (line : Numbered) (reading : Result Order Fault) (new : InTurn)
+      → ReadingLeads by turn line reading new → R turn new
   of_line turn line (Err fault) new leads = subst (R turn) (sym leads) (of_ruling turn line _)
   of_line turn line (Ok its) new leads = of_asked turn line its (is_held turn.game.events line.condition its) new leads
 
@@ -228,11 +253,13 @@ module _ (company : Company) (R : InTurn → InTurn → Type 0) (steps : OfSteps
       BlockLeads file round company turn president new → R turn new
   of_block file round turn None new leads = subst (R turn) (sym leads) (steps.same turn)
   of_block file round turn (Some seat) new leads =
-      of_lines (record { company = company; president = seat }) R steps turn (block_for file round seat.0 company) new leads
+      of_lines (record { company = company; president = seat }) R steps turn (block_for file round seat.0 company) new
+      leads
 
   -- of a whole turn, from its home token on
   pub of_turn : (file : List ℕ) (round : Round) (old new : Game) (turn : IsCompanyTurn file round company old new) →
       R (begun old company) (settled company turn.last)
   of_turn file round old new turn =
       steps.both (begun old company) turn.last (settled company turn.last)
-      (of_block file round (begun old company) (president_of old.events company) turn.last turn.block) (of_settled company R steps turn.last)
+      (of_block file round (begun old company) (president_of old.events company) turn.last turn.block)
+      (of_settled company R steps turn.last)

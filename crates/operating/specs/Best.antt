@@ -55,13 +55,16 @@ best_done progress revenue =
 -- after a RUN BEST in this line was obeyed, which earned so much
 abbrev pub best_earned : Operator → InTurn → Numbered → ℕ → InTurn
 best_earned by turn line revenue =
-    in_turn (with_event (told by turn line (Obeyed line.condition order.RunBest)).game (event.Runs by.company revenue)) (best_done turn.progress revenue)
+    in_turn (with_event (told by turn line (Obeyed line.condition order.RunBest)).game
+    (event.Runs by.company revenue)) (best_done turn.progress revenue)
 
 -- a RUN BEST in this line leads to new, where this rule refuses it, if one does
 abbrev pub BestRuled : Operator → InTurn → Numbered → Option RunRule → InTurn → Type 0
-BestRuled by turn line (Some rule) new = new ≡ told by turn line (Refused (refusal.Run rule) line.condition order.RunBest)
+BestRuled by turn line (Some rule) new = new ≡ told by turn line
+    (Refused (refusal.Run rule) line.condition order.RunBest)
 BestRuled by turn line None new =
-    (revenue : ℕ) × IsGreatest (position_now turn.game.events) by.company (trains_now turn.game.events by.company) revenue × (new ≡ best_earned by turn line revenue)
+    (revenue : ℕ) × IsGreatest (position_now turn.game.events) by.company (trains_now turn.game.events by.company)
+    revenue × (new ≡ best_earned by turn line revenue)
 
 -- a RUN BEST in this line leads to new
 abbrev pub BestLeads : Operator → InTurn → Numbered → InTurn → Type 0

@@ -24,7 +24,8 @@ Earns Runner = Runner → Position → Round → Company → List Kind → Resul
 abbrev pub AreMade : {Runner : Type 0} → Earns Runner → Runner → List Call → Runner → Type 0
 AreMade earns before [] after = after ≡ before
 AreMade {Runner = Runner} earns before (call ∷ calls) after =
-    (between : Runner) × earns before call.position call.round call.company call.trains call.answer between × AreMade earns between calls after
+    (between : Runner) × earns before call.position call.round call.company call.trains call.answer between
+    × AreMade earns between calls after
 
 -- some calls do, of which this holds
 abbrev pub Makes : {Runner : Type 0} → Earns Runner → Runner → (List Call → Type 0) → Runner → Type 0
@@ -45,7 +46,8 @@ Breaks course from (Ok to) calls = ⊥
 Breaks course from (Err fault) calls = course from (Err fault) calls
 
 -- a course leads to where another begins
-pub record Joins {A B C Fault : Type 0} (first : Course A B Fault) (second : Course B C Fault) (from : A) (outcome : Result C Fault) (calls : List Call) : Type 0 where
+pub record Joins {A B C Fault : Type 0} (first : Course A B Fault) (second : Course B C Fault) (from : A)
+    (outcome : Result C Fault) (calls : List Call) : Type 0 where
   pub between : B
   pub earlier : List Call
   pub later : List Call
@@ -91,7 +93,8 @@ pub record AreCutShort (why : RunnerFault) (some all : List Call) : Type 0 where
 
 -- the calls of a course that was broken off are a front of all its calls: where memory was refused, the first of them; or
 -- those up to one that was not answered, of which the fault tells
-abbrev pub IsFront : {Fault : Type 0} → Fault → (Fault → RunnerFault → Call → Type 0) → Fault → List Call → List Call → Type 0
+abbrev pub IsFront : {Fault : Type 0} → Fault → (Fault → RunnerFault → Call → Type 0) → Fault → List Call → List Call
+    → Type 0
 IsFront memory Tells fault some all =
     ((fault ≡ memory) × AreFirst some all)
     ⊎ ((why : RunnerFault) × (short : AreCutShort why some all) × Tells fault why short.next)

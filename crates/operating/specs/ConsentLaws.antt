@@ -32,7 +32,8 @@ pub record CompanyAgrees (game : Game) (seller buyer : Company) (kind : Kind) (p
 abbrev pub CompaniesAgree : Type 0
 CompaniesAgree =
     (game : Game) (buyer seller : Company) (kind : Kind) (price : ℕ) →
-    train_judgement game buyer (purchase_of kind (OfCompany seller price)) ≡ None → CompanyAgrees game seller buyer kind price
+    train_judgement game buyer (purchase_of kind (OfCompany seller price)) ≡ None
+    → CompanyAgrees game seller buyer kind price
 
 -- the player who owns a private agrees that it is sold to a company for so much
 pub record OwnerAgrees (game : Game) (buyer : Company) (private : Private) (price : ℕ) : Type 0 where

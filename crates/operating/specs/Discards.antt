@@ -38,7 +38,8 @@ is_no_discard events seat company kind =
 
 -- the rule of a line DISCARD
 abbrev pub discard_rules : List Event → Seat → Company → Kind → List (Rule TrainRule)
-discard_rules events seat company kind = record { code = NoDiscard; broken = is_no_discard events seat company kind } ∷ []
+discard_rules events seat company kind = record { code = NoDiscard; broken = is_no_discard events seat company kind }
+    ∷ []
 
 -- the rule that a line DISCARD of a seat breaks, if it breaks it
 abbrev pub discard_judgement : List Event → Seat → Company → Kind → Option TrainRule
@@ -85,7 +86,8 @@ abbrev pub kinds_then : Seat → Company → Lines → Event → List Kind
 kinds_then seat company lines event =
     if is_some (round_begun_by event)
     then []
-    else without (with_kind lines.kinds (line_of seat company (obeyed_of event))) (if lines.presides then discarded_by company event else None)
+    else without (with_kind lines.kinds (line_of seat company (obeyed_of event)))
+    (if lines.presides then discarded_by company event else None)
 
 -- whether the seat presides after an event
 abbrev pub presides_then : Seat → Bool → Option Seat → Bool
@@ -109,9 +111,11 @@ lines_of events company (Some seat) =
 -- the first of these kinds of which the company has a train
 abbrev pub first_held : List Event → Company → List Kind → Option Kind
 first_held events company [] = None
-first_held events company (kind ∷ others) = if has_train events company kind then Some kind else first_held events company others
+first_held events company (kind ∷ others) = if has_train events company kind then Some kind else first_held events
+    company others
 
 -- the kind of which the company discards next: by a line of its president, or else the least that it has
 abbrev pub next_discard : List Event → Company → Option Kind
 next_discard events company =
-    option_or (first_held events company (lines_of events company (president_of events company))) (first_held events company kinds)
+    option_or (first_held events company (lines_of events company (president_of events company)))
+    (first_held events company kinds)

@@ -109,4 +109,5 @@ after_withhold by turn line order =
 abbrev pub NoMoreIsPaid : Type 0
 NoMoreIsPaid =
     (game : Game) (company : Company) (revenue : ℕ) →
-    IsSound game → (cash_of game.seats game.events party.Bank -ℤ pos revenue) ≤ℤ cash_of game.seats (all_paid company revenue game).events party.Bank
+    IsSound game → (cash_of game.seats game.events party.Bank -ℤ pos revenue) ≤ℤ cash_of game.seats
+    (all_paid company revenue game).events party.Bank

@@ -124,7 +124,8 @@ after_raise_line due by game line other = game
 -- the first word of a line is one with which a RAISE begins: that word, or IF
 abbrev pub may_spell_raise : List ℕ → Bool
 may_spell_raise text =
-    same_word (first_of_words (words_of text)) (codes "RAISE") || same_word (first_of_words (words_of text)) (codes "IF")
+    same_word (first_of_words (words_of text)) (codes "RAISE")
+    || same_word (first_of_words (words_of text)) (codes "IF")
 
 -- after the RAISE lines of the block, in order
 abbrev pub after_raises : Bool → Operator → Game → List Numbered → Game

@@ -46,17 +46,20 @@ BankruptcyEndsTurns =
 abbrev pub AidIsWhatLacks : Type 0
 AidIsWhatLacks =
     (by : Operator) (game : Game) → lt_z (pos 0) (lack_of game by.company) ≡ true →
-    cash_of (with_aid by game).seats (with_aid by game).events (party_of_company by.company) ≡ pos (cost_of (cheapest game.events))
+    cash_of (with_aid by game).seats (with_aid by game).events (party_of_company by.company)
+    ≡ pos (cost_of (cheapest game.events))
 
 -- where the company lacks nothing he pays nothing
 abbrev pub NoAidWithoutLack : Type 0
-NoAidWithoutLack = (by : Operator) (game : Game) → lt_z (pos 0) (lack_of game by.company) ≡ false → with_aid by game ≡ game
+NoAidWithoutLack = (by : Operator) (game : Game) → lt_z (pos 0) (lack_of game by.company) ≡ false
+    → with_aid by game ≡ game
 
 -- where all trains are there before its turn, a company that has a president owns a train after it, or a president is
 -- bankrupt, or it could run no train
 abbrev pub TurnsEndWithTrains : Type 0
 TurnsEndWithTrains =
     (file : List ℕ) (round : Round) (company : Company) (old new : Game) (president : Seat) →
-    TrainsStand old.events → president_of old.events company ≡ Some president → IsCompanyTurn file round company old new →
+    TrainsStand old.events → president_of old.events company ≡ Some president
+    → IsCompanyTurn file round company old new →
     (has_trains new.events company ≡ true)
     ⊎ ((bankrupt_in new.events ≡ true) ⊎ (¬ CanRun (position_of (map_state_now new.events)) company))

@@ -61,4 +61,5 @@ told by turn line ruling = in_turn (with_event turn.game (event.Ruled by.preside
 -- after this line, whose order breaks this rule first, or none: it is done then
 abbrev pub ruled : Operator → InTurn → Numbered → Order → Option Refusal → (InTurn → InTurn) → InTurn
 ruled by turn line order broken act =
-    done (λ (after : InTurn) (its : Order). act after) (told by turn line (judged line.condition order broken)) (obeyed_by (judged line.condition order broken))
+    done (λ (after : InTurn) (its : Order). act after) (told by turn line (judged line.condition order broken))
+    (obeyed_by (judged line.condition order broken))

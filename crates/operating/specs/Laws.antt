@@ -15,7 +15,8 @@ use Rattle.tables.specs.declared.round.Round.{Round}
 abbrev pub CompanyOperates : Type 0
 CompanyOperates =
     (file : List ℕ) (round : Round) (company : Company) (old new : Game) →
-    IsCompanyTurn file round company old new → (other : Company) → has_operated new.events other ≡ (has_operated old.events other || same_company company other)
+    IsCompanyTurn file round company old new → (other : Company)
+    → has_operated new.events other ≡ (has_operated old.events other || same_company company other)
 
 -- none of these events begins a round
 abbrev pub BeginsNoRound : List Event → Type 0
@@ -30,7 +31,8 @@ pub record OnlyAdds (before after : Game) : Type 0 where
 -- a turn only adds events to the list, and begins no round
 abbrev pub TurnOnlyAdds : Type 0
 TurnOnlyAdds =
-    (file : List ℕ) (round : Round) (company : Company) (old new : Game) → IsCompanyTurn file round company old new → OnlyAdds old new
+    (file : List ℕ) (round : Round) (company : Company) (old new : Game) → IsCompanyTurn file round company old new
+    → OnlyAdds old new
 
 -- after its turn a token of the company lies at its home, whatever events come after: no turn places another there for nothing
 abbrev pub HomeTokenLies : Type 0
@@ -47,4 +49,5 @@ OneCompanyTurn =
 -- and it has one
 abbrev pub CompanyTurnEnds : Type 0
 CompanyTurnEnds =
-    (file : List ℕ) (round : Round) (company : Company) (old : Game) → (new : Game) × IsCompanyTurn file round company old new
+    (file : List ℕ) (round : Round) (company : Company) (old : Game)
+    → (new : Game) × IsCompanyTurn file round company old new

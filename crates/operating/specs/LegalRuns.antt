@@ -44,13 +44,15 @@ walk_obeyed company turn line (Err fault) = []
 abbrev pub LinesRun : Operator → InTurn → List (List Step) → List Numbered → InTurn → List (List Step) → Type 0
 LinesRun by turn before [] new all = (new ≡ turn) × (all ≡ before)
 LinesRun by turn before (line ∷ lines) new all =
-    (next : InTurn) × LineLeads by turn line next × LinesRun by next (walk_obeyed by.company turn line line.reading ++ before) lines new all
+    (next : InTurn) × LineLeads by turn line next × LinesRun by next
+    (walk_obeyed by.company turn line line.reading ++ before) lines new all
 
 -- A run that is obeyed, once some lines of the company's turn have been ruled, is legal where the borders are used
 -- that the walks of the runs cross which were obeyed before it in the turn.
 abbrev pub ObeyedRunsAreLegal : Type 0
 ObeyedRunsAreLegal =
-    (by : Operator) (game : Game) (lines : List Numbered) (turn : InTurn) (before : List (List Step)) (kind : Kind) (run : List Place) (ran : CompletedRun) →
+    (by : Operator) (game : Game) (lines : List Numbered) (turn : InTurn) (before : List (List Step)) (kind : Kind)
+    (run : List Place) (ran : CompletedRun) →
     LinesRun by (begun game by.company) [] lines turn before →
     judged_run turn by.company kind run ≡ Ok ran →
     IsLegalRun (position_now turn.game.events) by.company kind (all_crossed before) (steps_now turn.game.events run)

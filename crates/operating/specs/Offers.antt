@@ -26,10 +26,15 @@ is_seats seat (Some (holder.Company owner)) = false
 -- the rule of an offer of a seat
 abbrev pub offer_rules : List Event → Seat → Offer → List (Rule Refusal)
 offer_rules events seat (offer.Train kind seller buyer price) =
-    record { code = refusal.Train train_rule.NoConsent; broken = price == 0 || not (is_president (president_of events seller) seat) }
+    record {
+      code = refusal.Train train_rule.NoConsent;
+      broken =
+          price == 0 || not (is_president (president_of events seller) seat);
+    }
     ∷ []
 offer_rules events seat (offer.Private private buyer price) =
-    record { code = refusal.Private private_rule.NoConsent; broken = not (is_seats seat (owner_of events private)) } ∷ []
+    record { code = refusal.Private private_rule.NoConsent; broken = not (is_seats seat (owner_of events private)) }
+    ∷ []
 
 -- the rule that an offer of a seat breaks, if it breaks it
 abbrev pub offer_judgement : List Event → Seat → Offer → Option Refusal

@@ -40,7 +40,8 @@ with_all_closed game = fold with_closed game privates
 
 -- with CLOSED of BOP, where BO has bought
 abbrev pub with_bop_closed : Game → Company → Game
-with_bop_closed game buyer = if same_company buyer company.BaltimoreOhio then with_closed game private.BaltimoreOhio else game
+with_bop_closed game buyer = if same_company buyer company.BaltimoreOhio then with_closed game
+    private.BaltimoreOhio else game
 
 -- with RUSTED of a train of the kind that a company has, or the pool
 abbrev pub with_one_rusted : Option Company → Kind → Game → Game
@@ -113,10 +114,12 @@ begins_phase events (seller.Company company) kind = false
 abbrev pub bought : Game → Company → Purchase → Game
 bought game company purchase =
     with_bop_closed
-    (with_event (with_trade game company purchase.trade_in) (event.Train company purchase.kind purchase.from (cost_of purchase)))
+    (with_event (with_trade game company purchase.trade_in)
+    (event.Train company purchase.kind purchase.from (cost_of purchase)))
     company
 
 -- after a purchase by a company, and what follows from it
 abbrev pub after_train : Game → Company → Purchase → Game
 after_train game company purchase =
-    if begins_phase game.events purchase.from purchase.kind then with_phase (bought game company purchase) purchase.kind else bought game company purchase
+    if begins_phase game.events purchase.from purchase.kind then with_phase (bought game company purchase)
+    purchase.kind else bought game company purchase

@@ -68,7 +68,8 @@ rule code broken = record { code = code; broken = broken }
 -- the rules of the turn
 abbrev pub rules_of_turn : Game → Company → Progress → Kind → List (Rule RunRule)
 rules_of_turn game company progress kind =
-    rule run_rule.StepUsed (is_past_runs progress) ∷ rule run_rule.NoTrain (have_all_run game company progress kind) ∷ []
+    rule run_rule.StepUsed (is_past_runs progress) ∷ rule run_rule.NoTrain (have_all_run game company progress kind)
+    ∷ []
 
 -- what a run over a position does, where the borders are used that are marked so: what it earns, and the borders that are used
 -- once it is run
@@ -102,7 +103,8 @@ run_judgement turn company kind run =
 -- what a run of a train of a kind does, or the first rule that it breaks
 abbrev pub judged_run : InTurn → Company → Kind → List Place → Result CompletedRun RunRule
 judged_run turn company kind run =
-    ran_unless (ran_by (position_now turn.game.events) kind turn.progress.runs.borders run) (run_judgement turn company kind run)
+    ran_unless (ran_by (position_now turn.game.events) kind turn.progress.runs.borders run)
+    (run_judgement turn company kind run)
 
 -- once a train has run
 abbrev pub with_ran : Runs → CompletedRun → Runs
@@ -132,7 +134,8 @@ pub record IsCounted (runs : Runs) (ran : CompletedRun) : Type 0 where
 abbrev pub run_ruled : Operator → InTurn → Numbered → Order → Result CompletedRun RunRule → InTurn
 run_ruled by turn line order (Err rule) = told by turn line (Refused (refusal.Run rule) line.condition order)
 run_ruled by turn line order (Ok ran) =
-    in_turn (with_event (told by turn line (Obeyed line.condition order)).game (event.Runs by.company ran.earned)) (run_done turn.progress ran)
+    in_turn (with_event (told by turn line (Obeyed line.condition order)).game (event.Runs by.company ran.earned))
+    (run_done turn.progress ran)
 
 -- after an order in this line that a train of a kind runs
 abbrev pub after_run : Operator → InTurn → Numbered → Order → Kind → List Place → InTurn

@@ -39,7 +39,8 @@ stock_of lays tile = (pos (entry_of tile).count -ℤ pos (taken_of lays tile)) +
 
 -- of each number those on the map and those in the stock are as many as the manifest has, and the stock owes none
 pub record TilesAreAll (events : List Event) : Type 0 where
-  pub all : (tile : TileNo) → pos (on_map_of (lays_of events) tile) +ℤ stock_of (lays_of events) tile ≡ pos (entry_of tile).count
+  pub all : (tile : TileNo) → pos (on_map_of (lays_of events) tile) +ℤ stock_of (lays_of events) tile
+      ≡ pos (entry_of tile).count
   pub owes_none : (tile : TileNo) → pos 0 ≤ℤ stock_of (lays_of events) tile
 
 -- so it is at first
@@ -49,7 +50,8 @@ TilesAreAllAtFirst = TilesAreAll []
 -- after each event that lays no tile
 abbrev pub OthersKeepTiles : Type 0
 OthersKeepTiles =
-    (events : List Event) (event : Event) → tile_laid event ≡ None → TilesAreAll events → TilesAreAll (events ++ event ∷ [])
+    (events : List Event) (event : Event) → tile_laid event ≡ None → TilesAreAll events
+    → TilesAreAll (events ++ event ∷ [])
 
 -- after a lay by the rules
 abbrev pub LaysKeepTiles : Type 0

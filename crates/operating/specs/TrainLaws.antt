@@ -43,11 +43,15 @@ trains_there events kind number = (pos number -ℤ pos (trains_sold events kind)
 -- its turn: the phase is that of the latest kind that it has sold, and it sells a 3, 4, 5 or 6 or a D once all
 -- trains of each earlier kind but the 6 are sold
 pub record TrainsAreAll (events : List Event) : Type 0 where
-  pub until : (kind : Kind) (number : ℕ) → (trains_of kind).number ≡ Some number → have_rusted events kind ≡ false → trains_there events kind number ≡ pos number
-  pub after : (kind : Kind) (number : ℕ) → (trains_of kind).number ≡ Some number → have_rusted events kind ≡ true → trains_there events kind number ≡ pos 0
+  pub until : (kind : Kind) (number : ℕ) → (trains_of kind).number ≡ Some number → have_rusted events kind ≡ false
+      → trains_there events kind number ≡ pos number
+  pub after : (kind : Kind) (number : ℕ) → (trains_of kind).number ≡ Some number → have_rusted events kind ≡ true
+      → trains_there events kind number ≡ pos 0
   pub begun : 0 < place_of_kind (phase_of events) → 0 < trains_sold events (phase_of events)
   pub latest : (kind : Kind) → 0 < trains_sold events kind → place_of_kind kind ≤ place_of_kind (phase_of events)
-  pub in_order : (earlier later : Kind) (number : ℕ) → (trains_of earlier).number ≡ Some number → place_of_kind earlier < 4 → place_of_kind earlier < place_of_kind later → 0 < trains_sold events later → trains_sold events earlier ≡ number
+  pub in_order : (earlier later : Kind) (number : ℕ) → (trains_of earlier).number ≡ Some number
+      → place_of_kind earlier < 4 → place_of_kind earlier < place_of_kind later → 0 < trains_sold events later
+      → trains_sold events earlier ≡ number
 
 -- they are as many, and nobody has fewer than none
 pub record TrainsStand (events : List Event) : Type 0 where
@@ -61,18 +65,21 @@ TrainsStandAtFirst = TrainsStand []
 -- after each event by which no train moves and no phase begins they are still as many
 abbrev pub OthersKeepAll : Type 0
 OthersKeepAll =
-    (events : List Event) (event : Event) → train_moved event ≡ None → phase_set event ≡ None → TrainsAreAll events → TrainsAreAll (events ++ event ∷ [])
+    (events : List Event) (event : Event) → train_moved event ≡ None → phase_set event ≡ None → TrainsAreAll events
+    → TrainsAreAll (events ++ event ∷ [])
 
 -- and nobody has fewer than none
 abbrev pub OthersKeepStanding : Type 0
 OthersKeepStanding =
-    (events : List Event) (event : Event) → train_moved event ≡ None → phase_set event ≡ None → TrainsStand events → TrainsStand (events ++ event ∷ [])
+    (events : List Event) (event : Event) → train_moved event ≡ None → phase_set event ≡ None → TrainsStand events
+    → TrainsStand (events ++ event ∷ [])
 
 -- so it is after the purchase of a train by the rules
 abbrev pub PurchasesKeepAll : Type 0
 PurchasesKeepAll =
     (game : Game) (buyer : Company) (purchase : Purchase) →
-    train_judgement game buyer purchase ≡ None → TrainsStand game.events → TrainsStand (after_train game buyer purchase).events
+    train_judgement game buyer purchase ≡ None → TrainsStand game.events
+    → TrainsStand (after_train game buyer purchase).events
 
 -- and after a company's turn
 abbrev pub TurnsKeepAll : Type 0

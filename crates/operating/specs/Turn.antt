@@ -56,15 +56,18 @@ use Rattle.tables.specs.declared.seat.Seat.{Seat}
 abbrev pub lay_answered : Operator → InTurn → Numbered → Lay → Result ℤ LayRule → InTurn
 lay_answered by turn line lay (Ok cost) =
     in_turn
-    (after_lay (told by turn line (Obeyed line.condition (order.Lay lay))).game by.company lay (unsigned_abs cost)) (lay_done (lays_of turn.game.events) (asker_of turn.game by.company turn.progress) lay turn.progress)
+    (after_lay (told by turn line (Obeyed line.condition (order.Lay lay))).game by.company lay (unsigned_abs cost))
+    (lay_done (lays_of turn.game.events) (asker_of turn.game by.company turn.progress) lay turn.progress)
 lay_answered by turn line lay (Err rule) = told by turn line (Refused (refusal.Lay rule) line.condition (order.Lay lay))
 
 -- after a token in this line was obeyed at this cost, or refused by this rule
 abbrev pub token_answered : Operator → InTurn → Numbered → Place → Result ℤ TokenRule → InTurn
 token_answered by turn line place (Ok cost) =
     in_turn
-    (after_token (told by turn line (Obeyed line.condition (order.Token place))).game by.company place (unsigned_abs cost)) (token_done turn.progress)
-token_answered by turn line place (Err rule) = told by turn line (Refused (refusal.Token rule) line.condition (order.Token place))
+    (after_token (told by turn line (Obeyed line.condition (order.Token place))).game by.company place
+    (unsigned_abs cost)) (token_done turn.progress)
+token_answered by turn line place (Err rule) =
+    told by turn line (Refused (refusal.Token rule) line.condition (order.Token place))
 
 -- a LAY in this line leads to new: the rules of lays give an answer, by what lies
 pub record LayLeads (by : Operator) (turn : InTurn) (line : Numbered) (lay : Lay) (new : InTurn) : Type 0 where
@@ -75,18 +78,21 @@ pub record LayLeads (by : Operator) (turn : InTurn) (line : Numbered) (lay : Lay
 -- a TOKEN in this line leads to new
 pub record TokenLeads (by : Operator) (turn : InTurn) (line : Numbered) (place : Place) (new : InTurn) : Type 0 where
   pub answer : Result ℤ TokenRule
-  pub answered : IsTokenAnswer (map_state_now turn.game.events) (asker_of turn.game by.company turn.progress) place answer
+  pub answered : IsTokenAnswer (map_state_now turn.game.events) (asker_of turn.game by.company turn.progress) place
+      answer
   pub after : new ≡ token_answered by turn line place answer
 
 -- with what the company withholds by itself, where the turn is not past its pay
 abbrev pub settled : Company → InTurn → InTurn
 settled company turn =
-    if is_unpaid turn.progress then in_turn (withheld turn.game company turn.progress.runs.revenue) (pay_done turn.progress) else turn
+    if is_unpaid turn.progress then in_turn (withheld turn.game company turn.progress.runs.revenue)
+    (pay_done turn.progress) else turn
 
 -- the purchase that a TRAIN line orders
 abbrev pub purchase_of : Kind → TrainSource → Purchase
 purchase_of kind source.Bank = record { kind = kind; from = seller.Bank; trade_in = None; asked = None }
-purchase_of kind (source.Trade trade_in) = record { kind = kind; from = seller.Bank; trade_in = Some trade_in; asked = None }
+purchase_of kind (source.Trade trade_in) = record
+    { kind = kind; from = seller.Bank; trade_in = Some trade_in; asked = None }
 purchase_of kind source.BankPool = record { kind = kind; from = seller.BankPool; trade_in = None; asked = None }
 purchase_of kind (source.Company company price) =
     record { kind = kind; from = seller.Company company; trade_in = None; asked = Some price }
@@ -100,7 +106,8 @@ train_ruled by turn line order purchase broken =
 -- after a TRAIN in this line
 abbrev pub after_buying : Operator → InTurn → Numbered → Kind → TrainSource → InTurn
 after_buying by turn line kind from =
-    train_ruled by turn line (order.BuyTrain kind from) (purchase_of kind from) (train_judgement turn.game by.company (purchase_of kind from))
+    train_ruled by turn line (order.BuyTrain kind from) (purchase_of kind from)
+    (train_judgement turn.game by.company (purchase_of kind from))
 
 -- an order in this line of the block leads to new; those that are not named here have no place in a block
 abbrev pub OrderLeads : Operator → InTurn → Numbered → Order → InTurn → Type 0

@@ -69,7 +69,8 @@ AskedCalls by round line its false = OrderCalls by round line its
 
 -- that of this line with this reading
 abbrev pub ReadingCalls : Operator → Round → Numbered → Result Order Fault → Course InTurn InTurn RunnerFault
-ReadingCalls by round line (Ok its) turn = AskedCalls by round line its (is_held turn.game.events line.condition its) turn
+ReadingCalls by round line (Ok its) turn = AskedCalls by round line its (is_held turn.game.events line.condition its)
+    turn
 ReadingCalls by round line (Err fault) turn = Unasked Memory (λ old new. new ≡ told by old line (Faulty fault)) turn
 
 -- that of a line
@@ -100,7 +101,8 @@ BegunCalls file round company president =
 -- the course of the turn of a company in a round with the sheets of the file
 abbrev pub TurnCalls : List ℕ → Round → Company → Course Game Game RunnerFault
 TurnCalls file round company old =
-    Then (Unasked Memory (λ game turn. turn ≡ begun game company)) (BegunCalls file round company (president_of old.events company)) old
+    Then (Unasked Memory (λ game turn. turn ≡ begun game company))
+    (BegunCalls file round company (president_of old.events company)) old
 
 -- where a turn has led that has come so far, if it was not broken off
 abbrev pub led_to : InTurn → Result (Unit {0}) RunnerFault → Result InTurn RunnerFault
@@ -117,7 +119,8 @@ IsTurnFront round company =
 abbrev pub OneListOfTurnCalls : Type 0
 OneListOfTurnCalls =
     (file : List ℕ) (round : Round) (company : Company) (old a b : Game) (some others : List Call) →
-    TurnCalls file round company old (Ok a) some → TurnCalls file round company old (Ok b) others → (a ≡ b) × (some ≡ others)
+    TurnCalls file round company old (Ok a) some → TurnCalls file round company old (Ok b) others
+    → (a ≡ b) × (some ≡ others)
 
 -- each turn makes some
 abbrev pub SomeTurnCalls : Type 0
@@ -128,6 +131,7 @@ SomeTurnCalls =
 -- where it is broken off, it has made a front of them
 abbrev pub RefusedTurnCallsAreAFront : Type 0
 RefusedTurnCallsAreAFront =
-    (file : List ℕ) (round : Round) (company : Company) (old new : Game) (fault : RunnerFault) (refused whole : List Call) →
+    (file : List ℕ) (round : Round) (company : Company) (old new : Game) (fault : RunnerFault)
+    (refused whole : List Call) →
     TurnCalls file round company old (Err fault) refused → TurnCalls file round company old (Ok new) whole →
     IsTurnFront round company fault refused whole

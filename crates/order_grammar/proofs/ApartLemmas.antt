@@ -58,10 +58,13 @@ is_wrong-is Wrong e = refl
 is_wrong-is other e = absurd (false≢true e)
 
 -- a word that is no text of a class, where it is the literal word
-literal_apart : (k_text word : List ℕ) (c : Class) → is_wrong (class_reading c k_text) ≡ true → same_word word k_text ≡ true → class_reading c word ≡ Wrong
-literal_apart k_text word c wrong same = ap (class_reading c) (same_word-is word k_text same) ∙ is_wrong-is (class_reading c k_text) wrong
+literal_apart : (k_text word : List ℕ) (c : Class) → is_wrong (class_reading c k_text) ≡ true
+    → same_word word k_text ≡ true → class_reading c word ≡ Wrong
+literal_apart k_text word c wrong same = ap (class_reading c) (same_word-is word k_text same)
+    ∙ is_wrong-is (class_reading c k_text) wrong
 
-classes_apart : (c other : Class) (word : List ℕ) → are_classes_apart c other ≡ true → (class_reading c word ≡ Wrong) ⊎ (class_reading other word ≡ Wrong)
+classes_apart : (c other : Class) (word : List ℕ) → are_classes_apart c other ≡ true
+    → (class_reading c word ≡ Wrong) ⊎ (class_reading other word ≡ Wrong)
 classes_apart (class.Word k) other word apart =
     elim (cases_Bool (same_word word (text_of_keyword k))) [
       | inl same ↦ inr (literal_apart (text_of_keyword k) word other apart same)
@@ -82,17 +85,21 @@ spoilt (Value v) = refl
 
 -- words that fit no shape
 abbrev DoNotFit : List Class → Repeated → List (List ℕ) → Type 0
-DoNotFit classes r words = ◌≡◌ {A = Result (List values.Value × Tail) Fault} (values_reading classes r words) (Err WrongWords)
+DoNotFit classes r words = ◌≡◌ {A = Result (List values.Value × Tail) Fault} (values_reading classes r words)
+    (Err WrongWords)
 
-wrong_first : (c : Class) (classes : List Class) (r : Repeated) (word : List ℕ) (words : List (List ℕ)) → class_reading c word ≡ Wrong →
+wrong_first : (c : Class) (classes : List Class) (r : Repeated) (word : List ℕ) (words : List (List ℕ))
+    → class_reading c word ≡ Wrong →
     DoNotFit (c ∷ classes) r (word ∷ words)
 wrong_first c classes r word words wrong = rw wrong refl
 
-wrong_later : (c : Class) (classes : List Class) (r : Repeated) (word : List ℕ) (words : List (List ℕ)) → DoNotFit classes r words →
+wrong_later : (c : Class) (classes : List Class) (r : Repeated) (word : List ℕ) (words : List (List ℕ))
+    → DoNotFit classes r words →
     DoNotFit (c ∷ classes) r (word ∷ words)
 wrong_later c classes r word words wrong = rw wrong (spoilt (class_reading c word))
 
-shapes_apart : (classes : List Class) (r : Repeated) (others : List Class) (s : Repeated) (words : List (List ℕ)) → are_shapes_apart classes r others s ≡ true →
+shapes_apart : (classes : List Class) (r : Repeated) (others : List Class) (s : Repeated) (words : List (List ℕ))
+    → are_shapes_apart classes r others s ≡ true →
     DoNotFit classes r words ⊎ DoNotFit others s words
 shapes_apart (c ∷ classes) r (other ∷ others) s [] apart = inl refl
 shapes_apart (c ∷ classes) r (other ∷ others) s (word ∷ words) apart =
@@ -119,7 +126,8 @@ abbrev pub IsNear : Result Order Fault → Type 0
 IsNear reading = 2 ≤ nearness reading
 
 -- words that do not fit a row are not near by it
-far : (row : Row) (first : List ℕ) (rest : List (List ℕ)) → (same_word first (text_of_keyword row.keyword) ≡ false) ⊎ DoNotFit row.classes row.repeated rest →
+far : (row : Row) (first : List ℕ) (rest : List (List ℕ))
+    → (same_word first (text_of_keyword row.keyword) ≡ false) ⊎ DoNotFit row.classes row.repeated rest →
     nearness (row_reading row first rest) ≤ 1
 far row first rest (inl different) = rw different (omega arith)
 far row first rest (inr wrong) =
@@ -129,7 +137,8 @@ far row first rest (inr wrong) =
     ]
 
 -- where words are near by a row, they are not by one that is apart
-pub rows_apart : (row other : Row) (first : List ℕ) (rest : List (List ℕ)) → are_rows_apart row other ≡ true → IsNear (row_reading row first rest) →
+pub rows_apart : (row other : Row) (first : List ℕ) (rest : List (List ℕ)) → are_rows_apart row other ≡ true
+    → IsNear (row_reading row first rest) →
     nearness (row_reading other first rest) ≤ 1
 rows_apart row other first rest apart near =
     elim (cases_Bool (same_word first (text_of_keyword other.keyword))) [
@@ -139,8 +148,10 @@ rows_apart row other first rest apart near =
             | inr different ↦ absurd (omega (arith, near, far row first rest (inl different)))
             | inl same ↦
                 let keywords : same_word (text_of_keyword row.keyword) (text_of_keyword other.keyword) ≡ true =
-                ap (λ (word : List ℕ). same_word word (text_of_keyword other.keyword)) (sym (same_word-is first (text_of_keyword row.keyword) same)) ∙ same' in
-                let shapes : are_shapes_apart row.classes row.repeated other.classes other.repeated ≡ true = rw keywords at apart in
+                ap (λ (word : List ℕ). same_word word (text_of_keyword other.keyword))
+                (sym (same_word-is first (text_of_keyword row.keyword) same)) ∙ same' in
+                let shapes : are_shapes_apart row.classes row.repeated other.classes other.repeated ≡ true =
+                rw keywords at apart in
                 elim (shapes_apart row.classes row.repeated other.classes other.repeated rest shapes) [
                   | inl wrong ↦ absurd (omega (arith, near, far row first rest (inr wrong)))
                   | inr wrong ↦ far other first rest (inr wrong)

@@ -40,7 +40,8 @@ hex_digits-raised [] = refl
 hex_digits-raised (byte ∷ bytes) = rw (is_hex_digit-raised byte, hex_digits-raised bytes) refl
 
 -- a reading of digits does not ask for their case
-pub digits_reading-raised : (stands_for : ℕ → values.Value) (word : List ℕ) → digits_reading stands_for (raised word) ≡ digits_reading stands_for word
+pub digits_reading-raised : (stands_for : ℕ → values.Value) (word : List ℕ)
+    → digits_reading stands_for (raised word) ≡ digits_reading stands_for word
 digits_reading-raised stands_for [] = refl
 digits_reading-raised stands_for (digit ∷ digits) =
     elim (cases_Bool (list_all is_digit (digit ∷ digits))) [
@@ -49,7 +50,8 @@ digits_reading-raised stands_for (digit ∷ digits) =
     ]
 
 -- no digits
-pub digits_reading-none : (stands_for : ℕ → values.Value) (word : List ℕ) → None ≡ capped_value word → digits_reading stands_for word ≡ Wrong
+pub digits_reading-none : (stands_for : ℕ → values.Value) (word : List ℕ) → None ≡ capped_value word
+    → digits_reading stands_for word ≡ Wrong
 digits_reading-none stands_for word h =
     elim (cases_Bool (are_digits word)) [
       | inl e ↦ let wrong = rw e at h in absurd (cc)
@@ -57,7 +59,8 @@ digits_reading-none stands_for word h =
     ]
 
 -- digits of a large value
-pub digits_reading-large : (stands_for : ℕ → values.Value) (word : List ℕ) (v : ℕ) → Some v ≡ capped_value word → 99999 < v →
+pub digits_reading-large : (stands_for : ℕ → values.Value) (word : List ℕ) (v : ℕ) → Some v ≡ capped_value word
+    → 99999 < v →
     digits_reading stands_for word ≡ TooLarge
 digits_reading-large stands_for word v h large =
     elim (cases_Bool (are_digits word)) [
@@ -69,7 +72,8 @@ digits_reading-large stands_for word v h large =
     ]
 
 -- digits of a value that is not too large
-pub digits_reading-value : (stands_for : ℕ → values.Value) (word : List ℕ) (v : ℕ) → Some v ≡ capped_value word → v ≤ 99999 →
+pub digits_reading-value : (stands_for : ℕ → values.Value) (word : List ℕ) (v : ℕ) → Some v ≡ capped_value word
+    → v ≤ 99999 →
     digits_reading stands_for word ≡ Value (stands_for v)
 digits_reading-value stands_for word v h small =
     elim (cases_Bool (are_digits word)) [
@@ -87,18 +91,23 @@ no_zero byte h = grind (arith, nat_tests)
 
 -- digits that do not begin with 0 are the number of a round
 pub round_number-digits : (series : Series) (digits : List ℕ) → 0 < length digits → (get_or digits 0 0 ≡ 48 → ⊥) →
-    round_number_reading series (raised digits) ≡ digits_reading (λ number. round_value (round_of_series series number)) digits
+    round_number_reading series (raised digits) ≡ digits_reading
+    (λ number. round_value (round_of_series series number)) digits
 round_number-digits series [] some other = absurd (omega arith)
 round_number-digits series (digit ∷ digits) some other =
     let test : (to_ascii_uppercase digit == 48) ≡ false = no_zero digit other in
     rw test (digits_reading-raised (λ number. round_value (round_of_series series number)) (digit ∷ digits))
 
 -- one that is not the first
-pub code_reading-next : {X : Type 0} (code : X → List ℕ) (stands_for : X → values.Value) (all : List X) (i : ℕ) (d : X) (word : List ℕ) → i < length all →
-    same_word word (code (get_or all i d)) ≡ false → code_reading code stands_for (drop i all) word ≡ code_reading code stands_for (drop (i + 1) all) word
+pub code_reading-next : {X : Type 0} (code : X → List ℕ) (stands_for : X → values.Value) (all : List X) (i : ℕ)
+    (d : X) (word : List ℕ) → i < length all →
+    same_word word (code (get_or all i d)) ≡ false
+    → code_reading code stands_for (drop i all) word ≡ code_reading code stands_for (drop (i + 1) all) word
 code_reading-next code stands_for all i d word lt other = rw (drop_more all i d lt, other) refl
 
 -- the one whose code it is
-pub code_reading-here : {X : Type 0} (code : X → List ℕ) (stands_for : X → values.Value) (all : List X) (i : ℕ) (d : X) (word : List ℕ) → i < length all →
-    same_word word (code (get_or all i d)) ≡ true → code_reading code stands_for (drop i all) word ≡ Value (stands_for (get_or all i d))
+pub code_reading-here : {X : Type 0} (code : X → List ℕ) (stands_for : X → values.Value) (all : List X) (i : ℕ)
+    (d : X) (word : List ℕ) → i < length all →
+    same_word word (code (get_or all i d)) ≡ true → code_reading code stands_for (drop i all) word
+    ≡ Value (stands_for (get_or all i d))
 code_reading-here code stands_for all i d word lt here = rw (drop_more all i d lt, here) refl

@@ -40,10 +40,12 @@ nearness-le (Ok order) = omega arith
 nearness-le (Err fault) = omega (arith, fault_nearness-le fault)
 
 -- an order that was found stays
-pub found_stays : (first : List ℕ) (rest : List (List ℕ)) (order : Order) (rows : List Row) → fold (with_row first rest) (Ok order) rows ≡ Ok order
+pub found_stays : (first : List ℕ) (rest : List (List ℕ)) (order : Order) (rows : List Row)
+    → fold (with_row first rest) (Ok order) rows ≡ Ok order
 found_stays first rest order [] = refl
 found_stays first rest order (row ∷ rows) =
-    let test : ltb 3 (nearness (row_reading row first rest)) ≡ false = le-ltb 3 _ (nearness-le (row_reading row first rest)) in
+    let test : ltb 3 (nearness (row_reading row first rest)) ≡ false =
+    le-ltb 3 _ (nearness-le (row_reading row first rest)) in
     rw test (found_stays first rest order rows)
 
 -- an order is nearer than any fault
@@ -53,7 +55,8 @@ nearer-found fault order =
     rw test refl
 
 -- by a row with another first word the words are of no form
-pub unknown-row : (row : Row) (first : List ℕ) (rest : List (List ℕ)) → same_word first (text_of_keyword row.keyword) ≡ false →
+pub unknown-row : (row : Row) (first : List ℕ) (rest : List (List ℕ))
+    → same_word first (text_of_keyword row.keyword) ≡ false →
     ◌≡◌ {A = Result Order Fault} (Err UnknownWord) (row_reading row first rest)
 unknown-row row first rest different = rw different refl
 
@@ -64,15 +67,18 @@ nearer-unknown fault =
     rw test refl
 
 -- one more row, and what the words are by it
-pub rows-next : (first : List ℕ) (rest : List (List ℕ)) (nearest : Result Order Fault) (forms : List Form) (i : ℕ) (d : Form) → i < length forms →
+pub rows-next : (first : List ℕ) (rest : List (List ℕ)) (nearest : Result Order Fault) (forms : List Form) (i : ℕ)
+    (d : Form) → i < length forms →
     (reading : Result Order Fault) → reading ≡ row_reading (row_of (get_or forms i d)) first rest →
-    fold (with_row first rest) nearest (drop i (map row_of forms)) ≡ fold (with_row first rest) (nearer nearest reading) (drop (i + 1) (map row_of forms))
+    fold (with_row first rest) nearest (drop i (map row_of forms))
+    ≡ fold (with_row first rest) (nearer nearest reading) (drop (i + 1) (map row_of forms))
 rows-next first rest nearest forms i d lt reading is =
     let size : i < length (map row_of forms) = omega (arith, length-map forms row_of) in
     rw (drop_more (map row_of forms) i (row_of d) size, get_or-map row_of forms i d (row_of d) lt, is) refl
 
 -- a form among short ones is short
-pub short_form : (forms : List Form) (i : ℕ) (d : Form) → list_all is_short_row (map row_of forms) ≡ true → i < length forms →
+pub short_form : (forms : List Form) (i : ℕ) (d : Form) → list_all is_short_row (map row_of forms) ≡ true
+    → i < length forms →
     is_short_row (row_of (get_or forms i d)) ≡ true
 short_form forms i d short lt =
     let size : i < length (map row_of forms) = omega (arith, length-map forms row_of) in
@@ -80,8 +86,10 @@ short_form forms i d short lt =
     ∙ and_at (list_all is_short_row) is_short_row refl (λ _ _. refl) (map row_of forms) i (row_of d) size short
 
 -- no word is left for a class
-pub values_reading-none : (front : List Value) (too_large : Bool) (classes : List Class) (r : Repeated) (i : ℕ) (d : Class) (all : List (List ℕ)) →
-    i < length classes → all ≡ [] → joined_values front too_large (values_reading (drop i classes) r all) ≡ Err WrongWords
+pub values_reading-none : (front : List Value) (too_large : Bool) (classes : List Class) (r : Repeated) (i : ℕ)
+    (d : Class) (all : List (List ℕ)) →
+    i < length classes → all ≡ [] → joined_values front too_large (values_reading (drop i classes) r all)
+    ≡ Err WrongWords
 values_reading-none front too_large classes r i d all lt none = rw (none, drop_more classes i d lt) refl
 
 -- after the last class
@@ -90,25 +98,32 @@ values_reading-end : (classes : List Class) (r : Repeated) (i : ℕ) (words : Li
 values_reading-end classes r i words le = at_drop_all (λ (cs : List Class). values_reading cs r words) classes i le
 
 -- the rest is not what is repeated
-pub values_reading-no_tail : (front : List Value) (too_large : Bool) (classes : List Class) (r : Repeated) (i : ℕ) (words : List (List ℕ)) (found : Option Tail) →
-    length classes ≤ i → found ≡ tail_reading r words → found ≡ None → joined_values front too_large (values_reading (drop i classes) r words) ≡ Err WrongWords
+pub values_reading-no_tail : (front : List Value) (too_large : Bool) (classes : List Class) (r : Repeated) (i : ℕ)
+    (words : List (List ℕ)) (found : Option Tail) →
+    length classes ≤ i → found ≡ tail_reading r words → found ≡ None
+    → joined_values front too_large (values_reading (drop i classes) r words) ≡ Err WrongWords
 values_reading-no_tail front too_large classes r i words found le is none =
     let no : tail_reading r words ≡ None = sym is ∙ none in
     ap (joined_values front too_large) (values_reading-end classes r i words le) ∙ rw (no, values_reading) refl
 
 -- the rest is
-pub values_reading-tail : (front : List Value) (too_large : Bool) (classes : List Class) (r : Repeated) (i : ℕ) (words : List (List ℕ)) (found : Option Tail) (t : Tail) →
+pub values_reading-tail : (front : List Value) (too_large : Bool) (classes : List Class) (r : Repeated) (i : ℕ)
+    (words : List (List ℕ)) (found : Option Tail) (t : Tail) →
     length classes ≤ i → found ≡ tail_reading r words → found ≡ Some t →
-    joined_values front too_large (values_reading (drop i classes) r words) ≡ cond too_large (Err NumberTooLarge) (Ok (front, t))
+    joined_values front too_large (values_reading (drop i classes) r words)
+    ≡ cond too_large (Err NumberTooLarge) (Ok (front, t))
 values_reading-tail front too_large classes r i words found t le is some =
     let yes : tail_reading r words ≡ Some t = sym is ∙ some in
     ap (joined_values front too_large) (values_reading-end classes r i words le)
     ∙ rw (yes, values_reading)
-    (ap (λ (all : List Value). cond {A = Result (List Value × Tail) Fault} too_large (Err NumberTooLarge) (Ok (all, t))) (append-nil front))
+    (ap (λ (all : List Value). cond {A = Result (List Value × Tail) Fault} too_large (Err NumberTooLarge)
+    (Ok (all, t))) (append-nil front))
 
 -- the first of a line's words and the others, read by some rows, are what the words are by them
-pub table_read : (words left : List Placed) (given : Option Token) (first : Token) (rows : List Row) (found : Result Order Fault) →
-    GivesFirst words given left → given ≡ Some first → found ≡ rows_reading rows (raised first.text.now) (texts_of left) →
+pub table_read : (words left : List Placed) (given : Option Token) (first : Token) (rows : List Row)
+    (found : Result Order Fault) →
+    GivesFirst words given left → given ≡ Some first
+    → found ≡ rows_reading rows (raised first.text.now) (texts_of left) →
     found ≡ words_reading rows (texts_of words)
 table_read words left given first rows found gives is by =
     by ∙ sym (ap (words_reading rows) (next_words words left given first gives is))

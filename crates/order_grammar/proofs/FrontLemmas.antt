@@ -24,11 +24,17 @@ none_added old new text e = record { front = []; rest = text; added = e ∙ sym 
 -- a front of a first piece is a front of both
 pub front_of_first : (old new first second : List ℕ) → AddsFront old new first → AddsFront old new (first ++ second)
 front_of_first old new first second adds =
-    record
-    { front = adds.front; rest = adds.rest ++ second; added = adds.added; whole = ap (λ (text : List ℕ). text ++ second) adds.whole ∙ append_assoc adds.front adds.rest second }
+    record {
+      front = adds.front;
+      rest = adds.rest ++ second;
+      added = adds.added;
+      whole =
+          ap (λ (text : List ℕ). text ++ second) adds.whole ∙ append_assoc adds.front adds.rest second;
+    }
 
 -- a first piece, and a front of the second
-pub front_of_second : (old mid new first second : List ℕ) → mid ≡ old ++ first → AddsFront mid new second → AddsFront old new (first ++ second)
+pub front_of_second : (old mid new first second : List ℕ) → mid ≡ old ++ first → AddsFront mid new second
+    → AddsFront old new (first ++ second)
 front_of_second old mid new first second before adds =
     record {
       front = first ++ adds.front;
@@ -38,42 +44,63 @@ front_of_second old mid new first second before adds =
     }
 
 -- words are printed one after another
-pub spaced-parted : (words : List (List ℕ)) (count : ℕ) → spaced words ≡ spaced (take count words) ++ spaced (drop count words)
+pub spaced-parted : (words : List (List ℕ)) (count : ℕ)
+    → spaced words ≡ spaced (take count words) ++ spaced (drop count words)
 spaced-parted words count =
-    ap spaced (sym (take-append-drop count words)) ∙ flat_map-append (λ (word : List ℕ). 32 ∷ word) (take count words) (drop count words)
+    ap spaced (sym (take-append-drop count words))
+    ∙ flat_map-append (λ (word : List ℕ). 32 ∷ word) (take count words) (drop count words)
 
 -- the next of them
-spaced-next : (words : List (List ℕ)) (count : ℕ) (word : List ℕ) → count < length words → word ≡ get_or words count [] →
+spaced-next : (words : List (List ℕ)) (count : ℕ) (word : List ℕ) → count < length words
+    → word ≡ get_or words count [] →
     spaced (drop count words) ≡ (32 ∷ word) ++ spaced (drop (count + 1) words)
 spaced-next words count word more is =
-    ap spaced (drop_more words count [] more) ∙ flat_map-cons (λ (w : List ℕ). 32 ∷ w) (get_or words count []) (drop (count + 1) words)
+    ap spaced (drop_more words count [] more) ∙ flat_map-cons (λ (w : List ℕ). 32 ∷ w) (get_or words count [])
+    (drop (count + 1) words)
     ∙ ap (λ (w : List ℕ). (32 ∷ w) ++ spaced (drop (count + 1) words)) (sym is)
 
 -- some of the words
-pub words_front : (old new : List ℕ) (words : List (List ℕ)) (count : ℕ) → new ≡ old ++ spaced (take count words) → AddsFront old new (spaced words)
+pub words_front : (old new : List ℕ) (words : List (List ℕ)) (count : ℕ) → new ≡ old ++ spaced (take count words)
+    → AddsFront old new (spaced words)
 words_front old new words count added =
-    record { front = spaced (take count words); rest = spaced (drop count words); added = added; whole = spaced-parted words count }
+    record {
+      front = spaced (take count words);
+      rest = spaced (drop count words);
+      added = added;
+      whole =
+          spaced-parted words count;
+    }
 
 -- some of them, a space and a front of the next
-pub words_and_front : (old before mid new : List ℕ) (words : List (List ℕ)) (count : ℕ) (word : List ℕ) → count < length words → word ≡ get_or words count [] →
-    before ≡ old ++ spaced (take count words) → mid ≡ before ++ 32 ∷ [] → AddsFront mid new word → AddsFront old new (spaced words)
+pub words_and_front : (old before mid new : List ℕ) (words : List (List ℕ)) (count : ℕ) (word : List ℕ)
+    → count < length words → word ≡ get_or words count [] →
+    before ≡ old ++ spaced (take count words) → mid ≡ before ++ 32 ∷ [] → AddsFront mid new word
+    → AddsFront old new (spaced words)
 words_and_front old before mid new words count word more is so_far space adds =
     let whole : spaced words ≡ (spaced (take count words) ++ 32 ∷ []) ++ (word ++ spaced (drop (count + 1) words)) =
-    spaced-parted words count ∙ ap (λ (text : List ℕ). spaced (take count words) ++ text) (spaced-next words count word more is)
+    spaced-parted words count ∙ ap (λ (text : List ℕ). spaced (take count words) ++ text)
+    (spaced-next words count word more is)
     ∙ sym (append_assoc (spaced (take count words)) (32 ∷ []) (word ++ spaced (drop (count + 1) words))) in
-    let added : mid ≡ old ++ (spaced (take count words) ++ 32 ∷ []) = space ∙ two_added old before (spaced (take count words)) (32 ∷ []) so_far in
+    let added : mid ≡ old ++ (spaced (take count words) ++ 32 ∷ []) =
+    space ∙ two_added old before (spaced (take count words)) (32 ∷ []) so_far in
     rw whole
-    (front_of_second old mid new (spaced (take count words) ++ 32 ∷ []) (word ++ spaced (drop (count + 1) words)) added (front_of_first mid new word (spaced (drop (count + 1) words)) adds))
+    (front_of_second old mid new (spaced (take count words) ++ 32 ∷ []) (word ++ spaced (drop (count + 1) words))
+    added (front_of_first mid new word (spaced (drop (count + 1) words)) adds))
 
 -- one word more
-pub words_more : (old before mid new : List ℕ) (words : List (List ℕ)) (count : ℕ) (word : List ℕ) → count < length words → word ≡ get_or words count [] →
-    before ≡ old ++ spaced (take count words) → mid ≡ before ++ 32 ∷ [] → new ≡ mid ++ word → new ≡ old ++ spaced (take (count + 1) words)
+pub words_more : (old before mid new : List ℕ) (words : List (List ℕ)) (count : ℕ) (word : List ℕ)
+    → count < length words → word ≡ get_or words count [] →
+    before ≡ old ++ spaced (take count words) → mid ≡ before ++ 32 ∷ [] → new ≡ mid ++ word
+    → new ≡ old ++ spaced (take (count + 1) words)
 words_more old before mid new words count word more is so_far space added =
     let next : spaced (take (count + 1) words) ≡ spaced (take count words) ++ 32 ∷ word =
-    ap spaced (take_more words count [] more) ∙ flat_map-append (λ (w : List ℕ). 32 ∷ w) (take count words) (get_or words count [] ∷ [])
+    ap spaced (take_more words count [] more) ∙ flat_map-append (λ (w : List ℕ). 32 ∷ w) (take count words)
+    (get_or words count [] ∷ [])
     ∙ ap (λ (text : List ℕ). spaced (take count words) ++ text)
-    (flat_map-cons (λ (w : List ℕ). 32 ∷ w) (get_or words count []) [] ∙ append-nil (32 ∷ get_or words count []) ∙ ap (λ (w : List ℕ). 32 ∷ w) (sym is)) in
-    added ∙ ap (λ (text : List ℕ). text ++ word) (space ∙ two_added old before (spaced (take count words)) (32 ∷ []) so_far)
+    (flat_map-cons (λ (w : List ℕ). 32 ∷ w) (get_or words count []) [] ∙ append-nil (32 ∷ get_or words count [])
+    ∙ ap (λ (w : List ℕ). 32 ∷ w) (sym is)) in
+    added ∙ ap (λ (text : List ℕ). text ++ word) (space
+    ∙ two_added old before (spaced (take count words)) (32 ∷ []) so_far)
     ∙ append_assoc old (spaced (take count words) ++ 32 ∷ []) word
     ∙ ap (λ (text : List ℕ). old ++ text) (append_assoc (spaced (take count words)) (32 ∷ []) word ∙ sym next)
 

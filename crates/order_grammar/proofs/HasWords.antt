@@ -31,7 +31,8 @@ abbrev pub have_words : Option Parts → Bool
 have_words None = true
 have_words (Some parts) = has_form parts && list_all has_word parts.values
 
-lay_has_words : (tile : TileNo) (hex : Hex) (rot : Rotation) (swap : Bool) → have_words (parts_of (Lay (lay_of tile hex rot swap))) ≡ true
+lay_has_words : (tile : TileNo) (hex : Hex) (rot : Rotation) (swap : Bool)
+    → have_words (parts_of (Lay (lay_of tile hex rot swap))) ≡ true
 lay_has_words tile hex rot true = refl
 lay_has_words tile hex rot other = refl
 

@@ -63,12 +63,14 @@ words_decide most rows line short clean =
 -- a value or wrong words: what comes after the first word is no unknown word
 order_near : (k : Keyword) (read : List Value × Tail) → 1 ≤ nearness (order_of_values k (Ok read))
 order_near k read =
-    elim (order_from k read.0 read.1) as (λ found. 1 ≤ nearness (elim found [ Some order ↦ Ok order | None ↦ Err WrongWords ])) [
+    elim (order_from k read.0 read.1) as (λ found. 1
+    ≤ nearness (elim found [ Some order ↦ Ok order | None ↦ Err WrongWords ])) [
       | Some order ↦ lit≤ tt
       | None ↦ lit≤ tt
     ]
 
-values_near : (row : Row) (rest : List (List ℕ)) (read : Result (List Value × Tail) Fault) → ReadThus row.classes row.repeated rest read →
+values_near : (row : Row) (rest : List (List ℕ)) (read : Result (List Value × Tail) Fault)
+    → ReadThus row.classes row.repeated rest read →
     1 ≤ nearness (order_of_values row.keyword read)
 values_near row rest (Ok read) h = order_near row.keyword read
 values_near row rest (Err NumberTooLarge) h = lit≤ tt
@@ -78,7 +80,8 @@ values_near row rest (Err other) h = absurd h
 -- by a row that begins with the word
 row_near : (row : Row) (first : List ℕ) (rest : List (List ℕ)) → same_word first (text_of_keyword row.keyword) ≡ true →
     1 ≤ nearness (row_reading row first rest)
-row_near row first rest same = rw same (values_near row rest (values_reading row.classes row.repeated rest) (values_made row.classes row.repeated rest))
+row_near row first rest same = rw same (values_near row rest (values_reading row.classes row.repeated rest)
+    (values_made row.classes row.repeated rest))
 
 -- the nearer of two is at least as near as each
 nearer-le : (a b : Result Order Fault) → (nearness a ≤ nearness (nearer a b)) × (nearness b ≤ nearness (nearer a b))
@@ -93,16 +96,28 @@ rows-le : (first : List ℕ) (rest : List (List ℕ)) (start : Result Order Faul
     nearness start ≤ nearness (fold (with_row first rest) start rows)
 rows-le first rest start [] = omega arith
 rows-le first rest start (row ∷ rows) =
-    omega (arith, (nearer-le start (row_reading row first rest)).0, rows-le first rest (nearer start (row_reading row first rest)) rows)
+    omega (
+      arith,
+      (nearer-le start (row_reading row first rest)).0,
+      rows-le first rest
+          (nearer start (row_reading row first rest)) rows,
+    )
 
 -- each row comes no nearer than the nearest
-row-le : (rows : List Row) (row : Row) (first : List ℕ) (rest : List (List ℕ)) (start : Result Order Fault) → IsAmong row rows →
+row-le : (rows : List Row) (row : Row) (first : List ℕ) (rest : List (List ℕ)) (start : Result Order Fault)
+    → IsAmong row rows →
     nearness (row_reading row first rest) ≤ nearness (fold (with_row first rest) start rows)
 row-le [] row first rest start among = absurd among
 row-le (other ∷ rows) row first rest start (inl is) =
-    omega
-    (arith, ap (λ (r : Row). nearness (row_reading r first rest)) is, (nearer-le start (row_reading other first rest)).1, rows-le first rest (nearer start (row_reading other first rest)) rows)
-row-le (other ∷ rows) row first rest start (inr later) = row-le rows row first rest (nearer start (row_reading other first rest)) later
+    omega (
+      arith,
+      ap (λ (r : Row). nearness (row_reading r first rest)) is,
+      (nearer-le start (row_reading other first rest)).1,
+      rows-le first rest
+          (nearer start (row_reading other first rest)) rows,
+    )
+row-le (other ∷ rows) row first rest start (inr later) =
+    row-le rows row first rest (nearer start (row_reading other first rest)) later
 
 -- words of a text that are read as an unknown word begin with another
 pub unknown_begins : (text : TextKind) (rows : List Row) → AreRowsOf text rows → (words : List (List ℕ)) →
@@ -113,7 +128,8 @@ unknown_begins text rows of (first ∷ rest) e = λ listed.
     let row = among_any (begins_form first) rows (listed_is_begun text rows first of listed) in
     let near = row_near row.0 first rest row.2 in
     let le = row-le rows row.0 first rest (Err UnknownWord) row.1 in
-    let wrong : 1 ≤ 0 = rw e at (let all : 1 ≤ nearness (words_reading rows (first ∷ rest)) = omega (arith, near, le) in all) in
+    let wrong : 1 ≤ 0 = rw e at (let all : 1 ≤ nearness (words_reading rows (first ∷ rest)) =
+    omega (arith, near, le) in all) in
     omega arith
 
 -- what words are read as: an order, an unknown word, wrong words or a number that is too large
@@ -129,7 +145,8 @@ row_of_words row first rest =
 
 reading_of_words : (rows : List Row) (words : List (List ℕ)) → IsOfWords (words_reading rows words)
 reading_of_words rows [] = inr (lit≤ tt)
-reading_of_words rows (first ∷ rest) = nearest_has IsOfWords rows first rest (Err UnknownWord) (inl refl) (λ row among. row_of_words row first rest)
+reading_of_words rows (first ∷ rest) = nearest_has IsOfWords rows first rest (Err UnknownWord) (inl refl)
+    (λ row among. row_of_words row first rest)
 
 -- no other fault is of words
 pub other_fault : (rows : List Row) (words : List (List ℕ)) (fault : Fault) → nearness (Err fault) ≡ 0 →
@@ -144,7 +161,8 @@ other_fault rows words fault none other e =
     ]
 
 -- words that would spell an order, if numbers had no greatest value, are near to it
-loosely_near : (words : List (List ℕ)) (order : Order) → AreWordsFor order words → (all_reading words ≡ Err WrongWords) → ⊥
+loosely_near : (words : List (List ℕ)) (order : Order) → AreWordsFor order words
+    → (all_reading words ≡ Err WrongWords) → ⊥
 loosely_near words order spelt wrong =
     elim (cases_Bool (are_small (parts_of order))) [
       | inl small ↦
@@ -152,7 +170,8 @@ loosely_near words order spelt wrong =
           sym (spelt_words_read words order spelt (small_of_parts order small)) ∙ wrong in cc
       | inr large ↦
           let no : ◌≡◌ {A = Result Order Fault} (Err NumberTooLarge) (Err WrongWords) =
-          sym (large_words_read words order spelt (λ small. false≢true (sym large ∙ small_by_parts order small))) ∙ wrong in
+          sym (large_words_read words order spelt (λ small. false≢true (sym large ∙ small_by_parts order small)))
+          ∙ wrong in
           cc
     ]
 
@@ -163,7 +182,8 @@ not_other known [] one other = other
 not_other known (first ∷ rest) one other = other one
 
 -- words that begin with no other begin with one of them
-some_known : (text : TextKind) (rows : List Row) → AreRowsOf text rows → (words : List (List ℕ)) → (BeginWithOther text.first_words words → ⊥) →
+some_known : (text : TextKind) (rows : List Row) → AreRowsOf text rows → (words : List (List ℕ))
+    → (BeginWithOther text.first_words words → ⊥) →
     BeginWithOneOf text.first_words words
 some_known text rows of words no_other =
     elim (known_or_other text rows words of) [
@@ -176,7 +196,8 @@ pub begins_some_form : (text : TextKind) (rows : List Row) → AreRowsOf text ro
     (words : List (List ℕ)) (fault : Fault) → (fault ≡ UnknownWord → ⊥) →
     words_reading rows words ≡ Err fault → BeginWithOther text.first_words words → ⊥
 begins_some_form text rows of words fault other e none =
-    let same : ◌≡◌ {A = Result Order Fault} (Err fault) (Err UnknownWord) = sym e ∙ unknown_read text rows words of none in
+    let same : ◌≡◌ {A = Result Order Fault} (Err fault) (Err UnknownWord) =
+    sym e ∙ unknown_read text rows words of none in
     other cc
 
 -- so they are read by all forms
@@ -198,7 +219,8 @@ large_spell (first ∷ rest) e =
     rw e at says
 
 -- the fault of words is that of their line
-words_fault : (text : TextKind) (rows : List Row) → AreRowsOf text rows → (line : List ℕ) (fault : Fault) → (IsTooLong text line → ⊥) →
+words_fault : (text : TextKind) (rows : List Row) → AreRowsOf text rows → (line : List ℕ) (fault : Fault)
+    → (IsTooLong text line → ⊥) →
     (HasStrayByte line → ⊥) → words_reading rows (words_of line) ≡ Err fault → IsFaultIn text line fault
 words_fault text rows of line UnknownWord short clean e = (short, clean, unknown_begins text rows of (words_of line) e)
 words_fault text rows of line WrongWords short clean e =
@@ -234,29 +256,36 @@ fault_had text rows of line fault e =
       | inr short ↦
           elim (cases_Bool (list_all is_printable (before_comment line))) [
             | inl printable ↦
-                let clean : HasStrayByte line → ⊥ = λ stray. let wrong : true ≡ false = sym printable ∙ not_printable (before_comment line) stray in cc in
+                let clean : HasStrayByte line → ⊥ = λ stray. let wrong : true ≡ false =
+                sym printable ∙ not_printable (before_comment line) stray in cc in
                 let not_long : IsTooLong text line → ⊥ = λ long. omega arith in
-                words_fault text rows of line fault not_long clean (sym (words_decide text.most rows line not_long clean) ∙ e)
+                words_fault text rows of line fault not_long clean
+                (sym (words_decide text.most rows line not_long clean) ∙ e)
             | inr stray ↦
                 let test : ltb text.most (length line) ≡ false = le-ltb text.most (length line) short in
                 let same : ◌≡◌ {A = Result Order Fault} (Err StrayByte) (Err fault) = rw (test, stray) at e in
-                subst (IsFaultIn text line) (let is : StrayByte ≡ fault = cc in is) ((λ long. omega arith), stray_byte (before_comment line) stray)
+                subst (IsFaultIn text line) (let is : StrayByte ≡ fault = cc in is)
+                ((λ long. omega arith), stray_byte (before_comment line) stray)
           ]
     ]
 
 -- words that begin a form of the text, and would spell no order, are wrong words
-wrong_words : (text : TextKind) (rows : List Row) → AreRowsOf text rows → (words : List (List ℕ)) (reading : Result Order Fault) →
-    words_reading rows words ≡ reading → BeginWithOneOf text.first_words words → ((order : Order) → AreWordsFor order words → ⊥) → reading ≡ Err WrongWords
+wrong_words : (text : TextKind) (rows : List Row) → AreRowsOf text rows
+    → (words : List (List ℕ)) (reading : Result Order Fault) →
+    words_reading rows words ≡ reading → BeginWithOneOf text.first_words words
+    → ((order : Order) → AreWordsFor order words → ⊥) → reading ≡ Err WrongWords
 wrong_words text rows of words (Ok order) e known none =
     absurd (none order (words_read_spell words order (sym (known_read text rows words of known) ∙ e)).0)
 wrong_words text rows of words (Err NumberTooLarge) e known none =
     let some = large_spell words (sym (known_read text rows words of known) ∙ e) in absurd (none some.0 some.1)
 wrong_words text rows of words (Err WrongWords) e known none = refl
-wrong_words text rows of words (Err UnknownWord) e known none = absurd (not_other text.first_words words known (unknown_begins text rows of words e))
+wrong_words text rows of words (Err UnknownWord) e known none =
+    absurd (not_other text.first_words words known (unknown_begins text rows of words e))
 wrong_words text rows of words (Err other) e known none = absurd (other_fault rows words other refl (λ same. cc) e)
 
 -- a line that has a fault in a text is read as it by its forms
-pub fault_read : (text : TextKind) (rows : List Row) → AreRowsOf text rows → (line : List ℕ) (fault : Fault) → IsFaultIn text line fault →
+pub fault_read : (text : TextKind) (rows : List Row) → AreRowsOf text rows → (line : List ℕ) (fault : Fault)
+    → IsFaultIn text line fault →
     reading_by text.most rows line ≡ Err fault
 fault_read text rows of line TooLong long =
     let test : ltb text.most (length line) ≡ true = lt-ltb text.most (length line) long in
@@ -265,16 +294,27 @@ fault_read text rows of line StrayByte is =
     let short = is.0 in
     let test : ltb text.most (length line) ≡ false = le-ltb text.most (length line) (omega arith) in
     rw (test, not_printable (before_comment line) is.1) refl
-fault_read text rows of line UnknownWord is = words_decide text.most rows line is.0 is.1 ∙ unknown_read text rows (words_of line) of is.2
+fault_read text rows of line UnknownWord is = words_decide text.most rows line is.0 is.1
+    ∙ unknown_read text rows (words_of line) of is.2
 fault_read text rows of line WrongWords is =
     let short = is.0 in
     let known = some_known text rows of (words_of line) is.2 in
     words_decide text.most rows line is.0 is.1
     ∙ wrong_words text rows of (words_of line) (words_reading rows (words_of line)) refl known
-    (λ order are. is.3 (order, record { short = omega arith; printable = all_printable line is.1; known = known; words = are }))
+    (λ order are. is.3 (
+      order,
+      record {
+        short = omega arith;
+        printable = all_printable line is.1;
+        known =
+            known;
+        words = are;
+      },
+    ))
 fault_read text rows of line NumberTooLarge is =
     let order = is.3.0 in
     let loosely = is.3.1 in
     words_decide text.most rows line is.0 is.1 ∙ known_read text rows (words_of line) of loosely.known
-    ∙ large_words_read (words_of line) order loosely.words (λ small. is.4 (order, record { loosely = loosely; small = small }))
+    ∙ large_words_read (words_of line) order loosely.words
+    (λ small. is.4 (order, record { loosely = loosely; small = small }))
 fault_read text rows of line other none = absurd none

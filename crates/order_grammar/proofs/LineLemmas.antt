@@ -16,7 +16,11 @@ use Rattle.order_grammar.proofs.WordLemmas.{texts_of-line, words_stand}
 line_words : (line : List ℕ) (words : List Placed) → words ≡ placed_from 0 [] (before_comment line) →
     AreWordsOf line words
 line_words line words is =
-    record { texts = texts_of-line line words is; places = subst (StandFrom 0 (before_comment line)) (sym is) (words_stand (before_comment line)) }
+    record {
+      texts = texts_of-line line words is;
+      places =
+          subst (StandFrom 0 (before_comment line)) (sym is) (words_stand (before_comment line));
+    }
 
 -- what is known of the words of a line that is not too long and has no stray byte
 record IsWithin (most : ℕ) (line : List ℕ) (words : List Placed) : Type 0 where
@@ -54,7 +58,8 @@ within_reading most rows line words e =
     ap (words_reading rows) (texts_of-line line words is.are) ∙ rw (is.short, is.printable) refl
 
 -- in any version
-pub within_version : (version : Version) (line : List ℕ) (words : List Placed) → Ok words ≡ words_within line_most line →
+pub within_version : (version : Version) (line : List ℕ) (words : List Placed)
+    → Ok words ≡ words_within line_most line →
     words_reading_in version (texts_of words) ≡ reading_in version line
 within_version version line words e =
     let is = within line_most line words e in

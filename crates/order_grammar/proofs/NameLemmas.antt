@@ -18,16 +18,20 @@ pub is_letter_or_digit-raised : (byte : ℕ) → is_letter_or_digit (to_ascii_up
 is_letter_or_digit-raised byte = grind (arith, nat_tests)
 
 -- raised letters and digits
-pub letters_or_digits-raised : (word : List ℕ) → list_all is_letter_or_digit (raised word) ≡ list_all is_ascii_alphanumeric word
+pub letters_or_digits-raised : (word : List ℕ)
+    → list_all is_letter_or_digit (raised word) ≡ list_all is_ascii_alphanumeric word
 letters_or_digits-raised [] = refl
 letters_or_digits-raised (byte ∷ bytes) = rw (is_letter_or_digit-raised byte, letters_or_digits-raised bytes) refl
 
 -- a word that begins with a letter and is no longer than a name is one if the rest are letters and digits
-pub is_name-raised : (word : List ℕ) (rest_fits : Bool) → is_ascii_alphabetic (get_or word 0 0) ≡ true → length word ≤ 8 →
-    rest_fits ≡ list_all is_ascii_alphanumeric (take (length word - 1) (drop 1 word)) → 0 < length word → rest_fits ≡ is_name (raised word)
+pub is_name-raised : (word : List ℕ) (rest_fits : Bool) → is_ascii_alphabetic (get_or word 0 0) ≡ true
+    → length word ≤ 8 →
+    rest_fits ≡ list_all is_ascii_alphanumeric (take (length word - 1) (drop 1 word)) → 0 < length word
+    → rest_fits ≡ is_name (raised word)
 is_name-raised [] r letter short rest some = absurd (omega arith)
 is_name-raised (byte ∷ bytes) r letter short rest some =
     let capital : is_capital (to_ascii_uppercase byte) ≡ true = is_capital-raised byte ∙ letter in
     let size : length (raised bytes) ≤ 7 = omega (arith, length-map bytes to_ascii_uppercase) in
     let few : leb (length (raised bytes)) 7 ≡ true = le-leb (length (raised bytes)) 7 size in
-    rest ∙ ap (list_all is_ascii_alphanumeric) (take_rest (byte ∷ bytes) 1) ∙ rw (capital, few, letters_or_digits-raised bytes) refl
+    rest ∙ ap (list_all is_ascii_alphanumeric) (take_rest (byte ∷ bytes) 1)
+    ∙ rw (capital, few, letters_or_digits-raised bytes) refl

@@ -31,51 +31,72 @@ pub record IsFormed (k : Keyword) (values : List Value) (t : Tail) : Type 0 wher
   pub parts : parts_of order ≡ made_of k values t
 
 -- parts that have a form make an order
-pub formed : (k : Keyword) (values : List Value) (t : Tail) → list_any (is_row_of k values t) forms ≡ true → IsFormed k values t
-formed keyword.Game ((value.Number game) ∷ (value.Number version) ∷ []) tail.Nothing h = record { order = Game game version; made = refl; parts = refl }
+pub formed : (k : Keyword) (values : List Value) (t : Tail) → list_any (is_row_of k values t) forms ≡ true
+    → IsFormed k values t
+formed keyword.Game ((value.Number game) ∷ (value.Number version) ∷ []) tail.Nothing h =
+    record { order = Game game version; made = refl; parts = refl }
 formed keyword.Players [] (tail.Names names) h = record { order = Players names; made = refl; parts = refl }
-formed keyword.Sheet ((value.Name name) ∷ (value.Round round) ∷ []) tail.Nothing h = record { order = Sheet name round; made = refl; parts = refl }
+formed keyword.Sheet ((value.Name name) ∷ (value.Round round) ∷ []) tail.Nothing h =
+    record { order = Sheet name round; made = refl; parts = refl }
 formed keyword.Turn [] tail.Nothing h = record { order = Turn; made = refl; parts = refl }
-formed keyword.Buy ((value.Private private) ∷ []) tail.Nothing h = record { order = BuyPrivate private; made = refl; parts = refl }
-formed keyword.Bid ((value.Private private) ∷ (value.Number amount) ∷ []) tail.Nothing h = record { order = Bid private amount; made = refl; parts = refl }
-formed keyword.Limit ((value.Private private) ∷ (value.Number amount) ∷ []) tail.Nothing h = record { order = Limit private amount; made = refl; parts = refl }
-formed keyword.Par ((value.Company company) ∷ (value.Number price) ∷ []) tail.Nothing h = record { order = Par company price; made = refl; parts = refl }
+formed keyword.Buy ((value.Private private) ∷ []) tail.Nothing h =
+    record { order = BuyPrivate private; made = refl; parts = refl }
+formed keyword.Bid ((value.Private private) ∷ (value.Number amount) ∷ []) tail.Nothing h =
+    record { order = Bid private amount; made = refl; parts = refl }
+formed keyword.Limit ((value.Private private) ∷ (value.Number amount) ∷ []) tail.Nothing h =
+    record { order = Limit private amount; made = refl; parts = refl }
+formed keyword.Par ((value.Company company) ∷ (value.Number price) ∷ []) tail.Nothing h =
+    record { order = Par company price; made = refl; parts = refl }
 formed keyword.Buy ((value.Company company) ∷ (value.Word keyword.InitialOffering) ∷ []) tail.Nothing h =
     record { order = BuyShare company InitialOffering; made = refl; parts = refl }
 formed keyword.Buy ((value.Company company) ∷ (value.Word keyword.Pool) ∷ []) tail.Nothing h =
     record { order = BuyShare company BankPool; made = refl; parts = refl }
-formed keyword.Sell ((value.Company company) ∷ (value.Number tenths) ∷ []) tail.Nothing h = record { order = Sell company tenths; made = refl; parts = refl }
-formed keyword.Exchange ((value.Word keyword.Mohawk) ∷ []) tail.Nothing h = record { order = ExchangeMohawk; made = refl; parts = refl }
-formed keyword.Company ((value.Company company) ∷ []) tail.Nothing h = record { order = CompanyTurn company; made = refl; parts = refl }
+formed keyword.Sell ((value.Company company) ∷ (value.Number tenths) ∷ []) tail.Nothing h =
+    record { order = Sell company tenths; made = refl; parts = refl }
+formed keyword.Exchange ((value.Word keyword.Mohawk) ∷ []) tail.Nothing h =
+    record { order = ExchangeMohawk; made = refl; parts = refl }
+formed keyword.Company ((value.Company company) ∷ []) tail.Nothing h =
+    record { order = CompanyTurn company; made = refl; parts = refl }
 formed keyword.Lay ((value.Tile tile) ∷ (value.Hex hex) ∷ (value.Rotation rot) ∷ []) tail.Nothing h =
     record { order = Lay (lay_of tile hex rot false); made = refl; parts = refl }
-formed keyword.Lay ((value.Tile tile) ∷ (value.Hex hex) ∷ (value.Rotation rot) ∷ (value.Word keyword.Swap) ∷ []) tail.Nothing h =
+formed keyword.Lay ((value.Tile tile) ∷ (value.Hex hex) ∷ (value.Rotation rot) ∷ (value.Word keyword.Swap) ∷ [])
+    tail.Nothing h =
     record { order = Lay (lay_of tile hex rot true); made = refl; parts = refl }
-formed keyword.Token ((value.Place place) ∷ []) tail.Nothing h = record { order = Token place; made = refl; parts = refl }
-formed keyword.Run ((value.Kind kind) ∷ []) (tail.Places run) h = record { order = Run kind run; made = refl; parts = refl }
-formed keyword.Run ((value.Word keyword.Best) ∷ []) tail.Nothing h = record { order = RunBest; made = refl; parts = refl }
+formed keyword.Token ((value.Place place) ∷ []) tail.Nothing h =
+    record { order = Token place; made = refl; parts = refl }
+formed keyword.Run ((value.Kind kind) ∷ []) (tail.Places run) h =
+    record { order = Run kind run; made = refl; parts = refl }
+formed keyword.Run ((value.Word keyword.Best) ∷ []) tail.Nothing h =
+    record { order = RunBest; made = refl; parts = refl }
 formed keyword.Pay [] tail.Nothing h = record { order = Pay; made = refl; parts = refl }
 formed keyword.Withhold [] tail.Nothing h = record { order = Withhold; made = refl; parts = refl }
 formed keyword.Train ((value.Kind kind) ∷ (value.Word keyword.Bank) ∷ []) tail.Nothing h =
     record { order = BuyTrain kind source.Bank; made = refl; parts = refl }
-formed keyword.Train ((value.Kind kind) ∷ (value.Word keyword.Bank) ∷ (value.Word keyword.Trade) ∷ (value.Kind other) ∷ []) tail.Nothing h =
+formed keyword.Train ((value.Kind kind) ∷ (value.Word keyword.Bank) ∷ (value.Word keyword.Trade) ∷ (value.Kind other)
+    ∷ []) tail.Nothing h =
     record { order = BuyTrain kind (source.Trade other); made = refl; parts = refl }
 formed keyword.Train ((value.Kind kind) ∷ (value.Word keyword.Pool) ∷ []) tail.Nothing h =
     record { order = BuyTrain kind source.BankPool; made = refl; parts = refl }
 formed keyword.Train ((value.Kind kind) ∷ (value.Company seller) ∷ (value.Number price) ∷ []) tail.Nothing h =
     record { order = BuyTrain kind (source.Company seller price); made = refl; parts = refl }
-formed keyword.Discard ((value.Company company) ∷ (value.Kind kind) ∷ []) tail.Nothing h = record { order = Discard company kind; made = refl; parts = refl }
+formed keyword.Discard ((value.Company company) ∷ (value.Kind kind) ∷ []) tail.Nothing h =
+    record { order = Discard company kind; made = refl; parts = refl }
 formed keyword.Private ((value.Private private) ∷ (value.Number price) ∷ []) tail.Nothing h =
     record { order = BuyOwnedPrivate private price; made = refl; parts = refl }
-formed keyword.Raise ((value.Company company) ∷ (value.Number tenths) ∷ []) tail.Nothing h = record { order = Raise company tenths; made = refl; parts = refl }
-formed keyword.Offer ((value.Word keyword.Private) ∷ (value.Private private) ∷ (value.Company buyer) ∷ (value.Number price) ∷ []) tail.Nothing h =
+formed keyword.Raise ((value.Company company) ∷ (value.Number tenths) ∷ []) tail.Nothing h =
+    record { order = Raise company tenths; made = refl; parts = refl }
+formed keyword.Offer ((value.Word keyword.Private) ∷ (value.Private private) ∷ (value.Company buyer)
+    ∷ (value.Number price) ∷ []) tail.Nothing h =
     record { order = Offer (offer.Private private buyer price); made = refl; parts = refl }
-formed keyword.Offer ((value.Word keyword.Train) ∷ (value.Kind kind) ∷ (value.Company seller) ∷ (value.Company buyer) ∷ (value.Number price) ∷ []) tail.Nothing h =
+formed keyword.Offer ((value.Word keyword.Train) ∷ (value.Kind kind) ∷ (value.Company seller) ∷ (value.Company buyer)
+    ∷ (value.Number price) ∷ []) tail.Nothing h =
     record { order = Offer (offer.Train kind seller buyer price); made = refl; parts = refl }
-formed keyword.Certs ((value.Word keyword.One) ∷ []) tail.Nothing h = record { order = Certs; made = refl; parts = refl }
+formed keyword.Certs ((value.Word keyword.One) ∷ []) tail.Nothing h =
+    record { order = Certs; made = refl; parts = refl }
 formed keyword.Cert ((value.Round round) ∷ (value.Company company) ∷ (value.Number revenue) ∷ []) tail.Nothing h =
     record { order = Cert round company revenue; made = refl; parts = refl }
-formed keyword.Claim ((value.Kind kind) ∷ []) (tail.Places run) h = record { order = Claim kind run; made = refl; parts = refl }
+formed keyword.Claim ((value.Kind kind) ∷ []) (tail.Places run) h =
+    record { order = Claim kind run; made = refl; parts = refl }
 formed keyword.Marks (value.HexDigits ∷ []) tail.Nothing h = record { order = Marks; made = refl; parts = refl }
 formed k values t h = absurd (false≢true h)
 
@@ -135,7 +156,8 @@ AreWordsByParts (Some parts) words =
     Then (IsWord (text_of_keyword parts.keyword)) (AreTextsOf parts.values parts.tail) words × (has_form parts ≡ true)
 
 -- the words of a players line
-players_by_parts : (words names : List (List ℕ)) → Then (IsWord (text_of_keyword keyword.Players)) (AreNames names) words →
+players_by_parts : (words names : List (List ℕ))
+    → Then (IsWord (text_of_keyword keyword.Players)) (AreNames names) words →
     AreWordsByParts (made_of keyword.Players [] (tail.Names (record { items = names }))) words
 players_by_parts [] names h = absurd h
 players_by_parts (first ∷ words) names h =
@@ -145,7 +167,8 @@ players_by_parts (first ∷ words) names h =
     ((h.0, h.1.same), rw (least, most, each) refl)
 
 -- the words of a run
-run_by_parts : (words : List (List ℕ)) (kind : Kind) (run : List Place) → AreWordsFor (Run kind run) words → AreWordsByParts (parts_of (Run kind run)) words
+run_by_parts : (words : List (List ℕ)) (kind : Kind) (run : List Place) → AreWordsFor (Run kind run) words
+    → AreWordsByParts (parts_of (Run kind run)) words
 run_by_parts [] kind run h = absurd h
 run_by_parts (first ∷ []) kind run h = absurd h.1
 run_by_parts (first ∷ second ∷ words) kind run h =
@@ -183,7 +206,8 @@ claim_counted kind run h =
       | inr none ↦ let wrong = rw none at h in absurd (false≢true wrong)
     ]
 
-claim_of_parts : (words : List (List ℕ)) (kind : Kind) (run : List Place) → AreWordsByParts (parts_of (Claim kind run)) words →
+claim_of_parts : (words : List (List ℕ)) (kind : Kind) (run : List Place)
+    → AreWordsByParts (parts_of (Claim kind run)) words →
     AreWordsFor (Claim kind run) words
 claim_of_parts [] kind run h = absurd h.0
 claim_of_parts (first ∷ []) kind run h = absurd h.0.1
@@ -191,7 +215,8 @@ claim_of_parts (first ∷ second ∷ words) kind run h =
     let counted = and_parts _ _ (claim_counted kind run h.1) in
     (h.0.0, (h.0.1.0, record { named = h.0.1.1; least = leb-true 2 _ counted.0; most = leb-true _ 280 counted.1 }))
 
-run_of_parts : (words : List (List ℕ)) (kind : Kind) (run : List Place) → AreWordsByParts (parts_of (Run kind run)) words → AreWordsFor (Run kind run) words
+run_of_parts : (words : List (List ℕ)) (kind : Kind) (run : List Place)
+    → AreWordsByParts (parts_of (Run kind run)) words → AreWordsFor (Run kind run) words
 run_of_parts [] kind run h = absurd h.0
 run_of_parts (first ∷ []) kind run h = absurd h.0.1
 run_of_parts (first ∷ second ∷ words) kind run h =
@@ -199,18 +224,21 @@ run_of_parts (first ∷ second ∷ words) kind run h =
     (h.0.0, (h.0.1.0, record { named = h.0.1.1; least = leb-true 2 _ counted.0; most = leb-true _ 280 counted.1 }))
 
 -- the words of a lay
-lay_by_parts : (tile : TileNo) (hex : Hex) (rot : Rotation) (swap : Bool) (words : List (List ℕ)) → AreWordsFor (Lay (lay_of tile hex rot swap)) words →
+lay_by_parts : (tile : TileNo) (hex : Hex) (rot : Rotation) (swap : Bool) (words : List (List ℕ))
+    → AreWordsFor (Lay (lay_of tile hex rot swap)) words →
     AreWordsByParts (parts_of (Lay (lay_of tile hex rot swap))) words
 lay_by_parts tile hex rot true words h = (h, refl)
 lay_by_parts tile hex rot false words h = (h, refl)
 
 lay_of_parts : (tile : TileNo) (hex : Hex) (rot : Rotation) (swap : Bool) (words : List (List ℕ)) →
-    AreWordsByParts (parts_of (Lay (lay_of tile hex rot swap))) words → AreWordsFor (Lay (lay_of tile hex rot swap)) words
+    AreWordsByParts (parts_of (Lay (lay_of tile hex rot swap))) words
+    → AreWordsFor (Lay (lay_of tile hex rot swap)) words
 lay_of_parts tile hex rot true words h = h.0
 lay_of_parts tile hex rot false words h = h.0
 
 -- words that spell an order are those of its parts
-pub by_parts : (order : Order) (words : List (List ℕ)) → AreWordsFor order words → AreWordsByParts (parts_of order) words
+pub by_parts : (order : Order) (words : List (List ℕ)) → AreWordsFor order words
+    → AreWordsByParts (parts_of order) words
 by_parts Blank words h = h
 by_parts (Players names) words h = players_by_parts words names.items h
 by_parts (BuyShare company InitialOffering) words h = (h, refl)
@@ -236,16 +264,26 @@ players_names names h =
       | inr none ↦ let wrong = rw none at h in absurd (false≢true wrong)
     ]
 
-players_of_parts : (words names : List (List ℕ)) → AreWordsByParts (made_of keyword.Players [] (tail.Names (record { items = names }))) words →
+players_of_parts : (words names : List (List ℕ))
+    → AreWordsByParts (made_of keyword.Players [] (tail.Names (record { items = names }))) words →
     Then (IsWord (text_of_keyword keyword.Players)) (AreNames names) words
 players_of_parts [] names h = absurd h.0
 players_of_parts (first ∷ words) names h =
     let counted = and_parts _ _ (players_names names h.1) in
-    let least_and_most = and_parts _ _ counted.0 in
-    (h.0.0, record { same = h.0.1; least = leb-true 3 _ least_and_most.0; most = leb-true _ 6 least_and_most.1; each = counted.1 })
+    let least_and_most = and_parts _ _ counted.0 in (
+      h.0.0,
+      record {
+        same = h.0.1;
+        least = leb-true 3 _ least_and_most.0;
+        most = leb-true _ 6 least_and_most.1;
+        each =
+            counted.1;
+      },
+    )
 
 -- the words of an order's parts spell it
-pub of_parts : (order : Order) (words : List (List ℕ)) → AreWordsByParts (parts_of order) words → AreWordsFor order words
+pub of_parts : (order : Order) (words : List (List ℕ)) → AreWordsByParts (parts_of order) words
+    → AreWordsFor order words
 of_parts Blank words h = h
 of_parts (Players names) words h = players_of_parts words names.items h
 of_parts (BuyShare company InitialOffering) words h = h.0
@@ -265,5 +303,6 @@ of_parts other words h = h.0
 pub remade : (order : Order) (parts : Parts) (made : Option Order) → Some parts ≡ parts_of order →
     made ≡ order_from parts.keyword parts.values parts.tail → unwrap_or made Blank ≡ order
 remade order parts made is by =
-    let again : order_from parts.keyword parts.values parts.tail ≡ Some order = subst (IsMadeAgain order) (sym is) (made_again order) in
+    let again : order_from parts.keyword parts.values parts.tail ≡ Some order =
+    subst (IsMadeAgain order) (sym is) (made_again order) in
     ap (λ (o : Option Order). unwrap_or o Blank) (by ∙ again)

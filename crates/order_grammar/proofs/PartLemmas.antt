@@ -90,18 +90,22 @@ passed p words word all among =
     ]
 
 -- a word that a form of the text begins with is one of its first words
-pub begun_is_listed : (text : TextKind) (rows : List Row) (first : List ℕ) → AreRowsOf text rows → list_any (begins_form first) rows ≡ true →
+pub begun_is_listed : (text : TextKind) (rows : List Row) (first : List ℕ) → AreRowsOf text rows
+    → list_any (begins_form first) rows ≡ true →
     Contains text.first_words first
 begun_is_listed text rows first of begun =
     let row = among_any (begins_form first) rows begun in
-    let listed = all_among (λ (r : Row). list_any (same_word (text_of_keyword r.keyword)) text.first_words) rows row.0 of.listed row.1 in
+    let listed = all_among (λ (r : Row). list_any (same_word (text_of_keyword r.keyword)) text.first_words) rows row.0
+    of.listed row.1 in
     subst (Contains text.first_words) (sym (same_word-is first (text_of_keyword row.0.keyword) row.2))
     (contained text.first_words (text_of_keyword row.0.keyword) listed)
 
 -- a form of the text begins with each of them
-pub listed_is_begun : (text : TextKind) (rows : List Row) (first : List ℕ) → AreRowsOf text rows → Contains text.first_words first →
+pub listed_is_begun : (text : TextKind) (rows : List Row) (first : List ℕ) → AreRowsOf text rows
+    → Contains text.first_words first →
     list_any (begins_form first) rows ≡ true
-listed_is_begun text rows first of listed = passed (λ (word : List ℕ). list_any (begins_form word) rows) text.first_words first of.begun listed
+listed_is_begun text rows first of listed = passed (λ (word : List ℕ). list_any (begins_form word) rows)
+    text.first_words first of.begun listed
 
 -- what is denied is false
 pub denied : (b : Bool) → not b ≡ true → b ≡ false
@@ -115,7 +119,8 @@ nearer-unknown nearest =
     rw test refl
 
 -- rows with other first words bring nothing nearer
-pub no_nearer : (first : List ℕ) (rest : List (List ℕ)) (start : Result Order Fault) (rows : List Row) → list_any (begins_form first) rows ≡ false →
+pub no_nearer : (first : List ℕ) (rest : List (List ℕ)) (start : Result Order Fault) (rows : List Row)
+    → list_any (begins_form first) rows ≡ false →
     fold (with_row first rest) start rows ≡ start
 no_nearer first rest start [] none = refl
 no_nearer first rest start (row ∷ rows) none =
@@ -132,13 +137,16 @@ fold-rows first rest start [] b = refl
 fold-rows first rest start (row ∷ a) b = fold-rows first rest (nearer start (row_reading row first rest)) a b
 
 -- by the forms of the text a word of theirs is what it is by all
-pub by_all : (text : TextKind) (rows : List Row) (first : List ℕ) (rest : List (List ℕ)) → AreRowsOf text rows → Contains text.first_words first →
+pub by_all : (text : TextKind) (rows : List Row) (first : List ℕ) (rest : List (List ℕ)) → AreRowsOf text rows
+    → Contains text.first_words first →
     rows_reading rows first rest ≡ rows_reading forms first rest
 by_all text rows first rest of listed =
     let start : Result Order Fault = Err UnknownWord in
     let f = with_row first rest in
-    let front = denied _ (passed (λ (word : List ℕ). not (list_any (begins_form word) of.front)) text.first_words first of.not_front listed) in
-    let back = denied _ (passed (λ (word : List ℕ). not (list_any (begins_form word) of.back)) text.first_words first of.not_back listed) in
+    let front = denied _ (passed (λ (word : List ℕ). not (list_any (begins_form word) of.front)) text.first_words
+    first of.not_front listed) in
+    let back = denied _ (passed (λ (word : List ℕ). not (list_any (begins_form word) of.back)) text.first_words first
+    of.not_back listed) in
     sym
     (ap (λ (all : List Row). fold f start all) of.whole ∙ fold-rows first rest start of.front (rows ++ of.back)
     ∙ ap (λ (r : Result Order Fault). fold f r (rows ++ of.back)) (no_nearer first rest start of.front front)
@@ -146,13 +154,15 @@ by_all text rows first rest of listed =
     ∙ no_nearer first rest (fold f start rows) of.back back)
 
 -- words that begin with one of the first words are what they are by all forms
-pub known_read : (text : TextKind) (rows : List Row) (words : List (List ℕ)) → AreRowsOf text rows → BeginWithOneOf text.first_words words →
+pub known_read : (text : TextKind) (rows : List Row) (words : List (List ℕ)) → AreRowsOf text rows
+    → BeginWithOneOf text.first_words words →
     words_reading rows words ≡ all_reading words
 known_read text rows [] of known = refl
 known_read text rows (first ∷ rest) of known = by_all text rows first rest of known
 
 -- other words are unknown
-pub unknown_read : (text : TextKind) (rows : List Row) (words : List (List ℕ)) → AreRowsOf text rows → BeginWithOther text.first_words words →
+pub unknown_read : (text : TextKind) (rows : List Row) (words : List (List ℕ)) → AreRowsOf text rows
+    → BeginWithOther text.first_words words →
     words_reading rows words ≡ Err UnknownWord
 unknown_read text rows [] of other = absurd other
 unknown_read text rows (first ∷ rest) of other =
@@ -172,7 +182,8 @@ known_or_other text rows (first ∷ rest) of =
     ]
 
 -- words that are read as other than unknown begin with one of the first words
-pub read_known : (text : TextKind) (rows : List Row) (words : List (List ℕ)) → AreRowsOf text rows → (words_reading rows words ≡ Err UnknownWord → ⊥) →
+pub read_known : (text : TextKind) (rows : List Row) (words : List (List ℕ)) → AreRowsOf text rows
+    → (words_reading rows words ≡ Err UnknownWord → ⊥) →
     BeginWithOneOf text.first_words words
 read_known text rows words of not_unknown =
     elim (known_or_other text rows words of) [

@@ -31,11 +31,14 @@ one_more : (so_far : List Place) (place : Place) (found : Option (List Place)) �
 one_more so_far place (Some places) = ap (λ (all : List Place). Some all) (append_assoc so_far (place ∷ []) places)
 one_more so_far place None = refl
 
-pub place_more : (so_far : List Place) (word : List ℕ) (rest words : List (List ℕ)) (place : Place) → ArePlacesSoFar so_far (word ∷ rest) words →
+pub place_more : (so_far : List Place) (word : List ℕ) (rest words : List (List ℕ)) (place : Place)
+    → ArePlacesSoFar so_far (word ∷ rest) words →
     place_of_text word ≡ Some place → length so_far < 280 → ArePlacesSoFar (so_far ++ place ∷ []) rest words
 place_more so_far word rest words place known is room = record {
   size = omega (arith, known.size, length-append so_far (place ∷ []));
-  places = one_more so_far place (places_reading rest) ∙ ap (λ (found : Option Place). places_with so_far (with_place found (places_reading rest))) (sym is) ∙ known.places;
+  places = one_more so_far place (places_reading rest)
+      ∙ ap (λ (found : Option Place). places_with so_far (with_place found (places_reading rest))) (sym is)
+      ∙ known.places;
   few = omega (arith, length-append so_far (place ∷ []), room);
 }
 
@@ -47,18 +50,22 @@ run_of_none words none =
       | inr other ↦ rw (other, run_reading) refl
     ]
 
-pub no_place : (so_far : List Place) (word : List ℕ) (rest words : List (List ℕ)) → ArePlacesSoFar so_far (word ∷ rest) words → place_of_text word ≡ None →
+pub no_place : (so_far : List Place) (word : List ℕ) (rest words : List (List ℕ))
+    → ArePlacesSoFar so_far (word ∷ rest) words → place_of_text word ≡ None →
     run_reading words ≡ None
 no_place so_far word rest words known none =
-    run_of_none words (sym known.places ∙ ap (λ (found : Option Place). places_with so_far (with_place found (places_reading rest))) none)
+    run_of_none words (sym known.places ∙ ap (λ (found : Option Place). places_with so_far
+    (with_place found (places_reading rest))) none)
 
 -- nor is there one of over 280 words
-pub too_many : (so_far : List Place) (word : List ℕ) (rest words : List (List ℕ)) → ArePlacesSoFar so_far (word ∷ rest) words → 280 ≤ length so_far →
+pub too_many : (so_far : List Place) (word : List ℕ) (rest words : List (List ℕ))
+    → ArePlacesSoFar so_far (word ∷ rest) words → 280 ≤ length so_far →
     run_reading words ≡ None
 too_many so_far word rest words known full =
     elim (cases_Bool (is_run_length (length words))) [
       | inl counted ↦
-          let most = leb-true (length words) 280 (and_parts (nat_le 2 (length words)) (nat_le (length words) 280) counted).1 in
+          let most = leb-true (length words) 280 (and_parts (nat_le 2 (length words)) (nat_le (length words) 280)
+          counted).1 in
           absurd (omega (arith, known.size, full, most))
       | inr other ↦ rw (other, run_reading) refl
     ]
@@ -69,7 +76,8 @@ pub run_of_places : (so_far : List Place) (words : List (List ℕ)) → ArePlace
 run_of_places so_far words known =
     let size : length words ≡ length so_far = omega (arith, known.size) in
     let most : nat_le (length so_far) 280 ≡ true = le-leb (length so_far) 280 known.few in
-    let read : places_reading words ≡ Some so_far = sym known.places ∙ ap (λ (all : List Place). Some all) (append-nil so_far) in
+    let read : places_reading words ≡ Some so_far =
+    sym known.places ∙ ap (λ (all : List Place). Some all) (append-nil so_far) in
     elim (cases_Bool (nat_le 2 (length so_far))) [
       | inl least ↦ rw (size, least, most, read, run_reading) refl
       | inr other ↦ rw (size, other, run_reading) refl

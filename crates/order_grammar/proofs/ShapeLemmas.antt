@@ -28,28 +28,37 @@ use Rattle.order_grammar.proofs.TextLemmas.{value_read, large_value_read, IsValu
 places_again : (run : List Place) → places_reading (map text_of_place run) ≡ Some run
 places_again [] = refl
 places_again (place ∷ run) =
-    let first : place_of_text (text_of_place place) ≡ Some place = (texts_read.places (text_of_place place) place).1 refl in
+    let first : place_of_text (text_of_place place) ≡ Some place =
+    (texts_read.places (text_of_place place) place).1 refl in
     rw (first, places_again run) refl
 
 -- words of which each names a place are those of the places
-named_by : (word : List ℕ) (words : List (List ℕ)) (first : Option Place) (rest : Option (List Place)) (run : List Place) → place_of_text word ≡ first →
-    ((places : List Place) → rest ≡ Some places → words ≡ map text_of_place places) → with_place first rest ≡ Some run → word ∷ words ≡ map text_of_place run
+named_by : (word : List ℕ) (words : List (List ℕ)) (first : Option Place) (rest : Option (List Place))
+    (run : List Place) → place_of_text word ≡ first →
+    ((places : List Place) → rest ≡ Some places → words ≡ map text_of_place places) → with_place first rest ≡ Some run
+    → word ∷ words ≡ map text_of_place run
 named_by word words (Some place) (Some places) run is others e =
-    ap (λ (w : List ℕ). w ∷ words) ((texts_read.places word place).0 is) ∙ ap (λ (ws : List (List ℕ)). text_of_place place ∷ ws) (others places refl)
+    ap (λ (w : List ℕ). w ∷ words) ((texts_read.places word place).0 is)
+    ∙ ap (λ (ws : List (List ℕ)). text_of_place place ∷ ws) (others places refl)
     ∙ ap (map text_of_place) (same_Some (place ∷ places) run e)
 named_by word words (Some place) None run is others e = absurd cc
 named_by word words None rest run is others e = absurd cc
 
-places_named : (words : List (List ℕ)) (run : List Place) → places_reading words ≡ Some run → words ≡ map text_of_place run
+places_named : (words : List (List ℕ)) (run : List Place) → places_reading words ≡ Some run
+    → words ≡ map text_of_place run
 places_named [] run e = ap (map text_of_place) (same_Some [] run e)
-places_named (word ∷ words) run e = named_by word words (place_of_text word) (places_reading words) run refl (λ places is. places_named words places is) e
+places_named (word ∷ words) run e = named_by word words (place_of_text word) (places_reading words) run refl
+    (λ places is. places_named words places is) e
 
 -- as many words as places
-as_many : (run : List Place) (words : List (List ℕ)) → words ≡ map text_of_place run → is_run_length (length words) ≡ is_run_length (length run)
-as_many run words is = ap (λ (ws : List (List ℕ)). is_run_length (length ws)) is ∙ ap is_run_length (length-map run text_of_place)
+as_many : (run : List Place) (words : List (List ℕ)) → words ≡ map text_of_place run
+    → is_run_length (length words) ≡ is_run_length (length run)
+as_many run words is = ap (λ (ws : List (List ℕ)). is_run_length (length ws)) is
+    ∙ ap is_run_length (length-map run text_of_place)
 
 -- the words of what is repeated are read as it
-tail_read : (r : Repeated) (t : Tail) (words : List (List ℕ)) → is_of_repeated r t ≡ true → AreWordsOfTail t words → tail_reading r words ≡ Some t
+tail_read : (r : Repeated) (t : Tail) (words : List (List ℕ)) → is_of_repeated r t ≡ true → AreWordsOfTail t words
+    → tail_reading r words ≡ Some t
 tail_read repeated.Nothing tail.Nothing [] of is = refl
 tail_read repeated.Nothing tail.Nothing (word ∷ words) of is = absurd is
 tail_read (repeated.Names least most) (tail.Names names) words of is =
@@ -66,16 +75,19 @@ abbrev pub sized : List values.Value → Tail → Bool → Result (List values.V
 sized made t small = cond small (Ok (made, t)) (Err NumberTooLarge)
 
 -- a value in front of others
-sized-value : (v : values.Value) (made : List values.Value) (t : Tail) (small : Bool) → with_value (Value v) (sized made t small) ≡ sized (v ∷ made) t small
+sized-value : (v : values.Value) (made : List values.Value) (t : Tail) (small : Bool)
+    → with_value (Value v) (sized made t small) ≡ sized (v ∷ made) t small
 sized-value v made t true = refl
 sized-value v made t false = refl
 
-sized-large : (made : List values.Value) (t : Tail) (small : Bool) → with_value TooLarge (sized made t small) ≡ Err NumberTooLarge
+sized-large : (made : List values.Value) (t : Tail) (small : Bool)
+    → with_value TooLarge (sized made t small) ≡ Err NumberTooLarge
 sized-large made t true = refl
 sized-large made t false = refl
 
 -- texts of values of the row are read as them
-pub values_read : (classes : List Class) (r : Repeated) (made : List values.Value) (t : Tail) (words : List (List ℕ)) → are_of_classes classes r made t ≡ true →
+pub values_read : (classes : List Class) (r : Repeated) (made : List values.Value) (t : Tail) (words : List (List ℕ))
+    → are_of_classes classes r made t ≡ true →
     AreTextsOf made t words → values_reading classes r words ≡ sized made t (list_all is_small made)
 values_read [] r [] t words of are = rw (tail_read r t words of are, values_reading) refl
 values_read [] r (v ∷ made) t words of are = absurd (false≢true of)
@@ -85,12 +97,15 @@ values_read (c ∷ classes) r (v ∷ made) t (word ∷ words) of are =
     let both = and_parts (is_of_class c v) (are_of_classes classes r made t) of in
     let rest = values_read classes r made t words both.1 are.1 in
     elim (cases_Bool (is_small v)) [
-      | inl small ↦ rw (value_read c v word both.0 are.0 small, rest, small) (sized-value v made t (list_all is_small made))
-      | inr large ↦ rw (large_value_read c v word both.0 are.0 large, rest, large) (sized-large made t (list_all is_small made))
+      | inl small ↦ rw (value_read c v word both.0 are.0 small, rest, small)
+          (sized-value v made t (list_all is_small made))
+      | inr large ↦ rw (large_value_read c v word both.0 are.0 large, rest, large)
+          (sized-large made t (list_all is_small made))
     ]
 
 -- values of the row, of which the words are texts
-pub record AreValuesOf (classes : List Class) (r : Repeated) (words : List (List ℕ)) (made : List values.Value) (t : Tail) : Type 0 where
+pub record AreValuesOf (classes : List Class) (r : Repeated) (words : List (List ℕ)) (made : List values.Value)
+    (t : Tail) : Type 0 where
   pub of_classes : are_of_classes classes r made t ≡ true
   pub texts : AreTextsOf made t words
 
@@ -103,45 +118,68 @@ ReadThus classes r words (Err WrongWords) = Unit {0}
 ReadThus classes r words (Err other) = ⊥
 
 -- one more value of the row
-one_more : (c : Class) (classes : List Class) (r : Repeated) (word : List ℕ) (words : List (List ℕ)) (v : values.Value) (made : List values.Value) (t : Tail) →
+one_more : (c : Class) (classes : List Class) (r : Repeated) (word : List ℕ) (words : List (List ℕ))
+    (v : values.Value) (made : List values.Value) (t : Tail) →
     IsValueOf c word v → AreValuesOf classes r words made t → AreValuesOf (c ∷ classes) r (word ∷ words) (v ∷ made) t
 one_more c classes r word words v made t first rest = record {
   of_classes = and_from (is_of_class c v) (are_of_classes classes r made t) first.of_class rest.of_classes;
   texts = (first.text_of, rest.texts);
 }
 
-with_value_read : (c : Class) (classes : List Class) (r : Repeated) (word : List ℕ) (words : List (List ℕ)) (first : Reading) (rest : Result (List values.Value × Tail) Fault) →
-    ReadAs c word first → ReadThus classes r words rest → ReadThus (c ∷ classes) r (word ∷ words) (with_value first rest)
+with_value_read : (c : Class) (classes : List Class) (r : Repeated) (word : List ℕ) (words : List (List ℕ))
+    (first : Reading) (rest : Result (List values.Value × Tail) Fault) →
+    ReadAs c word first → ReadThus classes r words rest
+    → ReadThus (c ∷ classes) r (word ∷ words) (with_value first rest)
 with_value_read c classes r word words Wrong rest f s = tt
-with_value_read c classes r word words TooLarge (Ok read) f s =
-    (f.0 ∷ read.0, read.1, one_more c classes r word words f.0 read.0 read.1 f.1 s.0, and_left (is_small f.0) (list_all is_small read.0) f.2)
-with_value_read c classes r word words TooLarge (Err NumberTooLarge) f s =
-    (f.0 ∷ s.0, s.1, one_more c classes r word words f.0 s.0 s.1 f.1 s.2, and_left (is_small f.0) (list_all is_small s.0) f.2)
+with_value_read c classes r word words TooLarge (Ok read) f s = (
+  f.0 ∷ read.0,
+  read.1,
+  one_more c classes r word words f.0 read.0 read.1 f.1 s.0,
+  and_left (is_small f.0)
+      (list_all is_small read.0) f.2,
+)
+with_value_read c classes r word words TooLarge (Err NumberTooLarge) f s = (
+  f.0 ∷ s.0,
+  s.1,
+  one_more c classes r word words f.0 s.0 s.1 f.1 s.2,
+  and_left (is_small f.0)
+      (list_all is_small s.0) f.2,
+)
 with_value_read c classes r word words TooLarge (Err WrongWords) f s = tt
 with_value_read c classes r word words TooLarge (Err other) f s = absurd s
 with_value_read c classes r word words (Value v) (Ok read) f s =
     (one_more c classes r word words v read.0 read.1 f.0 s.0, and_from (is_small v) (list_all is_small read.0) f.1 s.1)
-with_value_read c classes r word words (Value v) (Err NumberTooLarge) f s =
-    (v ∷ s.0, s.1, one_more c classes r word words v s.0 s.1 f.0 s.2, and_right (is_small v) (list_all is_small s.0) s.3)
+with_value_read c classes r word words (Value v) (Err NumberTooLarge) f s = (
+  v ∷ s.0,
+  s.1,
+  one_more c classes r word words v s.0 s.1 f.0 s.2,
+  and_right (is_small v) (list_all is_small s.0)
+      s.3,
+)
 with_value_read c classes r word words (Value v) (Err WrongWords) f s = tt
 with_value_read c classes r word words (Value v) (Err other) f s = absurd s
 
 -- names at the end
 names_made : (least most : ℕ) (words : List (List ℕ)) (named : Bool) → are_names least most words ≡ named →
-    ReadThus [] (repeated.Names least most) words (elim (cond named (Some (tail.Names (record { items = words }))) None) [ Some t ↦ Ok ([], t) | None ↦ Err WrongWords ])
+    ReadThus [] (repeated.Names least most) words (elim
+    (cond named (Some (tail.Names (record { items = words }))) None)
+    [ Some t ↦ Ok ([], t) | None ↦ Err WrongWords ])
 names_made least most words true e = (record { of_classes = e; texts = refl }, refl)
 names_made least most words false e = tt
 
 -- places at the end
-places_made : (words : List (List ℕ)) (found : Option (List Place)) → places_reading words ≡ found → is_run_length (length words) ≡ true →
-    ReadThus [] repeated.Places words (elim (option_map tail.Places found) [ Some t ↦ Ok ([], t) | None ↦ Err WrongWords ])
+places_made : (words : List (List ℕ)) (found : Option (List Place)) → places_reading words ≡ found
+    → is_run_length (length words) ≡ true →
+    ReadThus [] repeated.Places words (elim (option_map tail.Places found)
+    [ Some t ↦ Ok ([], t) | None ↦ Err WrongWords ])
 places_made words (Some run) e counted =
     let named = places_named words run e in
     (record { of_classes = sym (as_many run words named) ∙ counted; texts = named }, refl)
 places_made words None e counted = tt
 
 run_made : (words : List (List ℕ)) (counted : Bool) → is_run_length (length words) ≡ counted →
-    ReadThus [] repeated.Places words (elim (option_map tail.Places (cond counted (places_reading words) None)) [ Some t ↦ Ok ([], t) | None ↦ Err WrongWords ])
+    ReadThus [] repeated.Places words (elim (option_map tail.Places (cond counted (places_reading words) None))
+    [ Some t ↦ Ok ([], t) | None ↦ Err WrongWords ])
 run_made words true e = places_made words (places_reading words) refl e
 run_made words false e = tt
 
@@ -153,8 +191,10 @@ tail_made (repeated.Names least most) words = names_made least most words (are_n
 tail_made repeated.Places words = run_made words (is_run_length (length words)) refl
 
 -- what words are read as says of them
-pub values_made : (classes : List Class) (r : Repeated) (words : List (List ℕ)) → ReadThus classes r words (values_reading classes r words)
+pub values_made : (classes : List Class) (r : Repeated) (words : List (List ℕ))
+    → ReadThus classes r words (values_reading classes r words)
 values_made [] r words = tail_made r words
 values_made (c ∷ classes) r [] = tt
 values_made (c ∷ classes) r (word ∷ words) =
-    with_value_read c classes r word words (class_reading c word) (values_reading classes r words) (class_read c word) (values_made classes r words)
+    with_value_read c classes r word words (class_reading c word) (values_reading classes r words) (class_read c word)
+    (values_made classes r words)

@@ -63,25 +63,36 @@ small_by_parts (BuyOwnedPrivate private price) small = rw (le-leb price number_m
 small_by_parts (Raise company tenths) small = rw (le-leb tenths number_most small) refl
 small_by_parts (Offer (offer.Private private buyer price)) small = rw (le-leb price number_most small) refl
 small_by_parts (Offer (offer.Train kind seller buyer price)) small = rw (le-leb price number_most small) refl
-small_by_parts (Cert round company revenue) small = rw (round_by_parts round small.0, le-leb revenue number_most small.1) refl
+small_by_parts (Cert round company revenue) small =
+    rw (round_by_parts round small.0, le-leb revenue number_most small.1) refl
 small_by_parts other small = refl
 
 -- an order whose parts are small has small numbers
 pub small_of_parts : (order : Order) → are_small (parts_of order) ≡ true → HasSmallNumbers order
 small_of_parts (Game game version) small =
-    let first = and_parts (nat_le game number_most) (nat_le version number_most && true) small in
-    (leb-true game number_most first.0, leb-true version number_most (and_parts (nat_le version number_most) true first.1).0)
+    let first = and_parts (nat_le game number_most) (nat_le version number_most && true) small in (
+      leb-true game number_most first.0,
+      leb-true version number_most
+          (and_parts (nat_le version number_most) true first.1).0,
+    )
 small_of_parts (Sheet name round) small = round_of_parts round (and_parts (is_small_round round) true small).0
-small_of_parts (Bid private amount) small = leb-true amount number_most (and_parts (nat_le amount number_most) true small).0
-small_of_parts (Limit private amount) small = leb-true amount number_most (and_parts (nat_le amount number_most) true small).0
-small_of_parts (Par company price) small = leb-true price number_most (and_parts (nat_le price number_most) true small).0
-small_of_parts (Sell company tenths) small = leb-true tenths number_most (and_parts (nat_le tenths number_most) true small).0
+small_of_parts (Bid private amount) small = leb-true amount number_most
+    (and_parts (nat_le amount number_most) true small).0
+small_of_parts (Limit private amount) small = leb-true amount number_most
+    (and_parts (nat_le amount number_most) true small).0
+small_of_parts (Par company price) small = leb-true price number_most
+    (and_parts (nat_le price number_most) true small).0
+small_of_parts (Sell company tenths) small = leb-true tenths number_most
+    (and_parts (nat_le tenths number_most) true small).0
 small_of_parts (BuyTrain kind source.Bank) small = tt
 small_of_parts (BuyTrain kind (source.Trade other)) small = tt
 small_of_parts (BuyTrain kind source.BankPool) small = tt
-small_of_parts (BuyTrain kind (source.Company seller price)) small = leb-true price number_most (and_parts (nat_le price number_most) true small).0
-small_of_parts (BuyOwnedPrivate private price) small = leb-true price number_most (and_parts (nat_le price number_most) true small).0
-small_of_parts (Raise company tenths) small = leb-true tenths number_most (and_parts (nat_le tenths number_most) true small).0
+small_of_parts (BuyTrain kind (source.Company seller price)) small =
+    leb-true price number_most (and_parts (nat_le price number_most) true small).0
+small_of_parts (BuyOwnedPrivate private price) small =
+    leb-true price number_most (and_parts (nat_le price number_most) true small).0
+small_of_parts (Raise company tenths) small = leb-true tenths number_most
+    (and_parts (nat_le tenths number_most) true small).0
 small_of_parts (Offer (offer.Private private buyer price)) small =
     leb-true price number_most (and_parts (nat_le price number_most) true small).0
 small_of_parts (Offer (offer.Train kind seller buyer price)) small =

@@ -99,10 +99,17 @@ record PlainByte (byte : ℕ) : Type 0 where
 
 plain_byte : (byte : ℕ) → is_plain byte ≡ true → PlainByte byte
 plain_byte byte h =
-    let a = and_parts (is_printable byte) (not (byte == 32) && (not (byte == 35) && to_ascii_uppercase byte == byte)) h in
+    let a = and_parts (is_printable byte) (not (byte == 32) && (not (byte == 35) && to_ascii_uppercase byte == byte))
+    h in
     let b = and_parts (not (byte == 32)) (not (byte == 35) && to_ascii_uppercase byte == byte) a.1 in
     let d = and_parts (not (byte == 35)) (to_ascii_uppercase byte == byte) b.1 in
-    record { printable = a.0; no_space = denied (byte == 32) b.0; no_comment = denied (byte == 35) d.0; stays = eqb-true (to_ascii_uppercase byte) byte d.1 }
+    record {
+      printable = a.0;
+      no_space = denied (byte == 32) b.0;
+      no_comment = denied (byte == 35) d.0;
+      stays =
+          eqb-true (to_ascii_uppercase byte) byte d.1;
+    }
 
 -- a plain word is as it is when it is raised
 raised-plain : (word : List ℕ) → list_all is_plain word ≡ true → raised word ≡ word
@@ -112,7 +119,8 @@ raised-plain (byte ∷ bytes) h =
     rw ((plain_byte byte parts.0).stays, raised-plain bytes parts.1) refl
 
 -- no byte of a plain word ends it
-before-plain : (stop : ℕ) (word rest : List ℕ) → ((byte : ℕ) → PlainByte byte → (byte == stop) ≡ false) → list_all is_plain word ≡ true →
+before-plain : (stop : ℕ) (word rest : List ℕ) → ((byte : ℕ) → PlainByte byte → (byte == stop) ≡ false)
+    → list_all is_plain word ≡ true →
     before stop (word ++ rest) ≡ word ++ before stop rest
 before-plain stop [] rest other h = refl
 before-plain stop (byte ∷ bytes) rest other h =
@@ -137,7 +145,8 @@ before-spaced [] h = refl
 before-spaced (word ∷ words) h =
     ap (before 35) (spaced-cons word words)
     ∙ ap (λ (bytes : List ℕ). 32 ∷ bytes)
-    (before-plain 35 word (spaced words) (λ byte p. p.no_comment) h.0.plain ∙ ap (λ (bytes : List ℕ). word ++ bytes) (before-spaced words h.1))
+    (before-plain 35 word (spaced words) (λ byte p. p.no_comment) h.0.plain
+    ∙ ap (λ (bytes : List ℕ). word ++ bytes) (before-spaced words h.1))
     ∙ sym (spaced-cons word words)
 
 -- they are printable
@@ -146,14 +155,22 @@ unfolding ArePlain
 printable-spaced [] h = refl
 printable-spaced (word ∷ words) h =
     ap (list_all is_printable) (spaced-cons word words) ∙ list_all-append is_printable (32 ∷ word) (spaced words)
-    ∙ and_from (list_all is_printable (32 ∷ word)) (list_all is_printable (spaced words)) (printable-plain word h.0.plain) (printable-spaced words h.1)
+    ∙ and_from (list_all is_printable (32 ∷ word)) (list_all is_printable (spaced words))
+    (printable-plain word h.0.plain) (printable-spaced words h.1)
 
 -- they are not long
 length-spaced : (words : List (List ℕ)) → ArePlain words → length (spaced words) ≤ 17 * length words
 unfolding ArePlain
 length-spaced [] h = omega arith
 length-spaced (word ∷ words) h =
-    omega (arith, h.0.few, ap length (spaced-cons word words), length-append (32 ∷ word) (spaced words), length-spaced words h.1)
+    omega (
+      arith,
+      h.0.few,
+      ap length (spaced-cons word words),
+      length-append (32 ∷ word) (spaced words),
+      length-spaced
+          words h.1,
+    )
 
 -- the first of them ends where the next begins
 before_next : (words : List (List ℕ)) → before 32 (spaced words) ≡ []
@@ -170,7 +187,8 @@ words_from-joined : (word : List ℕ) (words : List (List ℕ)) → IsPlain word
     words_from [] (word ++ spaced words) ≡ word ∷ words
 words_from-joined word words plain rest =
     let first : before 32 (word ++ spaced words) ≡ word =
-    before-plain 32 word (spaced words) (λ byte p. p.no_space) plain.plain ∙ ap (λ (bytes : List ℕ). word ++ bytes) (before_next words) ∙ append-nil word in
+    before-plain 32 word (spaced words) (λ byte p. p.no_space) plain.plain
+    ∙ ap (λ (bytes : List ℕ). word ++ bytes) (before_next words) ∙ append-nil word in
     words_from-word [] (word ++ spaced words)
     ∙ ap (λ (w : List ℕ). with_word w (words_from [] (drop (length w) (word ++ spaced words)))) first
     ∙ ap (λ (bytes : List ℕ). with_word word (words_from [] bytes)) (drop_at word (spaced words) (length word) refl)
@@ -180,7 +198,8 @@ words_from-joined word words plain rest =
 words_from-spaced : (words : List (List ℕ)) → ArePlain words → words_from [] (spaced words) ≡ words
 unfolding ArePlain
 words_from-spaced [] h = refl
-words_from-spaced (word ∷ words) h = ap (words_from []) (spaced-cons word words) ∙ words_from-joined word words h.0 (words_from-spaced words h.1)
+words_from-spaced (word ∷ words) h = ap (words_from []) (spaced-cons word words)
+    ∙ words_from-joined word words h.0 (words_from-spaced words h.1)
 
 -- raised, they are as they are
 raised-words : (words : List (List ℕ)) → ArePlain words → map raised words ≡ words
@@ -205,7 +224,8 @@ joined_line [] h = record { printable = refl; are = refl }
 joined_line (word ∷ words) h =
     let line = joined (word ∷ words) in
     let clear : before 35 line ≡ line =
-    before-plain 35 word (spaced words) (λ byte p. p.no_comment) h.0.plain ∙ ap (λ (bytes : List ℕ). word ++ bytes) (before-spaced words h.1) in
+    before-plain 35 word (spaced words) (λ byte p. p.no_comment) h.0.plain
+    ∙ ap (λ (bytes : List ℕ). word ++ bytes) (before-spaced words h.1) in
     record {
       printable =
           ap (list_all is_printable) clear ∙ list_all-append is_printable word (spaced words)
@@ -247,10 +267,12 @@ digits_one : (number : ℕ) → number < 10 → DigitsOf number ((48 + number) �
 digits_one number small = (one_digit number small, omega arith)
 
 -- one more digit
-digits_more : (number : ℕ) (digits : List ℕ) → 10 ≤ number → DigitsOf (number / 10) digits → DigitsOf number (digits ++ ((48 + number % 10) ∷ []))
+digits_more : (number : ℕ) (digits : List ℕ) → 10 ≤ number → DigitsOf (number / 10) digits
+    → DigitsOf number (digits ++ ((48 + number % 10) ∷ []))
 digits_more number digits large h =
     let last = one_digit (number % 10) (omega arith) in
-    let value : value_of_digits (digits ++ ((48 + number % 10) ∷ [])) ≡ value_of_digits digits * 10 + (48 + number % 10 - 48) =
+    let value : value_of_digits (digits ++ ((48 + number % 10) ∷ []))
+    ≡ value_of_digits digits * 10 + (48 + number % 10 - 48) =
     fold_push (λ value digit. value * 10 + (digit - 48)) 0 digits (48 + number % 10) in
     (list_all-append is_digit digits ((48 + number % 10) ∷ []) ∙ and_from _ _ h.0 last, value ∙ omega (arith, h.1))
 
@@ -278,7 +300,12 @@ decimal_plain number small =
     let long : number < 2 ^ 64 = omega arith in
     let digits = decimal_by_steps DigitsOf digits_one digits_more number long in
     let few = length-decimal-le 5 number (omega arith) (omega arith) long in
-    record { some = decimal_nonempty number long; few = omega (arith, few); plain = plain_digits (decimal number) digits.0 }
+    record {
+      some = decimal_nonempty number long;
+      few = omega (arith, few);
+      plain =
+          plain_digits (decimal number) digits.0;
+    }
 
 -- a name is plain
 name_plain : (name : List ℕ) → is_name name ≡ true → IsPlain name
@@ -288,8 +315,13 @@ name_plain (first ∷ rest) is =
     let others = and_parts (nat_le (length rest) 7) (list_all is_letter_or_digit rest) parts.1 in
     let few = leb-true (length rest) 7 others.0 in
     let here : is_letter_or_digit first ≡ true = or_left (is_capital first) (is_digit first) parts.0 in
-    record
-    { some = omega arith; few = omega (arith, few); plain = plain_letters (first ∷ rest) (and_from (is_letter_or_digit first) (list_all is_letter_or_digit rest) here others.1) }
+    record {
+      some = omega arith;
+      few = omega (arith, few);
+      plain =
+          plain_letters (first ∷ rest) (and_from (is_letter_or_digit first) (list_all is_letter_or_digit rest) here
+          others.1);
+    }
 
 names_plain : (names : List (List ℕ)) → list_all is_name names ≡ true → ArePlain names
 unfolding ArePlain
@@ -355,16 +387,19 @@ numbered_text letters number two letters_plain has =
       plain = record {
         some = omega (arith, size, digits.some);
         few = omega (arith, few, size, two);
-        plain = list_all-append is_plain letters (decimal number) ∙ and_from (list_all is_plain letters) (list_all is_plain (decimal number)) letters_plain digits.plain;
+        plain = list_all-append is_plain letters (decimal number)
+            ∙ and_from (list_all is_plain letters) (list_all is_plain (decimal number)) letters_plain digits.plain;
       };
     }
 
 -- more behind a plain word
-plain_joined : (word more : List ℕ) → IsPlain word → length word + length more ≤ 16 → list_all is_plain more ≡ true → IsPlain (word ++ more)
+plain_joined : (word more : List ℕ) → IsPlain word → length word + length more ≤ 16 → list_all is_plain more ≡ true
+    → IsPlain (word ++ more)
 plain_joined word more plain few more_plain = record {
   some = omega (arith, length-append word more, plain.some);
   few = omega (arith, length-append word more, few);
-  plain = list_all-append is_plain word more ∙ and_from (list_all is_plain word) (list_all is_plain more) plain.plain more_plain;
+  plain = list_all-append is_plain word more ∙ and_from (list_all is_plain word) (list_all is_plain more) plain.plain
+      more_plain;
 }
 
 -- a round
@@ -376,38 +411,51 @@ round_spelt (Stock number) has =
     let spelt = numbered_text (codes "SR") number (omega arith) refl has in
     record { text = spelt.text; small = spelt.small; plain = spelt.plain }
 round_spelt (Operating set number) has =
-    let parts = and_parts (nat_le 1 set && nat_le set number_most) (nat_le 1 number && nat_le number operating_most) has in
+    let parts = and_parts (nat_le 1 set && nat_le set number_most) (nat_le 1 number && nat_le number operating_most)
+    has in
     let in_set = and_parts (nat_le 1 number) (nat_le number operating_most) parts.1 in
     let most = leb-true number operating_most in_set.1 in
     let spelt = numbered_text (codes "OR") set (omega arith) refl parts.0 in
     let digits = decimal_plain number (omega (arith, most)) in
     let one : length (decimal number) ≡ 1 = ap length (decimal_digit number (omega (arith, most))) in
     record {
-      text = record { front = codes "OR" ++ decimal set; numbered = spelt.text; whole = refl; least = leb-true 1 number in_set.0; most = most };
+      text = record {
+        front = codes "OR" ++ decimal set;
+        numbered = spelt.text;
+        whole = refl;
+        least =
+            leb-true 1 number in_set.0;
+        most = most;
+      };
       small = spelt.small;
       plain =
           subst IsPlain (sym (append_assoc (codes "OR" ++ decimal set) (codes ".") (decimal number)))
-          (plain_joined (codes "OR" ++ decimal set) (codes "." ++ decimal number) spelt.plain (omega (arith, one, spelt.few)) digits.plain);
+          (plain_joined (codes "OR" ++ decimal set) (codes "." ++ decimal number) spelt.plain
+          (omega (arith, one, spelt.few)) digits.plain);
     }
 
 -- the texts of hexes, places, tiles and rotations are plain
 hex_plain : (hex : Hex) → IsPlain (text_of_hex hex)
 hex_plain hex =
     let digits = decimal_plain (column_of hex) (omega (arith, column_short hex)) in
-    let capital : is_letter_or_digit (row_of hex) ≡ true = or_left (is_capital (row_of hex)) (is_digit (row_of hex)) (row_capital hex) in
+    let capital : is_letter_or_digit (row_of hex) ≡ true =
+    or_left (is_capital (row_of hex)) (is_digit (row_of hex)) (row_capital hex) in
     record {
       some = omega arith;
       few = omega (arith, hex_text-le hex);
-      plain = and_from (is_plain (row_of hex)) (list_all is_plain (decimal (column_of hex))) (plain_letter (row_of hex) capital) digits.plain;
+      plain = and_from (is_plain (row_of hex)) (list_all is_plain (decimal (column_of hex)))
+          (plain_letter (row_of hex) capital) digits.plain;
     }
 
 place_plain_from : (hex : Hex) (stop : Option StopNumber) → IsPlain (text_of_hex hex ++ stop_text stop)
 place_plain_from hex None = subst IsPlain (sym (append-nil (text_of_hex hex))) (hex_plain hex)
 place_plain_from hex (Some First) =
-    plain_joined (text_of_hex hex) (stop_text (Some First)) (hex_plain hex) (omega (arith, hex_text-le hex, ap length (decimal_digit 0 (omega arith))))
+    plain_joined (text_of_hex hex) (stop_text (Some First)) (hex_plain hex)
+    (omega (arith, hex_text-le hex, ap length (decimal_digit 0 (omega arith))))
     (decimal_plain 0 (omega arith)).plain
 place_plain_from hex (Some Second) =
-    plain_joined (text_of_hex hex) (stop_text (Some Second)) (hex_plain hex) (omega (arith, hex_text-le hex, ap length (decimal_digit 1 (omega arith))))
+    plain_joined (text_of_hex hex) (stop_text (Some Second)) (hex_plain hex)
+    (omega (arith, hex_text-le hex, ap length (decimal_digit 1 (omega arith))))
     (decimal_plain 1 (omega arith)).plain
 
 turns_small : (rotation : Rotation) → nat_le (turns_of rotation) number_most ≡ true
@@ -421,16 +469,51 @@ value_spelt (value.Number number) has =
     record { text = decimal_number number small; small = has; plain = decimal_plain number small }
 value_spelt (value.Name name) has = record { text = (refl, has); small = refl; plain = name_plain name has }
 value_spelt (value.Round round) has = round_spelt round has
-value_spelt (value.Private p) has = record { text = refl; small = refl; plain = plain_word (code_of_private p) (code_plain p) }
-value_spelt (value.Company co) has = record { text = refl; small = refl; plain = plain_word (code_of_company co) (company_plain co) }
-value_spelt (value.Kind k) has = record { text = refl; small = refl; plain = plain_word (code_of_kind k) (kind_plain k) }
-value_spelt (value.Tile tile) has = record { text = refl; small = refl; plain = decimal_plain (number_of_tile tile) (omega (arith, number_short tile)) }
+value_spelt (value.Private p) has = record {
+  text = refl;
+  small = refl;
+  plain =
+      plain_word (code_of_private p) (code_plain p);
+}
+value_spelt (value.Company co) has = record {
+  text = refl;
+  small = refl;
+  plain =
+      plain_word (code_of_company co) (company_plain co);
+}
+value_spelt (value.Kind k) has = record {
+  text = refl;
+  small = refl;
+  plain =
+      plain_word (code_of_kind k) (kind_plain k);
+}
+value_spelt (value.Tile tile) has = record {
+  text = refl;
+  small = refl;
+  plain =
+      decimal_plain (number_of_tile tile) (omega (arith, number_short tile));
+}
 value_spelt (value.Hex hex) has = record { text = refl; small = refl; plain = hex_plain hex }
 value_spelt (value.Rotation rotation) has =
-    record { text = refl; small = refl; plain = decimal_plain (turns_of rotation) (leb-true (turns_of rotation) number_most (turns_small rotation)) }
-value_spelt (value.Place place) has = record { text = refl; small = refl; plain = place_plain_from place.hex place.stop }
+    record {
+      text = refl;
+      small = refl;
+      plain = decimal_plain (turns_of rotation)
+          (leb-true (turns_of rotation) number_most (turns_small rotation));
+    }
+value_spelt (value.Place place) has = record {
+  text = refl;
+  small = refl;
+  plain =
+      place_plain_from place.hex place.stop;
+}
 value_spelt value.HexDigits has = absurd (false≢true has)
-value_spelt (value.Word k) has = record { text = refl; small = refl; plain = plain_word (text_of_keyword k) (keyword_plain k) }
+value_spelt (value.Word k) has = record {
+  text = refl;
+  small = refl;
+  plain =
+      plain_word (text_of_keyword k) (keyword_plain k);
+}
 
 -- the words of values and of what is repeated
 record AreSpelt (values : List Value) (t : Tail) : Type 0 where
@@ -444,15 +527,20 @@ tail_texts tail.Nothing = tt
 tail_texts (tail.Names names) = refl
 tail_texts (tail.Places run) = refl
 
-values_spelt : (values : List Value) (t : Tail) → list_all has_word values ≡ true → ArePlain (words_of_tail t) → AreSpelt values t
+values_spelt : (values : List Value) (t : Tail) → list_all has_word values ≡ true → ArePlain (words_of_tail t)
+    → AreSpelt values t
 unfolding ArePlain
 values_spelt [] t has plain = record { texts = tail_texts t; small = refl; plain = plain }
 values_spelt (v ∷ values) t has plain =
     let parts = and_parts (has_word v) (list_all has_word values) has in
     let first = value_spelt v parts.0 in
     let rest = values_spelt values t parts.1 plain in
-    record
-    { texts = (first.text, rest.texts); small = and_from (is_small v) (list_all is_small values) first.small rest.small; plain = (first.plain, rest.plain) }
+    record {
+      texts = (first.text, rest.texts);
+      small = and_from (is_small v) (list_all is_small values) first.small
+          rest.small;
+      plain = (first.plain, rest.plain);
+    }
 
 -- what is repeated is not much, unless it is the places of a run
 abbrev IsFew : Tail → Type 0
@@ -473,14 +561,20 @@ tail_short : (r : Repeated) (t : Tail) → has_room r ≡ true → is_of_repeate
 unfolding ArePlain
 tail_short repeated.Nothing tail.Nothing room of = record { plain = tt; few = omega arith }
 tail_short (repeated.Names least most) (tail.Names names) room of =
-    let named = and_parts (nat_le least (length names.items) && nat_le (length names.items) most) (list_all is_name names.items) of in
+    let named = and_parts (nat_le least (length names.items) && nat_le (length names.items) most)
+    (list_all is_name names.items) of in
     let counted = and_parts (nat_le least (length names.items)) (nat_le (length names.items) most) named.0 in
-    record { plain = names_plain names.items named.1; few = omega (arith, leb-true most 6 room, leb-true (length names.items) most counted.1) }
+    record {
+      plain = names_plain names.items named.1;
+      few =
+          omega (arith, leb-true most 6 room, leb-true (length names.items) most counted.1);
+    }
 tail_short repeated.Places (tail.Places run) room of = record { plain = places_plain run; few = tt }
 tail_short r t room of = absurd (false≢true of)
 
 -- as many values as classes, and then what is repeated
-values_short : (classes : List Class) (r : Repeated) (values : List Value) (t : Tail) → has_room r ≡ true → are_of_classes classes r values t ≡ true →
+values_short : (classes : List Class) (r : Repeated) (values : List Value) (t : Tail) → has_room r ≡ true
+    → are_of_classes classes r values t ≡ true →
     (length values ≡ length classes) × IsShortTail t
 values_short [] r [] t room of = (refl, tail_short r t room of)
 values_short [] r (v ∷ values) t room of = absurd (false≢true of)
@@ -496,7 +590,8 @@ forms_short = refl
 
 -- parts with the places of a run fit a line
 abbrev FitWithPlaces : ℕ → Keyword → List Value → Tail → Type 0
-FitWithPlaces most k values (tail.Places run) = length (joined (words_of_parts (made_of k values (tail.Places run)))) ≤ most
+FitWithPlaces most k values (tail.Places run) =
+    length (joined (words_of_parts (made_of k values (tail.Places run)))) ≤ most
 FitWithPlaces most k values t = Unit {0}
 
 abbrev FitsParts : ℕ → Option Parts → Type 0
@@ -511,12 +606,26 @@ fits_by_parts text other fits = tt
 
 -- parts of a form that have words fit a line
 parts_fit : (most : ℕ) (k : Keyword) (values : List Value) (t : Tail) → 340 ≤ most → length values ≤ 5 → IsFew t →
-    ArePlain (words_of_parts (made_of k values t)) → FitWithPlaces most k values t → length (joined (words_of_parts (made_of k values t))) ≤ most
+    ArePlain (words_of_parts (made_of k values t)) → FitWithPlaces most k values t
+    → length (joined (words_of_parts (made_of k values t))) ≤ most
 parts_fit most k values tail.Nothing room five few plain fits =
-    let short = few_fit _ plain (omega (arith, length-append (map text_of_value values) [], length-map values text_of_value, five)) in
+    let short = few_fit _ plain (omega (
+      arith,
+      length-append (map text_of_value values) [],
+      length-map values
+          text_of_value,
+      five,
+    )) in
     omega (arith, short, room)
 parts_fit most k values (tail.Names names) room five few plain fits =
-    let short = few_fit _ plain (omega (arith, length-append (map text_of_value values) names.items, length-map values text_of_value, five, few)) in
+    let short = few_fit _ plain (omega (
+      arith,
+      length-append (map text_of_value values) names.items,
+      length-map values
+          text_of_value,
+      five,
+      few,
+    )) in
     omega (arith, short, room)
 parts_fit most k values (tail.Places run) room five few plain fits = fits
 
@@ -536,8 +645,10 @@ spelt_out order parts is has =
     let h = and_parts (has_form parts) (list_all has_word values) has in
     let row = among_any (is_row_of parts.keyword values parts.tail) forms h.0 in
     let of_row =
-    and_parts (same_word (text_of_keyword row.0.keyword) (text_of_keyword parts.keyword)) (are_of_classes row.0.classes row.0.repeated values parts.tail) row.2 in
-    let short = and_parts (nat_le (length row.0.classes) 5) (has_room row.0.repeated) (all_among is_short_row forms row.0 forms_short row.1) in
+    and_parts (same_word (text_of_keyword row.0.keyword) (text_of_keyword parts.keyword))
+    (are_of_classes row.0.classes row.0.repeated values parts.tail) row.2 in
+    let short = and_parts (nat_le (length row.0.classes) 5) (has_room row.0.repeated)
+    (all_among is_short_row forms row.0 forms_short row.1) in
     let counted = values_short row.0.classes row.0.repeated values parts.tail short.1 of_row.1 in
     let spelt = values_spelt values parts.tail h.1 counted.1.plain in
     let words = words_of_parts (Some parts) in
@@ -570,7 +681,8 @@ parts_read text rows of room order (Some parts) is has fits known =
     ∙ spelt_words_read words order spelt.are spelt.small
 
 -- the spelling of an order in a text is read as it
-pub spelling_read : (text : TextKind) (rows : List Row) → AreRowsOf text rows → 340 ≤ text.most → (order : Order) → IsOrderIn text order →
+pub spelling_read : (text : TextKind) (rows : List Row) → AreRowsOf text rows → 340 ≤ text.most → (order : Order)
+    → IsOrderIn text order →
     reading_by text.most rows (spelling_of order) ≡ Ok order
 spelling_read text rows of room order is =
     parts_read text rows of room order (parts_of order) refl (has_words order is.0) (fits_by_parts text order is.1) is.2

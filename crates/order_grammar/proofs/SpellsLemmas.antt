@@ -18,7 +18,8 @@ use Rattle.order_grammar.proofs.RowLemmas.{words_for_read, words_say}
 use Rattle.order_grammar.proofs.SmallLemmas.{are_small, small_by_parts, small_of_parts}
 
 -- words that spell an order are read as it
-pub spelt_words_read : (words : List (List ℕ)) (order : Order) → AreWordsFor order words → HasSmallNumbers order → all_reading words ≡ Ok order
+pub spelt_words_read : (words : List (List ℕ)) (order : Order) → AreWordsFor order words → HasSmallNumbers order
+    → all_reading words ≡ Ok order
 spelt_words_read words order are small =
     let few : are_small (parts_of order) ≡ true = small_by_parts order small in
     let read = words_for_read words order are in
@@ -36,7 +37,8 @@ large_words_read words order are large =
     ]
 
 -- words that are read as an order spell it
-pub words_read_spell : (words : List (List ℕ)) (order : Order) → all_reading words ≡ Ok order → AreWordsFor order words × HasSmallNumbers order
+pub words_read_spell : (words : List (List ℕ)) (order : Order) → all_reading words ≡ Ok order
+    → AreWordsFor order words × HasSmallNumbers order
 words_read_spell [] order e =
     let blank : Blank ≡ order = cc in
     rw (← blank) (tt, tt)
@@ -57,12 +59,20 @@ read_spells text rows of line order e =
                 let read : words_reading rows (words_of line) ≡ Ok order = rw printable at rest in
                 let known = read_known text rows (words_of line) of (λ unknown.
                 let wrong : ◌≡◌ {A = Result Order Fault} (Err UnknownWord) (Ok order) = sym unknown ∙ read in cc) in
-                let spelt = words_read_spell (words_of line) order (sym (known_read text rows (words_of line) of known) ∙ read) in
+                let spelt = words_read_spell (words_of line) order
+                (sym (known_read text rows (words_of line) of known) ∙ read) in
                 record {
-                  loosely = record { short = ltb-false text.most (length line) short; printable = printable; known = known; words = spelt.0 };
+                  loosely = record {
+                    short = ltb-false text.most (length line) short;
+                    printable = printable;
+                    known =
+                        known;
+                    words = spelt.0;
+                  };
                   small = spelt.1;
                 }
-            | inr stray ↦ let wrong : ◌≡◌ {A = Result Order Fault} (Err StrayByte) (Ok order) = rw stray at rest in absurd cc
+            | inr stray ↦ let wrong : ◌≡◌ {A = Result Order Fault} (Err StrayByte) (Ok order) =
+                rw stray at rest in absurd cc
           ]
     ]
 
@@ -72,4 +82,5 @@ pub spells_read : (text : TextKind) (rows : List Row) → AreRowsOf text rows �
 spells_read text rows of line order is =
     let printable : list_all is_printable (before_comment line) ≡ true = is.loosely.printable in
     rw (le-ltb text.most (length line) is.loosely.short, printable)
-    (known_read text rows (words_of line) of is.loosely.known ∙ spelt_words_read (words_of line) order is.loosely.words is.small)
+    (known_read text rows (words_of line) of is.loosely.known
+    ∙ spelt_words_read (words_of line) order is.loosely.words is.small)

@@ -38,21 +38,24 @@ use Rattle.order_grammar.proofs.OrderLemmas.{IsTextOf}
 use Rattle.order_grammar.proofs.SmallLemmas.{is_small}
 
 -- digits that are a number are read as it
-number_read : (stands_for : ℕ → values.Value) (text : List ℕ) (number : ℕ) → IsNumber number text → nat_le number number_most ≡ true →
+number_read : (stands_for : ℕ → values.Value) (text : List ℕ) (number : ℕ) → IsNumber number text
+    → nat_le number number_most ≡ true →
     digits_reading stands_for text ≡ Value (stands_for number)
 number_read stands_for text number is small =
     let digits : are_digits text ≡ true = is.digits in
     rw (digits, is.value, small) refl
 
 -- or as too large
-number_too_large : (stands_for : ℕ → values.Value) (text : List ℕ) (number : ℕ) → IsNumber number text → nat_le number number_most ≡ false →
+number_too_large : (stands_for : ℕ → values.Value) (text : List ℕ) (number : ℕ) → IsNumber number text
+    → nat_le number number_most ≡ false →
     digits_reading stands_for text ≡ TooLarge
 number_too_large stands_for text number is large =
     let digits : are_digits text ≡ true = is.digits in
     rw (digits, is.value, large) refl
 
 -- digits that do not begin with 0 are the number of a round
-round_digits_read : (series : Series) (digits : List ℕ) (number : ℕ) → (get_or digits 0 0 ≡ 48 → ⊥) → IsNumber number digits →
+round_digits_read : (series : Series) (digits : List ℕ) (number : ℕ) → (get_or digits 0 0 ≡ 48 → ⊥)
+    → IsNumber number digits →
     round_number_reading series digits ≡ digits_reading (λ n. value.Round (round_of_series series n)) digits
 round_digits_read series [] number other is = absurd (false≢true is.digits)
 round_digits_read series (digit ∷ digits) number other is =
@@ -60,16 +63,19 @@ round_digits_read series (digit ∷ digits) number other is =
     rw test refl
 
 -- a point and a number from 1 to 3 are the number of an operating round in its set
-in_set_read : (number : ℕ) → 1 ≤ number → number ≤ operating_most → number_in_set (codes "." ++ decimal number) ≡ Some number
+in_set_read : (number : ℕ) → 1 ≤ number → number ≤ operating_most
+    → number_in_set (codes "." ++ decimal number) ≡ Some number
 in_set_read number least most =
     let low = le-leb 49 (48 + number) (omega (arith, least)) in
     let high = le-leb (48 + number) (48 + operating_most) (omega (arith, most)) in
     let value : 48 + number - 48 ≡ number = omega arith in
-    ap (λ (digits : List ℕ). number_in_set (46 ∷ digits)) (decimal_digit number (omega (arith, most))) ∙ rw (low, high, value) refl
+    ap (λ (digits : List ℕ). number_in_set (46 ∷ digits)) (decimal_digit number (omega (arith, most)))
+    ∙ rw (low, high, value) refl
 
 -- the numbers of an operating round are read as that of its set
 operating_read : (digits : List ℕ) (number : ℕ) → 1 ≤ number → number ≤ operating_most →
-    operating_reading (digits ++ (codes "." ++ decimal number)) ≡ round_number_reading (numbered.Operating number) digits
+    operating_reading (digits ++ (codes "." ++ decimal number))
+    ≡ round_number_reading (numbered.Operating number) digits
 operating_read digits number least most =
     let behind = codes "." ++ decimal number in
     let two : length behind ≡ 2 = ap (λ (ds : List ℕ). length (46 ∷ ds)) (decimal_digit number (omega (arith, most))) in
@@ -78,7 +84,9 @@ operating_read digits number least most =
     let back : number_in_set (drop (length (digits ++ behind) - 2) (digits ++ behind)) ≡ Some number =
     ap number_in_set (drop_at digits behind _ size) ∙ in_set_read number least most in
     by_numbers (digits ++ behind) digits number front back where
-      by_numbers : (word digits : List ℕ) (number : ℕ) → take (length word - 2) word ≡ digits → number_in_set (drop (length word - 2) word) ≡ Some number → operating_reading word ≡ round_number_reading (numbered.Operating number) digits
+      by_numbers : (word digits : List ℕ) (number : ℕ) → take (length word - 2) word ≡ digits
+          → number_in_set (drop (length word - 2) word) ≡ Some number
+          → operating_reading word ≡ round_number_reading (numbered.Operating number) digits
       by_numbers word digits number front back = rw (back, front, operating_reading) refl
 
 -- where a text is that of the round of some series whose number has these digits, it is read as the number
@@ -94,16 +102,24 @@ opening_by text number is = record { digits = is.0; no_zero = is.2; is_number = 
 stock_by : (text : List ℕ) (number : ℕ) → IsNumbered (codes "SR") number text → IsReadBy numbered.Stock number text
 stock_by text number is = record { digits = is.0; no_zero = is.2; is_number = is.3; read = ap round_reading is.1 }
 
-operating_by : (text : List ℕ) (set number : ℕ) → IsOperating set number text → IsReadBy (numbered.Operating number) set text
+operating_by : (text : List ℕ) (set number : ℕ) → IsOperating set number text
+    → IsReadBy (numbered.Operating number) set text
 operating_by text set number is =
     let whole : text ≡ codes "OR" ++ (is.numbered.0 ++ (codes "." ++ decimal number)) =
-    is.whole ∙ append_assoc is.front (codes ".") (decimal number) ∙ ap (λ (front : List ℕ). front ++ (codes "." ++ decimal number)) is.numbered.1 in
-    record
-    { digits = is.numbered.0; no_zero = is.numbered.2; is_number = is.numbered.3; read = ap round_reading whole ∙ operating_read is.numbered.0 number is.least is.most }
+    is.whole ∙ append_assoc is.front (codes ".") (decimal number)
+    ∙ ap (λ (front : List ℕ). front ++ (codes "." ++ decimal number)) is.numbered.1 in
+    record {
+      digits = is.numbered.0;
+      no_zero = is.numbered.2;
+      is_number = is.numbered.3;
+      read =
+          ap round_reading whole ∙ operating_read is.numbered.0 number is.least is.most;
+    }
 
 -- a round that is written is read as its digits are
 round_read : (series : Series) (text : List ℕ) (number : ℕ) → IsReadBy series number text → (reading : Reading) →
-    ((digits : List ℕ) → IsNumber number digits → digits_reading (λ n. value.Round (round_of_series series n)) digits ≡ reading) → round_reading text ≡ reading
+    ((digits : List ℕ) → IsNumber number digits → digits_reading (λ n. value.Round (round_of_series series n)) digits
+    ≡ reading) → round_reading text ≡ reading
 round_read series text number is reading read =
     is.read ∙ round_digits_read series is.digits number is.no_zero is.is_number ∙ read is.digits is.is_number
 
@@ -121,7 +137,8 @@ kind_read kind.Two = refl
 kind_read other = refl
 
 -- a text of a value of the class is read as the value, if that is small
-pub value_read : (c : Class) (v : values.Value) (text : List ℕ) → is_of_class c v ≡ true → IsTextOf v text → is_small v ≡ true → class_reading c text ≡ Value v
+pub value_read : (c : Class) (v : values.Value) (text : List ℕ) → is_of_class c v ≡ true → IsTextOf v text
+    → is_small v ≡ true → class_reading c text ≡ Value v
 value_read class.Number (value.Number number) text of is small = number_read value.Number text number is small
 value_read class.Name (value.Name name) text of is small =
     let named : is_name text ≡ true = ap is_name is.0 ∙ is.1 in
@@ -133,15 +150,19 @@ value_read class.Round (value.Round (Stock number)) text of is small =
     round_read numbered.Stock text number (stock_by text number is) (Value (value.Round (Stock number)))
     (λ digits one. number_read (λ n. value.Round (Stock n)) digits number one small)
 value_read class.Round (value.Round (Operating set number)) text of is small =
-    round_read (numbered.Operating number) text set (operating_by text set number is) (Value (value.Round (Operating set number)))
+    round_read (numbered.Operating number) text set (operating_by text set number is)
+    (Value (value.Round (Operating set number)))
     (λ digits one. number_read (λ n. value.Round (Operating n number)) digits set one small)
 value_read class.Private (value.Private p) text of is small = ap private_reading is ∙ private_read p
 value_read class.Company (value.Company co) text of is small = ap company_reading is ∙ company_read co
 value_read class.Kind (value.Kind k) text of is small = ap kind_reading is ∙ kind_read k
-value_read class.Tile (value.Tile tile) text of is small = ap (named_reading value.Tile) ((texts_read.tiles text tile).1 is)
+value_read class.Tile (value.Tile tile) text of is small =
+    ap (named_reading value.Tile) ((texts_read.tiles text tile).1 is)
 value_read class.Hex (value.Hex hex) text of is small = ap (named_reading value.Hex) ((texts_read.hexes text hex).1 is)
-value_read class.Rotation (value.Rotation rotation) text of is small = ap (named_reading value.Rotation) ((texts_read.rotations text rotation).1 is)
-value_read class.Place (value.Place place) text of is small = ap (named_reading value.Place) ((texts_read.places text place).1 is)
+value_read class.Rotation (value.Rotation rotation) text of is small =
+    ap (named_reading value.Rotation) ((texts_read.rotations text rotation).1 is)
+value_read class.Place (value.Place place) text of is small =
+    ap (named_reading value.Place) ((texts_read.places text place).1 is)
 value_read class.HexDigits value.HexDigits text of is small = rw is refl
 value_read (class.Word k) (value.Word other) text of is small =
     let same : k ≡ other = same_keyword k other of in
@@ -149,9 +170,11 @@ value_read (class.Word k) (value.Word other) text of is small =
 value_read c v text of is small = absurd (false≢true of)
 
 -- else as too large
-pub large_value_read : (c : Class) (v : values.Value) (text : List ℕ) → is_of_class c v ≡ true → IsTextOf v text → is_small v ≡ false →
+pub large_value_read : (c : Class) (v : values.Value) (text : List ℕ) → is_of_class c v ≡ true → IsTextOf v text
+    → is_small v ≡ false →
     class_reading c text ≡ TooLarge
-large_value_read class.Number (value.Number number) text of is large = number_too_large value.Number text number is large
+large_value_read class.Number (value.Number number) text of is large =
+    number_too_large value.Number text number is large
 large_value_read class.Round (value.Round (Opening number)) text of is large =
     round_read numbered.Opening text number (opening_by text number is) TooLarge
     (λ digits one. number_too_large (λ n. value.Round (Opening n)) digits number one large)
@@ -177,8 +200,10 @@ ReadAs c text TooLarge = (v : values.Value) × IsValueOf c text v × (is_small v
 ReadAs c text (Value v) = IsValueOf c text v × (is_small v ≡ true)
 
 -- digits
-digits_read : (c : Class) (stands_for : ℕ → values.Value) (text whole : List ℕ) → ((number : ℕ) → is_small (stands_for number) ≡ nat_le number number_most) →
-    (IsNumber (value_of_digits text) text → IsValueOf c whole (stands_for (value_of_digits text))) → ReadAs c whole (digits_reading stands_for text)
+digits_read : (c : Class) (stands_for : ℕ → values.Value) (text whole : List ℕ)
+    → ((number : ℕ) → is_small (stands_for number) ≡ nat_le number number_most) →
+    (IsNumber (value_of_digits text) text → IsValueOf c whole (stands_for (value_of_digits text)))
+    → ReadAs c whole (digits_reading stands_for text)
 digits_read c stands_for text whole small is =
     elim (cases_Bool (are_digits text)) [
       | inl digits ↦
@@ -191,14 +216,16 @@ digits_read c stands_for text whole small is =
     ]
 
 -- a round is small as its number is
-small_round : (series : Series) (number : ℕ) → is_small (value.Round (round_of_series series number)) ≡ nat_le number number_most
+small_round : (series : Series) (number : ℕ) → is_small (value.Round (round_of_series series number))
+    ≡ nat_le number number_most
 small_round numbered.Opening number = refl
 small_round numbered.Stock number = refl
 small_round (numbered.Operating number) set = refl
 
 -- the number of a round of some series, in a text that is the round's where the digits are a number
 round_number_read : (series : Series) (digits text : List ℕ) →
-    ((number : ℕ) → (get_or digits 0 0 ≡ 48 → ⊥) → IsNumber number digits → IsRoundOfLine (round_of_series series number) text) →
+    ((number : ℕ) → (get_or digits 0 0 ≡ 48 → ⊥) → IsNumber number digits
+    → IsRoundOfLine (round_of_series series number) text) →
     ReadAs class.Round text (round_number_reading series digits)
 round_number_read series [] text is = tt
 round_number_read series (digit ∷ digits) text is =
@@ -206,16 +233,23 @@ round_number_read series (digit ∷ digits) text is =
       | inl zero ↦ rw zero tt
       | inr other ↦
           rw other
-          (digits_read class.Round (λ n. value.Round (round_of_series series n)) (digit ∷ digits) text (small_round series) (λ one. record { of_class = refl; text_of = is (value_of_digits (digit ∷ digits)) (eqb-false digit 48 other) one }))
+          (digits_read class.Round (λ n. value.Round (round_of_series series n)) (digit ∷ digits) text
+          (small_round series) (λ one. record {
+            of_class = refl;
+            text_of =
+                is (value_of_digits (digit ∷ digits)) (eqb-false digit 48 other) one;
+          }))
     ]
 
 -- a text that begins with two letters
 lettered : (text letters : List ℕ) → same_word (take 2 text) letters ≡ true → text ≡ letters ++ drop 2 text
 lettered text letters same =
-    sym (take-append-drop 2 text) ∙ ap (λ (start : List ℕ). start ++ drop 2 text) (same_word-is (take 2 text) letters same)
+    sym (take-append-drop 2 text) ∙ ap (λ (start : List ℕ). start ++ drop 2 text)
+    (same_word-is (take 2 text) letters same)
 
 -- what is read as a number in a set is a point and that number
-in_set : (behind : List ℕ) (number : ℕ) → number_in_set behind ≡ Some number → (behind ≡ codes "." ++ decimal number) × (1 ≤ number) × (number ≤ operating_most)
+in_set : (behind : List ℕ) (number : ℕ) → number_in_set behind ≡ Some number
+    → (behind ≡ codes "." ++ decimal number) × (1 ≤ number) × (number ≤ operating_most)
 in_set [] number e = absurd cc
 in_set (point ∷ []) number e = absurd cc
 in_set (point ∷ digit ∷ []) number e =
@@ -229,22 +263,29 @@ in_set (point ∷ digit ∷ []) number e =
           let high = leb-true digit (48 + operating_most) b.1 in
           let byte : 48 + number ≡ digit = omega (arith, is, low) in
           let point_is : point ≡ 46 = eqb-true point 46 a.0 in
-          let written : digit ∷ [] ≡ decimal number = ap (λ (d : ℕ). d ∷ []) (sym byte) ∙ sym (decimal_digit number (omega (arith, is, high))) in
-          (ap (λ (p : ℕ). p ∷ digit ∷ []) point_is ∙ ap (λ (ds : List ℕ). 46 ∷ ds) written, omega (arith, is, low), omega (arith, is, high))
+          let written : digit ∷ [] ≡ decimal number = ap (λ (d : ℕ). d ∷ []) (sym byte)
+          ∙ sym (decimal_digit number (omega (arith, is, high))) in (
+            ap (λ (p : ℕ). p ∷ digit ∷ []) point_is ∙ ap (λ (ds : List ℕ). 46 ∷ ds) written,
+            omega (arith, is, low),
+            omega (arith, is, high),
+          )
       | inr other ↦ let wrong : None ≡ Some number = rw other at e in absurd cc
     ]
 in_set (a ∷ b ∷ c ∷ rest) number e = absurd cc
 
 -- the numbers of an operating round
-operating_made : (word text : List ℕ) (found : Option ℕ) → text ≡ codes "OR" ++ word → number_in_set (drop (length word - 2) word) ≡ found →
+operating_made : (word text : List ℕ) (found : Option ℕ) → text ≡ codes "OR" ++ word
+    → number_in_set (drop (length word - 2) word) ≡ found →
     ReadAs class.Round text (operating_reading word)
 operating_made word text None is e = rw (e, operating_reading) tt
 operating_made word text (Some number) is e =
     let digits = take (length word - 2) word in
     let behind = in_set (drop (length word - 2) word) number e in
-    let parted : word ≡ digits ++ (codes "." ++ decimal number) = sym (take-append-drop (length word - 2) word) ∙ ap (λ (ds : List ℕ). digits ++ ds) behind.0 in
+    let parted : word ≡ digits ++ (codes "." ++ decimal number) =
+    sym (take-append-drop (length word - 2) word) ∙ ap (λ (ds : List ℕ). digits ++ ds) behind.0 in
     let whole : text ≡ (codes "OR" ++ digits) ++ codes "." ++ decimal number =
-    is ∙ ap (λ (w : List ℕ). codes "OR" ++ w) parted ∙ sym (append_assoc (codes "OR" ++ digits) (codes ".") (decimal number)) in
+    is ∙ ap (λ (w : List ℕ). codes "OR" ++ w) parted
+    ∙ sym (append_assoc (codes "OR" ++ digits) (codes ".") (decimal number)) in
     rw (e, operating_reading) (round_number_read (numbered.Operating number) digits text (λ set other one. record {
       front = codes "OR" ++ digits;
       numbered = (digits, refl, other, one);
@@ -257,15 +298,18 @@ round_made : (text : List ℕ) → ReadAs class.Round text (round_reading text)
 round_made text =
     elim (cases_Bool (same_word (take 2 text) (codes "PR"))) [
       | inl same ↦
-          rw same (round_number_read numbered.Opening (drop 2 text) text (λ number other one. (drop 2 text, lettered text (codes "PR") same, other, one)))
+          rw same (round_number_read numbered.Opening (drop 2 text) text
+          (λ number other one. (drop 2 text, lettered text (codes "PR") same, other, one)))
       | inr other ↦
           elim (cases_Bool (same_word (take 2 text) (codes "SR"))) [
             | inl same ↦
                 rw (other, same)
-                (round_number_read numbered.Stock (drop 2 text) text (λ number no_zero one. (drop 2 text, lettered text (codes "SR") same, no_zero, one)))
+                (round_number_read numbered.Stock (drop 2 text) text
+                (λ number no_zero one. (drop 2 text, lettered text (codes "SR") same, no_zero, one)))
             | inr neither ↦
                 elim (cases_Bool (same_word (take 2 text) (codes "OR"))) [
-                  | inl same ↦ rw (other, neither, same) (operating_made (drop 2 text) text _ (lettered text (codes "OR") same) refl)
+                  | inl same ↦ rw (other, neither, same) (operating_made (drop 2 text) text _
+                      (lettered text (codes "OR") same) refl)
                   | inr none ↦ rw (other, neither, none) tt
                 ]
           ]
@@ -286,49 +330,62 @@ code_made code stands_for (first ∷ others) text =
       | inr other ↦ rw other (code_made code stands_for others text)
     ]
 
-private_as : (text : List ℕ) (reading : Reading) → CodeAs code_of_private value.Private text reading → ReadAs class.Private text reading
+private_as : (text : List ℕ) (reading : Reading) → CodeAs code_of_private value.Private text reading
+    → ReadAs class.Private text reading
 private_as text (Value v) h = rw h.1 (record { of_class = refl; text_of = h.2 }, refl)
 private_as text Wrong h = tt
 private_as text TooLarge h = absurd h
 
-company_as : (text : List ℕ) (reading : Reading) → CodeAs code_of_company value.Company text reading → ReadAs class.Company text reading
+company_as : (text : List ℕ) (reading : Reading) → CodeAs code_of_company value.Company text reading
+    → ReadAs class.Company text reading
 company_as text (Value v) h = rw h.1 (record { of_class = refl; text_of = h.2 }, refl)
 company_as text Wrong h = tt
 company_as text TooLarge h = absurd h
 
-kind_as : (text : List ℕ) (reading : Reading) → CodeAs code_of_kind value.Kind text reading → ReadAs class.Kind text reading
+kind_as : (text : List ℕ) (reading : Reading) → CodeAs code_of_kind value.Kind text reading
+    → ReadAs class.Kind text reading
 kind_as text (Value v) h = rw h.1 (record { of_class = refl; text_of = h.2 }, refl)
 kind_as text Wrong h = tt
 kind_as text TooLarge h = absurd h
 
 -- a word that names something
-tile_as : (text : List ℕ) (found : Option TileNo) → tile_of_text text ≡ found → ReadAs class.Tile text (named_reading value.Tile found)
+tile_as : (text : List ℕ) (found : Option TileNo) → tile_of_text text ≡ found
+    → ReadAs class.Tile text (named_reading value.Tile found)
 tile_as text (Some tile) e = (record { of_class = refl; text_of = (texts_read.tiles text tile).0 e }, refl)
 tile_as text None e = tt
 
-hex_as : (text : List ℕ) (found : Option Hex) → hex_of_text text ≡ found → ReadAs class.Hex text (named_reading value.Hex found)
+hex_as : (text : List ℕ) (found : Option Hex) → hex_of_text text ≡ found
+    → ReadAs class.Hex text (named_reading value.Hex found)
 hex_as text (Some hex) e = (record { of_class = refl; text_of = (texts_read.hexes text hex).0 e }, refl)
 hex_as text None e = tt
 
-rotation_as : (text : List ℕ) (found : Option Rotation) → rotation_of_text text ≡ found → ReadAs class.Rotation text (named_reading value.Rotation found)
-rotation_as text (Some rotation) e = (record { of_class = refl; text_of = (texts_read.rotations text rotation).0 e }, refl)
+rotation_as : (text : List ℕ) (found : Option Rotation) → rotation_of_text text ≡ found
+    → ReadAs class.Rotation text (named_reading value.Rotation found)
+rotation_as text (Some rotation) e = (
+  record { of_class = refl; text_of = (texts_read.rotations text rotation).0 e },
+  refl,
+)
 rotation_as text None e = tt
 
-place_as : (text : List ℕ) (found : Option Place) → place_of_text text ≡ found → ReadAs class.Place text (named_reading value.Place found)
+place_as : (text : List ℕ) (found : Option Place) → place_of_text text ≡ found
+    → ReadAs class.Place text (named_reading value.Place found)
 place_as text (Some place) e = (record { of_class = refl; text_of = (texts_read.places text place).0 e }, refl)
 place_as text None e = tt
 
 -- what a word is read as says of it
 pub class_read : (c : Class) (text : List ℕ) → ReadAs c text (class_reading c text)
-class_read class.Number text = digits_read class.Number value.Number text text (λ number. refl) (λ one. record { of_class = refl; text_of = one })
+class_read class.Number text = digits_read class.Number value.Number text text (λ number. refl)
+    (λ one. record { of_class = refl; text_of = one })
 class_read class.Name text =
     elim (cases_Bool (is_name text)) [
       | inl named ↦ rw named (record { of_class = refl; text_of = (refl, named) }, refl)
       | inr other ↦ rw other tt
     ]
 class_read class.Round text = round_made text
-class_read class.Private text = private_as text (private_reading text) (code_made code_of_private value.Private privates text)
-class_read class.Company text = company_as text (company_reading text) (code_made code_of_company value.Company companies text)
+class_read class.Private text = private_as text (private_reading text)
+    (code_made code_of_private value.Private privates text)
+class_read class.Company text = company_as text (company_reading text)
+    (code_made code_of_company value.Company companies text)
 class_read class.Kind text = kind_as text (kind_reading text) (code_made code_of_kind value.Kind kinds text)
 class_read class.Tile text = tile_as text (tile_of_text text) refl
 class_read class.Hex text = hex_as text (hex_of_text text) refl
@@ -341,6 +398,13 @@ class_read class.HexDigits text =
     ]
 class_read (class.Word k) text =
     elim (cases_Bool (same_word text (text_of_keyword k))) [
-      | inl same ↦ rw same (record { of_class = same_word-self (text_of_keyword k); text_of = same_word-is text (text_of_keyword k) same }, refl)
+      | inl same ↦ rw same (
+        record {
+          of_class = same_word-self (text_of_keyword k);
+          text_of =
+              same_word-is text (text_of_keyword k) same;
+        },
+        refl,
+      )
       | inr other ↦ rw other tt
     ]

@@ -14,20 +14,23 @@ use Rattle.order_grammar.specs.declared.words.Token.{Token}
 pub length-before : (stop : ℕ) (text : List ℕ) → length (before stop text) ≡ position_or_len (λ byte. byte == stop) text
 length-before stop text =
     is_position_or_len (λ bytes. length (before stop bytes)) (λ byte. byte == stop) refl
-    (λ byte bytes. elim (byte == stop) as (λ b. length (cond b [] (byte ∷ before stop bytes)) ≡ cond b 0 (1 + length (before stop bytes))) [ true ↦ refl | false ↦ omega arith ])
+    (λ byte bytes. elim (byte == stop) as (λ b. length (cond b [] (byte ∷ before stop bytes))
+    ≡ cond b 0 (1 + length (before stop bytes))) [ true ↦ refl | false ↦ omega arith ])
     text
 
 -- the part before a byte is the front of the text
 pub take-before : (stop : ℕ) (text : List ℕ) → take (length (before stop text)) text ≡ before stop text
 take-before stop [] = refl
 take-before stop (byte ∷ bytes) =
-    elim (byte == stop) as (λ b. take (length (cond b [] (byte ∷ before stop bytes))) (byte ∷ bytes) ≡ cond b [] (byte ∷ before stop bytes)) [
+    elim (byte == stop) as (λ b. take (length (cond b [] (byte ∷ before stop bytes))) (byte ∷ bytes)
+    ≡ cond b [] (byte ∷ before stop bytes)) [
       | true ↦ refl
       | false ↦ ap (λ (rest : List ℕ). byte ∷ rest) (take-before stop bytes)
     ]
 
 -- where the first byte is that passes, or the end of the text
-pub position-end : (p : ℕ → Bool) (text : List ℕ) (r : Option ℕ) → r ≡ cond (ltb (position_or_len p text) (length text)) (Some (position_or_len p text)) None →
+pub position-end : (p : ℕ → Bool) (text : List ℕ) (r : Option ℕ)
+    → r ≡ cond (ltb (position_or_len p text) (length text)) (Some (position_or_len p text)) None →
     unwrap_or r (length text) ≡ position_or_len p text
 position-end p text r e =
     elim (cases_lt (position_or_len p text) (length text)) [
@@ -39,14 +42,17 @@ position-end p text r e =
     ]
 
 -- the word that has begun ends before the next space, and the other words come after it
-pub words_from-word : (word text : List ℕ) → words_from word text ≡ with_word (word ++ before 32 text) (words_from [] (drop (length (before 32 text)) text))
+pub words_from-word : (word text : List ℕ) → words_from word text
+    ≡ with_word (word ++ before 32 text) (words_from [] (drop (length (before 32 text)) text))
 words_from-word word [] = ap (λ (w : List ℕ). with_word w []) (sym (append-nil word))
 words_from-word word (byte ∷ bytes) =
     elim (cases_Bool (byte == 32)) [
       | inl e ↦ rw e (rw e (ap (λ (w : List ℕ). with_word w (words_from [] bytes)) (sym (append-nil word))))
       | inr e ↦
           rw e
-          (words_from-word (word ++ byte ∷ []) bytes ∙ ap (λ (w : List ℕ). with_word w (words_from [] (drop (length (before 32 bytes)) bytes))) (append_assoc word (byte ∷ []) (before 32 bytes)))
+          (words_from-word (word ++ byte ∷ []) bytes ∙ ap
+          (λ (w : List ℕ). with_word w (words_from [] (drop (length (before 32 bytes)) bytes)))
+          (append_assoc word (byte ∷ []) (before 32 bytes)))
     ]
 
 -- words of unequal lengths are not the same
@@ -61,20 +67,23 @@ same_word-lengths (x ∷ xs) (y ∷ ys) h =
     ]
 
 -- words of equal lengths are the same where they are byte by byte
-pub same_word-zip : (a b : List ℕ) → length a ≡ length b → list_all (λ (pair : ℕ × ℕ). to_ascii_uppercase pair.0 == pair.1) (zip a b) ≡ same_word (raised a) b
+pub same_word-zip : (a b : List ℕ) → length a ≡ length b
+    → list_all (λ (pair : ℕ × ℕ). to_ascii_uppercase pair.0 == pair.1) (zip a b) ≡ same_word (raised a) b
 same_word-zip [] [] e = refl
 same_word-zip [] (y ∷ ys) e = absurd (omega arith)
 same_word-zip (x ∷ xs) [] e = absurd (omega arith)
 same_word-zip (x ∷ xs) (y ∷ ys) e = rw (same_word-zip xs ys (omega arith)) refl
 
 -- a word in front of others
-texts_of-with : (start : ℕ) (word : List ℕ) (others : List Placed) (words : List (List ℕ)) → texts_of others ≡ map raised words →
+texts_of-with : (start : ℕ) (word : List ℕ) (others : List Placed) (words : List (List ℕ))
+    → texts_of others ≡ map raised words →
     texts_of (with_placed start word others) ≡ map raised (with_word word words)
 texts_of-with start [] others words e = e
 texts_of-with start (byte ∷ bytes) others words e = ap (λ (texts : List (List ℕ)). raised (byte ∷ bytes) ∷ texts) e
 
 -- the words at their places are the words
-pub texts_of-placed : (start : ℕ) (word text : List ℕ) → texts_of (placed_from start word text) ≡ map raised (words_from word text)
+pub texts_of-placed : (start : ℕ) (word text : List ℕ)
+    → texts_of (placed_from start word text) ≡ map raised (words_from word text)
 texts_of-placed start [] [] = refl
 texts_of-placed start (byte ∷ bytes) [] = refl
 texts_of-placed start word (byte ∷ bytes) =
@@ -85,16 +94,20 @@ texts_of-placed start word (byte ∷ bytes) =
 
 -- spaces before the words are passed over
 pub placed_from-spaces : (at : ℕ) (text : List ℕ) →
-    placed_from at [] text ≡ placed_from (at + position_or_len (λ byte. not (byte == 32)) text) [] (drop (position_or_len (λ byte. not (byte == 32)) text) text)
+    placed_from at [] text ≡ placed_from (at + position_or_len (λ byte. not (byte == 32)) text) []
+    (drop (position_or_len (λ byte. not (byte == 32)) text) text)
 placed_from-spaces at [] = refl
 placed_from-spaces at (byte ∷ bytes) =
     elim (cases_Bool (byte == 32)) [
       | inl e ↦
           let n : at + 0 + 1 ≡ at + 1 = omega arith in
-          let m : at + 1 + position_or_len (λ b. not (b == 32)) bytes ≡ at + suc (position_or_len (λ b. not (b == 32)) bytes) = omega arith in
-          let o : 1 + position_or_len (λ b. not (b == 32)) bytes ≡ suc (position_or_len (λ b. not (b == 32)) bytes) = omega arith in
+          let m : at + 1 + position_or_len (λ b. not (b == 32)) bytes
+          ≡ at + suc (position_or_len (λ b. not (b == 32)) bytes) = omega arith in
+          let o : 1 + position_or_len (λ b. not (b == 32)) bytes ≡ suc (position_or_len (λ b. not (b == 32)) bytes) =
+          omega arith in
           rw (e, o)
-          (ap (λ (k : ℕ). placed_from k [] bytes) n ∙ placed_from-spaces (at + 1) bytes ∙ ap (λ (k : ℕ). placed_from k [] (drop (position_or_len (λ b. not (b == 32)) bytes) bytes)) m)
+          (ap (λ (k : ℕ). placed_from k [] bytes) n ∙ placed_from-spaces (at + 1) bytes
+          ∙ ap (λ (k : ℕ). placed_from k [] (drop (position_or_len (λ b. not (b == 32)) bytes) bytes)) m)
       | inr e ↦
           let n : at + 0 ≡ at = omega arith in
           rw (e, n, e) refl
@@ -102,7 +115,8 @@ placed_from-spaces at (byte ∷ bytes) =
 
 -- the word that has begun ends before the next space, and the other words come after it
 pub placed_from-word : (start : ℕ) (word text : List ℕ) →
-    placed_from start word text ≡ with_placed start (word ++ before 32 text) (placed_from (start + length (word ++ before 32 text)) [] (drop (length (before 32 text)) text))
+    placed_from start word text ≡ with_placed start (word ++ before 32 text)
+    (placed_from (start + length (word ++ before 32 text)) [] (drop (length (before 32 text)) text))
 placed_from-word start word [] = ap (λ (w : List ℕ). with_placed start w []) (sym (append-nil word))
 placed_from-word start word (byte ∷ bytes) =
     elim (cases_Bool (byte == 32)) [
@@ -113,45 +127,59 @@ placed_from-word start word (byte ∷ bytes) =
       | inr e ↦
           let w = append_assoc word (byte ∷ []) (before 32 bytes) in
           rw e
-          (placed_from-word start (word ++ byte ∷ []) bytes ∙ ap (λ (w : List ℕ). with_placed start w (placed_from (start + length w) [] (drop (length (before 32 bytes)) bytes))) w)
+          (placed_from-word start (word ++ byte ∷ []) bytes
+          ∙ ap (λ (w : List ℕ). with_placed start w (placed_from (start + length w) []
+          (drop (length (before 32 bytes)) bytes))) w)
     ]
 
 -- what stands from a later place on stands from an earlier one on
-StandFrom-sooner : (from later : ℕ) (line : List ℕ) (words : List Placed) → from ≤ later → StandFrom later line words → StandFrom from line words
+StandFrom-sooner : (from later : ℕ) (line : List ℕ) (words : List Placed) → from ≤ later → StandFrom later line words
+    → StandFrom from line words
 StandFrom-sooner from later line [] le h = tt
 StandFrom-sooner from later line (word ∷ words) le h = (omega arith, h.1, h.2, h.3, h.4)
 
 -- a word between a front and a rest
-slice_of : (front word rest whole : List ℕ) → whole ≡ front ++ (word ++ rest) → slice_range whole (length front) (length front + length word) ≡ word
+slice_of : (front word rest whole : List ℕ) → whole ≡ front ++ (word ++ rest)
+    → slice_range whole (length front) (length front + length word) ≡ word
 slice_of front word rest whole is =
     let size : length front + length word - length front ≡ length word = omega arith in
     rw (is, size, drop_at front (word ++ rest) (length front) refl) (take_at word rest (length word) refl)
 
 -- a word that begins after a front, in front of others
 with_placed-stand : (front word rest whole : List ℕ) (words : List Placed) → whole ≡ front ++ (word ++ rest) →
-    StandFrom (length front + length word) whole words → StandFrom (length front) whole (with_placed (length front) word words)
-with_placed-stand front [] rest whole words is h = StandFrom-sooner (length front) (length front + 0) whole words (omega arith) h
+    StandFrom (length front + length word) whole words
+    → StandFrom (length front) whole (with_placed (length front) word words)
+with_placed-stand front [] rest whole words is h =
+    StandFrom-sooner (length front) (length front + 0) whole words (omega arith) h
 with_placed-stand front (byte ∷ bytes) rest whole words is h =
     let size : length whole ≡ length front + (length (byte ∷ bytes) + length rest) =
-    ap length is ∙ length-append front ((byte ∷ bytes) ++ rest) ∙ ap (λ n. length front + n) (length-append (byte ∷ bytes) rest) in
+    ap length is ∙ length-append front ((byte ∷ bytes) ++ rest)
+    ∙ ap (λ n. length front + n) (length-append (byte ∷ bytes) rest) in
     (omega arith, omega arith, omega (arith, size), sym (slice_of front (byte ∷ bytes) rest whole is), h)
 
 -- the words of a text stand in it
-placed_stand : (front word text whole : List ℕ) → whole ≡ front ++ (word ++ text) → StandFrom (length front) whole (placed_from (length front) word text)
+placed_stand : (front word text whole : List ℕ) → whole ≡ front ++ (word ++ text)
+    → StandFrom (length front) whole (placed_from (length front) word text)
 placed_stand front word [] whole is = with_placed-stand front word [] whole [] is tt
 placed_stand front word (byte ∷ bytes) whole is =
     elim (cases_Bool (byte == 32)) [
       | inl e ↦
           let later = front ++ (word ++ (byte ∷ [])) in
           let size : length later ≡ length front + length word + 1 =
-          length-append front (word ++ (byte ∷ [])) ∙ ap (λ n. length front + n) (length-append word (byte ∷ [])) ∙ omega arith in
+          length-append front (word ++ (byte ∷ [])) ∙ ap (λ n. length front + n) (length-append word (byte ∷ []))
+          ∙ omega arith in
           let split : whole ≡ later ++ ([] ++ bytes) =
-          is ∙ sym (append_assoc front (word ++ (byte ∷ [])) bytes ∙ ap (λ (t : List ℕ). front ++ t) (append_assoc word (byte ∷ []) bytes)) in
-          let rest : StandFrom (length front + length word + 1) whole (placed_from (length front + length word + 1) [] bytes) =
+          is ∙ sym (append_assoc front (word ++ (byte ∷ [])) bytes
+          ∙ ap (λ (t : List ℕ). front ++ t) (append_assoc word (byte ∷ []) bytes)) in
+          let rest : StandFrom (length front + length word + 1) whole
+          (placed_from (length front + length word + 1) [] bytes) =
           subst (λ n. StandFrom n whole (placed_from n [] bytes)) size (placed_stand later [] bytes whole split) in
           rw e
-          (with_placed-stand front word (byte ∷ bytes) whole _ is (StandFrom-sooner (length front + length word) (length front + length word + 1) whole _ (omega arith) rest))
-      | inr e ↦ rw e (placed_stand front (word ++ byte ∷ []) bytes whole (is ∙ ap (λ (t : List ℕ). front ++ t) (sym (append_assoc word (byte ∷ []) bytes))))
+          (with_placed-stand front word (byte ∷ bytes) whole _ is
+          (StandFrom-sooner (length front + length word) (length front + length word + 1) whole _ (omega arith)
+          rest))
+      | inr e ↦ rw e (placed_stand front (word ++ byte ∷ []) bytes whole
+          (is ∙ ap (λ (t : List ℕ). front ++ t) (sym (append_assoc word (byte ∷ []) bytes))))
     ]
 
 -- all words of a text
@@ -160,16 +188,20 @@ words_stand text = placed_stand [] [] text text refl
 
 -- where no byte is other than a space, there are no words
 pub no_word : (at : ℕ) (rest : List ℕ) (r : Option ℕ) →
-    r ≡ cond (ltb (position_or_len (λ byte. not (byte == 32)) rest) (length rest)) (Some (position_or_len (λ byte. not (byte == 32)) rest)) None → r ≡ None →
+    r ≡ cond (ltb (position_or_len (λ byte. not (byte == 32)) rest) (length rest))
+    (Some (position_or_len (λ byte. not (byte == 32)) rest)) None → r ≡ None →
     placed_from at [] rest ≡ []
 no_word at rest r is none =
     elim (cases_lt (position_or_len (λ byte. not (byte == 32)) rest) (length rest)) [
       | inl lt ↦
           let t =
-          lt-ltb _ _ lt in let some = rw t at is in absurd (let wrong : ◌≡◌ {A = Option ℕ} None (Some (position_or_len (λ byte. not (byte == 32)) rest)) = sym none ∙ some in cc)
+          lt-ltb _ _ lt in let some = rw t at is in absurd
+          (let wrong : ◌≡◌ {A = Option ℕ} None (Some (position_or_len (λ byte. not (byte == 32)) rest)) =
+          sym none ∙ some in cc)
       | inr le ↦
           placed_from-spaces at rest
-          ∙ at_drop_all (placed_from (at + position_or_len (λ byte. not (byte == 32)) rest) []) rest (position_or_len (λ byte. not (byte == 32)) rest) le
+          ∙ at_drop_all (placed_from (at + position_or_len (λ byte. not (byte == 32)) rest) []) rest
+          (position_or_len (λ byte. not (byte == 32)) rest) le
     ]
 
 -- a word with bytes stands in front of others
@@ -185,7 +217,8 @@ some_bytes [] lt = absurd (omega arith)
 some_bytes (byte ∷ bytes) lt =
     elim (cases_Bool (byte == 32)) [
       | inl e ↦
-          let o : 1 + position_or_len (λ b. not (b == 32)) bytes ≡ suc (position_or_len (λ b. not (b == 32)) bytes) = omega arith in
+          let o : 1 + position_or_len (λ b. not (b == 32)) bytes ≡ suc (position_or_len (λ b. not (b == 32)) bytes) =
+          omega arith in
           let later = rw e at lt in
           rw (e, o) (some_bytes bytes (omega arith))
       | inr e ↦ rw e (rw e (omega arith))
@@ -193,12 +226,20 @@ some_bytes (byte ∷ bytes) lt =
 
 -- else the first word begins at the first such byte
 pub first_placed : (at : ℕ) (text : List ℕ) (spaces count : ℕ) (r : Option ℕ) → at ≤ length text →
-    r ≡ cond (ltb (position_or_len (λ byte. not (byte == 32)) (drop at text)) (length (drop at text))) (Some (position_or_len (λ byte. not (byte == 32)) (drop at text))) None →
+    r ≡ cond (ltb (position_or_len (λ byte. not (byte == 32)) (drop at text)) (length (drop at text)))
+    (Some (position_or_len (λ byte. not (byte == 32)) (drop at text))) None →
     r ≡ Some spaces → count ≡ length (before 32 (drop (at + spaces) text)) →
-    placed_from at [] (drop at text) ≡ record { text = slice_range text (at + spaces) (at + spaces + count); start = at + spaces; end = at + spaces + count } ∷ placed_from (at + spaces + count) [] (drop (at + spaces + count) text)
+    placed_from at [] (drop at text) ≡ record {
+      text = slice_range text (at + spaces) (at + spaces + count);
+      start =
+          at + spaces;
+      end = at + spaces + count;
+    } ∷ placed_from (at + spaces + count) []
+    (drop (at + spaces + count) text)
 first_placed at text spaces count r within is some size =
     elim (cases_lt (position_or_len (λ byte. not (byte == 32)) (drop at text)) (length (drop at text))) [
-      | inr le ↦ let t = le-ltb _ _ le in let none = rw t at is in absurd (let wrong : ◌≡◌ {A = Option ℕ} (Some spaces) None = sym some ∙ none in cc)
+      | inr le ↦ let t = le-ltb _ _ le in let none =
+          rw t at is in absurd (let wrong : ◌≡◌ {A = Option ℕ} (Some spaces) None = sym some ∙ none in cc)
       | inl lt ↦
           let t = lt-ltb _ _ lt in
           let found = rw t at is in
@@ -207,14 +248,18 @@ first_placed at text spaces count r within is some size =
           let rest = drop (at + spaces) text in
           let begins : drop (position_or_len (λ byte. not (byte == 32)) (drop at text)) (drop at text) ≡ rest =
           ap (λ n. drop n (drop at text)) (sym same) ∙ here in
-          let some_byte : 0 < length (before 32 rest) = subst (λ (t : List ℕ). 0 < length (before 32 t)) begins (some_bytes (drop at text) lt) in
+          let some_byte : 0 < length (before 32 rest) = subst (λ (t : List ℕ). 0 < length (before 32 t)) begins
+          (some_bytes (drop at text) lt) in
           let word : slice_range text (at + spaces) (at + spaces + count) ≡ before 32 rest =
-          ap (λ n. take n rest) (let n : at + spaces + count - (at + spaces) ≡ length (before 32 rest) = omega arith in n) ∙ take-before 32 rest in
+          ap (λ n. take n rest) (let n : at + spaces + count - (at + spaces) ≡ length (before 32 rest) =
+          omega arith in n) ∙ take-before 32 rest in
           let later : drop count rest ≡ drop (at + spaces + count) text = drop-drop count (at + spaces) text in
           placed_from-spaces at (drop at text)
-          ∙ ap (λ n. placed_from (at + n) [] (drop (position_or_len (λ byte. not (byte == 32)) (drop at text)) (drop at text))) (sym same)
+          ∙ ap (λ n. placed_from (at + n) [] (drop (position_or_len (λ byte. not (byte == 32)) (drop at text))
+          (drop at text))) (sym same)
           ∙ ap (placed_from (at + spaces) []) begins ∙ placed_from-word (at + spaces) [] rest
-          ∙ with_placed-some (at + spaces) (before 32 rest) (placed_from (at + spaces + length (before 32 rest)) [] (drop (length (before 32 rest)) rest))
+          ∙ with_placed-some (at + spaces) (before 32 rest)
+          (placed_from (at + spaces + length (before 32 rest)) [] (drop (length (before 32 rest)) rest))
           some_byte
           ∙ rw (← size, later, word) refl
     ]
@@ -225,35 +270,44 @@ pub texts_of-line : (line : List ℕ) (words : List Placed) → words ≡ placed
 texts_of-line line words is = ap texts_of is ∙ texts_of-placed 0 [] (before 35 line)
 
 -- a word is given where there is one
-pub gives_some : (words left : List Placed) (given : Option Token) → GivesFirst words given left → is_some given ≡ has_words (texts_of words)
+pub gives_some : (words left : List Placed) (given : Option Token) → GivesFirst words given left
+    → is_some given ≡ has_words (texts_of words)
 gives_some [] left given h = ap is_some h.0
 gives_some (word ∷ words) left given h = ap is_some h.1
 
 -- and is the first
-pub gives_first : (words left : List Placed) (given : Option Token) (token : Token) → GivesFirst words given left → given ≡ Some token →
+pub gives_first : (words left : List Placed) (given : Option Token) (token : Token) → GivesFirst words given left
+    → given ≡ Some token →
     first_of_words (texts_of words) ≡ raised token.text.now
-gives_first [] left given token h some = absurd (let wrong : ◌≡◌ {A = Option Token} None (Some token) = sym h.0 ∙ some in cc)
+gives_first [] left given token h some = absurd
+    (let wrong : ◌≡◌ {A = Option Token} None (Some token) = sym h.0 ∙ some in cc)
 gives_first (word ∷ words) left given token h some =
     let same : h.0 ≡ token = let both : ◌≡◌ {A = Option Token} (Some h.0) (Some token) = sym h.1 ∙ some in cc in
     ap (λ (w : Placed). raised w.text) (sym h.2) ∙ ap (λ (t : Token). raised t.text.now) same
 
-pub gives_no_first : (words left : List Placed) (given : Option Token) → GivesFirst words given left → given ≡ None → first_of_words (texts_of words) ≡ []
+pub gives_no_first : (words left : List Placed) (given : Option Token) → GivesFirst words given left → given ≡ None
+    → first_of_words (texts_of words) ≡ []
 gives_no_first [] left given h none = refl
-gives_no_first (word ∷ words) left given h none = absurd (let wrong : ◌≡◌ {A = Option Token} None (Some h.0) = sym none ∙ h.1 in cc)
+gives_no_first (word ∷ words) left given h none =
+    absurd (let wrong : ◌≡◌ {A = Option Token} None (Some h.0) = sym none ∙ h.1 in cc)
 
 -- it stands before those that are left
-pub next_words : (words left : List Placed) (given : Option Token) (token : Token) → GivesFirst words given left → given ≡ Some token →
+pub next_words : (words left : List Placed) (given : Option Token) (token : Token) → GivesFirst words given left
+    → given ≡ Some token →
     texts_of words ≡ raised token.text.now ∷ texts_of left
 next_words [] left given token gives is = let wrong = sym gives.0 ∙ is in absurd cc
 next_words (word ∷ words) left given token gives is =
     let one : gives.0 ≡ token = cc in
     let word_is : placed token ≡ word = ap placed (sym one) ∙ gives.2 in
-    ap (λ (p : Placed). raised p.text ∷ texts_of words) (sym word_is) ∙ ap (λ (others : List Placed). raised token.text.now ∷ texts_of others) (sym gives.3)
+    ap (λ (p : Placed). raised p.text ∷ texts_of words) (sym word_is)
+    ∙ ap (λ (others : List Placed). raised token.text.now ∷ texts_of others) (sym gives.3)
 
 -- no words are left after none
-pub none_left : (words left : List Placed) (given : Option Token) → GivesFirst words given left → given ≡ None → texts_of words ≡ []
+pub none_left : (words left : List Placed) (given : Option Token) → GivesFirst words given left → given ≡ None
+    → texts_of words ≡ []
 none_left [] left given h none = refl
-none_left (word ∷ words) left given h none = absurd (let wrong : ◌≡◌ {A = Option Token} None (Some h.0) = sym none ∙ h.1 in cc)
+none_left (word ∷ words) left given h none = absurd
+    (let wrong : ◌≡◌ {A = Option Token} None (Some h.0) = sym none ∙ h.1 in cc)
 
 -- an empty word is the same as no word
 pub empty_word : (word : List ℕ) → (length word == 0) ≡ same_word [] word

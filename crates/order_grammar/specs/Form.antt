@@ -60,14 +60,17 @@ forms =
     ∷ row keyword.Pay [] repeated.Nothing
     ∷ row keyword.Withhold [] repeated.Nothing
     ∷ row keyword.Train (class.Kind ∷ class.Word keyword.Bank ∷ []) repeated.Nothing
-    ∷ row keyword.Train (class.Kind ∷ class.Word keyword.Bank ∷ class.Word keyword.Trade ∷ class.Kind ∷ []) repeated.Nothing
+    ∷ row keyword.Train (class.Kind ∷ class.Word keyword.Bank ∷ class.Word keyword.Trade ∷ class.Kind ∷ [])
+    repeated.Nothing
     ∷ row keyword.Train (class.Kind ∷ class.Word keyword.Pool ∷ []) repeated.Nothing
     ∷ row keyword.Train (class.Kind ∷ class.Company ∷ class.Number ∷ []) repeated.Nothing
     ∷ row keyword.Discard (class.Company ∷ class.Kind ∷ []) repeated.Nothing
     ∷ row keyword.Private (class.Private ∷ class.Number ∷ []) repeated.Nothing
     ∷ row keyword.Raise (class.Company ∷ class.Number ∷ []) repeated.Nothing
-    ∷ row keyword.Offer (class.Word keyword.Private ∷ class.Private ∷ class.Company ∷ class.Number ∷ []) repeated.Nothing
-    ∷ row keyword.Offer (class.Word keyword.Train ∷ class.Kind ∷ class.Company ∷ class.Company ∷ class.Number ∷ []) repeated.Nothing
+    ∷ row keyword.Offer (class.Word keyword.Private ∷ class.Private ∷ class.Company ∷ class.Number ∷ [])
+    repeated.Nothing
+    ∷ row keyword.Offer (class.Word keyword.Train ∷ class.Kind ∷ class.Company ∷ class.Company ∷ class.Number ∷ [])
+    repeated.Nothing
     ∷ row keyword.Cert (class.Round ∷ class.Company ∷ class.Number ∷ []) repeated.Nothing
     ∷ row keyword.Claim (class.Kind ∷ []) repeated.Places
     ∷ row keyword.Certs (class.Word keyword.One ∷ []) repeated.Nothing
@@ -169,7 +172,8 @@ nearer first second = if nat_lt (nearness first) (nearness second) then second e
 -- what a first word and the words after it are by some rows: what is nearest to an order
 abbrev pub rows_reading : List Row → List ℕ → List (List ℕ) → Result Order Fault
 rows_reading rows first rest =
-    fold (λ (nearest : Result Order Fault) (row : Row). nearer nearest (row_reading row first rest)) (Err UnknownWord) rows
+    fold (λ (nearest : Result Order Fault) (row : Row). nearer nearest (row_reading row first rest)) (Err UnknownWord)
+    rows
 
 -- the order that the words of a line spell by some rows, or why they spell none
 abbrev pub words_reading : List Row → List (List ℕ) → Result Order Fault

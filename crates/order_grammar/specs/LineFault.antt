@@ -40,7 +40,8 @@ IsFaultIn text line UnknownWord = ¬ IsTooLong text line × ¬ HasStrayByte line
 IsFaultIn text line WrongWords =
     ¬ IsTooLong text line × ¬ HasStrayByte line × ¬ HasUnknownWord text line × ¬ IsLooselySpelt text line
 IsFaultIn text line NumberTooLarge =
-    ¬ IsTooLong text line × ¬ HasStrayByte line × ¬ HasUnknownWord text line × IsLooselySpelt text line × ¬ IsSpelt text line
+    ¬ IsTooLong text line × ¬ HasStrayByte line × ¬ HasUnknownWord text line × IsLooselySpelt text line
+    × ¬ IsSpelt text line
 IsFaultIn text line other = ⊥
 
 -- the fault that the line of an order file has

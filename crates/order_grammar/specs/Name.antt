@@ -21,8 +21,13 @@ is_name (first ∷ rest) = is_capital first && (nat_le (length rest) 7 && list_a
 
 -- letters that are cut to their length and filled up again are as they were: the law of a name's view
 -- asks for this, so it stands here and not among the proofs
-pub padded_again : (letters : List ℕ) (count : ℕ) → count ≤ 8 → length letters ≡ 8 → drop count letters ≡ replicate (8 - count) 0 →
-    ◌≡◌ {A = List ℕ × ℕ} (take count letters ++ replicate (8 - length (take count letters)) 0, length (take count letters)) (letters, count)
+pub padded_again : (letters : List ℕ) (count : ℕ) → count ≤ 8 → length letters ≡ 8
+    → drop count letters ≡ replicate (8 - count) 0 →
+    ◌≡◌ {A = List ℕ × ℕ} (
+      take count letters ++ replicate (8 - length (take count letters)) 0,
+      length
+          (take count letters),
+    ) (letters, count)
 padded_again letters count short whole blank =
     let Padded : List ℕ → ℕ → List ℕ × ℕ = λ all number. (all, number) in
     let within : count ≤ length letters = subst (λ (size : ℕ). count ≤ size) (sym whole) short in

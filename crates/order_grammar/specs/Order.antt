@@ -74,12 +74,14 @@ parts_of (BuyPrivate private) = made_of keyword.Buy (value.Private private ∷ [
 parts_of (Bid private amount) = made_of keyword.Bid (value.Private private ∷ value.Number amount ∷ []) tail.Nothing
 parts_of (Limit private amount) = made_of keyword.Limit (value.Private private ∷ value.Number amount ∷ []) tail.Nothing
 parts_of (Par company price) = made_of keyword.Par (value.Company company ∷ value.Number price ∷ []) tail.Nothing
-parts_of (BuyShare company from) = made_of keyword.Buy (value.Company company ∷ value.Word (keyword_of_source from) ∷ []) tail.Nothing
+parts_of (BuyShare company from) = made_of keyword.Buy
+    (value.Company company ∷ value.Word (keyword_of_source from) ∷ []) tail.Nothing
 parts_of (Sell company tenths) = made_of keyword.Sell (value.Company company ∷ value.Number tenths ∷ []) tail.Nothing
 parts_of ExchangeMohawk = made_of keyword.Exchange (value.Word keyword.Mohawk ∷ []) tail.Nothing
 parts_of (CompanyTurn company) = made_of keyword.Company (value.Company company ∷ []) tail.Nothing
 parts_of (Lay lay) =
-    made_of keyword.Lay (value.Tile lay.tile ∷ value.Hex lay.hex ∷ value.Rotation lay.rot ∷ swap_values lay.swap) tail.Nothing
+    made_of keyword.Lay (value.Tile lay.tile ∷ value.Hex lay.hex ∷ value.Rotation lay.rot ∷ swap_values lay.swap)
+    tail.Nothing
 parts_of (Token place) = made_of keyword.Token (value.Place place ∷ []) tail.Nothing
 parts_of (Run kind run) = made_of keyword.Run (value.Kind kind ∷ []) (tail.Places run)
 parts_of RunBest = made_of keyword.Run (value.Word keyword.Best ∷ []) tail.Nothing
@@ -87,7 +89,8 @@ parts_of Pay = made_of keyword.Pay [] tail.Nothing
 parts_of Withhold = made_of keyword.Withhold [] tail.Nothing
 parts_of (BuyTrain kind from) = made_of keyword.Train (value.Kind kind ∷ source_values from) tail.Nothing
 parts_of (Discard company kind) = made_of keyword.Discard (value.Company company ∷ value.Kind kind ∷ []) tail.Nothing
-parts_of (BuyOwnedPrivate private price) = made_of keyword.Private (value.Private private ∷ value.Number price ∷ []) tail.Nothing
+parts_of (BuyOwnedPrivate private price) = made_of keyword.Private (value.Private private ∷ value.Number price ∷ [])
+    tail.Nothing
 parts_of (Raise company tenths) = made_of keyword.Raise (value.Company company ∷ value.Number tenths ∷ []) tail.Nothing
 parts_of (Offer offer) = made_of keyword.Offer (offer_values offer) tail.Nothing
 parts_of Certs = made_of keyword.Certs (value.Word keyword.One ∷ []) tail.Nothing
@@ -105,34 +108,44 @@ order_from keyword.Turn [] tail.Nothing = Some Turn
 order_from keyword.Buy ((value.Private private) ∷ []) tail.Nothing = Some (BuyPrivate private)
 order_from keyword.Buy ((value.Company company) ∷ (value.Word keyword.InitialOffering) ∷ []) tail.Nothing =
     Some (BuyShare company InitialOffering)
-order_from keyword.Buy ((value.Company company) ∷ (value.Word keyword.Pool) ∷ []) tail.Nothing = Some (BuyShare company BankPool)
+order_from keyword.Buy ((value.Company company) ∷ (value.Word keyword.Pool) ∷ []) tail.Nothing =
+    Some (BuyShare company BankPool)
 order_from keyword.Bid ((value.Private private) ∷ (value.Number amount) ∷ []) tail.Nothing = Some (Bid private amount)
-order_from keyword.Limit ((value.Private private) ∷ (value.Number amount) ∷ []) tail.Nothing = Some (Limit private amount)
+order_from keyword.Limit ((value.Private private) ∷ (value.Number amount) ∷ []) tail.Nothing =
+    Some (Limit private amount)
 order_from keyword.Par ((value.Company company) ∷ (value.Number price) ∷ []) tail.Nothing = Some (Par company price)
 order_from keyword.Sell ((value.Company company) ∷ (value.Number tenths) ∷ []) tail.Nothing = Some (Sell company tenths)
 order_from keyword.Exchange ((value.Word keyword.Mohawk) ∷ []) tail.Nothing = Some ExchangeMohawk
 order_from keyword.Company ((value.Company company) ∷ []) tail.Nothing = Some (CompanyTurn company)
 order_from keyword.Lay ((value.Tile tile) ∷ (value.Hex hex) ∷ (value.Rotation rotation) ∷ []) tail.Nothing =
     Some (Lay (lay_of tile hex rotation false))
-order_from keyword.Lay ((value.Tile tile) ∷ (value.Hex hex) ∷ (value.Rotation rotation) ∷ (value.Word keyword.Swap) ∷ []) tail.Nothing =
+order_from keyword.Lay ((value.Tile tile) ∷ (value.Hex hex) ∷ (value.Rotation rotation) ∷ (value.Word keyword.Swap)
+    ∷ []) tail.Nothing =
     Some (Lay (lay_of tile hex rotation true))
 order_from keyword.Token ((value.Place place) ∷ []) tail.Nothing = Some (Token place)
 order_from keyword.Run ((value.Kind kind) ∷ []) (tail.Places run) = Some (Run kind run)
 order_from keyword.Run ((value.Word keyword.Best) ∷ []) tail.Nothing = Some RunBest
 order_from keyword.Pay [] tail.Nothing = Some Pay
 order_from keyword.Withhold [] tail.Nothing = Some Withhold
-order_from keyword.Train ((value.Kind kind) ∷ (value.Word keyword.Bank) ∷ []) tail.Nothing = Some (BuyTrain kind source.Bank)
-order_from keyword.Train ((value.Kind kind) ∷ (value.Word keyword.Bank) ∷ (value.Word keyword.Trade) ∷ (value.Kind other) ∷ []) tail.Nothing =
+order_from keyword.Train ((value.Kind kind) ∷ (value.Word keyword.Bank) ∷ []) tail.Nothing =
+    Some (BuyTrain kind source.Bank)
+order_from keyword.Train ((value.Kind kind) ∷ (value.Word keyword.Bank) ∷ (value.Word keyword.Trade)
+    ∷ (value.Kind other) ∷ []) tail.Nothing =
     Some (BuyTrain kind (source.Trade other))
-order_from keyword.Train ((value.Kind kind) ∷ (value.Word keyword.Pool) ∷ []) tail.Nothing = Some (BuyTrain kind source.BankPool)
+order_from keyword.Train ((value.Kind kind) ∷ (value.Word keyword.Pool) ∷ []) tail.Nothing =
+    Some (BuyTrain kind source.BankPool)
 order_from keyword.Train ((value.Kind kind) ∷ (value.Company seller) ∷ (value.Number price) ∷ []) tail.Nothing =
     Some (BuyTrain kind (source.Company seller price))
 order_from keyword.Discard ((value.Company company) ∷ (value.Kind kind) ∷ []) tail.Nothing = Some (Discard company kind)
-order_from keyword.Private ((value.Private private) ∷ (value.Number price) ∷ []) tail.Nothing = Some (BuyOwnedPrivate private price)
-order_from keyword.Raise ((value.Company company) ∷ (value.Number tenths) ∷ []) tail.Nothing = Some (Raise company tenths)
-order_from keyword.Offer ((value.Word keyword.Private) ∷ (value.Private private) ∷ (value.Company buyer) ∷ (value.Number price) ∷ []) tail.Nothing =
+order_from keyword.Private ((value.Private private) ∷ (value.Number price) ∷ []) tail.Nothing =
+    Some (BuyOwnedPrivate private price)
+order_from keyword.Raise ((value.Company company) ∷ (value.Number tenths) ∷ []) tail.Nothing =
+    Some (Raise company tenths)
+order_from keyword.Offer ((value.Word keyword.Private) ∷ (value.Private private) ∷ (value.Company buyer)
+    ∷ (value.Number price) ∷ []) tail.Nothing =
     Some (Offer (offer.Private private buyer price))
-order_from keyword.Offer ((value.Word keyword.Train) ∷ (value.Kind kind) ∷ (value.Company seller) ∷ (value.Company buyer) ∷ (value.Number price) ∷ [])
+order_from keyword.Offer ((value.Word keyword.Train) ∷ (value.Kind kind) ∷ (value.Company seller)
+    ∷ (value.Company buyer) ∷ (value.Number price) ∷ [])
     tail.Nothing =
     Some (Offer (offer.Train kind seller buyer price))
 order_from keyword.Certs ((value.Word keyword.One) ∷ []) tail.Nothing = Some Certs

@@ -131,9 +131,11 @@ AreSourceWords (source.Company seller price) words = Then (IsCompany seller) (Th
 -- PRIVATE, the private, its buyer and the price, or TRAIN, the kind, its seller, its buyer and the price
 abbrev pub AreOfferWords : offers.Offer → List (List ℕ) → Type 0
 AreOfferWords (offer.Private private buyer price) words =
-    Then (IsWord (codes "PRIVATE")) (Then (IsPrivate private) (Then (IsCompany buyer) (Then (IsNumber price) End))) words
+    Then (IsWord (codes "PRIVATE")) (Then (IsPrivate private) (Then (IsCompany buyer) (Then (IsNumber price) End)))
+    words
 AreOfferWords (offer.Train kind seller buyer price) words =
-    Then (IsWord (codes "TRAIN")) (Then (IsKind kind) (Then (IsCompany seller) (Then (IsCompany buyer) (Then (IsNumber price) End)))) words
+    Then (IsWord (codes "TRAIN")) (Then (IsKind kind)
+    (Then (IsCompany seller) (Then (IsCompany buyer) (Then (IsNumber price) End)))) words
 
 -- these words spell the order, but that its numbers may be too large
 abbrev pub AreWordsFor : Order → List (List ℕ) → Type 0
@@ -160,7 +162,8 @@ AreWordsFor (Sell company tenths) words =
 AreWordsFor ExchangeMohawk words = Then (IsWord (codes "EXCHANGE")) (Then (IsWord (codes "MH")) End) words
 AreWordsFor (CompanyTurn company) words = Then (IsWord (codes "COMPANY")) (Then (IsCompany company) End) words
 AreWordsFor (Lay lay) words =
-    Then (IsWord (codes "LAY")) (Then (IsTile lay.tile) (Then (IsHex lay.hex) (Then (IsRotation lay.rot) (AreSwapWords lay.swap)))) words
+    Then (IsWord (codes "LAY")) (Then (IsTile lay.tile)
+    (Then (IsHex lay.hex) (Then (IsRotation lay.rot) (AreSwapWords lay.swap)))) words
 AreWordsFor (Token place) words = Then (IsWord (codes "TOKEN")) (Then (IsPlace place) End) words
 AreWordsFor (Run kind run) words = Then (IsWord (codes "RUN")) (Then (IsKind kind) (ArePlaces run)) words
 AreWordsFor RunBest words = Then (IsWord (codes "RUN")) (Then (IsWord (codes "BEST")) End) words
@@ -176,7 +179,8 @@ AreWordsFor (Raise company tenths) words =
 AreWordsFor (Offer offer) words = Then (IsWord (codes "OFFER")) (AreOfferWords offer) words
 AreWordsFor Certs words = Then (IsWord (codes "CERTS")) (Then (IsWord (codes "1")) End) words
 AreWordsFor (Cert round company revenue) words =
-    Then (IsWord (codes "CERT")) (Then (IsRoundOfLine round) (Then (IsCompany company) (Then (IsNumber revenue) End))) words
+    Then (IsWord (codes "CERT")) (Then (IsRoundOfLine round) (Then (IsCompany company) (Then (IsNumber revenue) End)))
+    words
 AreWordsFor (Claim kind run) words = Then (IsWord (codes "CLAIM")) (Then (IsKind kind) (ArePlaces run)) words
 AreWordsFor Marks words = Then (IsWord (codes "MARKS")) (Then AreHexDigits End) words
 
@@ -242,7 +246,8 @@ is_round_of_line (Operating set number) =
 -- three to six names, a name and a round, small numbers, two to 280 places: what the form of the order asks; the
 -- digits of marks are in the line alone
 abbrev pub HasSpelling : Order → Type 0
-HasSpelling (Players names) = (3 ≤ length names.items) × (length names.items ≤ 6) × IsTrue (list_all is_name names.items)
+HasSpelling (Players names) = (3 ≤ length names.items) × (length names.items ≤ 6)
+    × IsTrue (list_all is_name names.items)
 HasSpelling (Sheet name round) = IsTrue (is_name name) × IsTrue (is_round_of_line round)
 HasSpelling (Run kind run) = (2 ≤ length run) × (length run ≤ 280)
 HasSpelling (Cert round company revenue) = IsTrue (is_round_of_line round) × (revenue ≤ number_most)

@@ -28,7 +28,8 @@ now_acted true = refl
 now_acted false = refl
 
 -- nobody acts by what a sale brings
-no_giver : (events : List Event) (private : Private) (buyer : Seat) → last_said actor_of (gifts events private buyer) ≡ None
+no_giver : (events : List Event) (private : Private) (buyer : Seat)
+    → last_said actor_of (gifts events private buyer) ≡ None
 no_giver events private.SchuylkillValley buyer = refl
 no_giver events private.ChamplainStLawrence buyer = refl
 no_giver events private.DelawareHudson buyer = refl
@@ -40,7 +41,12 @@ no_giver events private.BaltimoreOhio buyer = refl
 in_sale : (seat : Seat) (events : List Event) (private : Private) (buyer : Seat) (price : ℕ) →
     TellsWhoActed seat false events (after_sale events private buyer price)
 in_sale seat events private buyer price =
-    record { more = event.Sold private buyer price ∷ gifts events private buyer; longer = refl; last = rw (no_giver events private buyer) refl }
+    record {
+      more = event.Sold private buyer price ∷ gifts events private buyer;
+      longer = refl;
+      last =
+          rw (no_giver events private buyer) refl;
+    }
 
 -- nor by the sale that the bids on a private bring
 in_bids : (seat : Seat) (seats : ℕ) (events : List Event) (private : Private) (bids : List Bid) →
@@ -50,17 +56,20 @@ in_bids seat seats events private (bid ∷ []) = in_sale seat events private bid
 in_bids seat seats events private (bid ∷ other ∷ bids) = in_sale seat events private _ _
 
 -- nor by that of the cheapest private
-in_cheapest : (seat : Seat) (seats : ℕ) (events : List Event) (cheapest : Option Private) → TellsWhoActed seat false events (settled_of seats events cheapest)
+in_cheapest : (seat : Seat) (seats : ℕ) (events : List Event) (cheapest : Option Private)
+    → TellsWhoActed seat false events (settled_of seats events cheapest)
 in_cheapest seat seats events None = nobody seat events
 in_cheapest seat seats events (Some private) = in_bids seat seats events private (bids_on seats events private)
 
 -- nor by the sales that follow from a sale
 in_settled : (seat : Seat) (seats : ℕ) (events : List Event) → TellsWhoActed seat false events (settled seats events)
 unfolding settled
-in_settled seat seats events = nobody_in_steps seat (settle_auctions seats) (λ list. in_cheapest seat seats list (cheapest_of list)) 6 events
+in_settled seat seats events = nobody_in_steps seat (settle_auctions seats)
+    (λ list. in_cheapest seat seats list (cheapest_of list)) 6 events
 
 -- by a line whose order is done
-order_tells : (seats : ℕ) (seat : Seat) (turn : InTurn) (number : ℕ) (condition : Option Condition) (done : Order) → refusal_of seats turn.events seat turn.actions done ≡ None →
+order_tells : (seats : ℕ) (seat : Seat) (turn : InTurn) (number : ℕ) (condition : Option Condition) (done : Order)
+    → refusal_of seats turn.events seat turn.actions done ≡ None →
     LineTells opening_rules seat turn (after_ruling seats seat turn number (Obeyed condition done))
 order_tells seats seat turn number condition (order.BuyPrivate private) kept =
     let ruled : List Event = recorded seat number (Obeyed condition (order.BuyPrivate private)) turn.events in
@@ -68,8 +77,11 @@ order_tells seats seat turn number condition (order.BuyPrivate private) kept =
     record {
       acts = true;
       told =
-          in_both seat true false turn.events ruled (settled seats sold) (one_more seat true turn.events (event.Ruled seat number (Obeyed condition (order.BuyPrivate private))) refl)
-          (in_both seat false false ruled sold (settled seats sold) (in_sale seat ruled private seat (price_of ruled private)) (in_settled seat seats sold));
+          in_both seat true false turn.events ruled (settled seats sold)
+          (one_more seat true turn.events (event.Ruled seat number (Obeyed condition (order.BuyPrivate private)))
+          refl)
+          (in_both seat false false ruled sold (settled seats sold)
+          (in_sale seat ruled private seat (price_of ruled private)) (in_settled seat seats sold));
       acted = now_acted turn.actions;
     }
 order_tells seats seat turn number condition (order.Bid private amount) kept =
@@ -77,7 +89,9 @@ order_tells seats seat turn number condition (order.Bid private amount) kept =
     record {
       acts = true;
       told =
-          in_both seat true false turn.events ruled (ruled ++ event.Bids private seat amount ∷ []) (one_more seat true turn.events (event.Ruled seat number (Obeyed condition (order.Bid private amount))) refl)
+          in_both seat true false turn.events ruled (ruled ++ event.Bids private seat amount ∷ [])
+          (one_more seat true turn.events (event.Ruled seat number (Obeyed condition (order.Bid private amount)))
+          refl)
           (one_more seat false ruled (event.Bids private seat amount) refl);
       acted = now_acted turn.actions;
     }
@@ -88,5 +102,7 @@ pub opening_turns_tell : TurnsTellWhoActed opening_rules
 opening_turns_tell =
     turns_tell opening_rules refl
     (λ (seats : ℕ) (seat : Seat) (turn : InTurn) (line : Numbered).
-    of_ruled (acted seats seat) (refusal_of seats turn.events seat turn.actions) seat turn line.number (LineTells opening_rules seat turn)
-    (nobody_ruled opening_rules seat turn line.number) (order_tells seats seat turn line.number) has_place_in_group turn.events line)
+    of_ruled (acted seats seat) (refusal_of seats turn.events seat turn.actions) seat turn line.number
+    (LineTells opening_rules seat turn)
+    (nobody_ruled opening_rules seat turn line.number) (order_tells seats seat turn line.number) has_place_in_group
+    turn.events line)

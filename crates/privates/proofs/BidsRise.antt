@@ -27,46 +27,55 @@ one_of true false pass = inr (refl, refl)
 one_of false false pass = absurd (cc)
 
 -- the word that holds is one of the later or of the earlier
-flatten_cases : (later earlier : Option (Option ℕ)) (amount : ℕ) → option_flatten (option_or later earlier) ≡ Some amount →
+flatten_cases : (later earlier : Option (Option ℕ)) (amount : ℕ)
+    → option_flatten (option_or later earlier) ≡ Some amount →
     (option_flatten later ≡ Some amount) ⊎ (option_flatten earlier ≡ Some amount)
 flatten_cases None earlier amount holds = inr holds
 flatten_cases (Some word) earlier amount holds = inl holds
 
 -- what a later word says holds, whatever was said before
-later_holds : (later earlier : Option (Option ℕ)) (amount : ℕ) → option_flatten later ≡ Some amount → option_flatten (option_or later earlier) ≡ Some amount
+later_holds : (later earlier : Option (Option ℕ)) (amount : ℕ) → option_flatten later ≡ Some amount
+    → option_flatten (option_or later earlier) ≡ Some amount
 later_holds None earlier amount holds = absurd (cc)
 later_holds (Some word) earlier amount holds = holds
 
 -- where nothing was said later, the earlier word holds
-earlier_holds : (later earlier : Option (Option ℕ)) → later ≡ None → option_flatten (option_or later earlier) ≡ option_flatten earlier
+earlier_holds : (later earlier : Option (Option ℕ)) → later ≡ None
+    → option_flatten (option_or later earlier) ≡ option_flatten earlier
 earlier_holds None earlier none = refl
 earlier_holds (Some word) earlier none = absurd (cc)
 
 -- of two words there is none
-neither_said : {A : Type 0} (later earlier : Option A) → is_some (option_or later earlier) ≡ false → (is_some later ≡ false) × (earlier ≡ None)
+neither_said : {A : Type 0} (later earlier : Option A) → is_some (option_or later earlier) ≡ false
+    → (is_some later ≡ false) × (earlier ≡ None)
 neither_said None None none = (refl, refl)
 neither_said None (Some word) none = absurd (cc)
 neither_said (Some word) earlier none = absurd (cc)
 
 -- a bid that is said here is the one that was made here
-made_here : (here seat : Bool) (made amount sum : ℕ) → option_flatten (if here && seat then Some (Some made) else None) ≡ Some amount →
+made_here : (here seat : Bool) (made amount sum : ℕ)
+    → option_flatten (if here && seat then Some (Some made) else None) ≡ Some amount →
     nat_lt sum (amount + 5) ≡ true → (here && nat_lt sum (made + 5)) ≡ true
-made_here true true made amount sum said near = let same : made ≡ amount = cc in ap (λ (n : ℕ). nat_lt sum (n + 5)) same ∙ near
+made_here true true made amount sum said near = let same : made ≡ amount =
+    cc in ap (λ (n : ℕ). nat_lt sum (n + 5)) same ∙ near
 made_here true false made amount sum said near = absurd (cc)
 made_here false seat made amount sum said near = absurd (cc)
 
 -- an end is no bid
-no_bid_at_end : (here : Bool) (amount : ℕ) → option_flatten (if here then Some None else None) ≡ Some amount → false ≡ true
+no_bid_at_end : (here : Bool) (amount : ℕ) → option_flatten (if here then Some None else None) ≡ Some amount
+    → false ≡ true
 no_bid_at_end true amount said = absurd (cc)
 no_bid_at_end false amount said = absurd (cc)
 
 -- a sum near a bid that is said here is near the bid that was made here
-near_here : (private : Private) (seat : Seat) (amount sum : ℕ) (word : Option Bidding) → option_flatten (bid_said private seat word) ≡ Some amount →
+near_here : (private : Private) (seat : Seat) (amount sum : ℕ) (word : Option Bidding)
+    → option_flatten (bid_said private seat word) ≡ Some amount →
     nat_lt sum (amount + 5) ≡ true → is_near_bid private sum word ≡ true
 near_here private seat amount sum None said near = absurd (cc)
 near_here private seat amount sum (Some (Made other bid)) said near =
     made_here (same_private other private) (bid.seat.0 == seat.0) bid.amount amount sum said near
-near_here private seat amount sum (Some (Ended other)) said near = no_bid_at_end (same_private other private) amount said
+near_here private seat amount sum (Some (Ended other)) said near =
+    no_bid_at_end (same_private other private) amount said
 
 -- either test
 first_passes : (a b : Bool) → a ≡ true → (a || b) ≡ true
@@ -79,19 +88,22 @@ second_passes true b pass = refl
 second_passes false b pass = pass
 
 -- a bid that stands was made
-standing_was_made : (events : List Event) (private : Private) (seat : Seat) (amount sum : ℕ) → bid_of events private seat ≡ Some amount →
+standing_was_made : (events : List Event) (private : Private) (seat : Seat) (amount sum : ℕ)
+    → bid_of events private seat ≡ Some amount →
     nat_lt sum (amount + 5) ≡ true → is_near_ever sum events private ≡ true
 standing_was_made [] private seat amount sum stands near = absurd (cc)
 standing_was_made (event ∷ events) private seat amount sum stands near =
     let here : Bool = is_near_bid private sum (bidding_of event) in
     let rest : Bool = is_near_ever sum events private in
-    elim (flatten_cases (last_said (λ e. bid_said private seat (bidding_of e)) events) (bid_said private seat (bidding_of event)) amount stands) [
+    elim (flatten_cases (last_said (λ e. bid_said private seat (bidding_of e)) events)
+    (bid_said private seat (bidding_of event)) amount stands) [
       | inl later ↦ second_passes here rest (standing_was_made events private seat amount sum later near)
       | inr now ↦ first_passes here rest (near_here private seat amount sum (bidding_of event) now near)
     ]
 
 -- a bid on the private would be near the sum, or be near itself
-not_between : (i k later sum bid : ℕ) → ((k == i) && nat_lt later (bid + 5)) ≡ false → ((i == k) && nat_lt sum (later + 5)) ≡ false →
+not_between : (i k later sum bid : ℕ) → ((k == i) && nat_lt later (bid + 5)) ≡ false
+    → ((i == k) && nat_lt sum (later + 5)) ≡ false →
     nat_lt sum (bid + 5) ≡ true → (i == k) ≡ false
 not_between i k later sum bid far_later far_sum near = grind (arith, nat_tests)
 
@@ -102,24 +114,31 @@ no_owner false owner none = refl
 
 -- an event says nothing of a seat's bid on a private that it doesn't sell, where a bid on it would be near
 silent_here : (event : Event) (private : Private) (seat : Seat) (bid : Bid) (sum : ℕ) →
-    is_near_earlier (Some (Made private bid)) (bidding_of event) ≡ false → is_near_bid private sum (bidding_of event) ≡ false →
-    nat_lt sum (bid.amount + 5) ≡ true → owner_said private (ownership_of event) ≡ None → bid_said private seat (bidding_of event) ≡ None
+    is_near_earlier (Some (Made private bid)) (bidding_of event) ≡ false
+    → is_near_bid private sum (bidding_of event) ≡ false →
+    nat_lt sum (bid.amount + 5) ≡ true → owner_said private (ownership_of event) ≡ None
+    → bid_said private seat (bidding_of event) ≡ None
 silent_here (event.Bids other by amount) private seat bid sum far_later far_sum near unsold =
-    ap (λ (b : Bool). if b && (by.0 == seat.0) then Some (Some amount) else None) (not_between _ _ amount sum bid.amount far_later far_sum near)
+    ap (λ (b : Bool). if b && (by.0 == seat.0) then Some (Some amount) else None)
+    (not_between _ _ amount sum bid.amount far_later far_sum near)
 silent_here (event.Sold other by price) private seat bid sum far_later far_sum near unsold =
     ap (λ (b : Bool). if b then Some None else None) (no_owner (same_private other private) _ unsold)
 silent_here other private seat bid sum far_later far_sum near unsold = refl
 
 -- so say the events after the last bid on it
 silent_after : (events : List Event) (private : Private) (seat : Seat) (bid : Bid) (sum : ℕ) →
-    some_later_is_near (Some (Made private bid)) events ≡ false → is_near_ever sum events private ≡ false → nat_lt sum (bid.amount + 5) ≡ true →
+    some_later_is_near (Some (Made private bid)) events ≡ false → is_near_ever sum events private ≡ false
+    → nat_lt sum (bid.amount + 5) ≡ true →
     is_sold events private ≡ false → last_said (λ e. bid_said private seat (bidding_of e)) events ≡ None
 silent_after [] private seat bid sum far_later far_sum near unsold = refl
 silent_after (event ∷ events) private seat bid sum far_later far_sum near unsold =
-    let later = neither (is_near_earlier (Some (Made private bid)) (bidding_of event)) (some_later_is_near (Some (Made private bid)) events) far_later in
+    let later = neither (is_near_earlier (Some (Made private bid)) (bidding_of event))
+    (some_later_is_near (Some (Made private bid)) events) far_later in
     let sums = neither (is_near_bid private sum (bidding_of event)) (is_near_ever sum events private) far_sum in
-    let owner = neither_said (last_said (λ e. owner_said private (ownership_of e)) events) (owner_said private (ownership_of event)) unsold in
-    ap (λ (word : Option (Option ℕ)). option_or word (bid_said private seat (bidding_of event))) (silent_after events private seat bid sum later.1 sums.1 near owner.0)
+    let owner = neither_said (last_said (λ e. owner_said private (ownership_of e)) events)
+    (owner_said private (ownership_of event)) unsold in
+    ap (λ (word : Option (Option ℕ)). option_or word (bid_said private seat (bidding_of event)))
+    (silent_after events private seat bid sum later.1 sums.1 near owner.0)
     ∙ silent_here event private seat bid sum later.0 sums.0 near owner.1
 
 -- a bid of some seat stands on the private that the sum is near
@@ -138,12 +157,15 @@ both false b pass = absurd (cc)
 record NearLast (events : List Event) (private : Private) (sum : ℕ) (word : Option Bidding) : Type 0 where
   seat : Seat
   amount : ℕ
-  stands : option_flatten (option_or (last_said (λ e. bid_said private seat (bidding_of e)) events) (bid_said private seat word)) ≡ Some amount
+  stands : option_flatten (option_or (last_said (λ e. bid_said private seat (bidding_of e)) events)
+      (bid_said private seat word)) ≡ Some amount
   near : nat_lt sum (amount + 5) ≡ true
 
 -- a bid that the sum is near stands, where the sum is near no later one
-near_last : (word : Option Bidding) (events : List Event) (private : Private) (sum : ℕ) → some_later_is_near word events ≡ false →
-    is_near_ever sum events private ≡ false → is_near_bid private sum word ≡ true → is_sold events private ≡ false → NearLast events private sum word
+near_last : (word : Option Bidding) (events : List Event) (private : Private) (sum : ℕ)
+    → some_later_is_near word events ≡ false →
+    is_near_ever sum events private ≡ false → is_near_bid private sum word ≡ true → is_sold events private ≡ false
+    → NearLast events private sum word
 near_last None events private sum far_later far_sum near unsold = absurd (cc)
 near_last (Some (Ended other)) events private sum far_later far_sum near unsold = absurd (cc)
 near_last (Some (Made other bid)) events private sum far_later far_sum near unsold =
@@ -155,13 +177,15 @@ near_last (Some (Made other bid)) events private sum far_later far_sum near unso
     let silent = silent_after events private bid.seat bid sum far far_sum tests.1 unsold in
     let said : option_flatten (bid_said private bid.seat (Some (Made other bid))) ≡ Some bid.amount =
     ap (λ (b : Bool). option_flatten (if b && (bid.seat.0 == bid.seat.0) then Some (Some bid.amount) else None)) tests.0
-    ∙ ap (λ (b : Bool). option_flatten (if b then Some (Some bid.amount) else None)) ((Decides-eqb bid.seat.0 bid.seat.0).1 refl)
+    ∙ ap (λ (b : Bool). option_flatten (if b then Some (Some bid.amount) else None))
+    ((Decides-eqb bid.seat.0 bid.seat.0).1 refl)
     in
     record {
       seat = bid.seat;
       amount = bid.amount;
       stands =
-          earlier_holds (last_said (λ e. bid_said private bid.seat (bidding_of e)) events) (bid_said private bid.seat (Some (Made other bid))) silent
+          earlier_holds (last_said (λ e. bid_said private bid.seat (bidding_of e)) events)
+          (bid_said private bid.seat (Some (Made other bid))) silent
           ∙ said;
       near = tests.1;
     }
@@ -171,11 +195,19 @@ near_stands : (events : List Event) (private : Private) (sum : ℕ) → BidsRise
     is_near_ever sum events private ≡ true → NearStanding events private sum
 near_stands [] private sum rise unsold near = absurd (cc)
 near_stands (event ∷ events) private sum rise unsold near =
-    let still = (neither_said (last_said (λ e. owner_said private (ownership_of e)) events) (owner_said private (ownership_of event)) unsold).0 in
+    let still = (neither_said (last_said (λ e. owner_said private (ownership_of e)) events)
+    (owner_said private (ownership_of event)) unsold).0 in
     elim (one_of (is_near_bid private sum (bidding_of event)) (is_near_ever sum events private) near) [
       | inl later ↦
           let found = near_stands events private sum rise.1 still later in
-          record { seat = found.seat; amount = found.amount; stands = later_holds (last_said (λ e. bid_said private found.seat (bidding_of e)) events) (bid_said private found.seat (bidding_of event)) found.amount found.stands; near = found.near }
+          record {
+            seat = found.seat;
+            amount = found.amount;
+            stands =
+                later_holds (last_said (λ e. bid_said private found.seat (bidding_of e)) events)
+                (bid_said private found.seat (bidding_of event)) found.amount found.stands;
+            near = found.near;
+          }
       | inr now ↦
           let found = near_last (bidding_of event) events private sum rise.0 now.1 now.0 still in
           record { seat = found.seat; amount = found.amount; stands = found.stands; near = found.near }
@@ -203,12 +235,14 @@ near_or_far : (sum amount : ℕ) → nat_lt sum (amount + 5) ≡ true → amount
 near_or_far sum amount near far = grind (arith, nat_tests)
 
 -- a sum that is near no bid is near none that stands
-far_from_standing : (events : List Event) (private : Private) (seats sum : ℕ) (bids : List Bid) → is_near_ever sum events private ≡ false →
+far_from_standing : (events : List Event) (private : Private) (seats sum : ℕ) (bids : List Bid)
+    → is_near_ever sum events private ≡ false →
     EachBid (Stands events private 0 seats) bids → is_near sum bids ≡ false
 far_from_standing events private seats sum [] far stand = refl
 far_from_standing events private seats sum (bid ∷ bids) far stand =
     both_fail (nat_lt sum (bid.amount + 5)) (is_near sum bids)
-    (denied (nat_lt sum (bid.amount + 5)) (λ near. sym (standing_was_made events private bid.seat bid.amount sum stand.0.stands near) ∙ far))
+    (denied (nat_lt sum (bid.amount + 5)) (λ near. sym
+    (standing_was_made events private bid.seat bid.amount sum stand.0.stands near) ∙ far))
     (far_from_standing events private seats sum bids far stand.1)
 
 -- the standing bids suffice
@@ -223,7 +257,9 @@ standing_bids_suffice game private amount rise seated unsold =
     let found = near_stands game.events private amount rise unsold near in
     let under = seated private found.seat found.amount found.stands in
     let over : found.amount + 5 ≤ amount =
-    of_seat (λ bid. bid.amount + 5 ≤ amount) game.events private 0 game.seats found.seat found.amount (omega arith) (omega arith) found.stands (far_from_each amount bids far)
+    of_seat (λ bid. bid.amount + 5 ≤ amount) game.events private 0 game.seats found.seat found.amount (omega arith)
+    (omega arith) found.stands (far_from_each amount bids far)
     in
     near_or_far amount found.amount found.near over))
-    (λ far. far_from_standing game.events private game.seats amount bids far (bids_stand game.seats game.events private)))
+    (λ far. far_from_standing game.events private game.seats amount bids far
+    (bids_stand game.seats game.events private)))

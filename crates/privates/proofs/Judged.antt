@@ -24,10 +24,15 @@ within : (sum free : ℤ) → lt_z free sum ≡ false → sum ≤ℤ free
 within sum free kept = lt_z_no (subst (λ (b : Bool). T (not b)) (sym kept) tt)
 
 -- an order that breaks no rule can be done
-pub may_act : (seats : ℕ) (events : List Event) (seat : Seat) (used : Bool) (order : Order) → judgement_of seats events seat used order ≡ None → MayAct seats events seat order
+pub may_act : (seats : ℕ) (events : List Event) (seat : Seat) (used : Bool) (order : Order)
+    → judgement_of seats events seat used order ≡ None → MayAct seats events seat order
 may_act seats events seat used (BuyPrivate private) none =
     let kept = none_broken (private_purchase_rules seats events seat used private) none in
-    record { unsold = kept.0; free = within (pos (price_of events private)) (free_for seats events seat private) kept.1.1.0 }
+    record {
+      unsold = kept.0;
+      free = within (pos (price_of events private)) (free_for seats events seat private)
+          kept.1.1.0;
+    }
 may_act seats events seat used (Bid private amount) none =
     let kept = none_broken (bid_rules seats events seat used private amount) none in
     record {
@@ -37,44 +42,58 @@ may_act seats events seat used (Bid private amount) none =
 may_act seats events seat used other none = tt
 
 -- a seat's bids elsewhere stay where its bids do
-same_elsewhere : (before after : List Event) (seat : Seat) (private : Private) → SaysTheSame before after → bids_elsewhere_of after seat private ≡ bids_elsewhere_of before seat private
+same_elsewhere : (before after : List Event) (seat : Seat) (private : Private) → SaysTheSame before after
+    → bids_elsewhere_of after seat private ≡ bids_elsewhere_of before seat private
 same_elsewhere before after seat private same =
     let all = same.bids seat in
-    let one : tied_on after seat private ≡ tied_on before seat private = ap (λ bid. unwrap_or bid 0) (same.bid private seat) in
+    let one : tied_on after seat private ≡ tied_on before seat private =
+    ap (λ bid. unwrap_or bid 0) (same.bid private seat) in
     omega (arith, bids_split before seat private, bids_split after seat private)
 
 -- what a seat can spend stays where cash and bids do
-same_free : (seats : ℕ) (before after : List Event) (seat : Seat) (private : Private) → SaysTheSame before after → free_for seats after seat private ≡ free_for seats before seat private
+same_free : (seats : ℕ) (before after : List Event) (seat : Seat) (private : Private) → SaysTheSame before after
+    → free_for seats after seat private ≡ free_for seats before seat private
 same_free seats before after seat private same =
     ap (λ (cash : ℤ). cash -ℤ pos (bids_elsewhere_of after seat private)) (same.cash seats (party_at seat))
-    ∙ ap (λ (bids : ℕ). cash_of seats before (party_at seat) -ℤ pos bids) (same_elsewhere before after seat private same)
+    ∙ ap (λ (bids : ℕ). cash_of seats before (party_at seat) -ℤ pos bids)
+    (same_elsewhere before after seat private same)
 
 -- what the bank asks stays where SV's price does
-same_price : (before after : List Event) (private : Private) → SaysTheSame before after → price_of after private ≡ price_of before private
+same_price : (before after : List Event) (private : Private) → SaysTheSame before after
+    → price_of after private ≡ price_of before private
 same_price before after SchuylkillValley same = same.sv_price
 same_price before after other same = refl
 
 -- a seat can still pay
-same_pay : (seats : ℕ) (before after : List Event) (seat : Seat) (private : Private) (price same_price : ℕ) → SaysTheSame before after → same_price ≡ price → MayPay seats before seat private price → MayPay seats after seat private same_price
+same_pay : (seats : ℕ) (before after : List Event) (seat : Seat) (private : Private) (price same_price : ℕ)
+    → SaysTheSame before after → same_price ≡ price → MayPay seats before seat private price
+    → MayPay seats after seat private same_price
 same_pay seats before after seat private price same_price same is_same may =
     record {
       unsold = same.sold private ∙ may.unsold;
-      free = subst (λ (n : ℕ). pos n ≤ℤ free_for seats after seat private) (sym is_same) (subst (λ (free : ℤ). pos price ≤ℤ free) (sym (same_free seats before after seat private same)) may.free);
+      free = subst (λ (n : ℕ). pos n ≤ℤ free_for seats after seat private) (sym is_same)
+          (subst (λ (free : ℤ). pos price ≤ℤ free) (sym (same_free seats before after seat private same)) may.free);
     }
 
 -- an order can still be done where a list says the same
-still_may : (seats : ℕ) (before after : List Event) (seat : Seat) (order : Order) → SaysTheSame before after → MayAct seats before seat order → MayAct seats after seat order
+still_may : (seats : ℕ) (before after : List Event) (seat : Seat) (order : Order) → SaysTheSame before after
+    → MayAct seats before seat order → MayAct seats after seat order
 still_may seats before after seat (BuyPrivate private) same may =
-    same_pay seats before after seat private (price_of before private) (price_of after private) same (same_price before after private same) may
+    same_pay seats before after seat private (price_of before private) (price_of after private) same
+    (same_price before after private same) may
 still_may seats before after seat (Bid private amount) same may =
     record {
       pays = same_pay seats before after seat private amount amount same refl may.pays;
-      high = ap (λ bids. nat_lt amount (face_of private + 5) || is_near amount bids) (same.bids_on seats private) ∙ may.high;
+      high = ap (λ bids. nat_lt amount (face_of private + 5) || is_near amount bids) (same.bids_on seats private)
+          ∙ may.high;
     }
 still_may seats before after seat other same may = tt
 
 -- an order that breaks no rule can be done after its ruling
-pub may_act_after : (old new : Game) (event : Event) (seat : Seat) (used : Bool) (order : Order) → new ≡ with_event old event → IsQuiet event → judgement_of old.seats old.events seat used order ≡ None → MayAct new.seats new.events seat order
+pub may_act_after : (old new : Game) (event : Event) (seat : Seat) (used : Bool) (order : Order)
+    → new ≡ with_event old event → IsQuiet event → judgement_of old.seats old.events seat used order ≡ None
+    → MayAct new.seats new.events seat order
 may_act_after old new event seat used order told quiet none =
     subst (λ (game : Game). MayAct game.seats game.events seat order) (sym told)
-    (still_may old.seats old.events (old.events ++ event ∷ []) seat order (quiet_same old.events event quiet) (may_act old.seats old.events seat used order none))
+    (still_may old.seats old.events (old.events ++ event ∷ []) seat order (quiet_same old.events event quiet)
+    (may_act old.seats old.events seat used order none))

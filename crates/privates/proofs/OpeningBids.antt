@@ -61,11 +61,13 @@ is_no_bid (Some (Made private bid)) = false
 is_no_bid (Some (Ended private)) = true
 
 -- bids rise with one more event that is near no earlier bid
-rise_more : (events : List Event) (new : Event) → list_any (λ e. is_near_earlier (bidding_of e) (bidding_of new)) events ≡ false → BidsRise events →
+rise_more : (events : List Event) (new : Event)
+    → list_any (λ e. is_near_earlier (bidding_of e) (bidding_of new)) events ≡ false → BidsRise events →
     BidsRise (events ++ new ∷ [])
 rise_more [] new far rise = (refl, tt)
 rise_more (event ∷ events) new far rise =
-    let parts = neither (is_near_earlier (bidding_of event) (bidding_of new)) (list_any (λ e. is_near_earlier (bidding_of e) (bidding_of new)) events) far in (
+    let parts = neither (is_near_earlier (bidding_of event) (bidding_of new))
+    (list_any (λ e. is_near_earlier (bidding_of e) (bidding_of new)) events) far in (
       list_any-append (λ e. is_near_earlier (bidding_of event) (bidding_of e)) events (new ∷ [])
           ∙ ap (λ (b : Bool). b || (is_near_earlier (bidding_of event) (bidding_of new) || false)) rise.0
           ∙ ap (λ (b : Bool). b || false) parts.0,
@@ -73,45 +75,54 @@ rise_more (event ∷ events) new far rise =
     )
 
 -- what is no bid is near none
-never_near : (word : Option Bidding) (events : List Event) → is_no_bid word ≡ true → list_any (λ e. is_near_earlier (bidding_of e) word) events ≡ false
+never_near : (word : Option Bidding) (events : List Event) → is_no_bid word ≡ true
+    → list_any (λ e. is_near_earlier (bidding_of e) word) events ≡ false
 never_near word [] none = refl
 never_near None (event ∷ events) none = never_near None events none
 never_near (Some (Made private bid)) (event ∷ events) none = absurd (cc)
 never_near (Some (Ended private)) (event ∷ events) none = never_near (Some (Ended private)) events none
 
 -- a bid on a private that is or isn't ended stood before, if it stands
-not_ended : (here : Bool) (before : Option ℕ) (amount : ℕ) → unwrap_or (if here then Some None else None) before ≡ Some amount → before ≡ Some amount
+not_ended : (here : Bool) (before : Option ℕ) (amount : ℕ)
+    → unwrap_or (if here then Some None else None) before ≡ Some amount → before ≡ Some amount
 not_ended true before amount stands = absurd (cc)
 not_ended false before amount stands = stands
 
 -- a bid that stands after what is no bid stood before
-stood : (word : Option Bidding) (private : Private) (seat : Seat) (before : Option ℕ) (amount : ℕ) → is_no_bid word ≡ true →
+stood : (word : Option Bidding) (private : Private) (seat : Seat) (before : Option ℕ) (amount : ℕ)
+    → is_no_bid word ≡ true →
     unwrap_or (bid_said private seat word) before ≡ Some amount → before ≡ Some amount
 stood None private seat before amount none stands = stands
 stood (Some (Made other bid)) private seat before amount none stands = absurd (cc)
-stood (Some (Ended other)) private seat before amount none stands = not_ended (same_private other private) before amount stands
+stood (Some (Ended other)) private seat before amount none stands =
+    not_ended (same_private other private) before amount stands
 
 -- bids rise with one more event that is no bid
-with_other : (seats : ℕ) (events : List Event) (event : Event) → is_no_bid (bidding_of event) ≡ true → RiseAt seats events → RiseAt seats (events ++ event ∷ [])
+with_other : (seats : ℕ) (events : List Event) (event : Event) → is_no_bid (bidding_of event) ≡ true
+    → RiseAt seats events → RiseAt seats (events ++ event ∷ [])
 with_other seats events event none before =
     record {
       rise = rise_more events event (never_near (bidding_of event) events none) before.rise;
       seated = λ private seat amount stands.
           before.seated private seat amount
-          (stood (bidding_of event) private seat (bid_of events private seat) amount none (sym (bid_of_at_end events event private seat) ∙ stands));
+          (stood (bidding_of event) private seat (bid_of events private seat) amount none
+          (sym (bid_of_at_end events event private seat) ∙ stands));
     }
 
 -- with some events that are no bids
-with_others : (seats : ℕ) (events more : List Event) → list_all (λ e. is_no_bid (bidding_of e)) more ≡ true → RiseAt seats events →
+with_others : (seats : ℕ) (events more : List Event) → list_all (λ e. is_no_bid (bidding_of e)) more ≡ true
+    → RiseAt seats events →
     RiseAt seats (events ++ more)
-with_others seats events [] none before = subst (λ (list : List Event). RiseAt seats list) (sym (append-nil events)) before
+with_others seats events [] none before = subst (λ (list : List Event). RiseAt seats list) (sym (append-nil events))
+    before
 with_others seats events (event ∷ more) none before =
     let parts = both (is_no_bid (bidding_of event)) (list_all (λ e. is_no_bid (bidding_of e)) more) none in
     subst (λ (list : List Event). RiseAt seats list) (append_assoc events (event ∷ []) more)
     (with_others seats (events ++ event ∷ []) more parts.1 (with_other seats events event parts.0 before))
 
 -- in either of two cases
-in_either : (seats : ℕ) (b : Bool) (one other : List Event) → RiseAt seats one → RiseAt seats other → RiseAt seats (if b then one else other)
+in_either : (seats : ℕ) (b : Bool) (one other : List Event) → RiseAt seats one → RiseAt seats other
+    → RiseAt seats (if b then one else other)
 in_either seats true one other first second = first
 in_either seats false one other first second = second
 
@@ -126,10 +137,12 @@ sale_bids_nothing events private.CamdenAmboy buyer price = refl
 sale_bids_nothing events private.BaltimoreOhio buyer price = refl
 
 -- after a sale
-after_sale_rise : (seats : ℕ) (events : List Event) (private : Private) (buyer : Seat) (price : ℕ) → RiseAt seats events →
+after_sale_rise : (seats : ℕ) (events : List Event) (private : Private) (buyer : Seat) (price : ℕ)
+    → RiseAt seats events →
     RiseAt seats (after_sale events private buyer price)
 after_sale_rise seats events private buyer price before =
-    with_others seats events (event.Sold private buyer price ∷ gifts events private buyer) (sale_bids_nothing events private buyer price) before
+    with_others seats events (event.Sold private buyer price ∷ gifts events private buyer)
+    (sale_bids_nothing events private buyer price) before
 
 -- after the sale that the bids on a private bring
 after_bids_rise : (seats : ℕ) (events : List Event) (private : Private) (bids : List Bid) → RiseAt seats events →
@@ -139,15 +152,19 @@ after_bids_rise seats events private (bid ∷ []) before = after_sale_rise seats
 after_bids_rise seats events private (bid ∷ other ∷ bids) before = after_sale_rise seats events private _ _ before
 
 -- after that of the cheapest private
-after_cheapest_rise : (seats : ℕ) (events : List Event) (cheapest : Option Private) → RiseAt seats events → RiseAt seats (settled_of seats events cheapest)
+after_cheapest_rise : (seats : ℕ) (events : List Event) (cheapest : Option Private) → RiseAt seats events
+    → RiseAt seats (settled_of seats events cheapest)
 after_cheapest_rise seats events None before = before
-after_cheapest_rise seats events (Some private) before = after_bids_rise seats events private (bids_on seats events private) before
+after_cheapest_rise seats events (Some private) before =
+    after_bids_rise seats events private (bids_on seats events private) before
 
 -- after some of these
-after_steps_rise : (seats n : ℕ) (events : List Event) → RiseAt seats events → RiseAt seats (iterate (settle_auctions seats) n events)
+after_steps_rise : (seats n : ℕ) (events : List Event) → RiseAt seats events
+    → RiseAt seats (iterate (settle_auctions seats) n events)
 after_steps_rise seats zero events before = before
 after_steps_rise seats (suc n) events before =
-    after_cheapest_rise seats (iterate (settle_auctions seats) n events) (cheapest_of (iterate (settle_auctions seats) n events)) (after_steps_rise seats n events before)
+    after_cheapest_rise seats (iterate (settle_auctions seats) n events)
+    (cheapest_of (iterate (settle_auctions seats) n events)) (after_steps_rise seats n events before)
 
 -- after the sales that follow from a sale
 settled_rise : (seats : ℕ) (events : List Event) → RiseAt seats events → RiseAt seats (settled seats events)
@@ -157,7 +174,8 @@ settled_rise seats events before = after_steps_rise seats 6 events before
 -- after BROKEN, where the bank breaks
 broken_rise : (seats : ℕ) (events : List Event) → RiseAt seats events → RiseAt seats (with_broken seats events)
 broken_rise seats events before =
-    in_either seats (breaks seats events) (events ++ event.Broken ∷ []) events (with_other seats events event.Broken refl before) before
+    in_either seats (breaks seats events) (events ++ event.Broken ∷ []) events
+    (with_other seats events event.Broken refl before) before
 
 -- after a revenue
 revenue_rise : (seats : ℕ) (events : List Event) (private : Private) (owner : Option Holder) → RiseAt seats events →
@@ -168,17 +186,21 @@ revenue_rise seats events private (Some owner) before =
     (with_other seats events (event.Revenue private owner (revenue_of private)) refl before)
 
 -- after the revenues of some privates
-revenues_rise : (seats : ℕ) (events : List Event) (paying : List Private) → RiseAt seats events → RiseAt seats (after_revenues seats events paying)
+revenues_rise : (seats : ℕ) (events : List Event) (paying : List Private) → RiseAt seats events
+    → RiseAt seats (after_revenues seats events paying)
 revenues_rise seats events [] before = before
 revenues_rise seats events (private ∷ others) before =
     revenues_rise seats (paid_to_owner seats events private (owner_of events private)) others
     (revenue_rise seats events private (owner_of events private) before)
 
 -- after the fall of SV's price
-fall_rise : (seats : ℕ) (events : List Event) (price : ℕ) (holder : Seat) → RiseAt seats events → RiseAt seats (after_fall seats events price holder)
+fall_rise : (seats : ℕ) (events : List Event) (price : ℕ) (holder : Seat) → RiseAt seats events
+    → RiseAt seats (after_fall seats events price holder)
 fall_rise seats events price holder before =
     in_either seats (price == 0) (settled seats (given_away events holder)) (events ++ event.Price price ∷ [])
-    (settled_rise seats (given_away events holder) (after_sale_rise seats (events ++ event.Price 0 ∷ []) private.SchuylkillValley holder 0 (with_other seats events (event.Price 0) refl before)))
+    (settled_rise seats (given_away events holder)
+    (after_sale_rise seats (events ++ event.Price 0 ∷ []) private.SchuylkillValley holder 0
+    (with_other seats events (event.Price 0) refl before)))
     (with_other seats events (event.Price price) refl before)
 
 -- after the close
@@ -186,14 +208,17 @@ closed_rise : (seats : ℕ) (events : List Event) → RiseAt seats events → Ri
 closed_rise seats events before =
     in_either seats (all_sold events) events (after_passing seats events) before
     (in_either seats (is_sold events private.SchuylkillValley) (after_revenues seats events privates)
-    (after_fall seats events (sv_price_of events - 5) (priority_of seats events)) (revenues_rise seats events privates before)
+    (after_fall seats events (sv_price_of events - 5) (priority_of seats events))
+    (revenues_rise seats events privates before)
     (fall_rise seats events (sv_price_of events - 5) (priority_of seats events) before))
 
 -- after a bid that a seat at the table may make
-bid_rise : (seats : ℕ) (events : List Event) (seat : Seat) (private : Private) (amount : ℕ) → MayBid seats events seat private amount →
+bid_rise : (seats : ℕ) (events : List Event) (seat : Seat) (private : Private) (amount : ℕ)
+    → MayBid seats events seat private amount →
     seat.0 < seats → RiseAt seats events → RiseAt seats (events ++ event.Bids private seat amount ∷ [])
 bid_rise seats events seat private amount may under before =
-    let suffice = standing_bids_suffice (record { seats = seats; events = events }) private amount before.rise before.seated may.pays.unsold in
+    let suffice = standing_bids_suffice (record { seats = seats; events = events }) private amount before.rise
+    before.seated may.pays.unsold in
     let far : is_near_ever amount events private ≡ false =
     (neither (nat_lt amount (face_of private + 5)) (is_near_ever amount events private) (sym suffice ∙ may.high)).1
     in
@@ -203,8 +228,10 @@ bid_rise seats events seat private amount may under before =
     }
 
 -- after a line whose order is done
-order_rise : (seats : ℕ) (seat : Seat) (turn : InTurn) (number : ℕ) → seat.0 < seats → RiseAt seats turn.events → (condition : Option Condition) (done : Order) →
-    refusal_of seats turn.events seat turn.actions done ≡ None → RiseAt seats (after_ruling seats seat turn number (Obeyed condition done)).events
+order_rise : (seats : ℕ) (seat : Seat) (turn : InTurn) (number : ℕ) → seat.0 < seats → RiseAt seats turn.events
+    → (condition : Option Condition) (done : Order) →
+    refusal_of seats turn.events seat turn.actions done ≡ None
+    → RiseAt seats (after_ruling seats seat turn number (Obeyed condition done)).events
 order_rise seats seat turn number under before condition (order.BuyPrivate private) kept =
     let told : Event = event.Ruled seat number (Obeyed condition (order.BuyPrivate private)) in
     let ruled : List Event = turn.events ++ told ∷ [] in
@@ -213,9 +240,26 @@ order_rise seats seat turn number under before condition (order.BuyPrivate priva
 order_rise seats seat turn number under before condition (order.Bid private amount) kept =
     let told : Event = event.Ruled seat number (Obeyed condition (order.Bid private amount)) in
     let ruled : List Event = turn.events ++ told ∷ [] in
-    let none = none_as_refusal Opening (judgement_of seats turn.events seat turn.actions (order.Bid private amount)) kept in
+    let none = none_as_refusal Opening (judgement_of seats turn.events seat turn.actions (order.Bid private amount))
+    kept in
     bid_rise seats ruled seat private amount
-    (may_act_after (record { seats = seats; events = turn.events }) (record { seats = seats; events = ruled }) told seat turn.actions (order.Bid private amount) refl (record { payment = refl; ownership = refl; bidding = refl; transfer = refl; par = refl; square = refl; office = refl; float = refl; sv_price = refl; train = refl; tile = refl; token = refl }) none)
+    (may_act_after (record { seats = seats; events = turn.events }) (record { seats = seats; events = ruled }) told
+    seat turn.actions (order.Bid private amount) refl
+    (record {
+      payment = refl;
+      ownership = refl;
+      bidding = refl;
+      transfer = refl;
+      par = refl;
+      square =
+          refl;
+      office = refl;
+      float = refl;
+      sv_price = refl;
+      train = refl;
+      tile = refl;
+      token = refl;
+    }) none)
     under (with_other seats turn.events told refl before)
 order_rise seats seat turn number under before condition other kept = absurd (cc)
 
@@ -223,8 +267,10 @@ order_rise seats seat turn number under before condition other kept = absurd (cc
 line_rise : (seats : ℕ) (seat : Seat) (turn : InTurn) (line : Numbered) → seat.0 < seats → RiseAt seats turn.events →
     RiseAt seats (after_opening_line seats seat turn line).events
 line_rise seats seat turn line under before =
-    of_ruled (acted seats seat) (refusal_of seats turn.events seat turn.actions) seat turn line.number (λ (after : InTurn). RiseAt seats after.events)
-    (λ (ruling : Ruling) (none : obeyed_by ruling ≡ None). with_other seats turn.events (event.Ruled seat line.number ruling) refl before)
+    of_ruled (acted seats seat) (refusal_of seats turn.events seat turn.actions) seat turn line.number
+    (λ (after : InTurn). RiseAt seats after.events)
+    (λ (ruling : Ruling) (none : obeyed_by ruling ≡ None). with_other seats turn.events
+    (event.Ruled seat line.number ruling) refl before)
     (order_rise seats seat turn line.number under before) has_place_in_group turn.events line
 
 -- the rules of an opening round at a table of so many seats: a line of a seat elsewhere does nothing
@@ -248,7 +294,8 @@ says_under : (a b : ℕ) → a < b → nat_lt a b ≡ true
 says_under a b under = grind (arith, nat_tests)
 
 -- after a line where the test of its seat passes
-tested_rise : (seats : ℕ) (seat : Seat) (turn : InTurn) (line : Numbered) (b : Bool) → (b ≡ true → seat.0 < seats) → RiseAt seats turn.events →
+tested_rise : (seats : ℕ) (seat : Seat) (turn : InTurn) (line : Numbered) (b : Bool) → (b ≡ true → seat.0 < seats)
+    → RiseAt seats turn.events →
     RiseAt seats (if b then after_opening_line seats seat turn line else turn).events
 tested_rise seats seat turn line true under before =
     line_rise seats seat turn line (under refl) before
@@ -258,7 +305,8 @@ module _ (seats : ℕ) (some : 0 < seats) (start : InPlay (List Event) Numbered)
   -- each turn is of a seat at the table
   turn_at_table : (n : ℕ) → (iterate (after_turn (turns_of opening_rules seats)) n start).seat < seats
   turn_at_table zero = first
-  turn_at_table (suc n) = left_within seats (Some (seat_at (iterate (after_turn (turns_of opening_rules seats)) n start).seat)) some
+  turn_at_table (suc n) = left_within seats (Some
+      (seat_at (iterate (after_turn (turns_of opening_rules seats)) n start).seat)) some
 
   -- so it is one by the rules at the table
   turn_by_rules : (at : InPlay (List Event) Numbered) → at.seat < seats →
@@ -268,11 +316,13 @@ module _ (seats : ℕ) (some : 0 < seats) (start : InPlay (List Event) Numbered)
       let group : List Numbered = next_group (groups_at at.groups at.seat) in
       ap (λ (b : Bool).
       turn_over (turns_of opening_rules seats) at
-      (turned opening_rules (after_each (λ (turn : InTurn) (line : Numbered). if b then after_opening_line seats seat turn line else turn) (in_turn at.now false) group)))
+      (turned opening_rules (after_each (λ (turn : InTurn) (line : Numbered). if b then after_opening_line seats seat
+      turn line else turn) (in_turn at.now false) group)))
       (sym (says_under at.seat seats under))
 
   -- and so are all of them
-  turns_by_rules : (n : ℕ) → iterate (after_turn (turns_of opening_rules seats)) n start ≡ iterate (after_turn (turns_of (rules_at seats) seats)) n start
+  turns_by_rules : (n : ℕ) → iterate (after_turn (turns_of opening_rules seats)) n start
+      ≡ iterate (after_turn (turns_of (rules_at seats) seats)) n start
   turns_by_rules zero = refl
   turns_by_rules (suc n) =
       turn_by_rules (iterate (after_turn (turns_of opening_rules seats)) n start) (turn_at_table n)
@@ -292,7 +342,8 @@ by_rules file round old new played some =
             reached = sym (same played.turns.steps) ∙ played.turns.reached;
             over_then = played.turns.over_then;
             not_before = λ k before.
-                ap (λ (at : InPlay (List Event) Numbered). turns_over (turns_of opening_rules old.seats) at) (sym (same k)) ∙ played.turns.not_before k before;
+                ap (λ (at : InPlay (List Event) Numbered). turns_over (turns_of opening_rules old.seats) at)
+                (sym (same k)) ∙ played.turns.not_before k before;
           };
       after = played.after;
     }
@@ -309,8 +360,10 @@ opening_bids_rise file round old new played some seated rise =
     (record {
       stays = λ events before. before;
       further = λ a b c first second before. second (first before);
-      standing = λ seat events line before. with_other seats events (event.Ruled seat line.number (standing_ruling events line)) refl before;
-      line = λ any seat turn line before. tested_rise seats seat turn line (nat_lt seat.0 seats) (λ under. is_under seat.0 seats under) before;
+      standing = λ seat events line before. with_other seats events
+          (event.Ruled seat line.number (standing_ruling events line)) refl before;
+      line = λ any seat turn line before. tested_rise seats seat turn line (nat_lt seat.0 seats)
+          (λ under. is_under seat.0 seats under) before;
       passes = λ events seat before. with_other seats events (event.Passes seat) refl before;
       closed = λ any events before. closed_rise seats events before;
       leaves = λ events seat lines before. with_other seats events (event.Left seat lines) refl before;

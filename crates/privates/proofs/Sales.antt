@@ -46,83 +46,117 @@ fallen_price before after fallen some price =
     ]
 
 -- the fall of SV's price, but not to 0
-pub price_underway : (game new : Game) (price : ℕ) → price ≡ sv_price_of game.events - 5 → price ≢ 0 → new ≡ with_event game (event.Price price) → IsUnderway game → IsUnderway new
+pub price_underway : (game new : Game) (price : ℕ) → price ≡ sv_price_of game.events - 5 → price ≢ 0
+    → new ≡ with_event game (event.Price price) → IsUnderway game → IsUnderway new
 price_underway game new price fallen some told before =
     event_underway game new (event.Price price) refl (λ its seat. refl) told
-    (price_sound game price (fallen_price (sv_price_of game.events) price fallen some before.sound.price) (λ none. absurd (some none)) before.sound) before
+    (price_sound game price (fallen_price (sv_price_of game.events) price fallen some before.sound.price)
+    (λ none. absurd (some none)) before.sound) before
 
 -- one list of the same events
 pub two_more : {A : Type 0} (events : List A) (a b : A) → (events ++ a ∷ []) ++ b ∷ [] ≡ events ++ a ∷ b ∷ []
 two_more events a b = append_assoc events (a ∷ []) (b ∷ [])
 
 -- so of four more
-pub four_more : {A : Type 0} (events : List A) (a b c d : A) → (((events ++ a ∷ []) ++ b ∷ []) ++ c ∷ []) ++ d ∷ [] ≡ events ++ a ∷ b ∷ c ∷ d ∷ []
+pub four_more : {A : Type 0} (events : List A) (a b c d : A)
+    → (((events ++ a ∷ []) ++ b ∷ []) ++ c ∷ []) ++ d ∷ [] ≡ events ++ a ∷ b ∷ c ∷ d ∷ []
 four_more events a b c d =
-    append_assoc ((events ++ a ∷ []) ++ b ∷ []) (c ∷ []) (d ∷ []) ∙ append_assoc (events ++ a ∷ []) (b ∷ []) (c ∷ d ∷ []) ∙ append_assoc events (a ∷ []) (b ∷ c ∷ d ∷ [])
+    append_assoc ((events ++ a ∷ []) ++ b ∷ []) (c ∷ []) (d ∷ [])
+    ∙ append_assoc (events ++ a ∷ []) (b ∷ []) (c ∷ d ∷ []) ∙ append_assoc events (a ∷ []) (b ∷ c ∷ d ∷ [])
 
 -- SV's price comes to 0, and it is given away
-pub gift_underway : (game new : Game) (seat : Seat) → is_sold game.events SchuylkillValley ≡ false → seat.0 < game.seats → new ≡ with_event (with_event game (event.Price 0)) (event.Sold SchuylkillValley seat 0) → IsUnderway game → IsUnderway new
+pub gift_underway : (game new : Game) (seat : Seat) → is_sold game.events SchuylkillValley ≡ false
+    → seat.0 < game.seats → new ≡ with_event (with_event game (event.Price 0)) (event.Sold SchuylkillValley seat 0)
+    → IsUnderway game → IsUnderway new
 gift_underway game new seat unsold seated told before =
     subst IsUnderway (sym told)
     (record {
       sound = gift_sound game seat unsold seated before.sound;
-      waiting = waiting_silent (game.events ++ event.Price 0 ∷ []) (event.Sold SchuylkillValley seat 0) refl (λ its other. refl) (waiting_silent game.events (event.Price 0) refl (λ its other. refl) before.waiting);
+      waiting = waiting_silent (game.events ++ event.Price 0 ∷ []) (event.Sold SchuylkillValley seat 0) refl
+          (λ its other. refl) (waiting_silent game.events (event.Price 0) refl (λ its other. refl) before.waiting);
     })
 
 -- a sale without a gift
-pub sold_underway : (game new : Game) (private : Private) (buyer : Seat) (price : ℕ) → MayPay game.seats game.events buyer private price → buyer.0 < game.seats → new ≡ with_event game (event.Sold private buyer price) → IsUnderway game → IsUnderway new
+pub sold_underway : (game new : Game) (private : Private) (buyer : Seat) (price : ℕ)
+    → MayPay game.seats game.events buyer private price → buyer.0 < game.seats
+    → new ≡ with_event game (event.Sold private buyer price) → IsUnderway game → IsUnderway new
 sold_underway game new private buyer price may seated told before =
-    event_underway game new (event.Sold private buyer price) refl (λ its seat. refl) told (sale_sound game private buyer price may.unsold seated may.free before.sound) before
+    event_underway game new (event.Sold private buyer price) refl (λ its seat. refl) told
+    (sale_sound game private buyer price may.unsold seated may.free before.sound) before
 
 -- the sale of CA with its gift
-pub ca_underway : (game new : Game) (buyer : Seat) (price : ℕ) → MayPay game.seats game.events buyer CamdenAmboy price → buyer.0 < game.seats → new ≡ with_event (with_event game (event.Sold CamdenAmboy buyer price)) (event.Given company.Pennsylvania buyer 1) → IsUnderway game → IsUnderway new
+pub ca_underway : (game new : Game) (buyer : Seat) (price : ℕ) → MayPay game.seats game.events buyer CamdenAmboy price
+    → buyer.0 < game.seats → new ≡ with_event (with_event game (event.Sold CamdenAmboy buyer price))
+    (event.Given company.Pennsylvania buyer 1) → IsUnderway game → IsUnderway new
 ca_underway game new buyer price may seated told before =
     subst IsUnderway (sym told)
     (record {
-      sound = ca_sound game buyer price may.unsold (before.waiting.pennsylvania may.unsold) seated may.free before.sound;
-      waiting = waiting_silent (game.events ++ event.Sold CamdenAmboy buyer price ∷ []) (event.Given company.Pennsylvania buyer 1) refl (λ its other. refl) (waiting_silent game.events (event.Sold CamdenAmboy buyer price) refl (λ its other. refl) before.waiting);
+      sound = ca_sound game buyer price may.unsold (before.waiting.pennsylvania may.unsold) seated may.free
+          before.sound;
+      waiting = waiting_silent (game.events ++ event.Sold CamdenAmboy buyer price ∷ [])
+          (event.Given company.Pennsylvania buyer 1) refl (λ its other. refl)
+          (waiting_silent game.events (event.Sold CamdenAmboy buyer price) refl (λ its other. refl) before.waiting);
     })
 
 -- a private that is sold is sold
-sold_now : (events : List Event) (buyer : Seat) (price : ℕ) → is_sold (events ++ event.Sold BaltimoreOhio buyer price ∷ []) BaltimoreOhio ≡ true
+sold_now : (events : List Event) (buyer : Seat) (price : ℕ)
+    → is_sold (events ++ event.Sold BaltimoreOhio buyer price ∷ []) BaltimoreOhio ≡ true
 sold_now events buyer price =
-    ap is_some (last_said_at_end (λ e. owner_said BaltimoreOhio (ownership_of e)) events (event.Sold BaltimoreOhio buyer price))
+    ap is_some (last_said_at_end (λ e. owner_said BaltimoreOhio (ownership_of e)) events
+    (event.Sold BaltimoreOhio buyer price))
 
 -- BO's par places no other company
-places_baltimore : (square : Option Square) → square_said company.Pennsylvania (placed company.BaltimoreOhio square) ≡ None
+places_baltimore : (square : Option Square) → square_said company.Pennsylvania (placed company.BaltimoreOhio square)
+    ≡ None
 places_baltimore None = refl
 places_baltimore (Some square) = refl
 
 -- BO's par, once BOP is sold
-par_waiting : (events : List Event) (price : ℕ) → is_sold events BaltimoreOhio ≡ true → IsWaiting events → IsWaiting (events ++ event.Par company.BaltimoreOhio price ∷ [])
+par_waiting : (events : List Event) (price : ℕ) → is_sold events BaltimoreOhio ≡ true → IsWaiting events
+    → IsWaiting (events ++ event.Par company.BaltimoreOhio price ∷ [])
 par_waiting events price sold before =
     let par : Event = event.Par company.BaltimoreOhio price in
     record {
       pennsylvania = λ unsold.
-          last_said_before (λ e. square_said company.Pennsylvania (square_set e)) (events ++ par ∷ []) events par refl (places_baltimore (par_square_of price))
+          last_said_before (λ e. square_said company.Pennsylvania (square_set e)) (events ++ par ∷ []) events par refl
+          (places_baltimore (par_square_of price))
           ∙ before.pennsylvania (unsold_before events par CamdenAmboy unsold);
       baltimore = λ unsold. let still = unsold_before events par BaltimoreOhio unsold in cc;
       limits = limits_kept events par (λ its seat. refl) before.limits;
     }
 
 -- the sale of BOP with the start of BO
-pub bop_underway : (game new : Game) (buyer : Seat) (price par : ℕ) → MayPay game.seats game.events buyer BaltimoreOhio price → buyer.0 < game.seats → par ≡ par_set_by game.events buyer → new ≡ with_event (with_event (with_event (with_event game (event.Sold BaltimoreOhio buyer price)) (event.Par company.BaltimoreOhio par)) (event.Given company.BaltimoreOhio buyer 2)) (event.President company.BaltimoreOhio buyer) → IsUnderway game → IsUnderway new
+pub bop_underway : (game new : Game) (buyer : Seat) (price par : ℕ)
+    → MayPay game.seats game.events buyer BaltimoreOhio price → buyer.0 < game.seats
+    → par ≡ par_set_by game.events buyer → new ≡ with_event
+    (with_event (with_event (with_event game (event.Sold BaltimoreOhio buyer price))
+    (event.Par company.BaltimoreOhio par)) (event.Given company.BaltimoreOhio buyer 2))
+    (event.President company.BaltimoreOhio buyer) → IsUnderway game → IsUnderway new
 bop_underway game new buyer price par may seated is_par told before =
     let sold : Game = with_event game (event.Sold BaltimoreOhio buyer price) in
     let unplaced : square_of sold.events company.BaltimoreOhio ≡ None =
-    square_of_before game.events (event.Sold BaltimoreOhio buyer price) company.BaltimoreOhio refl ∙ before.waiting.baltimore may.unsold
+    square_of_before game.events (event.Sold BaltimoreOhio buyer price) company.BaltimoreOhio refl
+    ∙ before.waiting.baltimore may.unsold
     in
-    let after_sold : IsWaiting sold.events = waiting_silent game.events (event.Sold BaltimoreOhio buyer price) refl (λ its other. refl) before.waiting in
-    let after_par : IsWaiting (sold.events ++ event.Par company.BaltimoreOhio par ∷ []) = par_waiting sold.events par (sold_now game.events buyer price) after_sold in
-    let after_gift = waiting_silent (sold.events ++ event.Par company.BaltimoreOhio par ∷ []) (event.Given company.BaltimoreOhio buyer 2) refl (λ its other. refl) after_par in
+    let after_sold : IsWaiting sold.events = waiting_silent game.events (event.Sold BaltimoreOhio buyer price) refl
+    (λ its other. refl) before.waiting in
+    let after_par : IsWaiting (sold.events ++ event.Par company.BaltimoreOhio par ∷ []) =
+    par_waiting sold.events par (sold_now game.events buyer price) after_sold in
+    let after_gift = waiting_silent (sold.events ++ event.Par company.BaltimoreOhio par ∷ [])
+    (event.Given company.BaltimoreOhio buyer 2) refl (λ its other. refl) after_par in
     subst IsUnderway (sym told)
     (record {
-      sound = started_sound sold company.BaltimoreOhio buyer par (ap is_par_value is_par ∙ par_set_is_par game.events buyer) unplaced seated (sale_sound game BaltimoreOhio buyer price may.unsold seated may.free before.sound);
-      waiting = waiting_silent ((sold.events ++ event.Par company.BaltimoreOhio par ∷ []) ++ event.Given company.BaltimoreOhio buyer 2 ∷ []) (event.President company.BaltimoreOhio buyer) refl (λ its other. refl) after_gift;
+      sound = started_sound sold company.BaltimoreOhio buyer par
+          (ap is_par_value is_par ∙ par_set_is_par game.events buyer) unplaced seated
+          (sale_sound game BaltimoreOhio buyer price may.unsold seated may.free before.sound);
+      waiting = waiting_silent ((sold.events ++ event.Par company.BaltimoreOhio par ∷ [])
+          ++ event.Given company.BaltimoreOhio buyer 2 ∷ []) (event.President company.BaltimoreOhio buyer) refl
+          (λ its other. refl) after_gift;
     })
 
 -- a sum that is near none of some bids is 5 over each at least
-pub far_from_each : (amount : ℕ) (bids : List Bid) → is_near amount bids ≡ false → EachBid (λ bid. bid.amount + 5 ≤ amount) bids
+pub far_from_each : (amount : ℕ) (bids : List Bid) → is_near amount bids ≡ false
+    → EachBid (λ bid. bid.amount + 5 ≤ amount) bids
 far_from_each amount [] far = tt
 far_from_each amount (bid ∷ bids) far =
     let here : bid.amount + 5 ≤ amount = grind (arith, nat_tests) in
@@ -130,18 +164,22 @@ far_from_each amount (bid ∷ bids) far =
     (here, far_from_each amount bids rest)
 
 -- what holds of each bid after a seat's, if it has one
-rest_of : (holds : Bid → Type 0) (seat : Seat) (found : Option ℕ) (rest : List Bid) → EachBid holds (as_bid seat found ++ rest) → EachBid holds rest
+rest_of : (holds : Bid → Type 0) (seat : Seat) (found : Option ℕ) (rest : List Bid)
+    → EachBid holds (as_bid seat found ++ rest) → EachBid holds rest
 rest_of holds seat None rest all = all
 rest_of holds seat (Some amount) rest all = all.1
 
 -- what holds of a seat's bid
-head_of : (holds : Bid → Type 0) (seat : Seat) (found : Option ℕ) (amount : ℕ) (rest : List Bid) → found ≡ Some amount → EachBid holds (as_bid seat found ++ rest) → holds (record { seat = seat; amount = amount })
+head_of : (holds : Bid → Type 0) (seat : Seat) (found : Option ℕ) (amount : ℕ) (rest : List Bid) → found ≡ Some amount
+    → EachBid holds (as_bid seat found ++ rest) → holds (record { seat = seat; amount = amount })
 head_of holds seat None amount rest is all = cc
 head_of holds seat (Some found) amount rest is all =
     let same : found ≡ amount = cc in subst (λ (n : ℕ). holds (record { seat = seat; amount = n })) same all.0
 
 -- of a seat's bid, among those of seats from one on, holds what holds of each
-pub of_seat : (holds : Bid → Type 0) (events : List Event) (private : Private) (first count : ℕ) (other : Seat) (amount : ℕ) → first ≤ other.0 → other.0 < first + count → bid_of events private other ≡ Some amount → EachBid holds (bids_from events private first count) → holds (record { seat = other; amount = amount })
+pub of_seat : (holds : Bid → Type 0) (events : List Event) (private : Private) (first count : ℕ) (other : Seat)
+    (amount : ℕ) → first ≤ other.0 → other.0 < first + count → bid_of events private other ≡ Some amount
+    → EachBid holds (bids_from events private first count) → holds (record { seat = other; amount = amount })
 of_seat holds events private first zero other amount from under is all = absurd (omega arith)
 of_seat holds events private first (suc count) other amount from under is all =
     let rest : List Bid = bids_from events private (first + 1) count in
@@ -149,8 +187,10 @@ of_seat holds events private first (suc count) other amount from under is all =
     elim (cases_eq other.0 first) [
       | inl same ↦
           let seat : seat_at first ≡ other = ap seat_at (sym same) in
-          subst (λ (s : Seat). holds (record { seat = s; amount = amount })) seat (head_of holds (seat_at first) found amount rest (ap (bid_of events private) seat ∙ is) all)
-      | inr apart ↦ of_seat holds events private (first + 1) count other amount (omega arith) (omega arith) is (rest_of holds (seat_at first) found rest all)
+          subst (λ (s : Seat). holds (record { seat = s; amount = amount })) seat
+          (head_of holds (seat_at first) found amount rest (ap (bid_of events private) seat ∙ is) all)
+      | inr apart ↦ of_seat holds events private (first + 1) count other amount (omega arith) (omega arith) is
+          (rest_of holds (seat_at first) found rest all)
     ]
 
 -- neither of two tests passes
@@ -159,15 +199,23 @@ neither true b fails = absurd (cc)
 neither false b fails = (refl, fails)
 
 -- no other seat has bid what a seat may bid
-no_other_bid : (game : Game) (private : Private) (seat : Seat) (amount : ℕ) → MayBid game.seats game.events seat private amount → IsSound game → (other : Seat) → bid_of game.events private other ≡ Some amount → other ≡ seat
+no_other_bid : (game : Game) (private : Private) (seat : Seat) (amount : ℕ)
+    → MayBid game.seats game.events seat private amount → IsSound game → (other : Seat)
+    → bid_of game.events private other ≡ Some amount → other ≡ seat
 no_other_bid game private seat amount may sound other is =
-    let far = far_from_each amount (bids_on game.seats game.events private) (neither (nat_lt amount (face_of private + 5)) (is_near amount (bids_on game.seats game.events private)) may.high).1 in
+    let far = far_from_each amount (bids_on game.seats game.events private)
+    (neither (nat_lt amount (face_of private + 5)) (is_near amount (bids_on game.seats game.events private))
+    may.high).1 in
     let under = sound.seated private other amount is in
-    let over : amount + 5 ≤ amount = of_seat (λ bid. bid.amount + 5 ≤ amount) game.events private 0 game.seats other amount (omega arith) (omega arith) is far in
+    let over : amount + 5 ≤ amount = of_seat (λ bid. bid.amount + 5 ≤ amount) game.events private 0 game.seats other
+    amount (omega arith) (omega arith) is far in
     absurd (omega arith)
 
 -- a bid
-pub bid_underway : (game new : Game) (private : Private) (seat : Seat) (amount : ℕ) → amount ≤ 99999 → seat.0 < game.seats → MayBid game.seats game.events seat private amount → new ≡ with_event game (event.Bids private seat amount) → IsUnderway game → IsUnderway new
+pub bid_underway : (game new : Game) (private : Private) (seat : Seat) (amount : ℕ) → amount ≤ 99999
+    → seat.0 < game.seats → MayBid game.seats game.events seat private amount
+    → new ≡ with_event game (event.Bids private seat amount) → IsUnderway game → IsUnderway new
 bid_underway game new private seat amount small seated may told before =
     event_underway game new (event.Bids private seat amount) refl (λ its other. refl) told
-    (bid_sound game private seat amount small seated (no_other_bid game private seat amount may before.sound) may.pays.free before.sound) before
+    (bid_sound game private seat amount small seated (no_other_bid game private seat amount may before.sound)
+    may.pays.free before.sound) before

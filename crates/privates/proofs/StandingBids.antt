@@ -20,7 +20,8 @@ EachBid holds [] = Unit {0}
 EachBid holds (bid ∷ bids) = holds bid × EachBid holds bids
 
 -- what holds of each, where it follows
-pub each_bid : {P Q : Bid → Type 0} → ((bid : Bid) → P bid → Q bid) → (bids : List Bid) → EachBid P bids → EachBid Q bids
+pub each_bid : {P Q : Bid → Type 0} → ((bid : Bid) → P bid → Q bid) → (bids : List Bid) → EachBid P bids
+    → EachBid Q bids
 each_bid follows [] all = tt
 each_bid follows (bid ∷ bids) all = (follows bid all.0, each_bid follows bids all.1)
 
@@ -31,27 +32,36 @@ pub record Stands (events : List Event) (private : Private) (first last : ℕ) (
   pub under : bid.seat.0 < last
 
 -- later seats are seats
-later : {events : List Event} {private : Private} (first last : ℕ) (bid : Bid) → Stands events private (first + 1) last bid → Stands events private first last bid
+later : {events : List Event} {private : Private} (first last : ℕ) (bid : Bid)
+    → Stands events private (first + 1) last bid → Stands events private first last bid
 later first last bid is = let from = is.from in record { stands = is.stands; from = omega arith; under = is.under }
 
 -- a seat's bid, if it has one, in front of those of later seats
-bid_first : (events : List Event) (private : Private) (first last : ℕ) (found : Option ℕ) (bids : List Bid) → bid_of events private (seat_at first) ≡ found → first < last → EachBid (Stands events private (first + 1) last) bids → EachBid (Stands events private first last) (as_bid (seat_at first) found ++ bids)
+bid_first : (events : List Event) (private : Private) (first last : ℕ) (found : Option ℕ) (bids : List Bid)
+    → bid_of events private (seat_at first) ≡ found → first < last
+    → EachBid (Stands events private (first + 1) last) bids
+    → EachBid (Stands events private first last) (as_bid (seat_at first) found ++ bids)
 bid_first events private first last None bids is within others = each_bid (later first last) bids others
 bid_first events private first last (Some amount) bids is within others =
     (record { stands = is; from = omega arith; under = within }, each_bid (later first last) bids others)
 
 -- the bids of seats from one on
 abbrev pub bids_from : List Event → Private → ℕ → ℕ → List Bid
-bids_from events private first count = flat_map (λ seat. as_bid seat (bid_of events private seat)) (map seat_at (range_with_len first count))
+bids_from events private first count = flat_map (λ seat. as_bid seat (bid_of events private seat))
+    (map seat_at (range_with_len first count))
 
 -- each stands
-all_stand : (events : List Event) (private : Private) (first count last : ℕ) → first + count ≤ last → EachBid (Stands events private first last) (bids_from events private first count)
+all_stand : (events : List Event) (private : Private) (first count last : ℕ) → first + count ≤ last
+    → EachBid (Stands events private first last) (bids_from events private first count)
 all_stand events private first zero last within = tt
 all_stand events private first (suc count) last within =
-    bid_first events private first last (bid_of events private (seat_at first)) (bids_from events private (first + 1) count) refl (omega arith) (all_stand events private (first + 1) count last (omega arith))
+    bid_first events private first last (bid_of events private (seat_at first))
+    (bids_from events private (first + 1) count) refl (omega arith)
+    (all_stand events private (first + 1) count last (omega arith))
 
 -- each of the bids on a private stands
-pub bids_stand : (seats : ℕ) (events : List Event) (private : Private) → EachBid (Stands events private 0 seats) (bids_on seats events private)
+pub bids_stand : (seats : ℕ) (events : List Event) (private : Private)
+    → EachBid (Stands events private 0 seats) (bids_on seats events private)
 bids_stand seats events private = all_stand events private 0 seats seats (omega arith)
 
 -- each is of another amount than those after it
@@ -61,55 +71,74 @@ AmountsDiffer (bid ∷ bids) = EachBid (λ other. other.amount ≢ bid.amount) b
 
 -- no two seats bid the same
 abbrev SeatsDiffer : ℕ → List Event → Private → Type 0
-SeatsDiffer last events private = (a b : Seat) (amount : ℕ) → a.0 < last → b.0 < last → bid_of events private a ≡ Some amount → bid_of events private b ≡ Some amount → a ≡ b
+SeatsDiffer last events private = (a b : Seat) (amount : ℕ) → a.0 < last → b.0 < last
+    → bid_of events private a ≡ Some amount → bid_of events private b ≡ Some amount → a ≡ b
 
 -- a seat's bid is another than those of later seats
-other_amount : (events : List Event) (private : Private) (first last amount : ℕ) → SeatsDiffer last events private → first < last → bid_of events private (seat_at first) ≡ Some amount → (bid : Bid) → Stands events private (first + 1) last bid → bid.amount ≢ amount
+other_amount : (events : List Event) (private : Private) (first last amount : ℕ) → SeatsDiffer last events private
+    → first < last → bid_of events private (seat_at first) ≡ Some amount → (bid : Bid)
+    → Stands events private (first + 1) last bid → bid.amount ≢ amount
 other_amount events private first last amount differ within mine bid is same =
-    let one : bid.seat ≡ seat_at first = differ bid.seat (seat_at first) amount is.under within (is.stands ∙ ap (λ (n : ℕ). Some n) same) mine in
+    let one : bid.seat ≡ seat_at first = differ bid.seat (seat_at first) amount is.under within
+    (is.stands ∙ ap (λ (n : ℕ). Some n) same) mine in
     let number : bid.seat.0 ≡ first = ap (λ (s : Seat). s.0) one in
     let from = is.from in
     absurd (omega arith)
 
 -- a seat's bid, if it has one, in front of others
-amount_first : (events : List Event) (private : Private) (first last : ℕ) (found : Option ℕ) (bids : List Bid) → SeatsDiffer last events private → first < last → bid_of events private (seat_at first) ≡ found → EachBid (Stands events private (first + 1) last) bids → AmountsDiffer bids → AmountsDiffer (as_bid (seat_at first) found ++ bids)
+amount_first : (events : List Event) (private : Private) (first last : ℕ) (found : Option ℕ) (bids : List Bid)
+    → SeatsDiffer last events private → first < last → bid_of events private (seat_at first) ≡ found
+    → EachBid (Stands events private (first + 1) last) bids → AmountsDiffer bids
+    → AmountsDiffer (as_bid (seat_at first) found ++ bids)
 amount_first events private first last None bids differ within is stand others = others
 amount_first events private first last (Some amount) bids differ within is stand others =
     (each_bid (other_amount events private first last amount differ within is) bids stand, others)
 
 -- the bids of seats from one on differ
-all_differ : (events : List Event) (private : Private) (first count last : ℕ) → SeatsDiffer last events private → first + count ≤ last → AmountsDiffer (bids_from events private first count)
+all_differ : (events : List Event) (private : Private) (first count last : ℕ) → SeatsDiffer last events private
+    → first + count ≤ last → AmountsDiffer (bids_from events private first count)
 all_differ events private first zero last differ within = tt
 all_differ events private first (suc count) last differ within =
-    amount_first events private first last (bid_of events private (seat_at first)) (bids_from events private (first + 1) count) differ (omega arith) refl (all_stand events private (first + 1) count last (omega arith)) (all_differ events private (first + 1) count last differ (omega arith))
+    amount_first events private first last (bid_of events private (seat_at first))
+    (bids_from events private (first + 1) count) differ (omega arith) refl
+    (all_stand events private (first + 1) count last (omega arith))
+    (all_differ events private (first + 1) count last differ (omega arith))
 
 -- the bids on a private differ
-pub bids_differ : (seats : ℕ) (events : List Event) (private : Private) → SeatsDiffer seats events private → AmountsDiffer (bids_on seats events private)
+pub bids_differ : (seats : ℕ) (events : List Event) (private : Private) → SeatsDiffer seats events private
+    → AmountsDiffer (bids_on seats events private)
 bids_differ seats events private differ = all_differ events private 0 seats seats differ (omega arith)
 
 -- the first that is unsold is unsold
-first_is_unsold : (sold : Private → Bool) (some : List Private) (first : Private) → first_unsold sold some ≡ Some first → sold first ≡ false
+first_is_unsold : (sold : Private → Bool) (some : List Private) (first : Private)
+    → first_unsold sold some ≡ Some first → sold first ≡ false
 first_is_unsold sold [] first found = cc
 first_is_unsold sold (private ∷ others) first found =
-    elim (sold private) as (λ (b : Bool). sold private ≡ b → (if b then first_unsold sold others else Some private) ≡ Some first → sold first ≡ false) [
+    elim (sold private) as (λ (b : Bool). sold private ≡ b
+    → (if b then first_unsold sold others else Some private) ≡ Some first → sold first ≡ false) [
       | true ↦ λ here later. first_is_unsold sold others first later
       | false ↦ λ here now. let same : private ≡ first = cc in subst (λ (p : Private). sold p ≡ false) same here
     ]
     refl found
 
 -- the cheapest private is unsold
-pub cheapest_unsold : (events : List Event) (private : Private) → cheapest_of events ≡ Some private → is_sold events private ≡ false
+pub cheapest_unsold : (events : List Event) (private : Private) → cheapest_of events ≡ Some private
+    → is_sold events private ≡ false
 cheapest_unsold events private cheapest = first_is_unsold (is_sold events) privates private cheapest
 
 -- a seat has its bid free of its other bids
-pub bid_free : (seats : ℕ) (events : List Event) (private : Private) (seat : Seat) (amount : ℕ) → bid_of events private seat ≡ Some amount → pos 0 ≤ℤ free_cash_of seats events seat → pos amount ≤ℤ free_for seats events seat private
+pub bid_free : (seats : ℕ) (events : List Event) (private : Private) (seat : Seat) (amount : ℕ)
+    → bid_of events private seat ≡ Some amount → pos 0 ≤ℤ free_cash_of seats events seat
+    → pos amount ≤ℤ free_for seats events seat private
 bid_free seats events private seat amount bids solvent =
     let tied : tied_on events seat private ≡ amount = ap (λ bid. unwrap_or bid 0) bids in
     let split = bids_split events seat private in
     omega (arith, ints)
 
 -- a bidder for the cheapest private can pay his bid
-pub may_pay_bid : (game : Game) (private : Private) (bid : Bid) → cheapest_of game.events ≡ Some private → Stands game.events private 0 game.seats bid → IsSound game → MayPay game.seats game.events bid.seat private bid.amount
+pub may_pay_bid : (game : Game) (private : Private) (bid : Bid) → cheapest_of game.events ≡ Some private
+    → Stands game.events private 0 game.seats bid → IsSound game
+    → MayPay game.seats game.events bid.seat private bid.amount
 may_pay_bid game private bid cheapest stands sound =
     record {
       unsold = cheapest_unsold game.events private cheapest;
@@ -117,11 +146,16 @@ may_pay_bid game private bid cheapest stands sound =
     }
 
 -- what holds of each holds of the first
-first_bid : (holds : Bid → Type 0) (bids : List Bid) (d : Bid) → 1 ≤ length bids → EachBid holds bids → holds (get_or bids 0 d)
+first_bid : (holds : Bid → Type 0) (bids : List Bid) (d : Bid) → 1 ≤ length bids → EachBid holds bids
+    → holds (get_or bids 0 d)
 first_bid holds [] d some all = absurd (omega arith)
 first_bid holds (bid ∷ bids) d some all = all.0
 
 -- the first of the bids on a private stands
-pub first_stands : (game : Game) (private : Private) (bids : List Bid) (d : Bid) → bids ≡ bids_on game.seats game.events private → 1 ≤ length bids → Stands game.events private 0 game.seats (get_or bids 0 d)
+pub first_stands : (game : Game) (private : Private) (bids : List Bid) (d : Bid)
+    → bids ≡ bids_on game.seats game.events private → 1 ≤ length bids
+    → Stands game.events private 0 game.seats (get_or bids 0 d)
 first_stands game private bids d are some =
-    first_bid (Stands game.events private 0 game.seats) bids d some (subst (EachBid (Stands game.events private 0 game.seats)) (sym are) (bids_stand game.seats game.events private))
+    first_bid (Stands game.events private 0 game.seats) bids d some
+    (subst (EachBid (Stands game.events private 0 game.seats)) (sym are)
+    (bids_stand game.seats game.events private))

@@ -104,7 +104,8 @@ pub record IsAhead (winner other : Bidder) : Type 0 where
 abbrev pub AreOthers : List Bidder → Bidder → List Bidder → Type 0
 AreOthers [] one others = ⊥
 AreOthers (bidder ∷ bidders) one others =
-    ((bidder ≡ one) × (others ≡ bidders)) ⊎ ((rest : List Bidder) × (others ≡ bidder ∷ rest) × AreOthers bidders one rest)
+    ((bidder ≡ one) × (others ≡ bidders)) ⊎ ((rest : List Bidder) × (others ≡ bidder ∷ rest)
+    × AreOthers bidders one rest)
 
 -- a sum is one of these
 abbrev pub IsOneOf : List ℤ → ℤ → Type 0
@@ -141,4 +142,5 @@ pub record IsWon (bidders : List Bidder) (won : Seat × ℤ) : Type 0 where
 -- an auction of two bidders or more, whose bids differ and of whom no limit is under its bid, is won
 abbrev pub AuctionIsWon : Type 0
 AuctionIsWon =
-    (bidders : List Bidder) → 2 ≤ length bidders → BidsDiffer bidders → LimitsHold bidders → IsWon bidders (auction_of bidders)
+    (bidders : List Bidder) → 2 ≤ length bidders → BidsDiffer bidders → LimitsHold bidders
+    → IsWon bidders (auction_of bidders)

@@ -57,4 +57,5 @@ StandingBidsSuffice =
 abbrev pub OpeningBidsRise : Type 0
 OpeningBidsRise =
     (file : List ℕ) (round : Round) (old new : Game) →
-    IsOpeningRound file round old new → 0 < old.seats → BiddersAreSeated old.seats old.events → BidsRise old.events → BidsRise new.events
+    IsOpeningRound file round old new → 0 < old.seats → BiddersAreSeated old.seats old.events → BidsRise old.events
+    → BidsRise new.events

@@ -67,8 +67,10 @@ bid_rules seats events seat used private amount =
 
 -- the first rule that an order breaks in a turn; any order but a purchase or a bid breaks the first
 abbrev pub judgement_of : ℕ → List Event → Seat → Bool → Order → Option OpeningRule
-judgement_of seats events seat used (BuyPrivate private) = first_broken (private_purchase_rules seats events seat used private)
-judgement_of seats events seat used (Bid private amount) = first_broken (bid_rules seats events seat used private amount)
+judgement_of seats events seat used (BuyPrivate private) =
+    first_broken (private_purchase_rules seats events seat used private)
+judgement_of seats events seat used (Bid private amount) =
+    first_broken (bid_rules seats events seat used private amount)
 judgement_of seats events seat used other = Some NotOfOpening
 
 -- the same, as a ruling refuses an order

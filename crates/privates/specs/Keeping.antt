@@ -18,10 +18,14 @@ begins game round may sound =
     begun_underway game (with_event game (event.Round round)) round refl may.pennsylvania may.baltimore sound
 
 -- a pass keeps it
-pub passes : (game : Game) (seat : Seat) → IsUnderway game → IsSound (with_event game (event.Passes seat)) → IsUnderway (with_event game (event.Passes seat))
+pub passes : (game : Game) (seat : Seat) → IsUnderway game → IsSound (with_event game (event.Passes seat))
+    → IsUnderway (with_event game (event.Passes seat))
 passes game seat underway sound =
-    event_underway game (with_event game (event.Passes seat)) (event.Passes seat) refl (λ its other. refl) refl sound underway
+    event_underway game (with_event game (event.Passes seat)) (event.Passes seat) refl (λ its other. refl) refl sound
+    underway
 
 -- so does a count of lines
-pub leaves : (game : Game) (seat : Seat) (lines : ℕ) → IsUnderway game → IsSound (left_recorded seat lines game) → IsUnderway (left_recorded seat lines game)
-leaves game seat lines underway sound = left_underway game (left_recorded seat lines game) seat lines refl sound underway
+pub leaves : (game : Game) (seat : Seat) (lines : ℕ) → IsUnderway game → IsSound (left_recorded seat lines game)
+    → IsUnderway (left_recorded seat lines game)
+leaves game seat lines underway sound = left_underway game (left_recorded seat lines game) seat lines refl sound
+    underway

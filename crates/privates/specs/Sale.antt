@@ -25,7 +25,8 @@ par_set_by events buyer = unwrap_or (par_ordered_of events buyer) 67
 -- BO starts at this par value, and a seat has its president's certificate
 abbrev pub started_at : Seat → ℕ → List Event
 started_at president par =
-    Par company.BaltimoreOhio par ∷ Given company.BaltimoreOhio president 2 ∷ President company.BaltimoreOhio president ∷ []
+    Par company.BaltimoreOhio par ∷ Given company.BaltimoreOhio president 2
+    ∷ President company.BaltimoreOhio president ∷ []
 
 -- what a sale brings beside the private
 abbrev pub gifts : List Event → Private → Seat → List Event
@@ -59,7 +60,8 @@ after_auction events private won = after_sale events private won.0 (unsigned_abs
 abbrev pub settled_by : ℕ → List Event → Private → List Bid → List Event
 settled_by seats events private [] = events
 settled_by seats events private (bid ∷ []) = after_sale events private bid.seat bid.amount
-settled_by seats events private bids = after_auction events private (auction_of (map (bidder_of seats events private) bids))
+settled_by seats events private bids = after_auction events private
+    (auction_of (map (bidder_of seats events private) bids))
 
 -- after the bids on the cheapest private, if there is one, are settled
 abbrev pub settled_of : ℕ → List Event → Option Private → List Event

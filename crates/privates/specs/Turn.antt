@@ -25,7 +25,8 @@ InTurn = turns.InTurn Bool
 
 -- after what an order brings that was obeyed in a turn
 abbrev pub after_act : ℕ → Seat → List Event → Order → List Event
-after_act seats seat events (BuyPrivate private) = settled seats (after_sale events private seat (price_of events private))
+after_act seats seat events (BuyPrivate private) =
+    settled seats (after_sale events private seat (price_of events private))
 after_act seats seat events (Bid private amount) = events ++ Bids private seat amount ∷ []
 after_act seats seat events other = events
 

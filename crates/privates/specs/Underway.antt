@@ -21,7 +21,8 @@ BaltimoreWaits events = is_sold events BaltimoreOhio ≡ false → square_of eve
 
 -- no limit of this round is over 99,999
 abbrev pub LimitsAreSmall : List Event → Type 0
-LimitsAreSmall events = (private : Private) (seat : Seat) (amount : ℕ) → bid_limit_of events private seat ≡ Some amount → amount ≤ 99999
+LimitsAreSmall events = (private : Private) (seat : Seat) (amount : ℕ)
+    → bid_limit_of events private seat ≡ Some amount → amount ≤ 99999
 
 -- what holds beside soundness
 pub record IsWaiting (events : List Event) : Type 0 where

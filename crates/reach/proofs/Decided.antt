@@ -45,23 +45,28 @@ both_decided P Q (inr first) second = inr (λ both. first both.0)
 pub either_decided : (P Q : Type 0) → Decided P → Decided Q → Decided (P ⊎ Q)
 either_decided P Q (inl first) second = inl (inl first)
 either_decided P Q (inr first) (inl second) = inl (inr second)
-either_decided P Q (inr first) (inr second) = inr (λ either. elim either [ inl one ↦ first one | inr other ↦ second other ])
+either_decided P Q (inr first) (inr second) = inr
+    (λ either. elim either [ inl one ↦ first one | inr other ↦ second other ])
 
 -- a thing is among some
-pub among_decided : {A : Type 0} (same : A → A → Bool) → ((a b : A) → same a b ≡ true → a ≡ b) → ((a b : A) → a ≡ b → same a b ≡ true) →
+pub among_decided : {A : Type 0} (same : A → A → Bool) → ((a b : A) → same a b ≡ true → a ≡ b)
+    → ((a b : A) → a ≡ b → same a b ≡ true) →
     (thing : A) (things : List A) → Decided (IsAmong thing things)
 among_decided same exact alike thing things =
     let test = list_any (λ other. same other thing) things in
-    decided_by (test ≡ true) (IsAmong thing things) (among_found same exact things thing) (found_among same alike things thing) (test_decided test)
+    decided_by (test ≡ true) (IsAmong thing things) (among_found same exact things thing)
+    (found_among same alike things thing) (test_decided test)
 
 -- one number is at most another
 pub most_decided : (a b : ℕ) → Decided (a ≤ b)
 most_decided a b =
-    decided_by (nat_le a b ≡ true) (a ≤ b) (λ is. grind (arith, nat_tests, is)) (λ is. grind (arith, nat_tests, is)) (test_decided (nat_le a b))
+    decided_by (nat_le a b ≡ true) (a ≤ b) (λ is. grind (arith, nat_tests, is)) (λ is. grind (arith, nat_tests, is))
+    (test_decided (nat_le a b))
 
 -- a company has a token at a stop
 pub token_decided : (position : Position) (stop : Stop) (company : Company) → Decided (HasToken position stop company)
-token_decided position stop company = among_decided same_company company_is company_is_same company (at_stop position stop).tokens
+token_decided position stop company = among_decided same_company company_is company_is_same company
+    (at_stop position stop).tokens
 
 -- a city is full for a company
 pub full_decided : (position : Position) (stop : Stop) (company : Company) → Decided (IsFull position stop company)
@@ -82,20 +87,26 @@ pub mark_decided : (marks : List Bool) (spot : Spot) → Decided (IsMarked marks
 mark_decided marks spot = test_decided (get_or marks (spot_number spot) false)
 
 -- the other side of a border is marked
-pub across_decided : (marks : List Bool) (found : Option Spot) → Decided ((from : Spot) × (found ≡ Some from) × IsMarked marks from)
+pub across_decided : (marks : List Bool) (found : Option Spot)
+    → Decided ((from : Spot) × (found ≡ Some from) × IsMarked marks from)
 across_decided marks None = inr (λ any. let wrong : None ≡ Some any.0 = any.1 in let no : ⊥ = cc in no)
 across_decided marks (Some spot) =
-    decided_by (IsMarked marks spot) ((from : Spot) × (Some spot ≡ Some from) × IsMarked marks from) (λ is. (spot, refl, is))
-    (λ any. let same : spot ≡ any.0 = (let both : Some spot ≡ Some any.0 = any.1 in cc) in subst (IsMarked marks) (sym same) any.2) (mark_decided marks spot)
+    decided_by (IsMarked marks spot) ((from : Spot) × (Some spot ≡ Some from) × IsMarked marks from)
+    (λ is. (spot, refl, is))
+    (λ any. let same : spot ≡ any.0 = (let both : Some spot ≡ Some any.0 = any.1 in cc) in subst (IsMarked marks)
+    (sym same) any.2) (mark_decided marks spot)
 
 -- a link may be entered at an end
-pub enter_decided : (position : Position) (company : Company) (marks : List Bool) (hex : Hex) (end : End) → Decided (CanEnterAt position company marks hex end)
+pub enter_decided : (position : Position) (company : Company) (marks : List Bool) (hex : Hex) (end : End)
+    → Decided (CanEnterAt position company marks hex end)
 enter_decided position company marks hex (AtSide side) = across_decided marks (across_end hex (AtSide side))
 enter_decided position company marks hex (AtStop number) =
     let stop = joined_stop_of (stop_at hex number) in
-    both_decided (IsMarked marks (spot_at hex (AtStop number))) (¬ IsFull position stop company) (mark_decided marks (spot_at hex (AtStop number)))
+    both_decided (IsMarked marks (spot_at hex (AtStop number))) (¬ IsFull position stop company)
+    (mark_decided marks (spot_at hex (AtStop number)))
     (not_decided (IsFull position stop company) (full_decided position stop company))
 
 -- at a spot
-pub can_enter_decided : (position : Position) (company : Company) (marks : List Bool) (spot : Spot) → Decided (CanEnter position company marks spot)
+pub can_enter_decided : (position : Position) (company : Company) (marks : List Bool) (spot : Spot)
+    → Decided (CanEnter position company marks spot)
 can_enter_decided position company marks spot = enter_decided position company marks spot.hex spot.end

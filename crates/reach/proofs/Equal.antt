@@ -26,14 +26,17 @@ pub same_stop : (a b : Stop) → (sameb hex_type a.hex b.hex && sameb number_typ
 same_stop a b alike =
     let parts : (sameb hex_type a.hex b.hex ≡ true) × (sameb number_type a.number b.number ≡ true) =
     both (sameb hex_type a.hex b.hex) (sameb number_type a.number b.number) alike
-    in ap (λ (h : Hex). let s : Stop = record { hex = h; number = a.number } in s) (same_true hex_type tt a.hex b.hex parts.0)
-    ∙ ap (λ (n : StopNumber). let s : Stop = record { hex = b.hex; number = n } in s) (same_true number_type tt a.number b.number parts.1)
+    in ap (λ (h : Hex). let s : Stop = record { hex = h; number = a.number } in s)
+    (same_true hex_type tt a.hex b.hex parts.0)
+    ∙ ap (λ (n : StopNumber). let s : Stop = record { hex = b.hex; number = n } in s)
+    (same_true number_type tt a.number b.number parts.1)
 
 -- and one stop compares alike
 pub stop_same : (a b : Stop) → a ≡ b → (sameb hex_type a.hex b.hex && sameb number_type a.number b.number) ≡ true
 stop_same a b is =
     and_both (sameb hex_type a.hex b.hex) (sameb number_type a.number b.number)
-    (true_same hex_type a.hex b.hex (ap (λ (s : Stop). s.hex) is)) (true_same number_type a.number b.number (ap (λ (s : Stop). s.number) is))
+    (true_same hex_type a.hex b.hex (ap (λ (s : Stop). s.hex) is))
+    (true_same number_type a.number b.number (ap (λ (s : Stop). s.number) is))
 
 -- ends that compare alike are one
 pub same_end : (a b : End) → end_ghosts.eq a b ≡ true → a ≡ b
@@ -58,13 +61,15 @@ same_link a b alike =
     let second : Bool = end_ghosts.eq a.b b.b in
     let ends : (hex ≡ true) × ((first && second) ≡ true) = both hex (first && second) alike in
     let each : (first ≡ true) × (second ≡ true) = both first second ends.1 in
-    ap (λ (h : Hex). let l : Link = record { hex = h; a = a.a; b = a.b } in l) (same_true hex_type tt a.hex b.hex ends.0)
+    ap (λ (h : Hex). let l : Link = record { hex = h; a = a.a; b = a.b } in l)
+    (same_true hex_type tt a.hex b.hex ends.0)
     ∙ (ap (λ (e : End). let l : Link = record { hex = b.hex; a = e; b = a.b } in l) (same_end a.a b.a each.0)
     ∙ ap (λ (e : End). let l : Link = record { hex = b.hex; a = b.a; b = e } in l) (same_end a.b b.b each.1))
 
 link_itself : (a : Link) → link_ghosts.eq a a ≡ true
 link_itself a =
-    and_both (sameb hex_type a.hex a.hex) (end_ghosts.eq a.a a.a && end_ghosts.eq a.b a.b) (true_same hex_type a.hex a.hex refl)
+    and_both (sameb hex_type a.hex a.hex) (end_ghosts.eq a.a a.a && end_ghosts.eq a.b a.b)
+    (true_same hex_type a.hex a.hex refl)
     (and_both (end_ghosts.eq a.a a.a) (end_ghosts.eq a.b a.b) (end_itself a.a) (end_itself a.b))
 
 -- and one link compares alike

@@ -31,7 +31,9 @@ record Comes (position : Position) (company : Company) (spot : Spot) : Type 0 wh
 
 module _ (position : Position) (company : Company) (lawful : IsLawful position) where
   -- where marks say that a link may be entered, a walk begins or comes
-  enter_at : (marks : List Bool) → AllArrive position company marks → (hex : Hex) (end : End) → CanEnterAt position company marks hex end → HasTokenAt position company (spot_at hex end) ⊎ Comes position company (spot_at hex end)
+  enter_at : (marks : List Bool) → AllArrive position company marks → (hex : Hex) (end : End)
+      → CanEnterAt position company marks hex end → HasTokenAt position company (spot_at hex end)
+      ⊎ Comes position company (spot_at hex end)
   enter_at marks arrive hex (AtStop number) can =
       elim (arrive (spot_at hex (AtStop number)) can.0) [
         | inl here ↦ inl (record { stop = here.0; is = here.1; token = here.2 })
@@ -39,12 +41,17 @@ module _ (position : Position) (company : Company) (lawful : IsLawful position) 
           step = came.0;
           before = came.1;
           walk = came.2;
-          joined = inl (joined_stop_of (stop_at hex number), (are_one (left_at came.0) (spot_at hex (AtStop number)) came.3).0, refl);
+          joined = inl (
+            joined_stop_of (stop_at hex number),
+            (are_one (left_at came.0) (spot_at hex (AtStop number)) came.3).0,
+            refl,
+          );
           may_pass = can.1;
         })
       ]
   enter_at marks arrive hex (AtSide side) can =
-      let returns : (across can.0 ≡ Some (spot_at hex (AtSide side))) × (stop_of can.0 ≡ None) = back position lawful (spot_at hex (AtSide side)) can.0 can.1 in
+      let returns : (across can.0 ≡ Some (spot_at hex (AtSide side))) × (stop_of can.0 ≡ None) =
+      back position lawful (spot_at hex (AtSide side)) can.0 can.1 in
       elim (arrive can.0 can.2) [
         | inl here ↦ absurd (let nowhere : None ≡ Some here.0 = sym returns.1 ∙ here.1 in cc)
         | inr came ↦ inr (record {
@@ -57,7 +64,8 @@ module _ (position : Position) (company : Company) (lawful : IsLawful position) 
       ]
 
   -- a step from there is the latest of a walk
-  go_on : (step : Step) → IsTrack position step → HasTokenAt position company (entered_at step) ⊎ Comes position company (entered_at step) → (before : List Step) × IsWalkOf position company (step ∷ before)
+  go_on : (step : Step) → IsTrack position step → HasTokenAt position company (entered_at step)
+      ⊎ Comes position company (entered_at step) → (before : List Step) × IsWalkOf position company (step ∷ before)
   go_on step track (inl here) =
       ([], record { walk = (track, tt, tt); from_token = (here.stop, here.is, here.token); passes = (tt, tt) })
   go_on step track (inr came) = (
@@ -70,38 +78,56 @@ module _ (position : Position) (company : Company) (lawful : IsLawful position) 
   )
 
   -- a walk takes a step that marks say it may take
-  pub walk_by : (marks : List Bool) → AllArrive position company marks → (step : Step) → IsTrack position step → CanEnter position company marks (entered_at step) → (before : List Step) × IsWalkOf position company (step ∷ before)
+  pub walk_by : (marks : List Bool) → AllArrive position company marks → (step : Step) → IsTrack position step
+      → CanEnter position company marks (entered_at step)
+      → (before : List Step) × IsWalkOf position company (step ∷ before)
   walk_by marks arrive step track can =
       go_on step track (enter_at marks arrive (entered_at step).hex (entered_at step).end can)
 
   -- a walk that arrives at a spot arrives at each with its number
-  pub arrives_same : (spot other : Spot) → spot_number spot ≡ spot_number other → Arrives position company spot → Arrives position company other
+  pub arrives_same : (spot other : Spot) → spot_number spot ≡ spot_number other → Arrives position company spot
+      → Arrives position company other
   arrives_same spot other same (inl here) = inl (here.0, sym (are_one spot other same).0 ∙ here.1, here.2)
   arrives_same spot other same (inr came) = inr (came.0, came.1, came.2, came.3 ∙ same)
 
   -- marks where a link may be entered from
-  pub enter_joined : (marks : List Bool) (from : Spot) → IsMarked marks from → (hex : Hex) (end : End) → AreJoined from (spot_at hex end) → IfSome (stop_at_end hex end) (λ stop. ¬ IsFull position stop company) → CanEnterAt position company marks hex end
-  enter_joined marks from is_marked hex (AtStop number) (inl both) may_pass =
-      (subst (λ n. get_or marks n false ≡ true) (stop_number from both.0 both.1 ∙ sym (stop_number (spot_at hex (AtStop number)) both.0 both.2)) is_marked, may_pass)
-  enter_joined marks from is_marked hex (AtSide side) (inl both) may_pass = absurd (let nowhere : None ≡ Some both.0 = both.2 in cc)
+  pub enter_joined : (marks : List Bool) (from : Spot) → IsMarked marks from → (hex : Hex) (end : End)
+      → AreJoined from (spot_at hex end) → IfSome (stop_at_end hex end) (λ stop. ¬ IsFull position stop company)
+      → CanEnterAt position company marks hex end
+  enter_joined marks from is_marked hex (AtStop number) (inl both) may_pass = (
+    subst (λ n. get_or marks n false ≡ true) (stop_number from both.0 both.1
+        ∙ sym (stop_number (spot_at hex (AtStop number)) both.0 both.2)) is_marked,
+    may_pass,
+  )
+  enter_joined marks from is_marked hex (AtSide side) (inl both) may_pass =
+      absurd (let nowhere : None ≡ Some both.0 = both.2 in cc)
   enter_joined marks from is_marked hex (AtSide side) (inr crosses) may_pass =
       (from, (back position lawful from (spot_at hex (AtSide side)) crosses).0, is_marked)
   enter_joined marks from is_marked hex (AtStop number) (inr crosses) may_pass =
-      absurd (let nowhere : Some (joined_stop_of (stop_at hex number)) ≡ None = (back position lawful from (spot_at hex (AtStop number)) crosses).1 in cc)
+      absurd (let nowhere : Some (joined_stop_of (stop_at hex number)) ≡ None =
+      (back position lawful from (spot_at hex (AtStop number)) crosses).1 in cc)
 
   -- where there is a token a walk may begin
-  enter_token : (marks : List Bool) → HasAllTokens position company marks → (hex : Hex) (end : End) (stop : Stop) → stop_at_end hex end ≡ Some stop → HasToken position stop company → CanEnterAt position company marks hex end
+  enter_token : (marks : List Bool) → HasAllTokens position company marks → (hex : Hex) (end : End) (stop : Stop)
+      → stop_at_end hex end ≡ Some stop → HasToken position stop company → CanEnterAt position company marks hex end
   enter_token marks tokens hex (AtSide side) stop is token = absurd (let nowhere : None ≡ Some stop = is in cc)
   enter_token marks tokens hex (AtStop number) stop is token =
-      let same : joined_stop_of (stop_at hex number) ≡ stop = cc in
-      (tokens (spot_at hex (AtStop number)) stop is token, λ full. full.by_others (subst (λ s. HasToken position s company) (sym same) token))
+      let same : joined_stop_of (stop_at hex number) ≡ stop = cc in (
+        tokens (spot_at hex (AtStop number)) stop is token,
+        λ full. full.by_others
+            (subst (λ s. HasToken position s company) (sym same) token),
+      )
 
   -- the latest link of each walk may be entered, where what is marked has all tokens and is closed
-  pub may_enter : (marks : List Bool) → HasAllTokens position company marks → IsClosed position company (IsTrack position) marks → (step : Step) (before : List Step) → IsWalkOf position company (step ∷ before) → CanEnter position company marks (entered_at step)
+  pub may_enter : (marks : List Bool) → HasAllTokens position company marks
+      → IsClosed position company (IsTrack position) marks → (step : Step) (before : List Step)
+      → IsWalkOf position company (step ∷ before) → CanEnter position company marks (entered_at step)
   may_enter marks tokens closed step [] walk =
-      enter_token marks tokens (entered_at step).hex (entered_at step).end walk.from_token.0 walk.from_token.1 walk.from_token.2
+      enter_token marks tokens (entered_at step).hex (entered_at step).end walk.from_token.0 walk.from_token.1
+      walk.from_token.2
   may_enter marks tokens closed step (earlier ∷ before) walk =
-      let so_far : IsWalkOf position company (earlier ∷ before) = record { walk = walk.walk.2; from_token = walk.from_token; passes = walk.passes.1 } in
+      let so_far : IsWalkOf position company (earlier ∷ before) =
+      record { walk = walk.walk.2; from_token = walk.from_token; passes = walk.passes.1 } in
       enter_joined marks (left_at earlier)
       (closed earlier so_far.walk.0 (may_enter marks tokens closed earlier before so_far))
       (entered_at step).hex (entered_at step).end walk.walk.1 walk.passes.0

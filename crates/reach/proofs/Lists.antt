@@ -29,7 +29,8 @@ among_cases (z ∷ zs) x y (inl h) = inl (inl h)
 among_cases (z ∷ zs) x y (inr h) = elim (among_cases zs x y h) [ inl before ↦ inl (inr before) | inr last ↦ inr last ]
 
 -- an element of one more is one of the first i, or the next
-pub among_next : {A : Type 0} (xs : List A) (i : ℕ) (x d : A) → i < length xs → IsAmong x (take (i + 1) xs) → IsAmong x (take i xs) ⊎ (x ≡ get_or xs i d)
+pub among_next : {A : Type 0} (xs : List A) (i : ℕ) (x d : A) → i < length xs → IsAmong x (take (i + 1) xs)
+    → IsAmong x (take i xs) ⊎ (x ≡ get_or xs i d)
 among_next xs i x d low h =
     elim (among_cases (take i xs) x (get_or xs i d) (subst (λ ys. IsAmong x ys) (take_more xs i d low) h)) [
       | inl before ↦ inl before
@@ -42,7 +43,8 @@ next_among xs i d low =
     subst (λ ys. IsAmong (get_or xs i d) ys) (sym (take_more xs i d low)) (among_end (take i xs) (get_or xs i d))
 
 -- the first i are among one more
-pub among_sooner : {A : Type 0} (xs : List A) (i : ℕ) (x d : A) → i < length xs → IsAmong x (take i xs) → IsAmong x (take (i + 1) xs)
+pub among_sooner : {A : Type 0} (xs : List A) (i : ℕ) (x d : A) → i < length xs → IsAmong x (take i xs)
+    → IsAmong x (take (i + 1) xs)
 among_sooner xs i x d low h =
     subst (λ ys. IsAmong x ys) (sym (take_more xs i d low)) (among_before (take i xs) x (get_or xs i d) h)
 
@@ -53,12 +55,14 @@ among_at (x ∷ xs) zero d low = inl refl
 among_at (x ∷ xs) (suc i) d low = inr (among_at xs i d (omega arith))
 
 -- all, and one more
-pub all_push : {A : Type 0} (P : A → Type 0) (xs : List A) (x : A) → AllByRecursion P xs → P x → AllByRecursion P (xs ++ x ∷ [])
+pub all_push : {A : Type 0} (P : A → Type 0) (xs : List A) (x : A) → AllByRecursion P xs → P x
+    → AllByRecursion P (xs ++ x ∷ [])
 all_push P [] x all here = (here, tt)
 all_push P (y ∷ ys) x all here = (all.0, all_push P ys x all.1 here)
 
 -- things in order, and one that comes after all of them
-pub order_push : {A : Type 0} (order : A → ℕ) (xs : List A) (x : A) → StandInOrder order xs → AllByRecursion (λ y. order y < order x) xs → StandInOrder order (xs ++ x ∷ [])
+pub order_push : {A : Type 0} (order : A → ℕ) (xs : List A) (x : A) → StandInOrder order xs
+    → AllByRecursion (λ y. order y < order x) xs → StandInOrder order (xs ++ x ∷ [])
 order_push order [] x in_order below = (tt, tt)
 order_push order (y ∷ ys) x in_order below =
     (all_push (λ z. order y < order z) ys x in_order.0 below.0, order_push order ys x in_order.1 below.1)
@@ -69,7 +73,8 @@ first_or_later true later found = inl refl
 first_or_later false later found = inr found
 
 -- what a search by an exact test finds is among the list
-pub among_found : {A : Type 0} (same : A → A → Bool) → ((a b : A) → same a b ≡ true → a ≡ b) → (xs : List A) (x : A) → list_any (λ y. same y x) xs ≡ true → IsAmong x xs
+pub among_found : {A : Type 0} (same : A → A → Bool) → ((a b : A) → same a b ≡ true → a ≡ b) → (xs : List A) (x : A)
+    → list_any (λ y. same y x) xs ≡ true → IsAmong x xs
 among_found same exact [] x found = cc
 among_found same exact (y ∷ ys) x found =
     elim (first_or_later (same y x) (list_any (λ z. same z x) ys) found) [
@@ -78,7 +83,8 @@ among_found same exact (y ∷ ys) x found =
     ]
 
 -- and what is among the list is found
-pub found_among : {A : Type 0} (same : A → A → Bool) → ((a b : A) → a ≡ b → same a b ≡ true) → (xs : List A) (x : A) → IsAmong x xs → list_any (λ y. same y x) xs ≡ true
+pub found_among : {A : Type 0} (same : A → A → Bool) → ((a b : A) → a ≡ b → same a b ≡ true) → (xs : List A) (x : A)
+    → IsAmong x xs → list_any (λ y. same y x) xs ≡ true
 found_among same alike [] x among = absurd among
 found_among same alike (y ∷ ys) x (inl here) = ap (λ b. b || list_any (λ z. same z x) ys) (alike y x here)
 found_among same alike (y ∷ ys) x (inr later) =

@@ -25,10 +25,12 @@ set_either (mark ∷ marks) (suc n) zero = refl
 set_either (mark ∷ marks) (suc n) (suc m) = ap (λ rest. mark ∷ rest) (set_either marks n m)
 
 -- one stop more is marked
-pub marks_push : (stops : List Stop) (stop : Stop) → marks_of (stops ++ stop ∷ []) ≡ set (marks_of stops) (stop_order stop) true
+pub marks_push : (stops : List Stop) (stop : Stop)
+    → marks_of (stops ++ stop ∷ []) ≡ set (marks_of stops) (stop_order stop) true
 marks_push [] stop = refl
 marks_push (first ∷ stops) stop =
-    ap (λ marks. set marks (stop_order first) true) (marks_push stops stop) ∙ set_either (marks_of stops) (stop_order stop) (stop_order first)
+    ap (λ marks. set marks (stop_order first) true) (marks_push stops stop)
+    ∙ set_either (marks_of stops) (stop_order stop) (stop_order first)
 
 -- a mark that is made and taken away
 set_back : (marks : List Bool) (n : ℕ) → set (set marks n true) n false ≡ set marks n false
@@ -42,8 +44,10 @@ not_true true off = absurd (off refl)
 not_true false off = refl
 
 -- a stop is marked if it is one of them
-pub among_mark : (stops : List Stop) (stop : Stop) → get_or (marks_of stops) (stop_order stop) false ≡ true → IsAmong stop stops
-among_mark [] stop is = absurd (let off : get_or (replicate 186 false) (stop_order stop) false ≡ false = none_marked 186 (stop_order stop) in cc)
+pub among_mark : (stops : List Stop) (stop : Stop) → get_or (marks_of stops) (stop_order stop) false ≡ true
+    → IsAmong stop stops
+among_mark [] stop is = absurd (let off : get_or (replicate 186 false) (stop_order stop) false ≡ false =
+    none_marked 186 (stop_order stop) in cc)
 among_mark (first ∷ stops) stop is =
     elim (set_cases (marks_of stops) (stop_order first) (stop_order stop) is) [
       | inl same ↦ inl (same_order first stop same)
@@ -51,16 +55,19 @@ among_mark (first ∷ stops) stop is =
     ]
 
 -- and only then
-pub mark_among : (stops : List Stop) (stop : Stop) → IsAmong stop stops → get_or (marks_of stops) (stop_order stop) false ≡ true
+pub mark_among : (stops : List Stop) (stop : Stop) → IsAmong stop stops
+    → get_or (marks_of stops) (stop_order stop) false ≡ true
 mark_among [] stop among = absurd among
 mark_among (first ∷ stops) stop (inl same) =
     subst (λ (s : Stop). get_or (set (marks_of stops) (stop_order first) true) (stop_order s) false ≡ true) same
     (get_or-set_same (marks_of stops) (stop_order first) true false (omega (arith, marks_long stops, order_low first)))
 mark_among (first ∷ stops) stop (inr later) =
-    set_keeps (marks_of stops) (stop_order first) (stop_order stop) (omega (arith, marks_long stops, order_low first)) (mark_among stops stop later)
+    set_keeps (marks_of stops) (stop_order first) (stop_order stop) (omega (arith, marks_long stops, order_low first))
+    (mark_among stops stop later)
 
 -- the mark of a stop that is none of the others is taken away
-pub unmark_last : (stops : List Stop) (stop : Stop) → ¬ IsAmong stop stops → set (marks_of (stop ∷ stops)) (stop_order stop) false ≡ marks_of stops
+pub unmark_last : (stops : List Stop) (stop : Stop) → ¬ IsAmong stop stops
+    → set (marks_of (stop ∷ stops)) (stop_order stop) false ≡ marks_of stops
 unmark_last stops stop new =
     let marks : List Bool = marks_of stops in
     let n : ℕ = stop_order stop in
@@ -68,46 +75,57 @@ unmark_last stops stop new =
     set_back marks n ∙ ap (set marks n) (sym off) ∙ set-get_or marks n false
 
 -- what holds of all holds of each
-pub all_each : {A : Type 0} (P : A → Type 0) (things : List A) (thing : A) → AllByRecursion P things → IsAmong thing things → P thing
+pub all_each : {A : Type 0} (P : A → Type 0) (things : List A) (thing : A) → AllByRecursion P things
+    → IsAmong thing things → P thing
 all_each P [] thing all among = absurd among
 all_each P (first ∷ things) thing all (inl same) = subst P same all.0
 all_each P (first ∷ things) thing all (inr later) = all_each P things thing all.1 later
 
 -- two stops of which each is the other, or comes after it
-first_same : (stop other : Stop) → (other ≡ stop) ⊎ (stop_order other < stop_order stop) → (stop ≡ other) ⊎ (stop_order stop < stop_order other) → stop ≡ other
+first_same : (stop other : Stop) → (other ≡ stop) ⊎ (stop_order other < stop_order stop)
+    → (stop ≡ other) ⊎ (stop_order stop < stop_order other) → stop ≡ other
 first_same stop other (inl same) back = sym same
 first_same stop other (inr before) (inl same) = same
 first_same stop other (inr before) (inr after) = absurd (omega arith)
 
 -- a stop among some in order is the first, or comes after it
-place_in : (first : Stop) (stops : List Stop) (stop : Stop) → StandInOrder stop_order (first ∷ stops) → IsAmong stop (first ∷ stops) → (first ≡ stop) ⊎ (stop_order first < stop_order stop)
+place_in : (first : Stop) (stops : List Stop) (stop : Stop) → StandInOrder stop_order (first ∷ stops)
+    → IsAmong stop (first ∷ stops) → (first ≡ stop) ⊎ (stop_order first < stop_order stop)
 place_in first stops stop in_order (inl same) = inl same
-place_in first stops stop in_order (inr later) = inr (all_each (λ other. stop_order first < stop_order other) stops stop in_order.0 later)
+place_in first stops stop in_order (inr later) =
+    inr (all_each (λ other. stop_order first < stop_order other) stops stop in_order.0 later)
 
 -- a stop that comes after the first is one of the others
-is_later : (first : Stop) (stops : List Stop) (stop : Stop) → stop_order first < stop_order stop → IsAmong stop (first ∷ stops) → IsAmong stop stops
+is_later : (first : Stop) (stops : List Stop) (stop : Stop) → stop_order first < stop_order stop
+    → IsAmong stop (first ∷ stops) → IsAmong stop stops
 is_later first stops stop after (inl same) = absurd (omega (arith, ap stop_order same))
 is_later first stops stop after (inr later) = later
 
 -- in order there is one list of the same stops
-pub same_list : (stops others : List Stop) → StandInOrder stop_order stops → StandInOrder stop_order others → ((stop : Stop) → IsAmong stop stops → IsAmong stop others) → ((stop : Stop) → IsAmong stop others → IsAmong stop stops) → stops ≡ others
+pub same_list : (stops others : List Stop) → StandInOrder stop_order stops → StandInOrder stop_order others
+    → ((stop : Stop) → IsAmong stop stops → IsAmong stop others)
+    → ((stop : Stop) → IsAmong stop others → IsAmong stop stops) → stops ≡ others
 same_list [] [] in_order also there back = refl
 same_list [] (other ∷ others) in_order also there back = absurd (back other (inl refl))
 same_list (stop ∷ stops) [] in_order also there back = absurd (there stop (inl refl))
 same_list (stop ∷ stops) (other ∷ others) in_order also there back =
     let same : stop ≡ other =
-    first_same stop other (place_in other others stop also (there stop (inl refl))) (place_in stop stops other in_order (back other (inl refl))) in
+    first_same stop other (place_in other others stop also (there stop (inl refl)))
+    (place_in stop stops other in_order (back other (inl refl))) in
     let order : stop_order stop ≡ stop_order other = ap stop_order same in
     let rest : stops ≡ others =
     same_list stops others in_order.1 also.1
     (λ one among. is_later other others one
-    (subst (λ n. n < stop_order one) order (all_each (λ s. stop_order stop < stop_order s) stops one in_order.0 among)) (there one (inr among)))
+    (subst (λ n. n < stop_order one) order (all_each (λ s. stop_order stop < stop_order s) stops one in_order.0
+    among)) (there one (inr among)))
     (λ one among. is_later stop stops one
-    (subst (λ n. n < stop_order one) (sym order) (all_each (λ s. stop_order other < stop_order s) others one also.0 among)) (back one (inr among)))
+    (subst (λ n. n < stop_order one) (sym order) (all_each (λ s. stop_order other < stop_order s) others one also.0
+    among)) (back one (inr among)))
     in ap (λ s. s ∷ stops) same ∙ ap (λ ls. other ∷ ls) rest
 
 -- a company reaches these stops and no others
-pub one_reach : (position : Position) (company : Company) (reach : Reaching) (stops : List Stop) → IsReach position company reach → AreReachedStops position company stops → reach.stops ≡ stops
+pub one_reach : (position : Position) (company : Company) (reach : Reaching) (stops : List Stop)
+    → IsReach position company reach → AreReachedStops position company stops → reach.stops ≡ stops
 one_reach position company reach stops is reached =
     let other : Reaching = reached.0 in
     same_list reach.stops other.stops is.in_order reached.1.in_order

@@ -15,7 +15,8 @@ use Rattle.reach.specs.Walk.{spot_at}
 use Rattle.tables.specs.declared.roster.Company.{Company}
 
 -- what is among one list or another
-among_either : (links others : List Link) (link : Link) → IsAmong link (links ++ others) → IsAmong link links ⊎ IsAmong link others
+among_either : (links others : List Link) (link : Link) → IsAmong link (links ++ others)
+    → IsAmong link links ⊎ IsAmong link others
 among_either [] others link among = inr among
 among_either (first ∷ links) others link (inl same) = inl (inl same)
 among_either (first ∷ links) others link (inr later) =
@@ -62,8 +63,10 @@ such_of P decided (first ∷ links) =
 module _ (position : Position) (company : Company) (lawful : IsLawful position) (marks : List Bool) where
   either_end : (link : Link) → Decided (CanEnterEither position company marks link)
   either_end link =
-      either_decided (CanEnter position company marks (spot_at link.hex link.a)) (CanEnter position company marks (spot_at link.hex link.b))
-      (can_enter_decided position company marks (spot_at link.hex link.a)) (can_enter_decided position company marks (spot_at link.hex link.b))
+      either_decided (CanEnter position company marks (spot_at link.hex link.a))
+      (CanEnter position company marks (spot_at link.hex link.b))
+      (can_enter_decided position company marks (spot_at link.hex link.a))
+      (can_enter_decided position company marks (spot_at link.hex link.b))
 
   -- those of the first hexes of the map
   record Before (count : ℕ) : Type 0 where

@@ -26,7 +26,8 @@ ReachesLink position company link =
 -- a stop is reached: the company has a token there, or a walk of the company touches it
 abbrev pub ReachesStop : Position → Company → Stop → Type 0
 ReachesStop position company stop =
-    ((joined_stop_of stop ≡ stop) × HasToken position stop company) ⊎ ((steps : List Step) × IsWalkOf position company steps × TouchesStop stop steps)
+    ((joined_stop_of stop ≡ stop) × HasToken position stop company)
+    ⊎ ((steps : List Step) × IsWalkOf position company steps × TouchesStop stop steps)
 
 -- the place of a stop in the order of the map: by its hex, and then by its number
 abbrev pub stop_order : Stop → ℕ
@@ -35,7 +36,8 @@ stop_order stop = 2 * index_of stop.hex + stop_index_of stop.number
 -- things stand in order, each before all that come later, and so none twice
 abbrev pub StandInOrder : {A : Type 0} → (A → ℕ) → List A → Type 0
 StandInOrder order [] = Unit {0}
-StandInOrder order (thing ∷ later) = AllByRecursion (λ other. order thing < order other) later × StandInOrder order later
+StandInOrder order (thing ∷ later) = AllByRecursion (λ other. order thing < order other) later
+    × StandInOrder order later
 
 -- what is said to be reached: stops and links
 pub record Reaching : Type 0 where

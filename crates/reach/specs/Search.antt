@@ -46,7 +46,8 @@ abbrev pub CanEnterAt : Position → Company → List Bool → Hex → End → T
 CanEnterAt position company marks hex (AtSide side) =
     (from : Spot) × (across (record { hex = hex; end = AtSide side }) ≡ Some from) × IsMarked marks from
 CanEnterAt position company marks hex (AtStop number) =
-    IsMarked marks (record { hex = hex; end = AtStop number }) × ¬ IsFull position (joined_stop_of (stop_at hex number)) company
+    IsMarked marks (record { hex = hex; end = AtStop number })
+    × ¬ IsFull position (joined_stop_of (stop_at hex number)) company
 
 abbrev pub CanEnter : Position → Company → List Bool → Spot → Type 0
 CanEnter position company marks spot = CanEnterAt position company marks spot.hex spot.end
@@ -54,7 +55,8 @@ CanEnter position company marks spot = CanEnterAt position company marks spot.he
 -- a walk that arrives where the marks say may enter a link at one of its ends
 abbrev pub CanEnterEither : Position → Company → List Bool → Link → Type 0
 CanEnterEither position company marks link =
-    CanEnter position company marks (spot_at link.hex link.a) ⊎ CanEnter position company marks (spot_at link.hex link.b)
+    CanEnter position company marks (spot_at link.hex link.a)
+    ⊎ CanEnter position company marks (spot_at link.hex link.b)
 
 -- such a walk may take a link of the position
 abbrev pub CanTake : Position → Company → List Bool → Link → Type 0
@@ -86,7 +88,9 @@ KeepsAsMany old new = (link : Link) → old link ↔ new link
 -- a walk of the company arrives at a spot: it has a token there, or its latest link is left there
 abbrev pub Arrives : Position → Company → Spot → Type 0
 Arrives position company spot =
-    ((stop : Stop) × (stop_of spot ≡ Some stop) × HasToken position stop company) ⊎ ((step : Step) × (before : List Step) × IsWalkOf position company (step ∷ before) × (spot_number (left_at step) ≡ spot_number spot))
+    ((stop : Stop) × (stop_of spot ≡ Some stop) × HasToken position stop company)
+    ⊎ ((step : Step) × (before : List Step) × IsWalkOf position company (step ∷ before)
+    × (spot_number (left_at step) ≡ spot_number spot))
 
 -- walks arrive at all that is marked
 abbrev pub AllArrive : Position → Company → List Bool → Type 0
@@ -117,7 +121,8 @@ pub record AllWait (marks : List Bool) (waiting : List Spot) : Type 0 where
   pub known : (spot : Spot) → Waits waiting spot → IsMarked marks spot
 
 -- a spot is marked, and waits where it was not marked before
-pub record IsMarking (spot : Spot) (old : List Bool) (waited : List Spot) (new : List Bool) (waiting : List Spot) : Type 0 where
+pub record IsMarking (spot : Spot) (old : List Bool) (waited : List Spot) (new : List Bool)
+    (waiting : List Spot) : Type 0 where
   pub low : spot_number spot < length old
   pub marks : new ≡ (if get_or old (spot_number spot) false then old else set old (spot_number spot) true)
   pub waits : waiting ≡ (if get_or old (spot_number spot) false then waited else waited ++ spot ∷ [])
@@ -125,7 +130,9 @@ pub record IsMarking (spot : Spot) (old : List Bool) (waited : List Spot) (new :
 -- a stop is marked if the company has a token there
 abbrev pub IsTokenMarked : Position → Company → Stop → List Bool → List Spot → List Bool → List Spot → Type 0
 IsTokenMarked position company stop old waited new waiting =
-    (HasToken position (joined_stop_of stop) company × IsMarking (spot_at stop.hex (AtStop stop.number)) old waited new waiting) ⊎ ((¬ HasToken position (joined_stop_of stop) company) × (new ≡ old) × (waiting ≡ waited))
+    (HasToken position (joined_stop_of stop) company
+    × IsMarking (spot_at stop.hex (AtStop stop.number)) old waited new waiting)
+    ⊎ ((¬ HasToken position (joined_stop_of stop) company) × (new ≡ old) × (waiting ≡ waited))
 
 -- a stop is appended if it is marked and stands under its own name
 abbrev pub IsPushed : List Bool → Stop → List Stop → List Stop → Type 0
@@ -137,7 +144,8 @@ abbrev pub IsEnteredAt : Spot → Step → Type 0
 IsEnteredAt at step = spot_number (entered_at step) ≡ spot_number at
 
 -- a step is followed from a spot: where it is left is marked, and its link is kept, if it is entered there
-pub record IsFollowed (step : Step) (at : Spot) (old : List Bool) (waited : List Spot) (first : Link → Type 0) (new : List Bool) (waiting : List Spot) (kept : Link → Type 0) : Type 0 where
+pub record IsFollowed (step : Step) (at : Spot) (old : List Bool) (waited : List Spot) (first : Link → Type 0)
+    (new : List Bool) (waiting : List Spot) (kept : Link → Type 0) : Type 0 where
   pub entered : IsEnteredAt at step → IsMarking (left_at step) old waited new waiting
   pub link : IsEnteredAt at step → IsKept step.link first kept
   pub other : ¬ IsEnteredAt at step → (new ≡ old) × (waiting ≡ waited) × KeepsAsMany first kept
@@ -165,16 +173,20 @@ WasFollowed marks kept step = IsMarked marks (left_at step) × kept step.link
 -- the steps were followed by which a walk that has arrived at a spot may go on
 abbrev pub IsLookedAt : Position → Company → List Bool → (Link → Type 0) → Spot → Type 0
 IsLookedAt position company marks kept from =
-    (step : Step) → IsTrack position step → LeadsTo position company from (entered_at step) → WasFollowed marks kept step
+    (step : Step) → IsTrack position step → LeadsTo position company from (entered_at step)
+    → WasFollowed marks kept step
 
 -- each spot that is marked waits to be looked at, or was looked at; and what waits is marked
-pub record AreLookedAt (position : Position) (company : Company) (marks : List Bool) (waiting : List Spot) (kept : Link → Type 0) : Type 0 where
+pub record AreLookedAt (position : Position) (company : Company) (marks : List Bool) (waiting : List Spot)
+    (kept : Link → Type 0) : Type 0 where
   pub known : (spot : Spot) → Waits waiting spot → IsMarked marks spot
   pub looked : (spot : Spot) → IsMarked marks spot → Waits waiting spot ⊎ IsLookedAt position company marks kept spot
 
 -- What it is to follow such steps: what is marked or kept stays so, walks still arrive at all of it and may take all
 -- those links, the steps were followed, and as many more wait as are marked, each of those that are new among them.
-pub record Spreads (position : Position) (company : Company) (P : Step → Type 0) (old : List Bool) (waited : List Spot) (first : Link → Type 0) (new : List Bool) (waiting : List Spot) (links : Link → Type 0) : Type 0 where
+pub record Spreads (position : Position) (company : Company) (P : Step → Type 0) (old : List Bool)
+    (waited : List Spot) (first : Link → Type 0) (new : List Bool) (waiting : List Spot)
+    (links : Link → Type 0) : Type 0 where
   pub length_kept : length new ≡ length old
   pub kept : (spot : Spot) → IsMarked old spot → IsMarked new spot
   pub arrive : AllArrive position company old → AllArrive position company new

@@ -69,47 +69,67 @@ event_same f g (Bankrupt seat) players = rw players refl
 event_same f g Broken players = refl
 
 -- the same players have the same lines
-players_same : (f g : List ℕ) (seats : ℕ) (events : List Event) → players_of f ≡ players_of g → player_lines f seats events ≡ player_lines g seats events
+players_same : (f g : List ℕ) (seats : ℕ) (events : List Event) → players_of f ≡ players_of g
+    → player_lines f seats events ≡ player_lines g seats events
 unfolding player_lines player_line
 players_same f g seats events players = rw players refl
 
 -- the same president has the same name
-president_same : (f g : List ℕ) (president : Option Seat) → players_of f ≡ players_of g → president_name f president ≡ president_name g president
+president_same : (f g : List ℕ) (president : Option Seat) → players_of f ≡ players_of g
+    → president_name f president ≡ president_name g president
 president_same f g None players = refl
 president_same f g (Some seat) players = rw players refl
 
 -- the same company has the same line
-company_same : (f g : List ℕ) (seats : ℕ) (events : List Event) (company : Company) (square : Option Square) → players_of f ≡ players_of g → line_on_square f seats events company square ≡ line_on_square g seats events company square
+company_same : (f g : List ℕ) (seats : ℕ) (events : List Event) (company : Company) (square : Option Square)
+    → players_of f ≡ players_of g → line_on_square f seats events company square
+    ≡ line_on_square g seats events company square
 unfolding company_line
 company_same f g seats events company None players = refl
-company_same f g seats events company (Some square) players = rw (president_same f g (president_of events company) players) refl
+company_same f g seats events company (Some square) players =
+    rw (president_same f g (president_of events company) players) refl
 
 -- the same of these companies have the same lines
-companies_same : (f g : List ℕ) (seats : ℕ) (events : List Event) (list : List Company) → players_of f ≡ players_of g → flat_map (λ company. started_line f seats events company) list ≡ flat_map (λ company. started_line g seats events company) list
+companies_same : (f g : List ℕ) (seats : ℕ) (events : List Event) (list : List Company) → players_of f ≡ players_of g
+    → flat_map (λ company. started_line f seats events company) list
+    ≡ flat_map (λ company. started_line g seats events company) list
 companies_same f g seats events [] players = refl
 companies_same f g seats events (company ∷ others) players =
-    rw (company_same f g seats events company (square_of events company) players, companies_same f g seats events others players) refl
+    rw (
+      company_same f g seats events company (square_of events company) players,
+      companies_same f g seats events
+          others players,
+    ) refl
 
 -- the same companies have the same lines
-company_lines_same : (f g : List ℕ) (seats : ℕ) (events : List Event) → players_of f ≡ players_of g → company_lines f seats events ≡ company_lines g seats events
+company_lines_same : (f g : List ℕ) (seats : ℕ) (events : List Event) → players_of f ≡ players_of g
+    → company_lines f seats events ≡ company_lines g seats events
 unfolding company_lines
 company_lines_same f g seats events players = companies_same f g seats events companies players
 
 -- the same events give the same statement
-statement_same : (f g : List ℕ) (seats : ℕ) (events : List Event) → players_of f ≡ players_of g → statement f seats events ≡ statement g seats events
+statement_same : (f g : List ℕ) (seats : ℕ) (events : List Event) → players_of f ≡ players_of g
+    → statement f seats events ≡ statement g seats events
 statement_same f g seats events players =
     rw (players_same f g seats events players, company_lines_same f g seats events players) refl
 
 -- the same events are printed the same
-events_same : (f g : List ℕ) (events : List Event) → players_of f ≡ players_of g → flat_map (event_line f) events ≡ flat_map (event_line g) events
+events_same : (f g : List ℕ) (events : List Event) → players_of f ≡ players_of g
+    → flat_map (event_line f) events ≡ flat_map (event_line g) events
 events_same f g [] players = refl
 events_same f g (event ∷ events) players = rw (event_same f g event players, events_same f g events players)
 
 -- the same rounds are printed the same
-rounds_same : (f g : List ℕ) (seats : ℕ) (before : List Event) (rounds : List (List Event)) → players_of f ≡ players_of g → texts_of_rounds f seats before rounds ≡ texts_of_rounds g seats before rounds
+rounds_same : (f g : List ℕ) (seats : ℕ) (before : List Event) (rounds : List (List Event))
+    → players_of f ≡ players_of g → texts_of_rounds f seats before rounds ≡ texts_of_rounds g seats before rounds
 rounds_same f g seats before [] players = refl
 rounds_same f g seats before (round ∷ rounds) players =
-    rw (events_same f g round players, statement_same f g seats (before ++ round) players, rounds_same f g seats (before ++ round) rounds players)
+    rw (
+      events_same f g round players,
+      statement_same f g seats (before ++ round) players,
+      rounds_same f g seats
+          (before ++ round) rounds players,
+    )
 
 -- of two sheets that are both there or both missing, both are owed or none
 owed_same : (a b : Option (List (List ℕ))) → is_some a ≡ is_some b → is_none a ≡ is_none b
@@ -119,21 +139,30 @@ owed_same None (Some b) same = absurd cc
 owed_same (Some a) None same = absurd cc
 
 -- the same of some seats owe a sheet
-names_same : (f g : List ℕ) (round : table.Round) (seats : List ℕ) → players_of f ≡ players_of g → ReadAlikeFor round f g →
+names_same : (f g : List ℕ) (round : table.Round) (seats : List ℕ) → players_of f ≡ players_of g
+    → ReadAlikeFor round f g →
     flat_map (λ seat. name_owing f round seat) seats ≡ flat_map (λ seat. name_owing g round seat) seats
 names_same f g round [] players same = refl
 names_same f g round (seat ∷ seats) players same =
-    rw (players, owed_same (sheet_of f seat round) (sheet_of g seat round) (same.posted seat), names_same f g round seats players same)
+    rw (
+      players,
+      owed_same (sheet_of f seat round) (sheet_of g seat round) (same.posted seat),
+      names_same f g round
+          seats players same,
+    )
 
 -- the same owe a sheet
-owing_same : (f g : List ℕ) (round : table.Round) → players_of f ≡ players_of g → ReadAlikeFor round f g → owing f round ≡ owing g round
+owing_same : (f g : List ℕ) (round : table.Round) → players_of f ≡ players_of g → ReadAlikeFor round f g
+    → owing f round ≡ owing g round
 unfolding owing
 owing_same f g round players same =
     names_same f g round (range_with_len 0 (length (players_of f))) players same
-    ∙ ap (λ (names : List (List ℕ)). flat_map (λ seat. name_owing g round seat) (range_with_len 0 (length names))) players
+    ∙ ap (λ (names : List (List ℕ)). flat_map (λ seat. name_owing g round seat) (range_with_len 0 (length names)))
+    players
 
 -- the same players are worth the same
-worths_same : (f g : List ℕ) (seats : ℕ) (events : List Event) → players_of f ≡ players_of g → worth_lines f seats events ≡ worth_lines g seats events
+worths_same : (f g : List ℕ) (seats : ℕ) (events : List Event) → players_of f ≡ players_of g
+    → worth_lines f seats events ≡ worth_lines g seats events
 unfolding worth_lines
 worths_same f g seats events players = rw players refl
 
@@ -147,13 +176,21 @@ end_same f g seats events Bankrupt same = rw (worths_same f g seats events same.
 -- what stands behind the first line of the report of a file whose game has these events and this end
 abbrev behind : List ℕ → ℕ → List Event → End → List ℕ
 behind file seats events end =
-    players_line file ++ rounds_text file seats events ++ unread_lines 0 (unread_of file) ++ end_text file seats events end
+    players_line file ++ rounds_text file seats events ++ unread_lines 0 (unread_of file)
+    ++ end_text file seats events end
 
 -- it is the same of the same game
-behind_same : (f g : List ℕ) (seats : ℕ) (events : List Event) (end : End) → AreReadAlike f g → unread_of f ≡ unread_of g →
+behind_same : (f g : List ℕ) (seats : ℕ) (events : List Event) (end : End) → AreReadAlike f g
+    → unread_of f ≡ unread_of g →
     behind f seats events end ≡ behind g seats events end
 behind_same f g seats events end same unread =
-    rw (same.players, rounds_same f g seats [] (rounds_in events) same.players, unread, end_same f g seats events end same)
+    rw (
+      same.players,
+      rounds_same f g seats [] (rounds_in events) same.players,
+      unread,
+      end_same f g seats events end
+          same,
+    )
 
 -- a first text of five is before the rest
 first_of_five : (a b c d e : List ℕ) → a ++ b ++ c ++ d ++ e ≡ a ++ (b ++ c ++ d ++ e)
@@ -167,11 +204,13 @@ in_two : (file : List ℕ) (seats : ℕ) (events : List Event) (end : End) →
     report_text file seats events end ≡ game_line (version_of file) ++ behind file seats events end
 unfolding header
 in_two file seats events end =
-    first_of_five (game_line (version_of file)) (players_line file) (rounds_text file seats events) (unread_lines 0 (unread_of file))
+    first_of_five (game_line (version_of file)) (players_line file) (rounds_text file seats events)
+    (unread_lines 0 (unread_of file))
     (end_text file seats events end)
 
 -- a report is that of the other file with its version
-report_carried : SamePartsSameGame → (f g : List ℕ) (of_f of_g : Result Content FileFault) → IsOk of_f → IsOk of_g → content_of g ≡ of_g →
+report_carried : SamePartsSameGame → (f g : List ℕ) (of_f of_g : Result Content FileFault) → IsOk of_f → IsOk of_g
+    → content_of g ≡ of_g →
     AreReadAlike f g → unread_of f ≡ unread_of g → (text : List ℕ) → IsReportOf f of_f text → DiffersInVersion f g text
 report_carried same_game f g (Ok a) (Ok b) ok_f ok_g is_g same unread text report =
     let last : Between = report.last in
@@ -180,13 +219,15 @@ report_carried same_game f g (Ok a) (Ok b) ok_f ok_g is_g same unread text repor
       rest = behind f last.game.seats last.game.events end;
       is = report.is ∙ in_two f last.game.seats last.game.events end;
       report =
-          subst (λ (content : Result Content FileFault). IsReportOf g content (game_line (version_of g) ++ behind f last.game.seats last.game.events end))
+          subst (λ (content : Result Content FileFault). IsReportOf g content
+          (game_line (version_of g) ++ behind f last.game.seats last.game.events end))
           (sym is_g)
           (record {
             last = last;
             game = same_game f g same last report.game;
             is =
-                ap (λ (rest : List ℕ). game_line (version_of g) ++ rest) (behind_same f g last.game.seats last.game.events end same unread)
+                ap (λ (rest : List ℕ). game_line (version_of g) ++ rest)
+                (behind_same f g last.game.seats last.game.events end same unread)
                 ∙ sym (in_two g last.game.seats last.game.events end);
           });
     }

@@ -65,39 +65,57 @@ other_way (Operating a m) (Stock b) apart = refl
 
 module _ (file : List ℕ) (seats : ℕ) where
   -- a round that is not the first is looked up among the later ones
-  among_later : (before first : List Event) (rounds : List (List Event)) (round : Round) → is_round round first ≡ false → text_of_one file seats round before (first ∷ rounds) ≡ text_of_one file seats round (before ++ first) rounds
+  among_later : (before first : List Event) (rounds : List (List Event)) (round : Round)
+      → is_round round first ≡ false → text_of_one file seats round before (first ∷ rounds)
+      ≡ text_of_one file seats round (before ++ first) rounds
   among_later before first rounds round elsewhere = rw elsewhere refl
 
   -- so it is with one round, if there is one, and with more
-  one_later : (before first : List Event) (rounds : List (List Event)) (begun : Round) (one : Option Round) (more : List Round) → round_begun first ≡ Some begun → is_the_round begun one ≡ false → flat_map (λ round. text_of_one file seats round before (first ∷ rounds)) more ≡ flat_map (λ round. text_of_one file seats round (before ++ first) rounds) more → flat_map (λ round. text_of_one file seats round before (first ∷ rounds)) (with_round one more) ≡ flat_map (λ round. text_of_one file seats round (before ++ first) rounds) (with_round one more)
+  one_later : (before first : List Event) (rounds : List (List Event)) (begun : Round) (one : Option Round)
+      (more : List Round) → round_begun first ≡ Some begun → is_the_round begun one ≡ false
+      → flat_map (λ round. text_of_one file seats round before (first ∷ rounds)) more
+      ≡ flat_map (λ round. text_of_one file seats round (before ++ first) rounds) more
+      → flat_map (λ round. text_of_one file seats round before (first ∷ rounds)) (with_round one more)
+      ≡ flat_map (λ round. text_of_one file seats round (before ++ first) rounds) (with_round one more)
   one_later before first rounds begun None more is apart later = later
   one_later before first rounds begun (Some round) more is apart later =
       let elsewhere : is_round round first ≡ false = rw is (other_way round begun apart) in
       rw (among_later before first rounds round elsewhere, later) refl
 
   -- so it is with all rounds that are not the first
-  all_later : (before first : List Event) (rounds : List (List Event)) (begun : Round) (some : List (List Event)) → round_begun first ≡ Some begun → NoneIs begun some → flat_map (λ round. text_of_one file seats round before (first ∷ rounds)) (rounds_of some) ≡ flat_map (λ round. text_of_one file seats round (before ++ first) rounds) (rounds_of some)
+  all_later : (before first : List Event) (rounds : List (List Event)) (begun : Round) (some : List (List Event))
+      → round_begun first ≡ Some begun → NoneIs begun some
+      → flat_map (λ round. text_of_one file seats round before (first ∷ rounds)) (rounds_of some)
+      ≡ flat_map (λ round. text_of_one file seats round (before ++ first) rounds) (rounds_of some)
   all_later before first rounds begun [] is none = refl
   all_later before first rounds begun (events ∷ some) is none =
-      one_later before first rounds begun (round_begun events) (rounds_of some) is none.0 (all_later before first rounds begun some is none.1)
+      one_later before first rounds begun (round_begun events) (rounds_of some) is none.0
+      (all_later before first rounds begun some is none.1)
 
   -- the first of some rounds is looked up there
-  first_text : (before first : List Event) (rounds : List (List Event)) (round : Round) → is_round round first ≡ true → text_of_one file seats round before (first ∷ rounds) ≡ lines_of_round file seats before first
+  first_text : (before first : List Event) (rounds : List (List Event)) (round : Round) → is_round round first ≡ true
+      → text_of_one file seats round before (first ∷ rounds) ≡ lines_of_round file seats before first
   first_text before first rounds round here = rw here refl
 
   -- the texts of rounds that differ
-  texts : (before : List Event) (rounds : List (List Event)) → BeginDifferentRounds rounds → flat_map (λ round. text_of_one file seats round before rounds) (rounds_of rounds) ≡ texts_of_rounds file seats before rounds
+  texts : (before : List Event) (rounds : List (List Event)) → BeginDifferentRounds rounds
+      → flat_map (λ round. text_of_one file seats round before rounds) (rounds_of rounds)
+      ≡ texts_of_rounds file seats before rounds
   texts before [] different = refl
   texts before (first ∷ rounds) different =
       let begun : Round = different.0 in
       let is : round_begun first ≡ Some begun = different.1 in
       let here : is_round begun first ≡ true = subst (λ one. is_the_round begun one ≡ true) (sym is) (itself begun) in
-      ap (λ one. flat_map (λ round. text_of_one file seats round before (first ∷ rounds)) (with_round one (rounds_of rounds))) is
-      ∙ (ap (λ text. text ++ flat_map (λ round. text_of_one file seats round before (first ∷ rounds)) (rounds_of rounds)) (first_text before first rounds begun here)
-      ∙ ap (λ text. lines_of_round file seats before first ++ text) (all_later before first rounds begun rounds is different.2 ∙ texts (before ++ first) rounds different.3))
+      ap (λ one. flat_map (λ round. text_of_one file seats round before (first ∷ rounds))
+      (with_round one (rounds_of rounds))) is
+      ∙ (ap (λ text. text ++ flat_map (λ round. text_of_one file seats round before (first ∷ rounds))
+      (rounds_of rounds)) (first_text before first rounds begun here)
+      ∙ ap (λ text. lines_of_round file seats before first ++ text)
+      (all_later before first rounds begun rounds is different.2 ∙ texts (before ++ first) rounds different.3))
 
 -- the first of the rounds with an event in front begins what that event begins
-front_begins : (event : Event) (ended : Bool) (rounds : List (List Event)) → FirstBegins (round_begun_by event) (with_event_in_round event ended rounds)
+front_begins : (event : Event) (ended : Bool) (rounds : List (List Event))
+    → FirstBegins (round_begun_by event) (with_event_in_round event ended rounds)
 front_begins event true rounds = refl
 front_begins event false [] = refl
 front_begins event false (round ∷ rounds) = refl
@@ -118,7 +136,9 @@ none_begun [] goes = refl
 none_begun (event ∷ events) goes = none_found (round_begun_by event) goes
 
 -- an event in front of rounds begins its round before them
-one_begun : (event : Event) (ended : Bool) (rounds : List (List Event)) (first : Option Round) → FirstBegins first rounds → (ended ≡ false → first ≡ None) → rounds_of (with_event_in_round event ended rounds) ≡ with_round (round_begun_by event) (rounds_of rounds)
+one_begun : (event : Event) (ended : Bool) (rounds : List (List Event)) (first : Option Round)
+    → FirstBegins first rounds → (ended ≡ false → first ≡ None)
+    → rounds_of (with_event_in_round event ended rounds) ≡ with_round (round_begun_by event) (rounds_of rounds)
 one_begun event true rounds first is none = refl
 one_begun event false [] first is none = refl
 one_begun event false (round ∷ rounds) first is none =
@@ -128,11 +148,14 @@ one_begun event false (round ∷ rounds) first is none =
 all_begun : (events : List Event) → rounds_of (rounds_in events) ≡ rounds_begun events
 all_begun [] = refl
 all_begun (event ∷ events) =
-    one_begun event (ends_round events) (rounds_in events) (round_begun events) (first_begins events) (none_begun events)
+    one_begun event (ends_round events) (rounds_in events) (round_begun events) (first_begins events)
+    (none_begun events)
     ∙ ap (with_round (round_begun_by event)) (all_begun events)
 
 -- with an event in front, each part but the first begins a round
-one_later_begins : (event : Event) (ended : Bool) (rounds : List (List Event)) (first : Option Round) → FirstBegins first rounds → is_some first ≡ ended → LaterBegin rounds → LaterBegin (with_event_in_round event ended rounds)
+one_later_begins : (event : Event) (ended : Bool) (rounds : List (List Event)) (first : Option Round)
+    → FirstBegins first rounds → is_some first ≡ ended → LaterBegin rounds
+    → LaterBegin (with_event_in_round event ended rounds)
 one_later_begins event true [] first is some later = tt
 one_later_begins event true (round ∷ rounds) first is some later = (subst IsSome (sym is) some, later)
 one_later_begins event false [] first is some later = tt
@@ -143,10 +166,12 @@ later_begin : (events : List Event) → LaterBegin (rounds_in events)
 later_begin [] = tt
 later_begin (event ∷ []) = tt
 later_begin (event ∷ next ∷ events) =
-    one_later_begins event (is_some (round_begun_by next)) (rounds_in (next ∷ events)) (round_begun_by next) (first_begins (next ∷ events)) refl (later_begin (next ∷ events))
+    one_later_begins event (is_some (round_begun_by next)) (rounds_in (next ∷ events)) (round_begun_by next)
+    (first_begins (next ∷ events)) refl (later_begin (next ∷ events))
 
 -- so does the first, if it is said to
-all_begin : (first : Option Round) (rounds : List (List Event)) → FirstBegins first rounds → IsSome first → LaterBegin rounds → EachBegins rounds
+all_begin : (first : Option Round) (rounds : List (List Event)) → FirstBegins first rounds → IsSome first
+    → LaterBegin rounds → EachBegins rounds
 all_begin first [] is some later = tt
 all_begin first (round ∷ rounds) is some later = (subst IsSome (sym is) some, later)
 
@@ -154,7 +179,8 @@ all_begin first (round ∷ rounds) is some later = (subst IsSome (sym is) some, 
 each_begins : (events : List Event) → BeginWithRound events → EachBegins (rounds_in events)
 each_begins [] begins = tt
 each_begins (event ∷ events) begins =
-    all_begin (round_begun_by event) (rounds_in (event ∷ events)) (first_begins (event ∷ events)) begins (later_begin (event ∷ events))
+    all_begin (round_begun_by event) (rounds_in (event ∷ events)) (first_begins (event ∷ events)) begins
+    (later_begin (event ∷ events))
 
 -- a round that comes before another is not the same
 apart : (a b : Round) → is_before a b ≡ true → same_round b a ≡ false
@@ -169,7 +195,8 @@ apart (Operating a m) (Opening b) before = refl
 apart (Operating a m) (Stock b) before = refl
 
 -- a round that is before one, if there is one, and before others is not that one
-not_this : (round : Round) (one : Option Round) (rounds : List Round) → IsBeforeEach round (with_round one rounds) → (is_the_round round one ≡ false) × IsBeforeEach round rounds
+not_this : (round : Round) (one : Option Round) (rounds : List Round) → IsBeforeEach round (with_round one rounds)
+    → (is_the_round round one ≡ false) × IsBeforeEach round rounds
 not_this round None rounds before = (refl, before)
 not_this round (Some other) rounds before = (apart round other before.0, before.1)
 
@@ -181,18 +208,25 @@ none_is round (events ∷ rounds) before =
     (parts.0, none_is round rounds parts.1)
 
 -- a part that begins a round before all others, and others that differ
-one_more_differs : (events : List Event) (rounds : List (List Event)) (one : Option Round) → round_begun events ≡ one → IsSome one → AreInOrder (with_round one (rounds_of rounds)) → (AreInOrder (rounds_of rounds) → BeginDifferentRounds rounds) → BeginDifferentRounds (events ∷ rounds)
+one_more_differs : (events : List Event) (rounds : List (List Event)) (one : Option Round) → round_begun events ≡ one
+    → IsSome one → AreInOrder (with_round one (rounds_of rounds))
+    → (AreInOrder (rounds_of rounds) → BeginDifferentRounds rounds) → BeginDifferentRounds (events ∷ rounds)
 one_more_differs events rounds None is some order later = absurd cc
-one_more_differs events rounds (Some round) is some order later = (round, is, none_is round rounds order.0, later order.1)
+one_more_differs events rounds (Some round) is some order later =
+    (round, is, none_is round rounds order.0, later order.1)
 
 -- parts that each begin a round, in order, begin different rounds
-all_differ : (rounds : List (List Event)) → EachBegins rounds → AreInOrder (rounds_of rounds) → BeginDifferentRounds rounds
+all_differ : (rounds : List (List Event)) → EachBegins rounds → AreInOrder (rounds_of rounds)
+    → BeginDifferentRounds rounds
 all_differ [] each order = tt
 all_differ (events ∷ rounds) each order =
     one_more_differs events rounds (round_begun events) refl each.0 order (λ later. all_differ rounds each.1 later)
 
 -- the texts of rounds in order are the text of all rounds
-texts_in_order : (file : List ℕ) (seats : ℕ) (events : List Event) → BeginWithRound events × AreInOrder (rounds_begun events) → texts_of_rounds file seats [] (rounds_in events) ≡ flat_map (λ round. text_of_one file seats round [] (rounds_in events)) (rounds_begun events)
+texts_in_order : (file : List ℕ) (seats : ℕ) (events : List Event)
+    → BeginWithRound events × AreInOrder (rounds_begun events)
+    → texts_of_rounds file seats [] (rounds_in events)
+    ≡ flat_map (λ round. text_of_one file seats round [] (rounds_in events)) (rounds_begun events)
 texts_in_order file seats events told =
     let order : AreInOrder (rounds_of (rounds_in events)) = subst AreInOrder (sym (all_begun events)) told.1 in
     sym (texts file seats [] (rounds_in events) (all_differ (rounds_in events) (each_begins events told.0) order))
@@ -201,6 +235,8 @@ texts_in_order file seats events told =
 -- a report is its parts
 pub parts_of_report : RoundsFollowInOrder → ReportIsItsParts
 parts_of_report follow played accepted is_game =
-    let told : BeginWithRound played.game.events × AreInOrder (rounds_begun played.game.events) = subst (λ (game : Game). BeginWithRound game.events × AreInOrder (rounds_begun game.events)) (sym is_game.game) (follow played.file is_game.last accepted is_game.plays) in
+    let told : BeginWithRound played.game.events × AreInOrder (rounds_begun played.game.events) =
+    subst (λ (game : Game). BeginWithRound game.events × AreInOrder (rounds_begun game.events)) (sym is_game.game)
+    (follow played.file is_game.last accepted is_game.plays) in
     ap (λ text. header played.file ++ text ++ unread_lines 0 (unread_of played.file) ++ end_of_play played)
     (texts_in_order played.file played.game.seats played.game.events told)

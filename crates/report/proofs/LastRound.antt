@@ -17,7 +17,8 @@ abbrev begins : Event → Bool
 begins event = is_some (round_begun_by event)
 
 -- some event of a list does that has one which does
-some_begins : (front more : List Event) (event : Event) → begins event ≡ true → list_any begins (front ++ event ∷ more) ≡ true
+some_begins : (front more : List Event) (event : Event) → begins event ≡ true
+    → list_any begins (front ++ event ∷ more) ≡ true
 some_begins [] more event is = ap (λ (b : Bool). b || list_any begins more) is
 some_begins (other ∷ front) more event is =
     elim (begins other) as (λ (b : Bool). (b || list_any begins (front ++ event ∷ more)) ≡ true) [
@@ -31,14 +32,16 @@ pub begins_last :
     last_round (front ++ event ∷ more) ≡ event ∷ more
 begins_last [] more event is none = ap (λ (b : Bool). if b then last_round more else event ∷ more) none
 begins_last (other ∷ front) more event is none =
-    ap (λ (b : Bool). if b then last_round (front ++ event ∷ more) else other ∷ front ++ event ∷ more) (some_begins front more event is)
+    ap (λ (b : Bool). if b then last_round (front ++ event ∷ more) else other ∷ front ++ event ∷ more)
+    (some_begins front more event is)
     ∙ begins_last front more event is none
 
 -- where no event begins a round, all are of it
 pub begins_nowhere : (events : List Event) → list_any begins events ≡ false → last_round events ≡ events
 begins_nowhere [] none = refl
 begins_nowhere (event ∷ events) none =
-    elim (begins event) as (λ (b : Bool). (b || list_any begins events) ≡ false → last_round (event ∷ events) ≡ event ∷ events) [
+    elim (begins event) as (λ (b : Bool). (b || list_any begins events) ≡ false
+    → last_round (event ∷ events) ≡ event ∷ events) [
       | true ↦ λ never. absurd (false≢true (sym never))
       | false ↦ λ others. ap (λ (b : Bool). if b then last_round events else event ∷ events) others
     ]
@@ -46,18 +49,25 @@ begins_nowhere (event ∷ events) none =
 
 -- some rounds are told in order, and the last of them after the others
 told_last :
-    (file : List ℕ) (seats : ℕ) (before all last : List Event) (rounds : List (List Event)) → all ≡ before ++ flat_map (λ round. round) rounds →
-    texts_of_rounds file seats before (rounds ++ last ∷ []) ≡ texts_of_rounds file seats before rounds ++ lines_of_round file seats all last
+    (file : List ℕ) (seats : ℕ) (before all last : List Event) (rounds : List (List Event))
+    → all ≡ before ++ flat_map (λ round. round) rounds →
+    texts_of_rounds file seats before (rounds ++ last ∷ [])
+    ≡ texts_of_rounds file seats before rounds ++ lines_of_round file seats all last
 told_last file seats before all last [] is =
     let same : all ≡ before = is ∙ append-nil before in
-    append-nil (lines_of_round file seats before last) ∙ ap (λ (list : List Event). lines_of_round file seats list last) (sym same)
+    append-nil (lines_of_round file seats before last)
+    ∙ ap (λ (list : List Event). lines_of_round file seats list last) (sym same)
 told_last file seats before all last (round ∷ rounds) is =
-    let later : all ≡ (before ++ round) ++ flat_map (λ other. other) rounds = is ∙ sym (append_assoc before round (flat_map (λ other. other) rounds)) in
-    ap (λ (text : List ℕ). lines_of_round file seats before round ++ text) (told_last file seats (before ++ round) all last rounds later)
-    ∙ sym (append_assoc (lines_of_round file seats before round) (texts_of_rounds file seats (before ++ round) rounds) (lines_of_round file seats all last))
+    let later : all ≡ (before ++ round) ++ flat_map (λ other. other) rounds =
+    is ∙ sym (append_assoc before round (flat_map (λ other. other) rounds)) in
+    ap (λ (text : List ℕ). lines_of_round file seats before round ++ text)
+    (told_last file seats (before ++ round) all last rounds later)
+    ∙ sym (append_assoc (lines_of_round file seats before round) (texts_of_rounds file seats (before ++ round) rounds)
+    (lines_of_round file seats all last))
 
 -- an event in front of rounds is in front of the events of all
-in_front : (event : Event) (ended : Bool) (rounds : List (List Event)) → flat_map (λ round. round) (with_event_in_round event ended rounds) ≡ event ∷ flat_map (λ round. round) rounds
+in_front : (event : Event) (ended : Bool) (rounds : List (List Event))
+    → flat_map (λ round. round) (with_event_in_round event ended rounds) ≡ event ∷ flat_map (λ round. round) rounds
 in_front event true rounds = refl
 in_front event false [] = refl
 in_front event false (round ∷ rounds) = refl
@@ -66,27 +76,32 @@ in_front event false (round ∷ rounds) = refl
 pub all_rounds : (events : List Event) → events ≡ flat_map (λ round. round) (rounds_in events)
 all_rounds [] = refl
 all_rounds (event ∷ events) =
-    ap (λ (list : List Event). event ∷ list) (all_rounds events) ∙ sym (in_front event (ends_round events) (rounds_in events))
+    ap (λ (list : List Event). event ∷ list) (all_rounds events)
+    ∙ sym (in_front event (ends_round events) (rounds_in events))
 
 -- there is a round where there is an event
-some_round : (event : Event) (ended : Bool) (rounds : List (List Event)) → (first : List Event) × (others : List (List Event)) × (with_event_in_round event ended rounds ≡ first ∷ others)
+some_round : (event : Event) (ended : Bool) (rounds : List (List Event))
+    → (first : List Event) × (others : List (List Event)) × (with_event_in_round event ended rounds ≡ first ∷ others)
 some_round event true rounds = (event ∷ [], rounds, refl)
 some_round event false [] = (event ∷ [], [], refl)
 some_round event false (round ∷ rounds) = (event ∷ round, rounds, refl)
 
 -- an event in front of some rounds and a further one
 one_more_in_front :
-    (event : Event) (ended : Bool) (rounds others : List (List Event)) (first last : List Event) → rounds ≡ first ∷ others →
+    (event : Event) (ended : Bool) (rounds others : List (List Event)) (first last : List Event)
+    → rounds ≡ first ∷ others →
     with_event_in_round event ended (rounds ++ last ∷ []) ≡ with_event_in_round event ended rounds ++ last ∷ []
 one_more_in_front event true rounds others first last is = refl
 one_more_in_front event false [] others first last is = absurd cc
 one_more_in_front event false (round ∷ rounds) others first last is = refl
 
 -- a round of which no later event begins one is one
-one_round : (event : Event) (more : List Event) → list_any begins more ≡ false → rounds_in (event ∷ more) ≡ (event ∷ more) ∷ []
+one_round : (event : Event) (more : List Event) → list_any begins more ≡ false
+    → rounds_in (event ∷ more) ≡ (event ∷ more) ∷ []
 one_round event [] none = refl
 one_round event (next ∷ more) none =
-    elim (begins next) as (λ (b : Bool). (b || list_any begins more) ≡ false → with_event_in_round event b (rounds_in (next ∷ more)) ≡ (event ∷ next ∷ more) ∷ []) [
+    elim (begins next) as (λ (b : Bool). (b || list_any begins more) ≡ false
+    → with_event_in_round event b (rounds_in (next ∷ more)) ≡ (event ∷ next ∷ more) ∷ []) [
       | true ↦ λ never. absurd (false≢true (sym never))
       | false ↦ λ others. ap (with_event_in_round event false) (one_round next more others)
     ]
@@ -107,26 +122,32 @@ cut_before (first ∷ next ∷ old) more event is none =
 
 -- the text of a list that a round is added to: that of the list, and then that of the round
 texts_grow :
-    (file : List ℕ) (seats : ℕ) (old more : List Event) (event : Event) → begins event ≡ true → list_any begins more ≡ false →
-    rounds_text file seats (old ++ event ∷ more) ≡ rounds_text file seats old ++ lines_of_round file seats old (event ∷ more)
+    (file : List ℕ) (seats : ℕ) (old more : List Event) (event : Event) → begins event ≡ true
+    → list_any begins more ≡ false →
+    rounds_text file seats (old ++ event ∷ more) ≡ rounds_text file seats old
+    ++ lines_of_round file seats old (event ∷ more)
 texts_grow file seats old more event is none =
     ap (texts_of_rounds file seats []) (cut_before old more event is none)
     ∙ told_last file seats [] old (event ∷ more) (rounds_in old) (all_rounds old)
 
 -- the text of the round that began last, where there is an event
-some_last : (file : List ℕ) (seats : ℕ) (old more : List Event) (event : Event) → last_round_text file seats (old ++ event ∷ more) ≡
+some_last : (file : List ℕ) (seats : ℕ) (old more : List Event) (event : Event)
+    → last_round_text file seats (old ++ event ∷ more) ≡
     flat_map (event_line file) (last_round (old ++ event ∷ more)) ++ statement file seats (old ++ event ∷ more)
 some_last file seats [] more event = refl
 some_last file seats (first ∷ old) more event = refl
 
 -- so the text of a game grows by that of the round that began last
 pub grows_by_last :
-    (file : List ℕ) (seats : ℕ) (old more : List Event) (event : Event) → begins event ≡ true → list_any begins more ≡ false →
-    rounds_text file seats (old ++ event ∷ more) ≡ rounds_text file seats old ++ last_round_text file seats (old ++ event ∷ more)
+    (file : List ℕ) (seats : ℕ) (old more : List Event) (event : Event) → begins event ≡ true
+    → list_any begins more ≡ false →
+    rounds_text file seats (old ++ event ∷ more) ≡ rounds_text file seats old
+    ++ last_round_text file seats (old ++ event ∷ more)
 grows_by_last file seats old more event is none =
     let last : last_round_text file seats (old ++ event ∷ more) ≡ lines_of_round file seats old (event ∷ more) =
     some_last file seats old more event
-    ∙ ap (λ (events : List Event). flat_map (event_line file) events ++ statement file seats (old ++ event ∷ more)) (begins_last old more event is none)
+    ∙ ap (λ (events : List Event). flat_map (event_line file) events ++ statement file seats (old ++ event ∷ more))
+    (begins_last old more event is none)
     in
     texts_grow file seats old more event is none ∙ ap (λ (text : List ℕ). rounds_text file seats old ++ text) (sym last)
 
@@ -139,10 +160,12 @@ from_here events begun d within is none =
     let whole : events ≡ take begun events ++ get_or events begun d ∷ drop (begun + 1) events =
     sym (take-append-drop begun events) ∙ ap (λ (list : List Event). take begun events ++ list) split
     in
-    split ∙ sym (ap last_round whole ∙ begins_last (take begun events) (drop (begun + 1) events) (get_or events begun d) is none)
+    split ∙ sym (ap last_round whole ∙ begins_last (take begun events) (drop (begun + 1) events)
+    (get_or events begun d) is none)
 
 -- where no event from the first on begins a round, all are of it
-pub from_first : (events : List Event) (begun : ℕ) → begun ≡ 0 → list_any begins (drop begun events) ≡ false → drop begun events ≡ last_round events
+pub from_first : (events : List Event) (begun : ℕ) → begun ≡ 0 → list_any begins (drop begun events) ≡ false
+    → drop begun events ≡ last_round events
 from_first events begun is none =
     let all : list_any begins events ≡ false = subst (λ (n : ℕ). list_any begins (drop n events) ≡ false) is none in
     ap (λ (n : ℕ). drop n events) is ∙ sym (begins_nowhere events all)

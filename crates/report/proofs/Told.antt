@@ -21,14 +21,17 @@ abbrev text_of : List ℕ → Game → List ℕ
 text_of file game = rounds_text file game.seats game.events
 
 -- a round adds its own text
-round_told : RoundsOnlyAdd → (file f : List ℕ) (old new : Between) → IsRound f old new → text_of file new.game ≡ text_of file old.game ++ text_of_last file (Some new.game)
+round_told : RoundsOnlyAdd → (file f : List ℕ) (old new : Between) → IsRound f old new
+    → text_of file new.game ≡ text_of file old.game ++ text_of_last file (Some new.game)
 round_told adds file f old new played =
     let added = adds f old new played in
-    subst (λ (game : Game). text_of file game ≡ text_of file old.game ++ text_of_last file (Some game)) (sym added.added)
+    subst (λ (game : Game). text_of file game ≡ text_of file old.game ++ text_of_last file (Some game))
+    (sym added.added)
     (grows_by_last file old.game.seats old.game.events added.more (event.Round played.round) refl added.no_round)
 
 -- so do some rounds
-rounds_told : RoundsOnlyAdd → (file f : List ℕ) (rounds : ℕ) (old new : Between) → AreRounds f rounds old new → (more : List ℕ) × (text_of file new.game ≡ text_of file old.game ++ more)
+rounds_told : RoundsOnlyAdd → (file f : List ℕ) (rounds : ℕ) (old new : Between) → AreRounds f rounds old new
+    → (more : List ℕ) × (text_of file new.game ≡ text_of file old.game ++ more)
 rounds_told adds file f zero old new played =
     ([], ap (λ (at : Between). text_of file at.game) (sym played) ∙ sym (append-nil (text_of file old.game)))
 rounds_told adds file f (suc rounds) old new played =
@@ -51,7 +54,8 @@ same_place : (a b : Between) (there : Result Between PlayFault) → there ≡ Ok
 same_place a b there at_a at_b = cc
 
 -- a step tells its round
-step_told : RoundsOnlyAdd → (file : List ℕ) (old new : Underway) (before text : List ℕ) (round : _) → Told file old before → PlaysNext old round new → text ≡ before ++ next_text_of new → Told file new text
+step_told : RoundsOnlyAdd → (file : List ℕ) (old new : Underway) (before text : List ℕ) (round : _)
+    → Told file old before → PlaysNext old round new → text ≡ before ++ next_text_of new → Told file new text
 step_told adds file old new before text round told step is =
     let same : told.at ≡ step.from = same_place told.at step.from old.there told.there step.there in
     let of_file : new.file ≡ file = ap (λ (play : Underway). play.file) step.after ∙ told.of_file in
@@ -66,12 +70,14 @@ step_told adds file old new before text round told step is =
       at = step.to;
       there = there;
       is =
-          is ∙ ap (λ (text : List ℕ). before ++ text) next ∙ ap (λ (text : List ℕ). text ++ text_of_last file (Some step.to.game)) before_is
+          is ∙ ap (λ (text : List ℕ). before ++ text) next
+          ∙ ap (λ (text : List ℕ). text ++ text_of_last file (Some step.to.game)) before_is
           ∙ sym (round_told adds file old.file step.from step.to step.played);
     }
 
 -- so all steps tell their rounds
-steps_told : RoundsOnlyAdd → (file : List ℕ) (steps : ℕ) (play : Underway) (text : List ℕ) → StepsTell steps (started file) play text → Told file play text
+steps_told : RoundsOnlyAdd → (file : List ℕ) (steps : ℕ) (play : Underway) (text : List ℕ)
+    → StepsTell steps (started file) play text → Told file play text
 steps_told adds file zero play text told =
     record {
       of_file = ap (λ (at : Underway). at.file) told.0;
@@ -88,23 +94,28 @@ are_steps zero old new text told = told.0
 are_steps (suc steps) old new text told = (told.0, are_steps steps old told.0 told.1 told.2, told.3, told.4)
 
 -- the report of an accepted file is that of its game
-of_game : (file whole : List ℕ) (content : Result Content FileFault) → IsOk content → IsReportOf file content whole → IsGameReport file whole
+of_game : (file whole : List ℕ) (content : Result Content FileFault) → IsOk content → IsReportOf file content whole
+    → IsGameReport file whole
 of_game file whole (Ok content) accepted report = report
 of_game file whole (Err fault) accepted report = absurd cc
 
 -- and the other way round
-as_report : (file whole : List ℕ) (content : Result Content FileFault) → IsOk content → IsGameReport file whole → IsReportOf file content whole
+as_report : (file whole : List ℕ) (content : Result Content FileFault) → IsOk content → IsGameReport file whole
+    → IsReportOf file content whole
 as_report file whole (Ok content) accepted report = report
 as_report file whole (Err fault) accepted report = absurd cc
 
 -- what follows the rounds of a game
 abbrev after_rounds : List ℕ → Between → List ℕ
-after_rounds file last = unread_lines 0 (unread_of file) ++ end_text file last.game.seats last.game.events (end_of last.next last.game.events)
+after_rounds file last = unread_lines 0 (unread_of file)
+    ++ end_text file last.game.seats last.game.events (end_of last.next last.game.events)
 
 -- the report of a game is its header, its rounds, and what follows them
-in_parts : (file : List ℕ) (last : Between) → report_text file last.game.seats last.game.events (end_of last.next last.game.events) ≡ (header file ++ text_of file last.game) ++ after_rounds file last
+in_parts : (file : List ℕ) (last : Between) → report_text file last.game.seats last.game.events
+    (end_of last.next last.game.events) ≡ (header file ++ text_of file last.game) ++ after_rounds file last
 in_parts file last =
-    append_assoc (header file ++ text_of file last.game) (unread_lines 0 (unread_of file)) (end_text file last.game.seats last.game.events (end_of last.next last.game.events))
+    append_assoc (header file ++ text_of file last.game) (unread_lines 0 (unread_of file))
+    (end_text file last.game.seats last.game.events (end_of last.next last.game.events))
 
 -- what is told so far is a front of the report
 pub told_is_front : OneGame → RoundsOnlyAdd → StepsPlayTheGame → PartsAreAFront
@@ -117,7 +128,8 @@ told_is_front one adds steps_play file steps play text whole accepted stepped re
     let last : of_last.last ≡ up_to.last = one file of_last.last up_to.last of_last.game up_to.plays in
     let more = rounds_told adds file file up_to.later led.0 up_to.last up_to.ahead in
     let rounds : text_of file up_to.last.game ≡ text ++ more.0 =
-    more.1 ∙ ap (λ (front : List ℕ). front ++ more.0) (ap (λ (at : Between). text_of file at.game) (sym same) ∙ sym told.is)
+    more.1 ∙ ap (λ (front : List ℕ). front ++ more.0)
+    (ap (λ (at : Between). text_of file at.game) (sym same) ∙ sym told.is)
     in
     record {
       rest = more.0 ++ after_rounds file up_to.last;
@@ -126,7 +138,8 @@ told_is_front one adds steps_play file steps play text whole accepted stepped re
           ∙ ap (λ (at : Between). report_text file at.game.seats at.game.events (end_of at.next at.game.events)) last
           ∙ in_parts file up_to.last
           ∙ ap (λ (front : List ℕ). (header file ++ front) ++ after_rounds file up_to.last) rounds
-          ∙ ap (λ (front : List ℕ). front ++ after_rounds file up_to.last) (sym (append_assoc (header file) text more.0))
+          ∙ ap (λ (front : List ℕ). front ++ after_rounds file up_to.last)
+          (sym (append_assoc (header file) text more.0))
           ∙ append_assoc (header file ++ text) more.0 (after_rounds file up_to.last);
     }
 
@@ -150,7 +163,8 @@ told_is_report adds steps_play file steps before play end text accepted stepped 
     let end_is : end_text_of play ≡ after_rounds file last =
     ap end_text_of stays.after
     ∙ ap (λ (f : List ℕ). unread_lines 0 (unread_of f) ++ end_told f (game_there before.there) (Some end)) told.of_file
-    ∙ ap (λ (there : Result Between PlayFault). unread_lines 0 (unread_of file) ++ end_told file (game_there there) (Some end)) stays.over.there
+    ∙ ap (λ (there : Result Between PlayFault). unread_lines 0 (unread_of file)
+    ++ end_told file (game_there there) (Some end)) stays.over.there
     ∙ ap (λ (known : Option End). unread_lines 0 (unread_of file) ++ end_told file (Some last.game) known) why
     in
     as_report file (header file ++ text ++ end_text_of play) (content_of file) accepted

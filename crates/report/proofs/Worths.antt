@@ -20,12 +20,14 @@ pub worth_fits : (tenths price : ℕ) → tenths ≤ 2 ^ 100 → price ≤ 350 �
 worth_fits tenths price many small = let most = mul-le-mul many small in omega (arith, most)
 
 -- one value more is added to those of the first n
-pub sum_step : {X : Type 0} (f : X → ℕ) (xs : List X) (n : ℕ) (d : X) (sum value : ℕ) → n < length xs → sum ≡ sum_by f (take n xs) → value ≡ f (get_or xs n d) → sum + value ≡ sum_by f (take (n + 1) xs)
+pub sum_step : {X : Type 0} (f : X → ℕ) (xs : List X) (n : ℕ) (d : X) (sum value : ℕ) → n < length xs
+    → sum ≡ sum_by f (take n xs) → value ≡ f (get_or xs n d) → sum + value ≡ sum_by f (take (n + 1) xs)
 sum_step f xs n d sum value below so_far is = omega (arith, sum_by_more f xs n d below, so_far, is)
 
 -- cash with what is owned fits in the bits that it is counted in
 pub wealth_fits : (cash : ℤ) (tenths privates : ℕ) → IsModerate cash → tenths ≤ 2 ^ 112 → privates ≤ 1320 →
-    to_z w128 (of_z w128 (to_z w128 (of_z w128 cash) +ℤ to_z w128 (tenths + privates))) ≡ cash +ℤ pos (tenths + privates)
+    to_z w128 (of_z w128 (to_z w128 (of_z w128 cash) +ℤ to_z w128 (tenths + privates)))
+    ≡ cash +ℤ pos (tenths + privates)
 wealth_fits cash tenths privates moderate many small =
     let under = moderate.not_under in
     let over = moderate.not_over in

@@ -54,7 +54,8 @@ ruled_line file seat line ruling = line_of (name_of file seat) (decimal line ∷
 
 -- a line that tells of a private, a holder and a sum
 abbrev pub private_line : List ℕ → List ℕ → Private → Holder → ℕ → List ℕ
-private_line file word private owner amount = line_of word (code_of_private private ∷ holder_text file owner ∷ decimal amount ∷ [])
+private_line file word private owner amount = line_of word
+    (code_of_private private ∷ holder_text file owner ∷ decimal amount ∷ [])
 
 -- the letter of a row of the stock market, if it has one
 abbrev pub letter_text : Option ℕ → List ℕ
@@ -107,11 +108,14 @@ event_line file (Sold private seat price) = private_line file (codes "SOLD") pri
 event_line file (Bids private seat amount) = private_line file (codes "BIDS") private (holder.Seat seat) amount
 event_line file (Price price) = line_of (codes "PRICE") (codes "SV" ∷ decimal price ∷ [])
 event_line file (Revenue private owner amount) = private_line file (codes "REVENUE") private owner amount
-event_line file (Given company seat tenths) = line_of (codes "GIVEN") (code_of_company company ∷ name_of file seat ∷ decimal tenths ∷ [])
+event_line file (Given company seat tenths) = line_of (codes "GIVEN")
+    (code_of_company company ∷ name_of file seat ∷ decimal tenths ∷ [])
 event_line file (Par company price) = line_of (codes "PAR") (code_of_company company ∷ decimal price ∷ [])
-event_line file (President company seat) = line_of (codes "PRESIDENT") (code_of_company company ∷ name_of file seat ∷ [])
+event_line file (President company seat) = line_of (codes "PRESIDENT")
+    (code_of_company company ∷ name_of file seat ∷ [])
 event_line file (Bought company seat tenths from price) =
-    line_of (codes "BOUGHT") (code_of_company company ∷ name_of file seat ∷ decimal tenths ∷ text_of_source from ∷ decimal price ∷ [])
+    line_of (codes "BOUGHT") (code_of_company company ∷ name_of file seat ∷ decimal tenths ∷ text_of_source from
+    ∷ decimal price ∷ [])
 event_line file (Sells company seat tenths price) =
     line_of (codes "SELLS") (code_of_company company ∷ name_of file seat ∷ decimal tenths ∷ decimal price ∷ [])
 event_line file (Exchanged seat from) = exchange_line file seat from
@@ -130,9 +134,11 @@ event_line file (Traded company kind) = line_of (codes "TRADED") (code_of_compan
 event_line file (Train company kind from price) = train_line company kind from price
 event_line file (Phase kind) = line_of (codes "PHASE") (code_of_kind kind ∷ [])
 event_line file (Rusted owner kind) = line_of (codes "RUSTED") (text_of_train_owner owner ∷ code_of_kind kind ∷ [])
-event_line file (Discarded company kind) = line_of (codes "DISCARDED") (code_of_company company ∷ code_of_kind kind ∷ [])
+event_line file (Discarded company kind) = line_of (codes "DISCARDED")
+    (code_of_company company ∷ code_of_kind kind ∷ [])
 event_line file (Closed private) = line_of (codes "CLOSED") (code_of_private private ∷ [])
-event_line file (PrivateBought private company seller price) = private_line file (codes "PRIVATE") private (holder.Company company) price
+event_line file (PrivateBought private company seller price) =
+    private_line file (codes "PRIVATE") private (holder.Company company) price
 event_line file (Forced company) = line_of (codes "FORCED") (code_of_company company ∷ [])
 event_line file (Aid seat company amount) =
     line_of (codes "AID") (name_of file seat ∷ code_of_company company ∷ decimal amount ∷ [])

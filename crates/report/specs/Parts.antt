@@ -16,7 +16,8 @@ use Rattle.tables.specs.declared.round.Round as round
 -- the events of the round that began last: those from the last on that begins a round, all where none does
 abbrev pub last_round : List Event → List Event
 last_round [] = []
-last_round (event ∷ events) = if list_any (λ other. is_some (round_begun_by other)) events then last_round events else event ∷ events
+last_round (event ∷ events) = if list_any (λ other. is_some (round_begun_by other)) events then last_round
+    events else event ∷ events
 
 -- the lines of its events, and the statement as the game stands; nothing before the first round
 abbrev pub last_round_text : List ℕ → ℕ → List Event → List ℕ

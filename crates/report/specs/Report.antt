@@ -74,7 +74,8 @@ rounds_text file seats events = texts_of_rounds file seats [] (rounds_in events)
 -- the text of the round whose events stand at these places of a game
 abbrev pub text_between : Played → ℕ → ℕ → List ℕ
 text_between played begun end =
-    lines_of_round played.file played.game.seats (take begun played.game.events) (slice_range played.game.events begun end)
+    lines_of_round played.file played.game.seats (take begun played.game.events)
+    (slice_range played.game.events begun end)
 
 -- so many of the events are those of their first round
 abbrev pub IsLengthOfRound : List Event → ℕ → Type 0

@@ -87,7 +87,8 @@ unfoldable pub company_figures : ℕ → List Event → Company → Square → L
 company_figures seats events company square =
     cash_column seats events (party.Holder (holder.Company company))
     ++ at_right 4 (decimal (price_of square))
-    ++ tenths_column events company InitialOffering ++ tenths_column events company BankPool ++ at_right 2 (decimal (tokens_placed events company))
+    ++ tenths_column events company InitialOffering ++ tenths_column events company BankPool
+    ++ at_right 2 (decimal (tokens_placed events company))
 
 -- the same, as a game stood
 abbrev pub company_figures_at : GameView → Company → Square → List ℕ
@@ -147,7 +148,8 @@ bank_line_at past = bank_line past.seats past.events.now
 
 -- the players' lines
 unfoldable pub player_lines : List ℕ → ℕ → List Event → List ℕ
-player_lines file seats events = flat_map (λ seat. player_line file seats events (record { 0 = seat })) (range_with_len 0 seats)
+player_lines file seats events = flat_map (λ seat. player_line file seats events (record { 0 = seat }))
+    (range_with_len 0 seats)
 
 -- the same, as a game stood
 abbrev pub player_lines_at : List ℕ → GameView → List ℕ

@@ -36,11 +36,13 @@ worth_of_privates events seat = sum_by (worth_of_private events seat) privates
 
 -- what a seat is worth
 abbrev pub worth_of : ℕ → List Event → Seat → ℤ
-worth_of seats events seat = cash_of seats events (party_at seat) +ℤ pos (worth_of_all_tenths events seat + worth_of_privates events seat)
+worth_of seats events seat = cash_of seats events (party_at seat) +ℤ pos
+    (worth_of_all_tenths events seat + worth_of_privates events seat)
 
 -- the line of what a player is worth
 abbrev pub worth_line : List ℕ → ℕ → List Event → Seat → List ℕ
-worth_line file seats events seat = line_of (codes "WORTH") (name_of file seat ∷ signed_decimal (worth_of seats events seat) ∷ [])
+worth_line file seats events seat = line_of (codes "WORTH")
+    (name_of file seat ∷ signed_decimal (worth_of seats events seat) ∷ [])
 
 -- the same, as a game stood
 abbrev pub worth_line_at : List ℕ → GameView → Seat → List ℕ
@@ -48,7 +50,8 @@ worth_line_at file past seat = worth_line file past.seats past.events.now seat
 
 -- the lines of all players, in the order of their seats
 unfoldable pub worth_lines : List ℕ → ℕ → List Event → List ℕ
-worth_lines file seats events = flat_map (λ seat. worth_line file seats events (record { 0 = seat })) (range_with_len 0 seats)
+worth_lines file seats events = flat_map (λ seat. worth_line file seats events (record { 0 = seat }))
+    (range_with_len 0 seats)
 
 -- the same, as a game stood
 abbrev pub worth_lines_at : List ℕ → GameView → List ℕ

@@ -12,7 +12,8 @@ use Rattle.std.specs.Prelude.{[], unwrap_or}
 use Rattle.tables.specs.declared.round.Round.{Round}
 
 -- sheets that are read alike let the same rounds be played
-all_the_same : (f g : List ℕ) → AreReadAlike f g → (rounds : ℕ) (there : Between) → AreRounds f rounds (before_play f) there → AreRounds g rounds (before_play g) there
+all_the_same : (f g : List ℕ) → AreReadAlike f g → (rounds : ℕ) (there : Between)
+    → AreRounds f rounds (before_play f) there → AreRounds g rounds (before_play g) there
 all_the_same f g same zero there played = sym (same_before f g same.players) ∙ played
 all_the_same f g same (suc rounds) there played = (
   played.0,

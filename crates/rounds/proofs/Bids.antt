@@ -146,7 +146,8 @@ rise_so_far opening turns file some zero there played =
     subst (λ (at : Between). RiseIn (length (players_of file)) at.game) played
     (record { rises = none_first (length (players_of file)); table = refl })
 rise_so_far opening turns file some (suc rounds) there played =
-    over_round opening turns file (length (players_of file)) some played.2.round played.0.game there.game played.2.played
+    over_round opening turns file (length (players_of file)) some played.2.round played.0.game there.game
+    played.2.played
     (rise_so_far opening turns file some rounds played.0 played.1)
 
 pub bids_rise : OpeningBidsRise → ThreeToSixPlay → TurnsSayNoBid → BidsRiseInEachGame

@@ -15,7 +15,8 @@ use Rattle.tables.specs.declared.round.Round.{Round}
 
 -- the calls of a step that plays a round are those of the round
 pub calls_of_step :
-    (file : List ℕ) (here to : Between) (old new : Underway) (calls : List Call) → old.file ≡ file → old.there ≡ Ok here → new.there ≡ Ok to →
+    (file : List ℕ) (here to : Between) (old new : Underway) (calls : List Call) → old.file ≡ file
+    → old.there ≡ Ok here → new.there ≡ Ok to →
     goes_on file here.next ≡ true → StepCalls old new calls → RoundCalls file here (Ok to) calls
 calls_of_step file here to old new calls of_file at there goes its =
     let now : CallsBetween file (Ok here) (Ok to) calls =
@@ -34,15 +35,18 @@ record Joined (file : List ℕ) (play : Underway) (calls : List Call) : Type 0 w
   here : Between
   there : play.there ≡ Ok here
   on :
-      (played : Played) (later : List Call) → SomeTimesThen (RoundCalls file) (Unasked Memory (Stops file)) here (Ok played) later →
+      (played : Played) (later : List Call) → SomeTimesThen (RoundCalls file) (Unasked Memory (Stops file)) here
+      (Ok played) later →
       GameCalls file (Ok played) (calls ++ later)
 
 -- one step more
 joined_more :
-    (file : List ℕ) (mid play : Underway) (round : Round) (before its : List Call) → Joined file mid before → PlaysNext mid round play → StepCalls mid play its →
+    (file : List ℕ) (mid play : Underway) (round : Round) (before its : List Call) → Joined file mid before
+    → PlaysNext mid round play → StepCalls mid play its →
     Joined file play (before ++ its)
 joined_more file mid play round before its so_far step called =
-    let on : LeadsOn file so_far.here play = leads_on file so_far.here mid play round so_far.of_file so_far.there step in
+    let on : LeadsOn file so_far.here play = leads_on file so_far.here mid play round so_far.of_file so_far.there
+    step in
     let goes = was_on file so_far.here on.to on.played in
     let course = calls_of_step file so_far.here on.to mid play its so_far.of_file so_far.there on.there goes called in
     record {
@@ -52,21 +56,34 @@ joined_more file mid play round before its so_far step called =
       on =
           λ played later rest.
           subst (GameCalls file (Ok played)) (sym (append_assoc before its later))
-          (so_far.on played (its ++ later)
-          (suc rest.0, inr (record { between = on.to; earlier = its; later = later; leads = course; goes_on = rest.1; all = refl })));
+          (so_far.on played (its ++ later) (
+            suc rest.0,
+            inr (record {
+              between = on.to;
+              earlier = its;
+              later = later;
+              leads = course;
+              goes_on =
+                  rest.1;
+              all = refl;
+            }),
+          ));
     }
 
 -- so it is after each number of steps
-joined : (steps : ℕ) (file : List ℕ) (play : Underway) (calls : List Call) → StepsCall steps file play calls → Joined file play calls
+joined : (steps : ℕ) (file : List ℕ) (play : Underway) (calls : List Call) → StepsCall steps file play calls
+    → Joined file play calls
 joined zero file play calls called =
     record {
       of_file = ap (λ (at : Underway). at.file) called.0;
       here = before_play file;
       there = ap (λ (at : Underway). at.there) called.0;
-      on = λ played later course. subst (λ (all : List Call). GameCalls file (Ok played) (all ++ later)) (sym called.1) course;
+      on = λ played later course. subst (λ (all : List Call). GameCalls file (Ok played) (all ++ later))
+          (sym called.1) course;
     }
 joined (suc steps) file play calls called =
-    let more = joined_more file called.0 play called.3 called.1 called.5 (joined steps file called.0 called.1 called.2) called.4 called.6 in
+    let more = joined_more file called.0 play called.3 called.1 called.5
+    (joined steps file called.0 called.1 called.2) called.4 called.6 in
     subst (Joined file play) (sym called.7) more
 
 -- and once play has stopped

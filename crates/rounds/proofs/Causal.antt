@@ -15,21 +15,26 @@ use Rattle.sheets.specs.Laws.{SheetsAreNumbered, ThreeToSixPlay}
 use Rattle.tables.specs.Round.{rank_of}
 use Rattle.tables.specs.declared.round.Round.{Round}
 
-module _ (numbered : SheetsAreNumbered) (last : Round) (first second : List ℕ) (some : 0 < length (players_of first)) (agree : AgreeUpTo last first second) where
+module _ (numbered : SheetsAreNumbered) (last : Round) (first second : List ℕ) (some : 0 < length (players_of first))
+    (agree : AgreeUpTo last first second) where
   -- a round that was played is before the next
-  forward : (old new : Between) (later : Round) → StandsNext old → (round : IsRound first old new) → new.next ≡ next.Round later →
+  forward : (old new : Between) (later : Round) → StandsNext old → (round : IsRound first old new)
+      → new.next ≡ next.Round later →
       rank_of round.round < rank_of later
   forward old new later stands round comes =
-      played_forward numbered first round.round later old.in_set (all_sold new.game.events) (broken_in new.game.events) some
+      played_forward numbered first round.round later old.in_set (all_sold new.game.events)
+      (broken_in new.game.events) some
       (stands round.round round.comes) round.posted (follows first old new later round comes)
 
   -- a round up to the last is played alike
-  alike : (old new : Between) (round : IsRound first old new) → rank_of round.round ≤ rank_of last → IsRound second old new
+  alike : (old new : Between) (round : IsRound first old new) → rank_of round.round ≤ rank_of last
+      → IsRound second old new
   alike old new round up_to =
       same_round first second old new agree.players round (agree.sheets round.round up_to)
 
   -- so are those that lead to one up to the last
-  pub all_alike : (rounds : ℕ) (there : Between) (upcoming : Round) → there.next ≡ next.Round upcoming → rank_of upcoming ≤ rank_of last →
+  pub all_alike : (rounds : ℕ) (there : Between) (upcoming : Round) → there.next ≡ next.Round upcoming
+      → rank_of upcoming ≤ rank_of last →
       AreRounds first rounds (before_play first) there → AreRounds second rounds (before_play second) there
   all_alike zero there upcoming comes up_to played = sym (same_before first second agree.players) ∙ played
   all_alike (suc rounds) there upcoming comes up_to played =
@@ -41,7 +46,8 @@ module _ (numbered : SheetsAreNumbered) (last : Round) (first second : List ℕ)
   -- and the last itself
   pub last_alike : (old new : Between) → old.next ≡ next.Round last → IsRound first old new → IsRound second old new
   last_alike old new comes round =
-      let same : rank_of round.round ≡ rank_of last = ap rank_of (comes_once round.round last (sym round.comes ∙ comes)) in
+      let same : rank_of round.round ≡ rank_of last =
+      ap rank_of (comes_once round.round last (sym round.comes ∙ comes)) in
       alike old new round (omega (arith, same))
 
 -- later sheets change nothing
@@ -51,7 +57,8 @@ later_nothing numbered players round first second old new accepted agree played 
     let some : 0 < length (players_of first) = omega arith in
     record {
       rounds = played.rounds;
-      before = all_alike numbered round first second some agree played.rounds old round played.comes (omega arith) played.before;
+      before = all_alike numbered round first second some agree played.rounds old round played.comes (omega arith)
+          played.before;
       comes = played.comes;
       step = last_alike numbered round first second some agree old new played.comes played.step;
     }

@@ -17,7 +17,8 @@ OfNext P (next.Round round) = P round
 OfNext P next.Ended = ⊤
 
 -- so it does of a round that comes
-pub of_coming : (P : Round → Type 0) (coming : Next) (later : Round) → coming ≡ next.Round later → OfNext P coming → P later
+pub of_coming : (P : Round → Type 0) (coming : Next) (later : Round) → coming ≡ next.Round later → OfNext P coming
+    → P later
 of_coming P coming later comes holds = subst (λ (it : Next). OfNext P it) comes holds
 
 -- after an operating round: the next of the set, or the stock round of the next set
@@ -58,19 +59,23 @@ pub no_round : (round : Round) → next.Ended ≡ next.Round round → ⊥
 no_round round same = cc
 
 -- a round that comes is the one that the sequence says
-in_sequence : (bankrupt : Bool) (says : Next) (later : Round) → (if bankrupt then next.Ended else says) ≡ next.Round later → says ≡ next.Round later
+in_sequence : (bankrupt : Bool) (says : Next) (later : Round)
+    → (if bankrupt then next.Ended else says) ≡ next.Round later → says ≡ next.Round later
 in_sequence true says later comes = absurd (no_round later comes)
 in_sequence false says later comes = comes
 
 -- so is one that comes after a round
-pub comes_in_sequence : (round later : Round) (in_set : ℕ) (events : List Event) → coming round in_set events ≡ next.Round later →
+pub comes_in_sequence : (round later : Round) (in_set : ℕ) (events : List Event)
+    → coming round in_set events ≡ next.Round later →
     following round in_set (all_sold events) (broken_in events) ≡ next.Round later
 comes_in_sequence round later in_set events comes =
     in_sequence (bankrupt_in events) (following round in_set (all_sold events) (broken_in events)) later comes
 
-module _ (file : List ℕ) (old new : Between) (later : Round) (round : IsRound file old new) (comes : new.next ≡ next.Round later) where
+module _ (file : List ℕ) (old new : Between) (later : Round) (round : IsRound file old new)
+    (comes : new.next ≡ next.Round later) where
   -- so is one that comes after a round that was played
-  pub follows : following round.round old.in_set (all_sold new.game.events) (broken_in new.game.events) ≡ next.Round later
+  pub follows : following round.round old.in_set (all_sold new.game.events) (broken_in new.game.events)
+      ≡ next.Round later
   follows = comes_in_sequence round.round later old.in_set new.game.events (sym round.next_then ∙ comes)
 
   -- and its set has so many operating rounds

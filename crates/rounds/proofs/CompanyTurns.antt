@@ -42,25 +42,35 @@ module _ (once : OneCompanyTurn) (file : List ℕ) (round : Round) where
       next_company a.events ≡ None → TakeTurns file round second old b → next_company b.events ≡ None → a ≡ b
   turns_once [] [] old a b first first_over second second_over = sym first ∙ second
   turns_once [] (company ∷ others) old a b first first_over second second_over =
-      absurd (not_both (next_company old.events) company (ap (λ (game : Game). next_company game.events) first ∙ first_over) second.1.is_next)
+      absurd (not_both (next_company old.events) company
+      (ap (λ (game : Game). next_company game.events) first ∙ first_over) second.1.is_next)
   turns_once (company ∷ others) [] old a b first first_over second second_over =
-      absurd (not_both (next_company old.events) company (ap (λ (game : Game). next_company game.events) second ∙ second_over) first.1.is_next)
+      absurd (not_both (next_company old.events) company
+      (ap (λ (game : Game). next_company game.events) second ∙ second_over) first.1.is_next)
   turns_once (one ∷ ones) (other ∷ others) old a b first first_over second second_over =
       let same : one ≡ other = next_once (next_company old.events) one other first.1.is_next second.1.is_next in
-      let turn : IsCompanyTurn file round one old second.0 = subst (λ (company : Company). IsCompanyTurn file round company old second.0) (sym same) second.1.turn in
+      let turn : IsCompanyTurn file round one old second.0 =
+      subst (λ (company : Company). IsCompanyTurn file round company old second.0) (sym same) second.1.turn in
       let mid : first.0 ≡ second.0 = once file round one old first.0 second.0 first.1.turn turn in
-      turns_once ones others first.0 a b first.2 first_over (subst (λ (game : Game). TakeTurns file round others game b) (sym mid) second.2) second_over
+      turns_once ones others first.0 a b first.2 first_over
+      (subst (λ (game : Game). TakeTurns file round others game b) (sym mid) second.2) second_over
 
 -- an operating round has at most one outcome
 pub operating_once : OneCompanyTurn → OneOperatingRound
 operating_once once file round old a b first second =
-    let game : Game → Game = λ turned. record { seats = old.seats; events = finished file round old.seats turned.events } in
+    let game : Game → Game = λ turned. record {
+      seats = old.seats;
+      events =
+          finished file round old.seats turned.events;
+    } in
     first.after
-    ∙ ap game (turns_once once file round first.turns.companies second.turns.companies (opened file round old) first.turned second.turned first.turns.turns first.turns.over_then second.turns.turns second.turns.over_then)
+    ∙ ap game (turns_once once file round first.turns.companies second.turns.companies (opened file round old)
+    first.turned second.turned first.turns.turns first.turns.over_then second.turns.turns second.turns.over_then)
     ∙ sym second.after
 
 -- one company more takes its turn
-pub one_more_turn : (file : List ℕ) (round : Round) (companies : List Company) (company : Company) (old mid new : Game) →
+pub one_more_turn : (file : List ℕ) (round : Round) (companies : List Company) (company : Company)
+    (old mid new : Game) →
     TakeTurns file round companies old mid → TakesTurn file round company mid new →
     TakeTurns file round (companies ++ company ∷ []) old new
 one_more_turn file round [] company old mid new turns turn =
@@ -70,29 +80,42 @@ one_more_turn file round (first ∷ others) company old mid new turns turn =
 
 module _ (operates_too : CompanyOperates) (ordered : AreOrdered) (file : List ℕ) (round : Round) where
   -- a turn leaves fewer idle
-  pub turn_leaves_fewer : (company : Company) (old new : Game) → TakesTurn file round company old new → idle_of new.events < idle_of old.events
+  pub turn_leaves_fewer : (company : Company) (old new : Game) → TakesTurn file round company old new
+      → idle_of new.events < idle_of old.events
   turn_leaves_fewer company old new turn =
-      fewer_idle company old.events new.events (operates_too file round company old new turn.turn) (next_is_idle ordered old.events company turn.is_next).1
+      fewer_idle company old.events new.events (operates_too file round company old new turn.turn)
+      (next_is_idle ordered old.events company turn.is_next).1
 
   -- the turns come to an end
-  turns_end : CompanyTurnEnds → (bound : ℕ) (old : Game) → idle_of old.events < bound → (turned : Game) × TurnsLead file round old turned
+  turns_end : CompanyTurnEnds → (bound : ℕ) (old : Game) → idle_of old.events < bound
+      → (turned : Game) × TurnsLead file round old turned
   turns_end ends zero old few = absurd (omega arith)
   turns_end ends (suc bound) old few =
-      elim (next_company old.events) as (λ (found : Option Company). next_company old.events ≡ found → (turned : Game) × TurnsLead file round old turned) [
+      elim (next_company old.events) as (λ (found : Option Company). next_company old.events ≡ found
+      → (turned : Game) × TurnsLead file round old turned) [
         | None ↦ λ none. (old, record { companies = []; turns = refl; over_then = none })
         | Some company ↦ λ found.
             let turn = ends file round company old in
             let taken : TakesTurn file round company old turn.0 = record { is_next = found; turn = turn.1 } in
             let fewer = turn_leaves_fewer company old turn.0 taken in
-            let rest = turns_end ends bound turn.0 (omega (arith, few, fewer)) in
-            (rest.0, record { companies = company ∷ rest.1.companies; turns = (turn.0, taken, rest.1.turns); over_then = rest.1.over_then })
+            let rest = turns_end ends bound turn.0 (omega (arith, few, fewer)) in (
+              rest.0,
+              record {
+                companies = company ∷ rest.1.companies;
+                turns =
+                    (turn.0, taken, rest.1.turns);
+                over_then = rest.1.over_then;
+              },
+            )
       ]
       refl
 
   -- each of them leaves fewer idle
-  length_few : (companies : List Company) (old new : Game) → TakeTurns file round companies old new → length companies + idle_of new.events ≤ idle_of old.events
+  length_few : (companies : List Company) (old new : Game) → TakeTurns file round companies old new
+      → length companies + idle_of new.events ≤ idle_of old.events
   length_few [] old new turns =
-      let same : idle_of old.events ≡ idle_of new.events = ap (λ (game : Game). idle_of game.events) turns in omega (arith, same)
+      let same : idle_of old.events ≡ idle_of new.events =
+      ap (λ (game : Game). idle_of game.events) turns in omega (arith, same)
   length_few (company ∷ others) old new turns =
       let rest = length_few others turns.0 new turns.2 in
       let fewer = turn_leaves_fewer company old turns.0 turns.1 in
@@ -101,23 +124,38 @@ module _ (operates_too : CompanyOperates) (ordered : AreOrdered) (file : List �
   -- how often a company took a turn, and whether it had operated before, say whether it has now
   turns_taken : (companies : List Company) (old new : Game) (company : Company) →
       TakeTurns file round companies old new →
-      times company companies + (if has_operated old.events company then 1 else 0) ≡ (if has_operated new.events company then 1 else 0)
+      times company companies + (if has_operated old.events company then 1 else 0)
+      ≡ (if has_operated new.events company then 1 else 0)
   turns_taken [] old new company turns =
-      let same : ◌≡◌ {A = ℕ} (if has_operated old.events company then 1 else 0) (if has_operated new.events company then 1 else 0) = ap (λ (game : Game). if has_operated game.events company then 1 else 0) turns in
+      let same : ◌≡◌ {A = ℕ} (if has_operated old.events company then 1 else 0)
+      (if has_operated new.events company then 1 else 0) =
+      ap (λ (game : Game). if has_operated game.events company then 1 else 0) turns in
       omega (arith, same)
   turns_taken (first ∷ others) old new company turns =
       let rest = turns_taken others turns.0 new company turns.2 in
       let too = operates_too file round first old turns.0 turns.1.turn company in
-      elim (same_company first company) as (λ (b : Bool). same_company first company ≡ b → times company (first ∷ others) + (if has_operated old.events company then 1 else 0) ≡ (if has_operated new.events company then 1 else 0)) [
+      elim (same_company first company) as (λ (b : Bool). same_company first company ≡ b
+      → times company (first ∷ others) + (if has_operated old.events company then 1 else 0)
+      ≡ (if has_operated new.events company then 1 else 0)) [
         | true ↦ λ same.
-            let idle : has_operated old.events company ≡ false = ap (has_operated old.events) (sym (same_company_is first company same)) ∙ (next_is_idle ordered old.events first turns.1.is_next).1 in
-            let before : ◌≡◌ {A = ℕ} (if has_operated old.events company then 1 else 0) 0 = ap (λ (b : Bool). if b then 1 else 0) idle in
-            let now : ◌≡◌ {A = ℕ} (if has_operated turns.0.events company then 1 else 0) 1 = ap (λ (b : Bool). if b then 1 else 0) (too ∙ ap (λ (b : Bool). has_operated old.events company || b) same ∙ or-true (has_operated old.events company)) in
-            let count : times company (first ∷ others) ≡ 1 + times company others = ap (λ (b : Bool). (if b then 1 else 0) + times company others) same in
+            let idle : has_operated old.events company ≡ false =
+            ap (has_operated old.events) (sym (same_company_is first company same))
+            ∙ (next_is_idle ordered old.events first turns.1.is_next).1 in
+            let before : ◌≡◌ {A = ℕ} (if has_operated old.events company then 1 else 0) 0 =
+            ap (λ (b : Bool). if b then 1 else 0) idle in
+            let now : ◌≡◌ {A = ℕ} (if has_operated turns.0.events company then 1 else 0) 1 =
+            ap (λ (b : Bool). if b then 1 else 0) (too ∙ ap (λ (b : Bool). has_operated old.events company || b)
+            same ∙ or-true (has_operated old.events company)) in
+            let count : times company (first ∷ others) ≡ 1 + times company others =
+            ap (λ (b : Bool). (if b then 1 else 0) + times company others) same in
             omega (arith, rest, before, now, count)
         | false ↦ λ apart.
-            let now : ◌≡◌ {A = ℕ} (if has_operated turns.0.events company then 1 else 0) (if has_operated old.events company then 1 else 0) = ap (λ (b : Bool). if b then 1 else 0) (too ∙ ap (λ (b : Bool). has_operated old.events company || b) apart ∙ or-false (has_operated old.events company)) in
-            let count : times company (first ∷ others) ≡ 0 + times company others = ap (λ (b : Bool). (if b then 1 else 0) + times company others) apart in
+            let now : ◌≡◌ {A = ℕ} (if has_operated turns.0.events company then 1 else 0)
+            (if has_operated old.events company then 1 else 0) =
+            ap (λ (b : Bool). if b then 1 else 0) (too ∙ ap (λ (b : Bool). has_operated old.events company || b)
+            apart ∙ or-false (has_operated old.events company)) in
+            let count : times company (first ∷ others) ≡ 0 + times company others =
+            ap (λ (b : Bool). (if b then 1 else 0) + times company others) apart in
             omega (arith, rest, now, count)
       ]
       refl
@@ -133,7 +171,8 @@ in_turns company = in_round (λ event. turn_said company (operated_by event))
 -- events that stand aside say nothing of it
 says_no_turn : (company : Company) (event : Event) → SaysNothing event → in_turns company event ≡ None
 says_no_turn company event says =
-    ap (λ (round : Option Round). if is_some round then Some None else option_map Some (turn_said company (operated_by event))) says.round
+    ap (λ (round : Option Round). if is_some round then Some None else option_map Some
+    (turn_said company (operated_by event))) says.round
     ∙ ap (λ (turn : Option Company). option_map Some (turn_said company turn)) says.turn
 
 -- nobody has operated where a round has begun, and then events stand aside
@@ -144,13 +183,15 @@ no_one_yet events new round company grows =
     (record {
       same = λ events. refl;
       both = λ a b c one two. two ∙ one;
-      aside = λ events event says. ap is_some (now_said_before (in_turns company) events event (says_no_turn company event says));
+      aside = λ events event says. ap is_some (now_said_before (in_turns company) events event
+          (says_no_turn company event says));
     })
     (events ++ event.Round round ∷ []) new grows
     ∙ ap is_some (now_said_here (in_turns company) events (event.Round round) None refl)
 
 -- an operating round ends
-pub operating_ends : CompanyOperates → CompanyTurnEnds → AreOrdered → (file : List ℕ) (round : Round) (old : Game) → EndsSoon file round old
+pub operating_ends : CompanyOperates → CompanyTurnEnds → AreOrdered → (file : List ℕ) (round : Round) (old : Game)
+    → EndsSoon file round old
 operating_ends operates_too ends ordered file round old =
     let start : Game = opened file round old in
     let end = turns_end operates_too ordered file round ends (idle_of start.events + 1) start (omega arith) in
@@ -170,16 +211,26 @@ operate_once operates_too ordered file round old new played =
     let start : Game = opened file round old in
     let companies : List Company = played.turns.companies in
     let turned : Game = played.turned in
-    let count : (company : Company) → times company companies + 0 ≡ (if has_operated turned.events company then 1 else 0) =
+    let count : (company : Company) → times company companies + 0
+    ≡ (if has_operated turned.events company then 1 else 0) =
     λ company.
-    let none : ◌≡◌ {A = ℕ} (if has_operated start.events company then 1 else 0) 0 = ap (λ (b : Bool). if b then 1 else 0) (no_one_yet old.events start.events round company (opened_grows file round old)) in
+    let none : ◌≡◌ {A = ℕ} (if has_operated start.events company then 1 else 0) 0 =
+    ap (λ (b : Bool). if b then 1 else 0) (no_one_yet old.events start.events round company
+    (opened_grows file round old)) in
     omega (arith, none, turns_taken operates_too ordered file round companies start turned company played.turns.turns)
     in
     record {
-      at_most_eight = omega (arith, length_few operates_too ordered file round companies start turned played.turns.turns, idle_few start.events);
+      at_most_eight = omega (
+        arith,
+        length_few operates_too ordered file round companies start turned
+            played.turns.turns,
+        idle_few start.events,
+      );
       no_second = λ company. at_most_one (has_operated turned.events company) (times company companies) (count company);
       no_one_missed =
           λ solvent company operating.
-          let all : ◌≡◌ {A = ℕ} (if has_operated turned.events company then 1 else 0) 1 = ap (λ (b : Bool). if b then 1 else 0) (all_have_operated ordered turned.events company solvent played.turns.over_then operating) in
+          let all : ◌≡◌ {A = ℕ} (if has_operated turned.events company then 1 else 0) 1 =
+          ap (λ (b : Bool). if b then 1 else 0) (all_have_operated ordered turned.events company solvent
+          played.turns.over_then operating) in
           omega (arith, all, count company);
     }

@@ -39,7 +39,8 @@ goes_or_stops file (next.Round round) =
     ]
 goes_or_stops file next.Ended = inr refl
 
-module _ (opening_ends : EachOpeningEnds) (stock_ends : EachStockRoundEnds) (operating_ends : EachOperatingRoundEnds) (file : List ℕ) where
+module _ (opening_ends : EachOpeningEnds) (stock_ends : EachStockRoundEnds) (operating_ends : EachOperatingRoundEnds)
+    (file : List ℕ) where
   -- a round that is played ends, with as many seats
   played_ends : (round : Round) (old : Game) → (new : Game) × IsPlayed file round old new × (new.seats ≡ old.seats)
   played_ends (Opening number) old =
@@ -53,12 +54,21 @@ module _ (opening_ends : EachOpeningEnds) (stock_ends : EachStockRoundEnds) (ope
       (played.new, played.played, ap (λ (game : Game). game.seats) played.played.after)
 
   -- what can be played is played one round further
-  one_more : (old : Between) (round : Round) → old.next ≡ next.Round round → all_posted file round ≡ true → (new : Between) × IsRound file old new
+  one_more : (old : Between) (round : Round) → old.next ≡ next.Round round → all_posted file round ≡ true
+      → (new : Between) × IsRound file old new
   one_more old round comes posted =
       let played = played_ends round old.game in
       let upcoming : Next = coming round old.in_set played.0.events in (
         record { game = played.0; in_set = in_set_before upcoming played.0.events old.in_set; next = upcoming },
-        record { round = round; comes = comes; posted = posted; played = played.1; next_then = refl; in_set_then = refl },
+        record {
+          round = round;
+          comes = comes;
+          posted = posted;
+          played = played.1;
+          next_then = refl;
+          in_set_then =
+              refl;
+        },
       )
 
   -- after so many rounds, and with fewer places left than this, play comes to an end
@@ -71,12 +81,15 @@ module _ (opening_ends : EachOpeningEnds) (stock_ends : EachStockRoundEnds) (ope
         | inl goes ↦
             let new = one_more old goes.0 goes.1 goes.2 in
             let fewer = fewer_to_come numbered file old new.0 some stands new.1 in
-            plays_within numbered bound (suc done) new.0 some (round_in_set file old new.0 stands new.1) (old, rounds, new.1) (omega (arith, few, fewer))
+            plays_within numbered bound (suc done) new.0 some (round_in_set file old new.0 stands new.1)
+            (old, rounds, new.1) (omega (arith, few, fewer))
         | inr stopped ↦ (old, record { rounds = done; reached = rounds; stopped = stopped })
       ]
 
 -- a file that is not refused has a game
-pub some_game_accepted : SheetsAreNumbered → ThreeToSixPlay → EachOpeningEnds → EachStockRoundEnds → EachOperatingRoundEnds → SomeGame
+pub some_game_accepted : SheetsAreNumbered → ThreeToSixPlay → EachOpeningEnds → EachStockRoundEnds
+    → EachOperatingRoundEnds → SomeGame
 some_game_accepted numbered players opening_ends stock_ends operating_ends file accepted =
     let three = (players file accepted).0 in
-    plays_within opening_ends stock_ends operating_ends file numbered (places_to_come (before_play file).next + 1) zero (before_play file) (omega arith) (first_stands file) refl (omega arith)
+    plays_within opening_ends stock_ends operating_ends file numbered (places_to_come (before_play file).next + 1)
+    zero (before_play file) (omega arith) (first_stands file) refl (omega arith)

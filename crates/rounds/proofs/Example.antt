@@ -19,7 +19,8 @@ abbrev last_turn : InPlay (List Event) Numbered
 last_turn = in_play (take 6 first_events) 1 3 ([] ∷ [] ∷ [] ∷ [])
 
 -- before the fourth turn the round is not over
-not_before : (k : ℕ) → k < 4 → turns_over (opening_turns 3) (iterate (after_turn (opening_turns 3)) k (opened 3 first_file (Opening 1) [])) ≡ false
+not_before : (k : ℕ) → k < 4 → turns_over (opening_turns 3)
+    (iterate (after_turn (opening_turns 3)) k (opened 3 first_file (Opening 1) [])) ≡ false
 unfolding sheet_of players_of body_of content_of version_of written_lines is_blank begins is_sheet_line settled
 not_before zero below = refl
 not_before (suc zero) below = refl
@@ -28,7 +29,8 @@ not_before (suc (suc (suc zero))) below = refl
 not_before (suc (suc (suc (suc k)))) below = absurd (omega arith)
 
 -- the round leads to these events
-played : IsOpeningRound first_file (Opening 1) (record { seats = 3; events = [] }) (record { seats = 3; events = first_events })
+played : IsOpeningRound first_file (Opening 1) (record { seats = 3; events = [] })
+    (record { seats = 3; events = first_events })
 unfolding sheet_of players_of body_of content_of version_of written_lines is_blank begins is_sheet_line settled
 played =
     record {
@@ -43,7 +45,12 @@ unfolding sheet_of players_of body_of content_of version_of written_lines is_bla
 first_plays =
     record {
       rounds = 1;
-      reached = (before_play first_file, refl, record { round = Opening 1; comes = refl; posted = refl; played = played; next_then = refl; in_set_then = refl });
+      reached = (
+        before_play first_file,
+        refl,
+        record
+            { round = Opening 1; comes = refl; posted = refl; played = played; next_then = refl; in_set_then = refl },
+      );
       stopped = refl;
     }
 

@@ -44,7 +44,8 @@ goes_forward round later in_set all_sold broken small turn comes =
     lt-ltb (rank_of round) (rank_of later) (later_than round later in_set all_sold broken small turn comes)
 
 -- each round that a sheet may name has a place left
-before_the_last : (round : Round) → number_of round ≤ number_most → turn_in_set round ≤ operating_most → rank_of round < stock_rank (number_most + 1)
+before_the_last : (round : Round) → number_of round ≤ number_most → turn_in_set round ≤ operating_most
+    → rank_of round < stock_rank (number_most + 1)
 before_the_last (Opening number) small turn = omega arith
 before_the_last (Stock set) small turn = omega arith
 before_the_last (Operating set number) small turn = omega arith
@@ -53,15 +54,19 @@ before_the_last (Operating set number) small turn = omega arith
 pub posted_small : SheetsAreNumbered → (file : List ℕ) (round : Round) → 0 < length (players_of file) →
     all_posted file round ≡ true → number_of round ≤ number_most
 posted_small numbered file round some posted =
-    let first : is_some (sheet_of file 0 round) ≡ true = posted_each (λ seat. is_some (sheet_of file seat round)) 0 (length (players_of file)) 0 posted (omega arith) (omega arith) in
+    let first : is_some (sheet_of file 0 round) ≡ true =
+    posted_each (λ seat. is_some (sheet_of file seat round)) 0 (length (players_of file)) 0 posted (omega arith)
+    (omega arith) in
     numbered file 0 round (search rules)
 
-module _ (numbered : SheetsAreNumbered) (file : List ℕ) (round later : Round) (in_set : ℕ) (all_sold broken : Bool) where
+module _ (numbered : SheetsAreNumbered) (file : List ℕ) (round later : Round) (in_set : ℕ)
+    (all_sold broken : Bool) where
   -- what follows a round that is played comes later
   pub played_forward : 0 < length (players_of file) → StandsInSet round in_set → all_posted file round ≡ true →
       following round in_set all_sold broken ≡ next.Round later → rank_of round < rank_of later
   played_forward some stands posted comes =
-      later_than round later in_set all_sold broken (posted_small numbered file round some posted) (in_any_set round in_set stands) comes
+      later_than round later in_set all_sold broken (posted_small numbered file round some posted)
+      (in_any_set round in_set stands) comes
 
   -- and leaves fewer places
   pub fewer_places : 0 < length (players_of file) → StandsInSet round in_set → all_posted file round ≡ true →
@@ -72,11 +77,13 @@ module _ (numbered : SheetsAreNumbered) (file : List ℕ) (round later : Round) 
       let forward = played_forward some stands posted comes in
       omega arith
 
-module _ (numbered : SheetsAreNumbered) (file : List ℕ) (old new : Between) (some : 0 < length (players_of file)) (round : IsRound file old new) (at : StandsInSet round.round old.in_set) where
+module _ (numbered : SheetsAreNumbered) (file : List ℕ) (old new : Between) (some : 0 < length (players_of file))
+    (round : IsRound file old new) (at : StandsInSet round.round old.in_set) where
   -- fewer places are left after a round that was played, whatever comes next
   fewer_than_before : (upcoming : Next) → new.next ≡ upcoming → places_to_come upcoming < places_left round.round
   fewer_than_before (next.Round later) comes =
-      fewer_places numbered file round.round later old.in_set (all_sold new.game.events) (broken_in new.game.events) some at round.posted
+      fewer_places numbered file round.round later old.in_set (all_sold new.game.events) (broken_in new.game.events)
+      some at round.posted
       (follows file old new later round comes)
   fewer_than_before next.Ended over =
       let small = posted_small numbered file round.round some round.posted in
@@ -84,7 +91,8 @@ module _ (numbered : SheetsAreNumbered) (file : List ℕ) (old new : Between) (s
       omega (arith, within)
 
 -- so each round that is played leaves fewer
-pub fewer_to_come : SheetsAreNumbered → (file : List ℕ) (old new : Between) → 0 < length (players_of file) → StandsNext old →
+pub fewer_to_come : SheetsAreNumbered → (file : List ℕ) (old new : Between) → 0 < length (players_of file)
+    → StandsNext old →
     IsRound file old new → places_to_come new.next < places_to_come old.next
 fewer_to_come numbered file old new some stands round =
     let is : places_to_come old.next ≡ places_left round.round = ap places_to_come round.comes in
@@ -98,7 +106,8 @@ gifts_next (Opening number) in_set true broken events waits = tt
 gifts_next (Opening number) in_set false broken events waits = waits
 gifts_next (Stock set) in_set all_sold broken events waits = tt
 gifts_next (Operating set number) in_set all_sold broken events waits =
-    after_operating (λ (later : Round). GiftsWait later events) set number in_set all_sold broken (λ more. tt) (λ past. tt)
+    after_operating (λ (later : Round). GiftsWait later events) set number in_set all_sold broken (λ more. tt)
+    (λ past. tt)
 
 -- so it does before one that comes
 pub gifts_go_on : (round later : Round) (in_set : ℕ) (all_sold broken : Bool) (events : List Event) →

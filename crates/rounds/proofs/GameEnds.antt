@@ -28,7 +28,8 @@ none_after : (file : List ℕ) (ended after : Between) → ended.next ≡ next.E
 none_after file ended after over round = no_round round.round (sym over ∙ round.comes)
 
 -- so a game stays where it ended
-stays_ended : (file : List ℕ) (later : ℕ) (ended after : Between) → ended.next ≡ next.Ended → AreRounds file later ended after → after ≡ ended
+stays_ended : (file : List ℕ) (later : ℕ) (ended after : Between) → ended.next ≡ next.Ended
+    → AreRounds file later ended after → after ≡ ended
 stays_ended file zero ended after over played = sym played
 stays_ended file (suc later) ended after over played =
     let same : played.0 ≡ ended = stays_ended file later ended played.0 over played.1 in
@@ -36,11 +37,15 @@ stays_ended file (suc later) ended after over played =
 
 -- a game ends once
 pub end_once : GamesEndOnce
-end_once file rounds later ended after reached over played =
-    (stays_ended file later ended after over played, record { rounds = rounds; reached = reached; stopped = ap (goes_on file) over })
+end_once file rounds later ended after reached over played = (
+  stays_ended file later ended after over played,
+  record
+      { rounds = rounds; reached = reached; stopped = ap (goes_on file) over },
+)
 
 -- once a president is bankrupt there is no next company
-none_next : (bankrupt : Bool) (first : Option Company) (company : Company) → bankrupt ≡ true → (if bankrupt then None else first) ≡ Some company → ⊥
+none_next : (bankrupt : Bool) (first : Option Company) (company : Company) → bankrupt ≡ true
+    → (if bankrupt then None else first) ≡ Some company → ⊥
 none_next true first company is found = cc
 none_next false first company is found = false≢true is
 
@@ -58,7 +63,8 @@ pub bankruptcy_ends : BankruptcyEndsGames
 bankruptcy_ends file old new round bankrupt =
     let events = new.game.events in
     let over : new.next ≡ next.Ended =
-    round.next_then ∙ ended_by (bankrupt_in events) (following round.round old.in_set (all_sold events) (broken_in events)) bankrupt
+    round.next_then ∙ ended_by (bankrupt_in events)
+    (following round.round old.in_set (all_sold events) (broken_in events)) bankrupt
     in (
       over,
       ap (λ (it : Next). end_of it events) over ∙ ap (λ (b : Bool). if b then Bankrupt else Bank) bankrupt,
@@ -70,7 +76,8 @@ stays_broken front back broken =
     list_any-append tells_broken front back ∙ ap (λ (b : Bool). b || broken_in back) broken
 
 -- through a round
-broken_through : TurnOnlyAdds → (file : List ℕ) (old new : Between) → IsRound file old new → broken_in old.game.events ≡ true →
+broken_through : TurnOnlyAdds → (file : List ℕ) (old new : Between) → IsRound file old new
+    → broken_in old.game.events ≡ true →
     broken_in new.game.events ≡ true
 broken_through adds file old new round broken =
     let begun : List Event = old.game.events ++ event.Round round.round ∷ [] in
@@ -79,11 +86,13 @@ broken_through adds file old new round broken =
     (stays_broken begun grows.more (stays_broken old.game.events (event.Round round.round ∷ []) broken))
 
 -- what follows a round of a set, with the bank broken, is of that set
-of_same_set : (set : ℕ) (round : Round) (in_set : ℕ) (sold : Bool) → IsOfSet set round → OfNext (IsOfSet set) (following round in_set sold true)
+of_same_set : (set : ℕ) (round : Round) (in_set : ℕ) (sold : Bool) → IsOfSet set round
+    → OfNext (IsOfSet set) (following round in_set sold true)
 of_same_set set (Opening number) in_set sold same = absurd same
 of_same_set set (Stock its) in_set sold same = same
 of_same_set set (Operating its number) in_set sold same =
-    elim (nat_lt number in_set) as (λ (more : Bool). OfNext (IsOfSet set) (if more then next.Round (Operating its (number + 1)) else next.Ended)) [
+    elim (nat_lt number in_set) as (λ (more : Bool). OfNext (IsOfSet set)
+    (if more then next.Round (Operating its (number + 1)) else next.Ended)) [
       | true ↦ same
       | false ↦ tt
     ]
@@ -94,7 +103,8 @@ record Closes (set : ℕ) (there : Between) : Type 0 where
   of_set : (round : Round) → there.next ≡ next.Round round → IsOfSet set round
 
 -- so it is after each round
-round_closes : TurnOnlyAdds → (file : List ℕ) (set : ℕ) (old new : Between) → Closes set old → IsRound file old new → Closes set new
+round_closes : TurnOnlyAdds → (file : List ℕ) (set : ℕ) (old new : Between) → Closes set old → IsRound file old new
+    → Closes set new
 round_closes adds file set old new closes round =
     let broken : broken_in new.game.events ≡ true = broken_through adds file old new round closes.broken in
     record {
@@ -102,12 +112,14 @@ round_closes adds file set old new closes round =
       of_set =
           λ later comes.
           of_coming (IsOfSet set) (following round.round old.in_set (all_sold new.game.events) true) later
-          (ap (λ (b : Bool). following round.round old.in_set (all_sold new.game.events) b) (sym broken) ∙ follows file old new later round comes)
+          (ap (λ (b : Bool). following round.round old.in_set (all_sold new.game.events) b) (sym broken)
+          ∙ follows file old new later round comes)
           (of_same_set set round.round old.in_set (all_sold new.game.events) (closes.of_set round.round round.comes));
     }
 
 -- and after all that follow
-all_close : TurnOnlyAdds → (file : List ℕ) (set later : ℕ) (broken there : Between) → Closes set broken → AreRounds file later broken there → Closes set there
+all_close : TurnOnlyAdds → (file : List ℕ) (set later : ℕ) (broken there : Between) → Closes set broken
+    → AreRounds file later broken there → Closes set there
 all_close adds file set zero broken there closes played = subst (Closes set) played closes
 all_close adds file set (suc later) broken there closes played =
     round_closes adds file set played.0 there (all_close adds file set later broken played.0 closes played.1) played.2
@@ -116,7 +128,11 @@ all_close adds file set (suc later) broken there closes played =
 pub no_set_after : TurnOnlyAdds → NoSetAfterBroken
 no_set_after adds file set later broken there round upcoming is comes of_set played upcoming_comes =
     let first : Closes set broken =
-    record { broken = is; of_set = λ at there_comes. subst (IsOfSet set) (comes_once round at (sym comes ∙ there_comes)) of_set }
+    record {
+      broken = is;
+      of_set = λ at there_comes. subst (IsOfSet set)
+          (comes_once round at (sym comes ∙ there_comes)) of_set;
+    }
     in
     (all_close adds file set later broken there first played).of_set upcoming upcoming_comes
 
@@ -127,7 +143,8 @@ last_of_set set in_set sold =
     ap (λ (more : Bool). if more then next.Round (Operating set (in_set + 1)) else next.Ended) over
 
 -- whether or not a president is bankrupt too
-ended_either : (bankrupt : Bool) (says : Next) → says ≡ next.Ended → (if bankrupt then next.Ended else says) ≡ next.Ended
+ended_either : (bankrupt : Bool) (says : Next) → says ≡ next.Ended
+    → (if bankrupt then next.Ended else says) ≡ next.Ended
 ended_either true says over = refl
 ended_either false says over = over
 
@@ -135,7 +152,8 @@ ended_either false says over = over
 pub broken_ends : BrokenBankEndsSets
 broken_ends file set old new round comes broken =
     let events = new.game.events in
-    let same : round.round ≡ Operating set old.in_set = comes_once round.round (Operating set old.in_set) (sym round.comes ∙ comes) in
+    let same : round.round ≡ Operating set old.in_set =
+    comes_once round.round (Operating set old.in_set) (sym round.comes ∙ comes) in
     let says : following round.round old.in_set (all_sold events) (broken_in events) ≡ next.Ended =
     ap (λ (it : Round). following it old.in_set (all_sold events) (broken_in events)) same
     ∙ ap (λ (b : Bool). following (Operating set old.in_set) old.in_set (all_sold events) b) broken
@@ -144,7 +162,8 @@ broken_ends file set old new round comes broken =
     round.next_then ∙ ended_either (bankrupt_in events) _ says
 
 -- the sequence ends after the last operating round of a set alone
-ends_with_set : (round : Round) (in_set : ℕ) (sold broken : Bool) → StandsInSet round in_set → following round in_set sold broken ≡ next.Ended →
+ends_with_set : (round : Round) (in_set : ℕ) (sold broken : Bool) → StandsInSet round in_set
+    → following round in_set sold broken ≡ next.Ended →
     (broken ≡ true) × (set : ℕ) × (round ≡ Operating set in_set)
 ends_with_set (Opening number) in_set sold broken stands over = absurd (no_round _ (sym over))
 ends_with_set (Stock set) in_set sold broken stands over = absurd (no_round _ (sym over))
@@ -165,7 +184,8 @@ ends_with_set (Operating set number) in_set sold false stands over =
     absurd (no_round later.0 (sym over ∙ later.1))
 
 -- a game that ends without a bankruptcy ends as the sequence says
-sequence_ends : (bankrupt : Bool) (says : Next) → bankrupt ≡ false → (if bankrupt then next.Ended else says) ≡ next.Ended → says ≡ next.Ended
+sequence_ends : (bankrupt : Bool) (says : Next) → bankrupt ≡ false
+    → (if bankrupt then next.Ended else says) ≡ next.Ended → says ≡ next.Ended
 sequence_ends true says solvent over = absurd (false≢true (sym solvent))
 sequence_ends false says solvent over = over
 
@@ -177,7 +197,8 @@ nothing_else file rounds old new reached round over =
     elim (cases_Bool (bankrupt_in events)) [
       | inl bankrupt ↦ inl bankrupt
       | inr solvent ↦
-          let says = sequence_ends (bankrupt_in events) (following round.round old.in_set (all_sold events) (broken_in events)) solvent (sym round.next_then ∙ over) in
+          let says = sequence_ends (bankrupt_in events) (following round.round old.in_set (all_sold events)
+          (broken_in events)) solvent (sym round.next_then ∙ over) in
           let ends = ends_with_set round.round old.in_set (all_sold events) (broken_in events) stands says in
           inr (ends.0, ends.1, round.comes ∙ ap next.Round ends.2)
     ]

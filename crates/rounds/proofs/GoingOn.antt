@@ -19,7 +19,8 @@ pub record GoesOn (old new : List Event) : Type 0 where
   pub quiet : rounds_begun more ≡ []
 
 -- a round in front of rounds of two lists
-round_in_front : (round : Option Round) (front back : List Round) → with_round round (front ++ back) ≡ with_round round front ++ back
+round_in_front : (round : Option Round) (front back : List Round)
+    → with_round round (front ++ back) ≡ with_round round front ++ back
 round_in_front None front back = refl
 round_in_front (Some round) front back = refl
 
@@ -27,15 +28,18 @@ round_in_front (Some round) front back = refl
 pub begun_in_both : (front back : List Event) → rounds_begun (front ++ back) ≡ rounds_begun front ++ rounds_begun back
 begun_in_both [] back = refl
 begun_in_both (event ∷ front) back =
-    ap (with_round (round_begun_by event)) (begun_in_both front back) ∙ round_in_front (round_begun_by event) (rounds_begun front) (rounds_begun back)
+    ap (with_round (round_begun_by event)) (begun_in_both front back)
+    ∙ round_in_front (round_begun_by event) (rounds_begun front) (rounds_begun back)
 
 -- it goes on further
 goes_further : (a b c : List Event) → GoesOn a b → GoesOn b c → GoesOn a c
 goes_further a b c first second =
     record {
       more = first.more ++ second.more;
-      longer = second.longer ∙ ap (λ (list : List Event). list ++ second.more) first.longer ∙ append_assoc a first.more second.more;
-      quiet = begun_in_both first.more second.more ∙ ap (λ (list : List Round). list ++ rounds_begun second.more) first.quiet ∙ second.quiet;
+      longer = second.longer ∙ ap (λ (list : List Event). list ++ second.more) first.longer
+          ∙ append_assoc a first.more second.more;
+      quiet = begun_in_both first.more second.more ∙ ap (λ (list : List Round). list ++ rounds_begun second.more)
+          first.quiet ∙ second.quiet;
     }
 
 -- a first event that begins no round
@@ -53,7 +57,12 @@ begin_none (event ∷ more) none = none_first (round_begun_by event) _ (rounds_b
 by_turns : TurnOnlyAdds → OfTurns GoesOn
 by_turns adds file round company old new turn =
     let only = adds file round company old new turn in
-    record { more = only.more; longer = ap (λ (game : Game). game.events) only.added; quiet = begin_none only.more only.no_round }
+    record {
+      more = only.more;
+      longer = ap (λ (game : Game). game.events) only.added;
+      quiet =
+          begin_none only.more only.no_round;
+    }
 
 -- a round adds its own ROUND event, and begins no other
 pub round_goes_on : TurnOnlyAdds → (file : List ℕ) (round : Round) (old new : Game) →
@@ -63,12 +72,18 @@ round_goes_on adds file =
     (record {
       same = λ events. record { more = []; longer = sym (append-nil events); quiet = refl };
       both = goes_further;
-      aside = λ events event says. record { more = event ∷ []; longer = refl; quiet = ap (λ (round : Option Round). with_round round []) says.round };
+      aside = λ events event says. record {
+        more = event ∷ [];
+        longer = refl;
+        quiet =
+            ap (λ (round : Option Round). with_round round []) says.round;
+      };
     })
     (by_turns adds) file
 
 -- where events begin no round at all, each of them begins none
-begin_nothing : (first : Option Round) (more : List Round) (rest : Bool) → with_round first more ≡ [] → (more ≡ [] → rest ≡ false) →
+begin_nothing : (first : Option Round) (more : List Round) (rest : Bool) → with_round first more ≡ []
+    → (more ≡ [] → rest ≡ false) →
     (is_some first || rest) ≡ false
 begin_nothing None more rest none others = others none
 begin_nothing (Some round) more rest none others = absurd (cc)

@@ -61,7 +61,8 @@ module _ (company : Company) (before after : Company → Bool) (too : OperatedTo
   no_more_idle (other ∷ others) =
       let rest = no_more_idle others in
       let one : (if after other then 0 else 1) ≤ (if before other then 0 else 1) =
-      subst (λ (b : Bool). (if b then 0 else 1) ≤ (if before other then 0 else 1)) (sym (too other)) (one_no_more (same_company company other) (before other))
+      subst (λ (b : Bool). (if b then 0 else 1) ≤ (if before other then 0 else 1)) (sym (too other))
+      (one_no_more (same_company company other) (before other))
       in
       omega (arith, rest, one)
 
@@ -70,26 +71,34 @@ module _ (company : Company) (before after : Company → Bool) (too : OperatedTo
   has_now = too company ∙ ap (λ (b : Bool). before company || b) (same_self company) ∙ or-true (before company)
 
   -- and fewer are, where it was among them
-  fewer_idle_in : (them : List Company) → 1 ≤ times company them → before company ≡ false → idle_in after them < idle_in before them
+  fewer_idle_in : (them : List Company) → 1 ≤ times company them → before company ≡ false
+      → idle_in after them < idle_in before them
   fewer_idle_in [] stands idle = absurd (omega arith)
   fewer_idle_in (other ∷ others) stands idle =
-      elim (same_company other company) as (λ (b : Bool). same_company other company ≡ b → idle_in after (other ∷ others) < idle_in before (other ∷ others)) [
+      elim (same_company other company) as (λ (b : Bool). same_company other company ≡ b
+      → idle_in after (other ∷ others) < idle_in before (other ∷ others)) [
         | true ↦ λ same.
             let is : other ≡ company = same_company_is other company same in
-            let was : ◌≡◌ {A = ℕ} (if before other then 0 else 1) 1 = ap (λ (it : Company). if before it then 0 else 1) is ∙ ap (λ (b : Bool). if b then 0 else 1) idle in
-            let now : ◌≡◌ {A = ℕ} (if after other then 0 else 1) 0 = ap (λ (it : Company). if after it then 0 else 1) is ∙ ap (λ (b : Bool). if b then 0 else 1) has_now in
+            let was : ◌≡◌ {A = ℕ} (if before other then 0 else 1) 1 =
+            ap (λ (it : Company). if before it then 0 else 1) is ∙ ap (λ (b : Bool). if b then 0 else 1) idle in
+            let now : ◌≡◌ {A = ℕ} (if after other then 0 else 1) 0 =
+            ap (λ (it : Company). if after it then 0 else 1) is ∙ ap (λ (b : Bool). if b then 0 else 1) has_now in
             omega (arith, was, now, no_more_idle others)
         | false ↦ λ apart.
-            let count : times company (other ∷ others) ≡ 0 + times company others = ap (λ (b : Bool). (if b then 1 else 0) + times company others) apart in
+            let count : times company (other ∷ others) ≡ 0 + times company others =
+            ap (λ (b : Bool). (if b then 1 else 0) + times company others) apart in
             let one : (if after other then 0 else 1) ≤ (if before other then 0 else 1) =
-            subst (λ (b : Bool). (if b then 0 else 1) ≤ (if before other then 0 else 1)) (sym (too other)) (one_no_more (same_company company other) (before other))
+            subst (λ (b : Bool). (if b then 0 else 1) ≤ (if before other then 0 else 1)) (sym (too other))
+            (one_no_more (same_company company other) (before other))
             in
             omega (arith, one, fewer_idle_in others (omega (arith, stands, count)) idle)
       ]
       refl
 
 -- a company that had not operated leaves fewer idle
-pub fewer_idle : (company : Company) (old new : List Event) → OperatedToo company (has_operated old) (has_operated new) → has_operated old company ≡ false → idle_of new < idle_of old
+pub fewer_idle : (company : Company) (old new : List Event)
+    → OperatedToo company (has_operated old) (has_operated new) → has_operated old company ≡ false
+    → idle_of new < idle_of old
 unfolding idle_of
 fewer_idle company old new too idle =
     fewer_idle_in company (has_operated old) (has_operated new) too companies (omega (arith, in_roster company)) idle
@@ -99,7 +108,8 @@ idle_in_few : (operated : Company → Bool) (them : List Company) → idle_in op
 idle_in_few operated [] = omega arith
 idle_in_few operated (company ∷ others) =
     let rest = idle_in_few operated others in
-    elim (operated company) as (λ (b : Bool). (if b then 0 else 1) + idle_in operated others ≤ length (company ∷ others)) [ true ↦ omega arith | false ↦ omega arith ]
+    elim (operated company) as (λ (b : Bool). (if b then 0 else 1) + idle_in operated others
+    ≤ length (company ∷ others)) [ true ↦ omega arith | false ↦ omega arith ]
 
 -- there are eight
 pub idle_few : (events : List Event) → idle_of events ≤ 8
@@ -111,30 +121,37 @@ some_same : (a b : Company) → Some a ≡ Some b → a ≡ b
 some_same a b same = cc
 
 -- what is found passes the test, and stands in the list
-found_passes : (test : Company → Bool) (them : List Company) (company : Company) → find test them ≡ Some company → (test company ≡ true) × (1 ≤ times company them)
+found_passes : (test : Company → Bool) (them : List Company) (company : Company) → find test them ≡ Some company
+    → (test company ≡ true) × (1 ≤ times company them)
 found_passes test [] company found = absurd (cc)
 found_passes test (first ∷ others) company found =
-    elim (test first) as (λ (b : Bool). test first ≡ b → (if b then Some first else find test others) ≡ Some company → (test company ≡ true) × (1 ≤ times company (first ∷ others))) [
+    elim (test first) as (λ (b : Bool). test first ≡ b → (if b then Some first else find test others) ≡ Some company
+    → (test company ≡ true) × (1 ≤ times company (first ∷ others))) [
       | true ↦ λ passes is.
           let same : first ≡ company = some_same first company is in (
             ap test (sym same) ∙ passes,
-            subst (λ (it : Company). 1 ≤ times it (first ∷ others)) same (let self = same_self first in let count : times first (first ∷ others) ≡ 1 + times first others = ap (λ (b : Bool). (if b then 1 else 0) + times first others) self in omega (arith, count)),
+            subst (λ (it : Company). 1 ≤ times it (first ∷ others)) same
+                (let self = same_self first in let count : times first (first ∷ others) ≡ 1 + times first others =
+                ap (λ (b : Bool). (if b then 1 else 0) + times first others) self in omega (arith, count)),
           )
       | false ↦ λ fails is. let rest = found_passes test others company is in (rest.0, omega (arith, rest.1))
     ]
     refl found
 
 -- where nothing is found, all in the list fail
-none_passes : (test : Company → Bool) (them : List Company) (company : Company) → find test them ≡ None → 1 ≤ times company them → test company ≡ false
+none_passes : (test : Company → Bool) (them : List Company) (company : Company) → find test them ≡ None
+    → 1 ≤ times company them → test company ≡ false
 none_passes test [] company none stands = absurd (omega arith)
 none_passes test (first ∷ others) company none stands =
-    elim (test first) as (λ (b : Bool). test first ≡ b → (if b then Some first else find test others) ≡ None → test company ≡ false) [
+    elim (test first) as (λ (b : Bool). test first ≡ b → (if b then Some first else find test others) ≡ None
+    → test company ≡ false) [
       | true ↦ λ passes is. absurd (cc)
       | false ↦ λ fails is.
           elim (same_company first company) as (λ (b : Bool). same_company first company ≡ b → test company ≡ false) [
             | true ↦ λ same. ap test (sym (same_company_is first company same)) ∙ fails
             | false ↦ λ apart.
-                let count : times company (first ∷ others) ≡ 0 + times company others = ap (λ (b : Bool). (if b then 1 else 0) + times company others) apart in
+                let count : times company (first ∷ others) ≡ 0 + times company others =
+                ap (λ (b : Bool). (if b then 1 else 0) + times company others) apart in
                 none_passes test others company is (omega (arith, stands, count))
           ]
           refl
@@ -157,26 +174,38 @@ some_operate true some = refl
 some_operate false some = absurd (omega arith)
 
 -- a company that is the next is the first that is idle
-next_is_first : (bankrupt : Bool) (first : Option Company) (company : Company) → (if bankrupt then None else first) ≡ Some company → first ≡ Some company
+next_is_first : (bankrupt : Bool) (first : Option Company) (company : Company)
+    → (if bankrupt then None else first) ≡ Some company → first ≡ Some company
 next_is_first true first company found = absurd (cc)
 next_is_first false first company found = found
 
 -- where there is no next and nobody is bankrupt, none is idle
-none_is_first : (bankrupt : Bool) (first : Option Company) → bankrupt ≡ false → (if bankrupt then None else first) ≡ None → first ≡ None
+none_is_first : (bankrupt : Bool) (first : Option Company) → bankrupt ≡ false
+    → (if bankrupt then None else first) ≡ None → first ≡ None
 none_is_first true first solvent none = absurd (cc)
 none_is_first false first solvent none = none
 
 -- the next company operates, and has not done so in the round
-pub next_is_idle : ((events : List Event) → IsOperatingOrder events (operating_order_of events)) → (events : List Event) (company : Company) → next_company events ≡ Some company → (operates events company ≡ true) × (has_operated events company ≡ false)
+pub next_is_idle : ((events : List Event) → IsOperatingOrder events (operating_order_of events))
+    → (events : List Event) (company : Company) → next_company events ≡ Some company
+    → (operates events company ≡ true) × (has_operated events company ≡ false)
 next_is_idle ordered events company found =
-    let first : first_idle events ≡ Some company = next_is_first (bankrupt_in events) (first_idle events) company found in
+    let first : first_idle events ≡ Some company =
+    next_is_first (bankrupt_in events) (first_idle events) company found in
     let there = found_passes (λ company. not (has_operated events company)) (operating_order_of events) company first in
-    let count = (ordered events).each_once company in
-    (some_operate (operates events company) (omega (arith, there.1, count)), not_so (has_operated events company) there.0)
+    let count = (ordered events).each_once company in (
+      some_operate (operates events company) (omega (arith, there.1, count)),
+      not_so (has_operated events company)
+          there.0,
+    )
 
 -- where there is no next and nobody is bankrupt, each company that operates has done so
-pub all_have_operated : ((events : List Event) → IsOperatingOrder events (operating_order_of events)) → (events : List Event) (company : Company) → bankrupt_in events ≡ false → next_company events ≡ None → operates events company ≡ true → has_operated events company ≡ true
+pub all_have_operated : ((events : List Event) → IsOperatingOrder events (operating_order_of events))
+    → (events : List Event) (company : Company) → bankrupt_in events ≡ false → next_company events ≡ None
+    → operates events company ≡ true → has_operated events company ≡ true
 all_have_operated ordered events company solvent none operating =
     let idle : first_idle events ≡ None = none_is_first (bankrupt_in events) (first_idle events) solvent none in
-    let count : times company (operating_order_of events) ≡ 1 = (ordered events).each_once company ∙ ap (λ (b : Bool). if b then 1 else 0) operating in
-    is_so (has_operated events company) (none_passes (λ company. not (has_operated events company)) (operating_order_of events) company idle (omega (arith, count)))
+    let count : times company (operating_order_of events) ≡ 1 =
+    (ordered events).each_once company ∙ ap (λ (b : Bool). if b then 1 else 0) operating in
+    is_so (has_operated events company) (none_passes (λ company. not (has_operated events company))
+    (operating_order_of events) company idle (omega (arith, count)))

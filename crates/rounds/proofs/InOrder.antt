@@ -33,20 +33,23 @@ one_more_after first [] round each before = (lt-ltb (rank_of first) (rank_of rou
 one_more_after first (one ∷ rounds) round each before = (each.0, one_more_after first rounds round each.1 before)
 
 -- rounds in order, and one more after them all
-order_goes_on : (rounds : List Round) (round : Round) → AreInOrder rounds → AreBefore rounds round → AreInOrder (rounds ++ round ∷ [])
+order_goes_on : (rounds : List Round) (round : Round) → AreInOrder rounds → AreBefore rounds round
+    → AreInOrder (rounds ++ round ∷ [])
 order_goes_on [] round order before = (tt, tt)
 order_goes_on (one ∷ rounds) round order before =
     (one_more_after one rounds round order.0 before.0, order_goes_on rounds round order.1 before.1)
 
 -- rounds that are before a round, and that round, are before the next
-all_before_next : (rounds : List Round) (round upcoming : Round) → AreBefore rounds round → rank_of round < rank_of upcoming → AreBefore (rounds ++ round ∷ []) upcoming
+all_before_next : (rounds : List Round) (round upcoming : Round) → AreBefore rounds round
+    → rank_of round < rank_of upcoming → AreBefore (rounds ++ round ∷ []) upcoming
 all_before_next [] round upcoming before later = (later, tt)
 all_before_next (one ∷ rounds) round upcoming before later =
     let first : rank_of one < rank_of round = before.0 in
     (omega arith, all_before_next rounds round upcoming before.1 later)
 
 -- what begins with a round still does once it has gone on
-still_begins : (events : List Event) (round : Round) (more : List Event) → BeginWithRound events → BeginWithRound ((events ++ event.Round round ∷ []) ++ more)
+still_begins : (events : List Event) (round : Round) (more : List Event) → BeginWithRound events
+    → BeginWithRound ((events ++ event.Round round ∷ []) ++ more)
 still_begins [] round more begins = refl
 still_begins (first ∷ events) round more begins = begins
 
@@ -58,7 +61,8 @@ record TellsInOrder (there : Between) : Type 0 where
   before : (upcoming : Round) → there.next ≡ next.Round upcoming → AreBefore (rounds_begun there.game.events) upcoming
 
 -- the rounds of a list that grew by one round
-begun_then : (events new : List Event) (round : Round) → GoesOn (events ++ event.Round round ∷ []) new → rounds_begun new ≡ rounds_begun events ++ round ∷ []
+begun_then : (events new : List Event) (round : Round) → GoesOn (events ++ event.Round round ∷ []) new
+    → rounds_begun new ≡ rounds_begun events ++ round ∷ []
 begun_then events new round grows =
     let told : List Event = events ++ event.Round round ∷ [] in
     ap rounds_begun grows.longer
@@ -67,12 +71,15 @@ begun_then events new round grows =
     ∙ append-nil (rounds_begun told)
     ∙ begun_in_both events (event.Round round ∷ [])
 
-module _ (adds : TurnOnlyAdds) (numbered : SheetsAreNumbered) (file : List ℕ) (some : 0 < length (players_of file)) where
+module _ (adds : TurnOnlyAdds) (numbered : SheetsAreNumbered) (file : List ℕ)
+    (some : 0 < length (players_of file)) where
   -- a round that was played is before the next
-  forward : (old new : Between) (later : Round) → StandsNext old → (round : IsRound file old new) → new.next ≡ next.Round later →
+  forward : (old new : Between) (later : Round) → StandsNext old → (round : IsRound file old new)
+      → new.next ≡ next.Round later →
       rank_of round.round < rank_of later
   forward old new later stands round comes =
-      played_forward numbered file round.round later old.in_set (all_sold new.game.events) (broken_in new.game.events) some
+      played_forward numbered file round.round later old.in_set (all_sold new.game.events) (broken_in new.game.events)
+      some
       (stands round.round round.comes) round.posted (follows file old new later round comes)
 
   -- so the order goes on
@@ -80,7 +87,8 @@ module _ (adds : TurnOnlyAdds) (numbered : SheetsAreNumbered) (file : List ℕ) 
   round_in_order old new tells stands round =
       let it : Round = round.round in
       let grows = round_goes_on adds file it old.game new.game round.played in
-      let begun : rounds_begun new.game.events ≡ rounds_begun old.game.events ++ it ∷ [] = begun_then old.game.events new.game.events it grows in
+      let begun : rounds_begun new.game.events ≡ rounds_begun old.game.events ++ it ∷ [] =
+      begun_then old.game.events new.game.events it grows in
       let before : AreBefore (rounds_begun old.game.events) it = tells.before it round.comes in
       record {
         begins = subst BeginWithRound (sym grows.longer) (still_begins old.game.events it grows.more tells.begins);
@@ -93,9 +101,11 @@ module _ (adds : TurnOnlyAdds) (numbered : SheetsAreNumbered) (file : List ℕ) 
 
   -- from the beginning
   all_in_order : (rounds : ℕ) (there : Between) → AreRounds file rounds (before_play file) there → TellsInOrder there
-  all_in_order zero there played = subst TellsInOrder played (record { begins = tt; order = tt; before = λ upcoming comes. tt })
+  all_in_order zero there played = subst TellsInOrder played
+      (record { begins = tt; order = tt; before = λ upcoming comes. tt })
   all_in_order (suc rounds) there played =
-      round_in_order played.0 there (all_in_order rounds played.0 played.1) (comes_in_set file rounds played.0 played.1) played.2
+      round_in_order played.0 there (all_in_order rounds played.0 played.1)
+      (comes_in_set file rounds played.0 played.1) played.2
 
 -- the rounds of a game follow in order
 pub follow_in_order : TurnOnlyAdds → SheetsAreNumbered → ThreeToSixPlay → RoundsFollowInOrder

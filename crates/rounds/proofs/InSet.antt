@@ -48,15 +48,18 @@ new_set set events =
 -- so does what follows each round
 next_in_set : (round : Round) (in_set : ℕ) (all_sold broken : Bool) (events : List Event) →
     StandsInSet round in_set →
-    OfNext (λ later. StandsInSet later (in_set_before (next.Round later) events in_set)) (following round in_set all_sold broken)
+    OfNext (λ later. StandsInSet later (in_set_before (next.Round later) events in_set))
+    (following round in_set all_sold broken)
 next_in_set (Opening number) in_set true broken events stands = new_set 1 events
 next_in_set (Opening number) in_set false broken events stands =
     record { some = stands.some; few = stands.few; within = stands.within }
 next_in_set (Stock set) in_set all_sold broken events stands =
     let some = stands.some in record { some = stands.some; few = stands.few; within = omega (arith, some) }
 next_in_set (Operating set number) in_set all_sold broken events stands =
-    after_operating (λ (later : Round). StandsInSet later (in_set_before (next.Round later) events in_set)) set number in_set all_sold broken
-    (λ less. let before : number < in_set = ltb-true number in_set less in record { some = stands.some; few = stands.few; within = omega (arith, before) })
+    after_operating (λ (later : Round). StandsInSet later (in_set_before (next.Round later) events in_set)) set number
+    in_set all_sold broken
+    (λ less. let before : number < in_set = ltb-true number in_set less in record
+    { some = stands.some; few = stands.few; within = omega (arith, before) })
     (λ past. new_set (set + 1) events)
 
 -- so does a round that comes
@@ -64,7 +67,8 @@ pub coming_in_set : (round later : Round) (in_set : ℕ) (all_sold broken : Bool
     StandsInSet round in_set → following round in_set all_sold broken ≡ next.Round later →
     StandsInSet later (in_set_before (next.Round later) events in_set)
 coming_in_set round later in_set all_sold broken events stands comes =
-    of_coming (λ (later : Round). StandsInSet later (in_set_before (next.Round later) events in_set)) (following round in_set all_sold broken) later comes
+    of_coming (λ (later : Round). StandsInSet later (in_set_before (next.Round later) events in_set))
+    (following round in_set all_sold broken) later comes
     (next_in_set round in_set all_sold broken events stands)
 
 -- the round that comes next, if one does, stands within its set
@@ -81,10 +85,12 @@ round_in_set file old new stands round later comes =
 -- before the first
 pub first_stands : (file : List ℕ) → StandsNext (before_play file)
 first_stands file round comes =
-    subst (λ (at : Round). StandsInSet at (before_play file).in_set) (comes_once (Opening 1) round comes) (first_in_set file)
+    subst (λ (at : Round). StandsInSet at (before_play file).in_set) (comes_once (Opening 1) round comes)
+    (first_in_set file)
 
 -- and wherever a game comes
-pub comes_in_set : (file : List ℕ) (rounds : ℕ) (there : Between) → AreRounds file rounds (before_play file) there → StandsNext there
+pub comes_in_set : (file : List ℕ) (rounds : ℕ) (there : Between) → AreRounds file rounds (before_play file) there
+    → StandsNext there
 comes_in_set file zero there played = subst StandsNext played (first_stands file)
 comes_in_set file (suc rounds) there played =
     round_in_set file played.0 there (comes_in_set file rounds played.0 played.1) played.2
@@ -95,6 +101,7 @@ pub begins_so : (file : List ℕ) (history : Game) (seats in_set : ℕ) →
     in_set ≡ rounds_of_new_set history.events →
     before_play file ≡ record { game = history; in_set = in_set; next = next.Round (Opening 1) }
 begins_so file history seats in_set is_new players counted =
-    let game : history ≡ record { seats = length (players_of file); events = [] } = is_new ∙ ap (λ (n : ℕ). record { seats = n; events = [] }) players in
+    let game : history ≡ record { seats = length (players_of file); events = [] } =
+    is_new ∙ ap (λ (n : ℕ). record { seats = n; events = [] }) players in
     let count : in_set ≡ rounds_of_new_set [] = counted ∙ ap (λ (g : Game). rounds_of_new_set g.events) game in
     λ i. record { game = sym game i; in_set = sym count i; next = next.Round (Opening 1) }

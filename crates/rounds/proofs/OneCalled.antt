@@ -31,7 +31,8 @@ module _ (lists : OneListOfTurnCalls) (fronts : RefusedTurnCallsAreAFront) (file
   -- a front of the calls of a company's turn
   company_front :
       (round : Round) (company : Company) (old new : Game) (fault : PlayFault) (some all : List Call) →
-      CompanyCalls file round company old (Err fault) some → CompanyCalls file round company old (Ok new) all → AreFront fault some all
+      CompanyCalls file round company old (Err fault) some → CompanyCalls file round company old (Ok new) all
+      → AreFront fault some all
   company_front round company old new fault some all broken led =
       elim (fronts file round company old new broken.0 some all broken.2 led) [
         | inl first ↦ inl (broken.1 ∙ ap (λ (why : RunnerFault). fault_in_turn why round company) first.0, first.1)
@@ -69,26 +70,35 @@ module _ (lists : OneListOfTurnCalls) (fronts : RefusedTurnCallsAreAFront) (file
   operating_called_once : (round : Round) → IsOne (OperatingCalls file round)
   operating_called_once round =
       let opening = unasked_agrees Memory TellsOf (IsOpened file round) (λ from a b first second. first ∙ sym second) in
-      let ending = unasked_agrees Memory TellsOf (IsFinished file round) (λ from a b first second. first ∙ sym second) in
-      let turns = then_agree Memory TellsOf (TurnsCall file round) (TurnsCall file round) (Unasked Memory (IsFinished file round)) (Unasked Memory (IsFinished file round)) (turns_called_once round) ending in
+      let ending = unasked_agrees Memory TellsOf (IsFinished file round)
+      (λ from a b first second. first ∙ sym second) in
+      let turns = then_agree Memory TellsOf (TurnsCall file round) (TurnsCall file round)
+      (Unasked Memory (IsFinished file round)) (Unasked Memory (IsFinished file round)) (turns_called_once round)
+      ending in
       then_agree Memory TellsOf (Unasked Memory (IsOpened file round)) (Unasked Memory (IsOpened file round))
-      (Then (TurnsCall file round) (Unasked Memory (IsFinished file round))) (Then (TurnsCall file round) (Unasked Memory (IsFinished file round))) opening turns
+      (Then (TurnsCall file round) (Unasked Memory (IsFinished file round)))
+      (Then (TurnsCall file round) (Unasked Memory (IsFinished file round))) opening turns
 
   module _ (one_opening : OneOpeningRound) (one_stock : OneStockRound) where
     -- a round of each kind
     played_called_once : (round : Round) → IsOne (PlayedCalls file round)
     played_called_once (Opening number) =
         unasked_agrees Memory TellsOf (IsPlayed file (Opening number)) (one_opening file (Opening number))
-    played_called_once (Stock set) = unasked_agrees Memory TellsOf (IsPlayed file (Stock set)) (one_stock file (Stock set))
+    played_called_once (Stock set) = unasked_agrees Memory TellsOf (IsPlayed file (Stock set))
+        (one_stock file (Stock set))
     played_called_once (Operating set number) = operating_called_once (Operating set number)
 
     -- a round that is next, from the place before it
     this_called_once : (round : Round) (in_set : ℕ) →
-        IsOne (Then (PlayedCalls file round) (Unasked Memory (λ (game : Game) (new : Between). new ≡ between_after round in_set game)))
+        IsOne (Then (PlayedCalls file round) (Unasked Memory
+        (λ (game : Game) (new : Between). new ≡ between_after round in_set game)))
     this_called_once round in_set =
-        let After : Course Game Between PlayFault = Unasked Memory (λ (game : Game) (new : Between). new ≡ between_after round in_set game) in
-        then_agree Memory TellsOf (PlayedCalls file round) (PlayedCalls file round) After After (played_called_once round)
-        (unasked_agrees Memory TellsOf (λ (game : Game) (new : Between). new ≡ between_after round in_set game) (λ from a b first second. first ∙ sym second))
+        let After : Course Game Between PlayFault = Unasked Memory
+        (λ (game : Game) (new : Between). new ≡ between_after round in_set game) in
+        then_agree Memory TellsOf (PlayedCalls file round) (PlayedCalls file round) After After
+        (played_called_once round)
+        (unasked_agrees Memory TellsOf (λ (game : Game) (new : Between). new ≡ between_after round in_set game)
+        (λ from a b first second. first ∙ sym second))
 
     -- the next round
     round_called_once : IsOne (RoundCalls file)
@@ -96,18 +106,22 @@ module _ (lists : OneListOfTurnCalls) (fronts : RefusedTurnCallsAreAFront) (file
         record {
           once = λ old a b some others first second.
               let Of : Round → Result Between PlayFault → List Call → Type 0 = λ round outcome calls.
-              Then (PlayedCalls file round) (Unasked Memory (λ (game : Game) (new : Between). new ≡ between_after round old.in_set game)) old.game outcome calls
+              Then (PlayedCalls file round) (Unasked Memory (λ (game : Game) (new : Between). new
+              ≡ between_after round old.in_set game)) old.game outcome calls
               in
               let same : first.0 ≡ second.0 = comes_once first.0 second.0 (sym first.1.comes ∙ second.1.comes) in
               let this = this_called_once first.0 old.in_set in
-              this.once old.game a b some others first.2 (subst (λ (round : Round). Of round (Ok b) others) (sym same) second.2);
+              this.once old.game a b some others first.2 (subst (λ (round : Round). Of round (Ok b) others) (sym same)
+              second.2);
           front = λ old fault to some all broken led.
               let Of : Round → Result Between PlayFault → List Call → Type 0 = λ round outcome calls.
-              Then (PlayedCalls file round) (Unasked Memory (λ (game : Game) (new : Between). new ≡ between_after round old.in_set game)) old.game outcome calls
+              Then (PlayedCalls file round) (Unasked Memory (λ (game : Game) (new : Between). new
+              ≡ between_after round old.in_set game)) old.game outcome calls
               in
               let same : broken.0 ≡ led.0 = comes_once broken.0 led.0 (sym broken.1.comes ∙ led.1.comes) in
               let this = this_called_once broken.0 old.in_set in
-              this.front old.game fault to some all broken.2 (subst (λ (round : Round). Of round (Ok to) all) (sym same) led.2);
+              this.front old.game fault to some all broken.2
+              (subst (λ (round : Round). Of round (Ok to) all) (sym same) led.2);
         }
 
     -- and the game
@@ -115,15 +129,19 @@ module _ (lists : OneListOfTurnCalls) (fronts : RefusedTurnCallsAreAFront) (file
     game_called_once =
         some_times_agree Memory TellsOf (RoundCalls file) (Stops file) round_called_once
         (λ from a b first second. first.game ∙ sym second.game)
-        (λ from to outcome calls stops round. true≢false (sym (ap (goes_on file) round.1.comes ∙ round.1.posted) ∙ stops.stopped))
+        (λ from to outcome calls stops round. true≢false
+        (sym (ap (goes_on file) round.1.comes ∙ round.1.posted) ∙ stops.stopped))
 
-module _ (lists : OneListOfTurnCalls) (fronts : RefusedTurnCallsAreAFront) (one_opening : OneOpeningRound) (one_stock : OneStockRound) where
+module _ (lists : OneListOfTurnCalls) (fronts : RefusedTurnCallsAreAFront) (one_opening : OneOpeningRound)
+    (one_stock : OneStockRound) where
   -- so the game of a file makes one list of calls
   pub one_list : OneListOfCalls
   one_list file a b some others first second =
-      let one = game_called_once lists fronts file one_opening one_stock in one.once (before_play file) a b some others first second
+      let one = game_called_once lists fronts file one_opening one_stock in one.once (before_play file) a b some
+      others first second
 
   -- and a front of them where play is broken off
   pub a_front : RefusedCallsAreAFront
   a_front file fault played refused whole broken led =
-      let one = game_called_once lists fronts file one_opening one_stock in one.front (before_play file) fault played refused whole broken led
+      let one = game_called_once lists fronts file one_opening one_stock in one.front (before_play file) fault played
+      refused whole broken led

@@ -72,7 +72,8 @@ act_grows : (seats : ℕ) (seat : Seat) (events : List Event) (done : Order) →
     GrowsPlainly is_aside events (after_act seats seat events done)
 act_grows seats seat events (order.BuyPrivate private) =
     let sold : List Event = after_sale events private seat (price_of events private) in
-    further events sold (settled seats sold) (sale_grows events private seat (price_of events private)) (settled_grows seats sold)
+    further events sold (settled seats sold) (sale_grows events private seat (price_of events private))
+    (settled_grows seats sold)
 act_grows seats seat events (order.Bid private amount) = record { more = _; longer = refl; aside = refl }
 act_grows seats seat events other = stays events
 
@@ -89,9 +90,11 @@ done_grows seats seat turn number condition done =
 line_grows : (seats : ℕ) (seat : Seat) (turn : InTurn) (line : Numbered) →
     Grows turn.events (after_opening_line seats seat turn line).events
 line_grows seats seat turn line =
-    of_ruled (acted seats seat) (refusal_of seats turn.events seat turn.actions) seat turn line.number (λ (after : InTurn). Grows turn.events after.events)
+    of_ruled (acted seats seat) (refusal_of seats turn.events seat turn.actions) seat turn line.number
+    (λ (after : InTurn). Grows turn.events after.events)
     (λ (ruled : Ruling) (none : obeyed_by ruled ≡ None). told turn.events (event.Ruled seat line.number ruled) refl)
-    (λ (condition : Option Condition) (done : Order) (kept : refusal_of seats turn.events seat turn.actions done ≡ None).
+    (λ (condition : Option Condition) (done : Order)
+    (kept : refusal_of seats turn.events seat turn.actions done ≡ None).
     done_grows seats seat turn line.number condition done)
     has_place_in_group turn.events line
 
@@ -101,14 +104,19 @@ fall_grows : (seats : ℕ) (events : List Event) (price : ℕ) (holder : Seat) �
 fall_grows seats events price holder =
     let given : List Event = given_away events holder in
     in_either events (settled seats given) (events ++ event.Price price ∷ []) (price == 0)
-    (further events given (settled seats given) (record { more = _; longer = append_assoc events (event.Price 0 ∷ []) _; aside = refl }) (settled_grows seats given))
+    (further events given (settled seats given) (record
+    { more = _; longer = append_assoc events (event.Price 0 ∷ []) _; aside = refl }) (settled_grows seats given))
     (record { more = _; longer = refl; aside = refl })
 
 -- by the close
 close_grows : (seats : ℕ) (events : List Event) → GrowsPlainly is_aside events (closed seats events)
 close_grows seats events =
     in_either events events (after_passing seats events) (all_sold events) (stays events)
-    (in_either events (after_revenues seats events privates) (after_fall seats events (sv_price_of events - 5) (priority_of seats events)) (is_sold events private.SchuylkillValley) (stands_plainly events (after_revenues seats events privates) (revenues_grow seats events privates)) (fall_grows seats events (sv_price_of events - 5) (priority_of seats events)))
+    (in_either events (after_revenues seats events privates)
+    (after_fall seats events (sv_price_of events - 5) (priority_of seats events))
+    (is_sold events private.SchuylkillValley) (stands_plainly events (after_revenues seats events privates)
+    (revenues_grow seats events privates)) (fall_grows seats events (sv_price_of events - 5)
+    (priority_of seats events)))
 
 -- an opening round adds its own ROUND event, and then events that stand aside
 pub opening_grows : (file : List ℕ) (round : Round) (old new : Game) → IsOpeningRound file round old new →

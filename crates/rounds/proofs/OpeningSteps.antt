@@ -132,7 +132,8 @@ module _ (Sits : Seat → Type 0) (R : List Event → List Event → Type 0) (of
       of.both events sold (settled seats sold) (of_sale events private buyer price unsold) (of_settled seats sold)
 
   -- of a line whose order is done
-  of_order : (seats : ℕ) (seat : Seat) (turn : InTurn) (number : ℕ) → Sits seat → (condition : Option Condition) (done : Order) →
+  of_order : (seats : ℕ) (seat : Seat) (turn : InTurn) (number : ℕ) → Sits seat
+      → (condition : Option Condition) (done : Order) →
       refusal_of seats turn.events seat turn.actions done ≡ None →
       R turn.events (after_ruling seats seat turn number (Obeyed condition done)).events
   of_order seats seat turn number sits condition (order.BuyPrivate private) kept =

@@ -47,7 +47,8 @@ left_aside : (file : List ℕ) (round : Round) (events : List Event) (seats : Li
 left_aside file round events [] = refl
 left_aside file round events (seat ∷ seats) =
     let count : ℕ = lines_left file round events (seat_at seat) in
-    count_aside (seat_at seat) count (count == 0) (told_left file round events seats) (left_aside file round events seats)
+    count_aside (seat_at seat) count (count == 0) (told_left file round events seats)
+    (left_aside file round events seats)
 
 -- by those counts
 finished_grows : (file : List ℕ) (round : Round) (seats : ℕ) (events : List Event) →

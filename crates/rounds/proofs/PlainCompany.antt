@@ -82,7 +82,8 @@ by_broken : (game : Game) → AddsPlainly game (broken_recorded game)
 by_broken game = passes_plain is_still game.events (broken_recorded game).events (broken_grows game.seats game.events)
 
 -- by an event, and by BROKEN
-by_payment : (game : Game) (its : Event) → is_plain its ≡ true → AddsPlainly game (broken_recorded (with_event game its))
+by_payment : (game : Game) (its : Event) → is_plain its ≡ true
+    → AddsPlainly game (broken_recorded (with_event game its))
 by_payment game its is =
     let paid : Game = with_event game its in
     on.both game paid (broken_recorded paid) (by_event game its is) (by_broken paid)

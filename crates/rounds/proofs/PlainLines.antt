@@ -131,7 +131,8 @@ module _ {TurnActions : Type 0} (act : InTurn TurnActions → Order → InTurn T
   done_plain turn (Some order) = acts turn order
 
   -- in a turn, after a line without a condition
-  pub ruled_plain : (seat : Seat) (turn : InTurn TurnActions) (number : ℕ) (ruling : Ruling) → condition_ruled ruling ≡ None →
+  pub ruled_plain : (seat : Seat) (turn : InTurn TurnActions) (number : ℕ) (ruling : Ruling)
+      → condition_ruled ruling ≡ None →
       GrowsPlain turn.events (after_ruling act seat turn number ruling).events
   ruled_plain seat turn number ruling is =
       let ruled : List Event = recorded seat number ruling turn.events in

@@ -4,7 +4,8 @@ use Rattle.std.proofs.lemmas.Bool.{and_parts, cases_lt}
 use Rattle.std.specs.List.{list_all, range_with_len}
 
 -- where all have posted, each has
-pub posted_each : (p : ℕ → Bool) (first n k : ℕ) → list_all p (range_with_len first n) ≡ true → first ≤ k → k < first + n → p k ≡ true
+pub posted_each : (p : ℕ → Bool) (first n k : ℕ) → list_all p (range_with_len first n) ≡ true → first ≤ k
+    → k < first + n → p k ≡ true
 posted_each p first zero k all from below = absurd (omega arith)
 posted_each p first (suc n) k all from below =
     elim (cases_lt first k) [
@@ -13,7 +14,8 @@ posted_each p first (suc n) k all from below =
     ]
 
 -- the test for nothing, from the test for something
-pub missing_from : {X : Type 0} (found : Option X) (missing : Bool) → is_some found ≡ not missing → missing ≡ is_none found
+pub missing_from : {X : Type 0} (found : Option X) (missing : Bool) → is_some found ≡ not missing
+    → missing ≡ is_none found
 missing_from None true same = refl
 missing_from None false same = same
 missing_from (Some x) true same = same

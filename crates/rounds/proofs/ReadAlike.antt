@@ -35,80 +35,104 @@ use Rattle.tables.specs.declared.seat.Seat.{Seat}
 
 module _ (first second : List ℕ) where
   -- standing lines do the same, whatever they do
-  same_standing : {State : Type 0} (step : Seat → State → Numbered → State) (round : Round) (state : State) (seats : List ℕ) → ReadAlikeFor round first second → after_all_before step first round state seats ≡ after_all_before step second round state seats
+  same_standing : {State : Type 0} (step : Seat → State → Numbered → State) (round : Round) (state : State)
+      (seats : List ℕ) → ReadAlikeFor round first second
+      → after_all_before step first round state seats ≡ after_all_before step second round state seats
   same_standing step round state [] same = refl
   same_standing step round state (seat ∷ seats) same =
-      ap (λ (parts : Parts). after_all_before step first round (after_each (step (seat_at seat)) state parts.before) seats) (same.parts seat)
+      ap (λ (parts : Parts). after_all_before step first round (after_each (step (seat_at seat)) state parts.before)
+      seats) (same.parts seat)
       ∙ same_standing step round (after_lines_before step second round state seat) seats same
 
   -- and the same groups
-  same_groups : (seats : ℕ) (round : Round) → ReadAlikeFor round first second → groups_for seats first round ≡ groups_for seats second round
+  same_groups : (seats : ℕ) (round : Round) → ReadAlikeFor round first second
+      → groups_for seats first round ≡ groups_for seats second round
   same_groups seats round same =
       λ i. map (λ seat. groups_of (same.parts seat i)) (range_with_len 0 seats)
 
   -- so they open a round the same way
-  same_opened : (seats : ℕ) (round : Round) (events : List Event) → ReadAlikeFor round first second → opened seats first round events ≡ opened seats second round events
+  same_opened : (seats : ℕ) (round : Round) (events : List Event) → ReadAlikeFor round first second
+      → opened seats first round events ≡ opened seats second round events
   same_opened seats round events same =
-      let standing = same_standing opening.after_standing_line round (events ++ event.Round round ∷ []) (range_with_len 0 seats) same in
+      let standing = same_standing opening.after_standing_line round (events ++ event.Round round ∷ [])
+      (range_with_len 0 seats) same in
       let groups = same_groups seats round same in
       λ i. in_play (standing i) (priority_of seats events).0 0 (groups i)
 
   -- an opening round is played alike
-  same_opening : (round : Round) (old new : Game) → ReadAlikeFor round first second → IsOpeningRound first round old new → IsOpeningRound second round old new
+  same_opening : (round : Round) (old new : Game) → ReadAlikeFor round first second
+      → IsOpeningRound first round old new → IsOpeningRound second round old new
   same_opening round old new same played =
       record {
         last = played.last;
-        turns = subst (λ (play : InPlay (List Event) Numbered). TurnsEnd (opening_turns old.seats) play played.last) (same_opened old.seats round old.events same) played.turns;
+        turns = subst (λ (play : InPlay (List Event) Numbered). TurnsEnd (opening_turns old.seats) play played.last)
+            (same_opened old.seats round old.events same) played.turns;
         after = played.after;
       }
 
   -- they open a stock round the same way
-  same_stock_opened : (seats : ℕ) (round : Round) (events : List Event) → ReadAlikeFor round first second → stock.opened seats first round events ≡ stock.opened seats second round events
+  same_stock_opened : (seats : ℕ) (round : Round) (events : List Event) → ReadAlikeFor round first second
+      → stock.opened seats first round events ≡ stock.opened seats second round events
   same_stock_opened seats round events same =
-      let standing = same_standing stock.after_standing_line round (events ++ event.Round round ∷ []) (range_with_len 0 seats) same in
+      let standing = same_standing stock.after_standing_line round (events ++ event.Round round ∷ [])
+      (range_with_len 0 seats) same in
       let groups = same_groups seats round same in
       λ i. in_play (standing i) (priority_of seats events).0 0 (groups i)
 
   -- a stock round is played alike
-  same_stock_round : (round : Round) (old new : Game) → ReadAlikeFor round first second → stock.IsStockRound first round old new → stock.IsStockRound second round old new
+  same_stock_round : (round : Round) (old new : Game) → ReadAlikeFor round first second
+      → stock.IsStockRound first round old new → stock.IsStockRound second round old new
   same_stock_round round old new same played =
       record {
         last = played.last;
-        turns = subst (λ (play : InPlay (List Event) Numbered). TurnsEnd (stock_turns old.seats) play played.last) (same_stock_opened old.seats round old.events same) played.turns;
+        turns = subst (λ (play : InPlay (List Event) Numbered). TurnsEnd (stock_turns old.seats) play played.last)
+            (same_stock_opened old.seats round old.events same) played.turns;
         after = played.after;
       }
 
   -- they open an operating round the same way
-  same_operating_opened : (round : Round) (old : Game) → ReadAlikeFor round first second → operating.opened first round old ≡ operating.opened second round old
+  same_operating_opened : (round : Round) (old : Game) → ReadAlikeFor round first second
+      → operating.opened first round old ≡ operating.opened second round old
   same_operating_opened round old same =
       ap (λ (events : List Event). revenues_recorded (record { seats = old.seats; events = events }))
-      (same_standing rules.after_standing_line round (old.events ++ event.Round round ∷ []) (range_with_len 0 old.seats) same)
+      (same_standing rules.after_standing_line round (old.events ++ event.Round round ∷ [])
+      (range_with_len 0 old.seats) same)
 
   -- the block of a company leads to the same
-  same_block : (round : Round) (company : Company) (turn new : InTurn) (president : Option Seat) → ReadAlikeFor round first second → BlockLeads first round company turn president new → BlockLeads second round company turn president new
+  same_block : (round : Round) (company : Company) (turn new : InTurn) (president : Option Seat)
+      → ReadAlikeFor round first second → BlockLeads first round company turn president new
+      → BlockLeads second round company turn president new
   same_block round company turn new None same leads = leads
   same_block round company turn new (Some seat) same leads =
-      subst (λ (parts : Parts). LinesLead (record { company = company; president = seat }) turn (block_in company parts.opened) new)
+      subst (λ (parts : Parts). LinesLead (record { company = company; president = seat }) turn
+      (block_in company parts.opened) new)
       (same.parts seat.0) leads
 
   -- and its turn ends alike by that block
-  same_end : (round : Round) (company : Company) (game new : Game) (president : Option Seat) → ReadAlikeFor round first second → BlockEnds first round company game president new → BlockEnds second round company game president new
+  same_end : (round : Round) (company : Company) (game new : Game) (president : Option Seat)
+      → ReadAlikeFor round first second → BlockEnds first round company game president new
+      → BlockEnds second round company game president new
   same_end round company game new None same ends = ends
   same_end round company game new (Some seat) same ends =
-      subst (λ (parts : Parts). EndLeads (record { company = company; president = seat }) (block_in company parts.opened) game new)
+      subst (λ (parts : Parts). EndLeads (record { company = company; president = seat })
+      (block_in company parts.opened) game new)
       (same.parts seat.0) ends
 
   -- a company takes its turn alike
-  same_turn : (round : Round) (company : Company) (old new : Game) → ReadAlikeFor round first second → IsCompanyTurn first round company old new → IsCompanyTurn second round company old new
+  same_turn : (round : Round) (company : Company) (old new : Game) → ReadAlikeFor round first second
+      → IsCompanyTurn first round company old new → IsCompanyTurn second round company old new
   same_turn round company old new same turn =
       record {
         last = turn.last;
-        block = same_block round company (begun old company) turn.last (president_of old.events company) same turn.block;
-        after = same_end round company (settled company turn.last).game new (president_of old.events company) same turn.after;
+        block = same_block round company (begun old company) turn.last (president_of old.events company) same
+            turn.block;
+        after = same_end round company (settled company turn.last).game new (president_of old.events company) same
+            turn.after;
       }
 
   -- so do companies one after another
-  same_turns : (round : Round) (companies : List Company) (old new : Game) → ReadAlikeFor round first second → operating.TakeTurns first round companies old new → operating.TakeTurns second round companies old new
+  same_turns : (round : Round) (companies : List Company) (old new : Game) → ReadAlikeFor round first second
+      → operating.TakeTurns first round companies old new → operating.TakeTurns second round companies old new
   same_turns round [] old new same turns = turns
   same_turns round (company ∷ others) old new same turns = (
     turns.0,
@@ -117,17 +141,21 @@ module _ (first second : List ℕ) where
   )
 
   -- as many lines are left
-  same_left : (round : Round) (events : List Event) (seats : List ℕ) → ReadAlikeFor round first second → operating.told_left first round events seats ≡ operating.told_left second round events seats
+  same_left : (round : Round) (events : List Event) (seats : List ℕ) → ReadAlikeFor round first second
+      → operating.told_left first round events seats ≡ operating.told_left second round events seats
   same_left round events [] same = refl
   same_left round events (seat ∷ seats) same =
       ap
       (λ (parts : Parts).
-      with_left (seat_at seat) (lines_in parts - rulings_in_round events (seat_at seat)) (operating.told_left first round events seats))
+      with_left (seat_at seat) (lines_in parts - rulings_in_round events (seat_at seat))
+      (operating.told_left first round events seats))
       (same.parts seat)
-      ∙ ap (λ (rest : List Event). with_left (seat_at seat) (operating.lines_left second round events (seat_at seat)) rest) (same_left round events seats same)
+      ∙ ap (λ (rest : List Event). with_left (seat_at seat) (operating.lines_left second round events (seat_at seat))
+      rest) (same_left round events seats same)
 
   -- an operating round is played alike
-  same_operating : (round : Round) (old new : Game) → ReadAlikeFor round first second → operating.IsOperatingRound first round old new → operating.IsOperatingRound second round old new
+  same_operating : (round : Round) (old new : Game) → ReadAlikeFor round first second
+      → operating.IsOperatingRound first round old new → operating.IsOperatingRound second round old new
   same_operating round old new same played =
       record {
         turned = played.turned;
@@ -135,34 +163,41 @@ module _ (first second : List ℕ) where
             record {
               companies = played.turns.companies;
               turns =
-                  subst (λ (start : Game). operating.TakeTurns second round played.turns.companies start played.turned) (same_operating_opened round old same)
-                  (same_turns round played.turns.companies (operating.opened first round old) played.turned same played.turns.turns);
+                  subst (λ (start : Game). operating.TakeTurns second round played.turns.companies start
+                  played.turned) (same_operating_opened round old same)
+                  (same_turns round played.turns.companies (operating.opened first round old) played.turned same
+                  played.turns.turns);
               over_then = played.turns.over_then;
             };
         after =
             played.after
-            ∙ ap (λ (left : List Event). record { seats = old.seats; events = played.turned.events ++ left }) (same_left round played.turned.events (range_with_len 0 old.seats) same);
+            ∙ ap (λ (left : List Event). record { seats = old.seats; events = played.turned.events ++ left })
+            (same_left round played.turned.events (range_with_len 0 old.seats) same);
       }
 
   -- so is a round of each kind
-  same_played : (round : Round) (old new : Game) → ReadAlikeFor round first second → IsPlayed first round old new → IsPlayed second round old new
+  same_played : (round : Round) (old new : Game) → ReadAlikeFor round first second → IsPlayed first round old new
+      → IsPlayed second round old new
   same_played (Opening number) old new same played = same_opening (Opening number) old new same played
   same_played (Stock set) old new same played = same_stock_round (Stock set) old new same played
   same_played (Operating set number) old new same played = same_operating (Operating set number) old new same played
 
   -- all are posted in both files, or in neither
-  pub same_posted : (round : Round) → players_of first ≡ players_of second → ReadAlikeFor round first second → all_posted first round ≡ all_posted second round
+  pub same_posted : (round : Round) → players_of first ≡ players_of second → ReadAlikeFor round first second
+      → all_posted first round ≡ all_posted second round
   same_posted round players same =
       λ i. list_all (λ seat. same.posted seat i) (range_with_len 0 (length (players i)))
 
   -- both files go on, or neither
-  pub same_goes_on : (upcoming : Next) → players_of first ≡ players_of second → ((round : Round) → ReadAlikeFor round first second) →
+  pub same_goes_on : (upcoming : Next) → players_of first ≡ players_of second
+      → ((round : Round) → ReadAlikeFor round first second) →
       goes_on first upcoming ≡ goes_on second upcoming
   same_goes_on (next.Round round) players same = same_posted round players (same round)
   same_goes_on next.Ended players same = refl
 
   -- one round is played alike
-  pub same_round : (old new : Between) → players_of first ≡ players_of second → (round : IsRound first old new) → ReadAlikeFor round.round first second →
+  pub same_round : (old new : Between) → players_of first ≡ players_of second → (round : IsRound first old new)
+      → ReadAlikeFor round.round first second →
       IsRound second old new
   same_round old new players round same =
       record {
@@ -177,4 +212,9 @@ module _ (first second : List ℕ) where
   -- the files begin alike
   pub same_before : players_of first ≡ players_of second → before_play first ≡ before_play second
   same_before players =
-      λ i. record { game = record { seats = length (players i); events = [] }; in_set = rounds_of_new_set []; next = next.Round (Opening 1) }
+      λ i. record {
+        game = record { seats = length (players i); events = [] };
+        in_set = rounds_of_new_set [];
+        next =
+            next.Round (Opening 1);
+      }

@@ -28,15 +28,21 @@ record Keeps (set count : ℕ) (upcoming : Round) (in_set : ℕ) : Type 0 where
 -- after each round
 keeps_on : (set count : ℕ) (round : Round) (in_set : ℕ) (sold broken : Bool) (events : List Event) →
     Keeps set count round in_set →
-    OfNext (λ later. Keeps set count later (in_set_before (next.Round later) events in_set)) (following round in_set sold broken)
+    OfNext (λ later. Keeps set count later (in_set_before (next.Round later) events in_set))
+    (following round in_set sold broken)
 keeps_on set count (Opening number) in_set sold broken events keeps = absurd keeps.begun
 keeps_on set count (Stock its) in_set sold broken events keeps =
     record { begun = keeps.begun; number = keeps.number }
 keeps_on set count (Operating its number) in_set sold broken events keeps =
     let no_earlier : set ≤ its = keeps.begun in
-    after_operating (λ (later : Round). Keeps set count later (in_set_before (next.Round later) events in_set)) its number in_set sold broken
+    after_operating (λ (later : Round). Keeps set count later (in_set_before (next.Round later) events in_set)) its
+    number in_set sold broken
     (λ more. record { begun = keeps.begun; number = keeps.number })
-    (λ past. record { begun = omega (arith, no_earlier); number = λ (same : its + 1 ≡ set). absurd (omega (arith, no_earlier, same)) })
+    (λ past. record {
+      begun = omega (arith, no_earlier);
+      number =
+          λ (same : its + 1 ≡ set). absurd (omega (arith, no_earlier, same));
+    })
 
 -- the set is left only after the last of its rounds
 left_after_last : (set : ℕ) (round : Round) (in_set : ℕ) (sold broken : Bool) → IsOfSet set round →
@@ -45,7 +51,8 @@ left_after_last : (set : ℕ) (round : Round) (in_set : ℕ) (sold broken : Bool
 left_after_last set (Opening number) in_set sold broken same stands = absurd same
 left_after_last set (Stock its) in_set sold broken same stands = λ other. absurd (other same)
 left_after_last set (Operating its number) in_set sold broken same stands =
-    after_operating (λ (later : Round). ¬ (IsOfSet set later) → ◌≡◌ {A = Round} (Operating its number) (Operating set in_set))
+    after_operating (λ (later : Round). ¬ (IsOfSet set later)
+    → ◌≡◌ {A = Round} (Operating its number) (Operating set in_set))
     its number in_set sold broken
     (λ more other. absurd (other same))
     (λ over other.
@@ -68,12 +75,14 @@ module _ (file : List ℕ) where
       played.2.in_set_then ∙ ap (λ (upcoming : Next). in_set_before upcoming begun.game.events played.0.in_set) comes
 
   -- a round that was played keeps it
-  round_keeps : (set count : ℕ) (old new : Between) → KeepsNext set count old → IsRound file old new → KeepsNext set count new
+  round_keeps : (set count : ℕ) (old new : Between) → KeepsNext set count old → IsRound file old new
+      → KeepsNext set count new
   round_keeps set count old new keeps round later comes =
       let sold = all_sold new.game.events in
       let broken = broken_in new.game.events in
       subst (λ (number : ℕ). Keeps set count later number) (sym (in_set_then file old new later round comes))
-      (of_coming (λ (later : Round). Keeps set count later (in_set_before (next.Round later) new.game.events old.in_set))
+      (of_coming (λ (later : Round). Keeps set count later
+      (in_set_before (next.Round later) new.game.events old.in_set))
       (following round.round old.in_set sold broken) later (follows file old new later round comes)
       (keeps_on set count round.round old.in_set sold broken new.game.events (keeps round.round round.comes)))
 
@@ -85,13 +94,15 @@ module _ (file : List ℕ) where
       round_keeps set count played.0 there (all_keep set count later begun played.0 keeps played.1) played.2
 
   -- and they stand within their sets
-  all_stand : (later : ℕ) (begun there : Between) → StandsNext begun → AreRounds file later begun there → StandsNext there
+  all_stand : (later : ℕ) (begun there : Between) → StandsNext begun → AreRounds file later begun there
+      → StandsNext there
   all_stand zero begun there stands played = subst StandsNext played stands
   all_stand (suc later) begun there stands played =
       round_in_set file played.0 there (all_stand later begun played.0 stands played.1) played.2
 
   -- a set is left only after the last of its rounds
-  whole_set : (set count : ℕ) (there after : Between) (round later : Round) → StandsInSet round there.in_set → there.in_set ≡ count →
+  whole_set : (set count : ℕ) (there after : Between) (round later : Round) → StandsInSet round there.in_set
+      → there.in_set ≡ count →
       there.next ≡ next.Round round → IsOfSet set round → IsRound file there after → after.next ≡ next.Round later →
       ¬ IsOfSet set later → round ≡ Operating set count
   whole_set set count there after round later stands number here of_set step comes other =
@@ -115,11 +126,14 @@ keep_their_number file set rounds later begun there round reached comes played h
     subst (λ (upcoming : Round). Keeps set count upcoming begun.in_set) (comes_once (Stock set) at (sym comes ∙ is))
     (record { begun = omega arith; number = λ same. fixed file set rounds begun reached comes })
     in
-    let number : there.in_set ≡ count = (all_keep file set count later begun there first played round here).number of_set in
-    let stands : StandsInSet round there.in_set = all_stand file later begun there (comes_in_set file rounds begun reached) played round here in
+    let number : there.in_set ≡ count = (all_keep file set count later begun there first played round here).number
+    of_set in
+    let stands : StandsInSet round there.in_set = all_stand file later begun there
+    (comes_in_set file rounds begun reached) played round here in
     record {
       number = number;
       within = subst (λ (most : ℕ). turn_in_set round ≤ most) number stands.within;
       whole =
-          λ after upcoming step is other. whole_set file set count there after round upcoming stands number here of_set step is other;
+          λ after upcoming step is other. whole_set file set count there after round upcoming stands number here
+          of_set step is other;
     }

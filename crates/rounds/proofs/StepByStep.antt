@@ -29,19 +29,22 @@ pub same_place : (a b : Between) (there : Result Between PlayFault) → there �
 same_place a b there at_a at_b = cc
 
 -- where a round is to be played, play goes on
-pub on : (file : List ℕ) (from : Between) (round : Round) → IsToPlay file from.next round → goes_on file from.next ≡ true
+pub on : (file : List ℕ) (from : Between) (round : Round) → IsToPlay file from.next round
+    → goes_on file from.next ≡ true
 on file from round is_next = ap (goes_on file) is_next.comes ∙ is_next.posted
 
 module _ {Runner : Type 0} (earns : Earns Runner) where
   -- the calls of the round that comes next are those of a step
   pub round_called :
-      (file : List ℕ) (from : Between) (to : Result Between PlayFault) (round : Round) (before after : Runner) → IsToPlay file from.next round →
+      (file : List ℕ) (from : Between) (to : Result Between PlayFault) (round : Round) (before after : Runner)
+      → IsToPlay file from.next round →
       Makes earns before (RoundCalls file from to) after → Makes earns before (CallsBetween file (Ok from) to) after
   round_called file from to round before after is_next made = (made.0, inl (on file from round is_next, made.1), made.2)
 
   -- where no round can be played a step makes none
   pub none_called :
-      (file : List ℕ) (from : Between) (to : Result Between PlayFault) (runner : Runner) → goes_on file from.next ≡ false →
+      (file : List ℕ) (from : Between) (to : Result Between PlayFault) (runner : Runner)
+      → goes_on file from.next ≡ false →
       Makes earns runner (CallsBetween file (Ok from) to) runner
   none_called file from to runner stopped = ([], inr (stopped, refl), refl)
 
@@ -53,10 +56,12 @@ pub record LeadsOn (file : List ℕ) (here : Between) (new : Underway) : Type 0 
   pub played : IsRound file here to
 
 -- so it is from the place where play is
-pub leads_on : (file : List ℕ) (here : Between) (old new : Underway) (round : Round) → old.file ≡ file → old.there ≡ Ok here → PlaysNext old round new → LeadsOn file here new
+pub leads_on : (file : List ℕ) (here : Between) (old new : Underway) (round : Round) → old.file ≡ file
+    → old.there ≡ Ok here → PlaysNext old round new → LeadsOn file here new
 leads_on file here old new round of_file at step =
     let same : here ≡ step.from = same_place here step.from old.there at step.there in
-    let played : IsRound old.file here step.to = subst (λ (from : Between). IsRound old.file from step.to) (sym same) step.played in
+    let played : IsRound old.file here step.to = subst (λ (from : Between). IsRound old.file from step.to) (sym same)
+    step.played in
     record {
       of_file = ap (λ (play : Underway). play.file) step.after ∙ of_file;
       to = step.to;
@@ -69,7 +74,8 @@ pub was_on : (file : List ℕ) (here there : Between) → IsRound file here ther
 was_on file here there round = ap (goes_on file) round.comes ∙ round.posted
 
 -- a step that is broken off, where play was not, breaks off the round that comes next
-pub breaks_off : (file : List ℕ) (here : Between) (old new : Underway) (fault : PlayFault) → old.file ≡ file → old.there ≡ Ok here → BreaksOff old fault new →
+pub breaks_off : (file : List ℕ) (here : Between) (old new : Underway) (fault : PlayFault) → old.file ≡ file
+    → old.there ≡ Ok here → BreaksOff old fault new →
     (new.there ≡ Err fault) × (goes_on file here.next ≡ true)
 breaks_off file here old new fault of_file at broken =
     elim broken [
@@ -78,14 +84,16 @@ breaks_off file here old new fault of_file at broken =
           let same : here ≡ now.1.from = same_place here now.1.from old.there at now.1.there in
           let goes : goes_on old.file now.1.from.next ≡ true = on old.file now.1.from now.0 now.1.to_play in (
             ap (λ (play : Underway). play.there) now.2,
-            subst (λ (f : List ℕ). goes_on f here.next ≡ true) of_file (subst (λ (b : Between). goes_on old.file b.next ≡ true) (sym same) goes),
+            subst (λ (f : List ℕ). goes_on f here.next ≡ true) of_file
+                (subst (λ (b : Between). goes_on old.file b.next ≡ true) (sym same) goes),
           )
     ]
 
 module _ {Runner : Type 0} (earns : Earns Runner) where
   -- the calls of a step, where a round can be played, are those of the round
   calls_of_round :
-      (file : List ℕ) (here : Between) (to : Result Between PlayFault) (before after : Runner) → goes_on file here.next ≡ true →
+      (file : List ℕ) (here : Between) (to : Result Between PlayFault) (before after : Runner)
+      → goes_on file here.next ≡ true →
       Makes earns before (CallsBetween file (Ok here) to) after → Makes earns before (RoundCalls file here to) after
   calls_of_round file here to before after goes made =
       elim made.1 [
@@ -95,17 +103,21 @@ module _ {Runner : Type 0} (earns : Earns Runner) where
 
   -- so are those of a step from the place where play is
   pub called_between :
-      (file : List ℕ) (here : Between) (to : Result Between PlayFault) (old new : Underway) (before after : Runner) → old.file ≡ file →
-      old.there ≡ Ok here → new.there ≡ to → goes_on file here.next ≡ true → Makes earns before (StepCalls old new) after →
+      (file : List ℕ) (here : Between) (to : Result Between PlayFault) (old new : Underway) (before after : Runner)
+      → old.file ≡ file →
+      old.there ≡ Ok here → new.there ≡ to → goes_on file here.next ≡ true
+      → Makes earns before (StepCalls old new) after →
       Makes earns before (RoundCalls file here to) after
   called_between file here to old new before after of_file at there goes made =
       calls_of_round file here to before after goes
       (subst (λ (f : List ℕ). Makes earns before (CallsBetween f (Ok here) to) after) of_file
       (subst (λ (from : Result Between PlayFault). Makes earns before (CallsBetween old.file from to) after) at
-      (subst (λ (later : Result Between PlayFault). Makes earns before (CallsBetween old.file old.there later) after) there made)))
+      (subst (λ (later : Result Between PlayFault). Makes earns before (CallsBetween old.file old.there later) after)
+      there made)))
 
 -- a step that answers why play stopped says of which game
-pub stops_here : (file : List ℕ) (here : Between) (old new : Underway) (end : End) (game : Game) → old.file ≡ file → old.there ≡ Ok here →
+pub stops_here : (file : List ℕ) (here : Between) (old new : Underway) (end : End) (game : Game) → old.file ≡ file
+    → old.there ≡ Ok here →
     Stays old end new → game_so_far new ≡ Some game → Stops file here (record { file = file; game = game; end = end })
 stops_here file here old new end game of_file at stays so_far =
     let same : here ≡ stays.over.last = same_place here stays.over.last old.there at stays.over.there in
@@ -114,18 +126,21 @@ stops_here file here old new end game of_file at stays so_far =
     let is_game : game ≡ here.game = cc in
     let is_end : end ≡ end_of here.next here.game.events = cc in
     record {
-      stopped = subst (λ (f : List ℕ). goes_on f here.next ≡ false) of_file (subst (λ (b : Between). goes_on old.file b.next ≡ false) (sym same) stays.over.stopped);
+      stopped = subst (λ (f : List ℕ). goes_on f here.next ≡ false) of_file
+          (subst (λ (b : Between). goes_on old.file b.next ≡ false) (sym same) stays.over.stopped);
       game = λ i. record { file = file; game = is_game i; end = is_end i };
     }
 
 module _ {Runner : Type 0} (earns : Earns Runner) where
   -- no call makes the runner after it the one before it
-  none_made : (before after : Runner) (calls : List Call) → calls ≡ [] → AreMade earns before calls after → after ≡ before
+  none_made : (before after : Runner) (calls : List Call) → calls ≡ [] → AreMade earns before calls after
+      → after ≡ before
   none_made before after calls none made = subst (λ (all : List Call). AreMade earns before all after) none made
 
   -- so it is where no round can be played
   none_between :
-      (file : List ℕ) (here : Between) (to : Result Between PlayFault) (before after : Runner) → goes_on file here.next ≡ false →
+      (file : List ℕ) (here : Between) (to : Result Between PlayFault) (before after : Runner)
+      → goes_on file here.next ≡ false →
       Makes earns before (CallsBetween file (Ok here) to) after → after ≡ before
   none_between file here to before after stopped made =
       elim made.1 [
@@ -135,21 +150,30 @@ module _ {Runner : Type 0} (earns : Earns Runner) where
 
   -- and with a step that answers why play stopped
   pub silent_stop :
-      (file : List ℕ) (here : Between) (old new : Underway) (before after : Runner) → old.file ≡ file → old.there ≡ Ok here →
+      (file : List ℕ) (here : Between) (old new : Underway) (before after : Runner) → old.file ≡ file
+      → old.there ≡ Ok here →
       goes_on file here.next ≡ false → Makes earns before (StepCalls old new) after → after ≡ before
   silent_stop file here old new before after of_file at stopped made =
       none_between file here new.there before after stopped
       (subst (λ (f : List ℕ). Makes earns before (CallsBetween f (Ok here) new.there) after) of_file
-      (subst (λ (from : Result Between PlayFault). Makes earns before (CallsBetween old.file from new.there) after) at made))
+      (subst (λ (from : Result Between PlayFault). Makes earns before (CallsBetween old.file from new.there) after) at
+      made))
 
 -- where play is at a place, no fault has broken it off, and its own place is that one
-no_fault : (fault : Option PlayFault) (here at : Between) → there_unless fault here ≡ Ok at → (fault ≡ None) × (here ≡ at)
+no_fault : (fault : Option PlayFault) (here at : Between) → there_unless fault here ≡ Ok at
+    → (fault ≡ None) × (here ≡ at)
 no_fault None here at is = (refl, cc)
 no_fault (Some fault) here at is = absurd cc
 
 -- a play as a contract sees it, by its fields
 abbrev pub seen : List ℕ → Option PlayFault → Between → Option Round → Option End → Underway
-seen file fault here last outcome = record { file = file; there = there_unless fault here; last_round = last; outcome = outcome }
+seen file fault here last outcome = record {
+  file = file;
+  there = there_unless fault here;
+  last_round =
+      last;
+  outcome = outcome;
+}
 
 -- the round is the next of a play with these fields
 pub record IsUpcoming (file : List ℕ) (fault : Option PlayFault) (here : Between) (round : Round) : Type 0 where
@@ -159,9 +183,11 @@ pub record IsUpcoming (file : List ℕ) (fault : Option PlayFault) (here : Betwe
 
 -- the calls of its round are those of a step to there
 pub calls_seen :
-    {Runner : Type 0} (earns : Earns Runner) (file : List ℕ) (fault : Option PlayFault) (here : Between) (to : Result Between PlayFault)
+    {Runner : Type 0} (earns : Earns Runner) (file : List ℕ) (fault : Option PlayFault) (here : Between)
+    (to : Result Between PlayFault)
     (last : Option Round) (outcome : Option End) (play : Underway) (round : Round) (before after : Runner) →
-    seen file fault here last outcome ≡ play → fault ≡ None → IsToPlay file here.next round → Makes earns before (RoundCalls file here to) after →
+    seen file fault here last outcome ≡ play → fault ≡ None → IsToPlay file here.next round
+    → Makes earns before (RoundCalls file here to) after →
     Makes earns before (CallsBetween play.file play.there to) after
 calls_seen earns file fault here to last outcome play round before after is none to_play made =
     subst (λ (at : Underway). Makes earns before (CallsBetween at.file at.there to) after) is
@@ -170,10 +196,13 @@ calls_seen earns file fault here to last outcome play round before after is none
 
 -- so is the one that comes next
 pub upcoming :
-    (file : List ℕ) (fault : Option PlayFault) (here : Between) (last : Option Round) (outcome : Option End) (play : Underway) (round : Round) →
-    seen file fault here last outcome ≡ play → ComesNext play round → (fault ≡ None → HasComeTo file here) → IsUpcoming file fault here round
+    (file : List ℕ) (fault : Option PlayFault) (here : Between) (last : Option Round) (outcome : Option End)
+    (play : Underway) (round : Round) →
+    seen file fault here last outcome ≡ play → ComesNext play round → (fault ≡ None → HasComeTo file here)
+    → IsUpcoming file fault here round
 upcoming file fault here last outcome play round is comes holds =
-    let next : ComesNext (seen file fault here last outcome) round = subst (λ (at : Underway). ComesNext at round) (sym is) comes in
+    let next : ComesNext (seen file fault here last outcome) round =
+    subst (λ (at : Underway). ComesNext at round) (sym is) comes in
     let at = no_fault fault here next.from next.there in
     record {
       none = at.0;
@@ -183,7 +212,8 @@ upcoming file fault here last outcome play round is comes holds =
 
 -- and where there is no fault, the round that is to be played comes next
 pub comes_next :
-    (file : List ℕ) (fault : Option PlayFault) (here : Between) (last : Option Round) (outcome : Option End) (play : Underway) (round : Round) →
+    (file : List ℕ) (fault : Option PlayFault) (here : Between) (last : Option Round) (outcome : Option End)
+    (play : Underway) (round : Round) →
     seen file fault here last outcome ≡ play → fault ≡ None → IsToPlay file here.next round → ComesNext play round
 comes_next file fault here last outcome play round is none to_play =
     subst (λ (at : Underway). ComesNext at round) is
@@ -191,7 +221,8 @@ comes_next file fault here last outcome play round is none to_play =
 
 -- where none is to be played, play is over
 pub is_over :
-    (file : List ℕ) (fault : Option PlayFault) (here : Between) (last : Option Round) (outcome : Option End) (play : Underway) →
+    (file : List ℕ) (fault : Option PlayFault) (here : Between) (last : Option Round) (outcome : Option End)
+    (play : Underway) →
     seen file fault here last outcome ≡ play → fault ≡ None → goes_on file here.next ≡ false → IsOver play
 is_over file fault here last outcome play is none stopped =
     subst IsOver is
@@ -202,11 +233,14 @@ some_play : (file : List ℕ) (here : Between) → HasComeTo file here → 0 < l
 some_play file here come = let players = come.players in omega (arith, players)
 
 -- a round that is to be played is numbered within the limit
-pub is_numbered : SheetsAreNumbered → (file : List ℕ) (here : Between) (round : Round) → HasComeTo file here → IsToPlay file here.next round → number_of round ≤ number_most
-is_numbered numbered file here round come to_play = posted_small numbered file round (some_play file here come) to_play.posted
+pub is_numbered : SheetsAreNumbered → (file : List ℕ) (here : Between) (round : Round) → HasComeTo file here
+    → IsToPlay file here.next round → number_of round ≤ number_most
+is_numbered numbered file here round come to_play =
+    posted_small numbered file round (some_play file here come) to_play.posted
 
 -- and stands within its set
-pub is_in_set : (file : List ℕ) (here : Between) (round : Round) → HasComeTo file here → IsToPlay file here.next round → StandsInSet round here.in_set
+pub is_in_set : (file : List ℕ) (here : Between) (round : Round) → HasComeTo file here → IsToPlay file here.next round
+    → StandsInSet round here.in_set
 is_in_set file here round come to_play = comes_in_set file come.rounds here come.reached round to_play.comes
 
 -- once it was played, it is a round of the game
@@ -216,9 +250,11 @@ pub record IsItsRound (file : List ℕ) (here : Between) (round : Round) (there 
 
 -- so it is with the list that it led to, and what comes then
 pub one_round :
-    (file : List ℕ) (here : Between) (round : Round) (old game : Game) (in_set : ℕ) (upcoming : Next) → IsToPlay file here.next round →
+    (file : List ℕ) (here : Between) (round : Round) (old game : Game) (in_set : ℕ) (upcoming : Next)
+    → IsToPlay file here.next round →
     old ≡ here.game → IsPlayed file round old game → upcoming ≡ coming round here.in_set game.events →
-    in_set ≡ in_set_before upcoming game.events here.in_set → IsItsRound file here round (record { game = game; in_set = in_set; next = upcoming })
+    in_set ≡ in_set_before upcoming game.events here.in_set
+    → IsItsRound file here round (record { game = game; in_set = in_set; next = upcoming })
 one_round file here round old game in_set upcoming to_play is played comes counted =
     record {
       played = record {
@@ -234,7 +270,8 @@ one_round file here round old game in_set upcoming to_play is played comes count
 
 -- and a play has come so much further
 pub come_on :
-    (file : List ℕ) (here : Between) (round : Round) (there : Between) → HasComeTo file here → IsItsRound file here round there → IsSound there.game →
+    (file : List ℕ) (here : Between) (round : Round) (there : Between) → HasComeTo file here
+    → IsItsRound file here round there → IsSound there.game →
     there.game.seats ≡ here.game.seats → GiftsWait round there.game.events → HasComeTo file there
 come_on file here round there come its sound seats gifts =
     record {
@@ -245,8 +282,10 @@ come_on file here round there come its sound seats gifts =
       seats = seats ∙ come.seats;
       gifts =
           λ later comes.
-          gifts_go_on its.played.round later here.in_set (all_sold there.game.events) (broken_in there.game.events) there.game.events
-          (subst (λ (at : Round). GiftsWait at there.game.events) (sym its.same) gifts) (follows file here there later its.played comes);
+          gifts_go_on its.played.round later here.in_set (all_sold there.game.events) (broken_in there.game.events)
+          there.game.events
+          (subst (λ (at : Round). GiftsWait at there.game.events) (sym its.same) gifts)
+          (follows file here there later its.played comes);
     }
 
 -- before the first round
@@ -262,12 +301,14 @@ come_first file here first players sound gifts =
       seats = ap (λ (at : Between). at.game.seats) (sym first);
       gifts =
           λ round comes.
-          subst (λ (at : Round). GiftsWait at here.game.events) (comes_once (Opening 1) round (ap (λ (at : Between). at.next) first ∙ comes)) gifts;
+          subst (λ (at : Round). GiftsWait at here.game.events)
+          (comes_once (Opening 1) round (ap (λ (at : Between). at.next) first ∙ comes)) gifts;
     }
 
 -- so a step has played it
 pub plays_next :
-    (file : List ℕ) (fault : Option PlayFault) (here there : Between) (last : Option Round) (outcome : Option End) (play : Underway) (round : Round) →
+    (file : List ℕ) (fault : Option PlayFault) (here there : Between) (last : Option Round) (outcome : Option End)
+    (play : Underway) (round : Round) →
     seen file fault here last outcome ≡ play → fault ≡ None → IsItsRound file here round there →
     PlaysNext play round (seen file fault there (Some round) outcome)
 plays_next file fault here there last outcome play round is none its =
@@ -283,13 +324,16 @@ plays_next file fault here there last outcome play round is none its =
 
 -- and fewer places are left
 pub comes_nearer :
-    SheetsAreNumbered → (file : List ℕ) (fault : Option PlayFault) (here there : Between) (last now : Option Round) (outcome : Option End) (play : Underway) →
+    SheetsAreNumbered → (file : List ℕ) (fault : Option PlayFault) (here there : Between) (last now : Option Round)
+    (outcome : Option End) (play : Underway) →
     seen file fault here last outcome ≡ play → fault ≡ None → HasComeTo file here → IsRound file here there →
     places_ahead (seen file fault there now outcome) < places_ahead play
 comes_nearer numbered file fault here there last now outcome play is none come played =
-    let fewer = fewer_to_come numbered file here there (some_play file here come) (comes_in_set file come.rounds here come.reached) played in
+    let fewer = fewer_to_come numbered file here there (some_play file here come)
+    (comes_in_set file come.rounds here come.reached) played in
     subst (λ (at : Underway). places_ahead (seen file fault there now outcome) < places_ahead at) is
-    (subst (λ (f : Option PlayFault). places_ahead (seen file f there now outcome) < places_ahead (seen file f here last outcome)) (sym none) fewer)
+    (subst (λ (f : Option PlayFault). places_ahead (seen file f there now outcome)
+    < places_ahead (seen file f here last outcome)) (sym none) fewer)
 
 module _ (file : List ℕ) where
   -- of some rounds the first
@@ -302,7 +346,11 @@ module _ (file : List ℕ) where
       elim (cases_order few (suc rounds)) [
         | inl same ↦ (new, subst (λ (n : ℕ). AreRounds file n old new) (sym same) played, zero, refl)
         | inr apart ↦
-            let fewer : few ≤ rounds = elim apart [ inl less ↦ omega (arith, less) | inr more ↦ omega (arith, more, within) ] in
+            let fewer : few ≤ rounds = elim apart [
+              | inl less ↦ omega (arith, less)
+              | inr more ↦ omega
+                  (arith, more, within)
+            ] in
             let front = first_of rounds few old played.0 played.1 fewer in
             (front.0, front.1, suc front.2, (played.0, front.3, played.2))
       ]
@@ -315,19 +363,27 @@ pub record Reached (file : List ℕ) (steps : ℕ) (play : Underway) : Type 0 wh
   pub rounds : AreRounds file steps (before_play file) at
 
 -- so each step leads on
-one_step : (file : List ℕ) (steps : ℕ) (old new : Underway) (round : Round) → Reached file steps old → PlaysNext old round new → Reached file (suc steps) new
+one_step : (file : List ℕ) (steps : ℕ) (old new : Underway) (round : Round) → Reached file steps old
+    → PlaysNext old round new → Reached file (suc steps) new
 one_step file steps old new round reached step =
     let same : reached.at ≡ step.from = same_place reached.at step.from old.there reached.there step.there in
-    let played : IsRound old.file reached.at step.to = subst (λ (from : Between). IsRound old.file from step.to) (sym same) step.played in
+    let played : IsRound old.file reached.at step.to =
+    subst (λ (from : Between). IsRound old.file from step.to) (sym same) step.played in
     record {
       of_file = ap (λ (play : Underway). play.file) step.after ∙ reached.of_file;
       at = step.to;
       there = ap (λ (play : Underway). play.there) step.after;
-      rounds = (reached.at, reached.rounds, subst (λ (f : List ℕ). IsRound f reached.at step.to) reached.of_file played);
+      rounds = (
+        reached.at,
+        reached.rounds,
+        subst (λ (f : List ℕ). IsRound f reached.at step.to) reached.of_file
+            played,
+      );
     }
 
 -- and so do all
-pub steps_reach : (file : List ℕ) (steps : ℕ) (play : Underway) → StepsPlay steps (started file) play → Reached file steps play
+pub steps_reach : (file : List ℕ) (steps : ℕ) (play : Underway) → StepsPlay steps (started file) play
+    → Reached file steps play
 steps_reach file zero play stepped =
     record {
       of_file = ap (λ (at : Underway). at.file) stepped;
@@ -338,12 +394,15 @@ steps_reach file zero play stepped =
 steps_reach file (suc steps) play stepped =
     one_step file steps stepped.0 play stepped.2 (steps_reach file steps stepped.0 stepped.1) stepped.3
 
-module _ (one_opening : OneOpeningRound) (one_stock : OneStockRound) (one_operating : OneOperatingRound) (file : List ℕ) where
+module _ (one_opening : OneOpeningRound) (one_stock : OneStockRound) (one_operating : OneOperatingRound)
+    (file : List ℕ) where
   -- what so many rounds led to lies on the way to the end of the game
-  up_to_by : (rounds : ℕ) (there last : Between) → AreRounds file rounds (before_play file) there → (plays : Plays file last) → rounds ≤ plays.rounds → IsUpTo file rounds there
+  up_to_by : (rounds : ℕ) (there last : Between) → AreRounds file rounds (before_play file) there
+      → (plays : Plays file last) → rounds ≤ plays.rounds → IsUpTo file rounds there
   up_to_by rounds there last reached plays within =
       let front = first_of file plays.rounds rounds (before_play file) last plays.reached within in
-      let same : front.0 ≡ there = rounds_once one_opening one_stock one_operating file rounds (before_play file) front.0 there front.1 reached in
+      let same : front.0 ≡ there = rounds_once one_opening one_stock one_operating file rounds (before_play file)
+      front.0 there front.1 reached in
       record {
         reached = reached;
         later = front.2;
@@ -353,13 +412,15 @@ module _ (one_opening : OneOpeningRound) (one_stock : OneStockRound) (one_operat
       }
 
   -- and no more rounds are played than the game has
-  pub up_to : (rounds : ℕ) (there last : Between) → AreRounds file rounds (before_play file) there → Plays file last → IsUpTo file rounds there
+  pub up_to : (rounds : ℕ) (there last : Between) → AreRounds file rounds (before_play file) there → Plays file last
+      → IsUpTo file rounds there
   up_to rounds there last reached plays =
       elim (cases_order rounds plays.rounds) [
         | inl same ↦ up_to_by rounds there last reached plays (omega (arith, same))
         | inr apart ↦ elim apart [
           | inl less ↦ up_to_by rounds there last reached plays (omega (arith, less))
-          | inr more ↦ absurd (not_more one_opening one_stock one_operating file plays.rounds rounds (before_play file) last there plays.reached plays.stopped reached more)
+          | inr more ↦ absurd (not_more one_opening one_stock one_operating file plays.rounds rounds
+              (before_play file) last there plays.reached plays.stopped reached more)
         ]
       ]
 
@@ -367,5 +428,9 @@ module _ (one_opening : OneOpeningRound) (one_stock : OneStockRound) (one_operat
 pub steps_play : OneOpeningRound → OneStockRound → OneOperatingRound → SomeGame → StepsPlayTheGame
 steps_play one_opening one_stock one_operating some file steps play accepted stepped =
     let reached = steps_reach file steps play stepped in
-    let game = some file accepted in
-    (reached.at, reached.there, up_to one_opening one_stock one_operating file steps reached.at game.0 reached.rounds game.1)
+    let game = some file accepted in (
+      reached.at,
+      reached.there,
+      up_to one_opening one_stock one_operating file steps reached.at game.0 reached.rounds
+          game.1,
+    )

@@ -19,15 +19,18 @@ record HasCome (file : List ℕ) (play : Underway) (calls : List Call) : Type 0 
   here : Between
   there : play.there ≡ Ok here
   on :
-      (outcome : Result Played PlayFault) (later : List Call) → SomeTimesThen (RoundCalls file) (Unasked Memory (Stops file)) here outcome later →
+      (outcome : Result Played PlayFault) (later : List Call)
+      → SomeTimesThen (RoundCalls file) (Unasked Memory (Stops file)) here outcome later →
       GameCalls file outcome (calls ++ later)
 
 -- one step more
 one_more :
-    (file : List ℕ) (mid play : Underway) (round : Round) (before its : List Call) → HasCome file mid before → PlaysNext mid round play → StepCalls mid play its →
+    (file : List ℕ) (mid play : Underway) (round : Round) (before its : List Call) → HasCome file mid before
+    → PlaysNext mid round play → StepCalls mid play its →
     HasCome file play (before ++ its)
 one_more file mid play round before its so_far step called =
-    let on : LeadsOn file so_far.here play = leads_on file so_far.here mid play round so_far.of_file so_far.there step in
+    let on : LeadsOn file so_far.here play = leads_on file so_far.here mid play round so_far.of_file so_far.there
+    step in
     let goes = was_on file so_far.here on.to on.played in
     let course = calls_of_step file so_far.here on.to mid play its so_far.of_file so_far.there on.there goes called in
     record {
@@ -37,25 +40,39 @@ one_more file mid play round before its so_far step called =
       on =
           λ outcome later rest.
           subst (GameCalls file outcome) (sym (append_assoc before its later))
-          (so_far.on outcome (its ++ later)
-          (suc rest.0, inr (record { between = on.to; earlier = its; later = later; leads = course; goes_on = rest.1; all = refl })));
+          (so_far.on outcome (its ++ later) (
+            suc rest.0,
+            inr (record {
+              between = on.to;
+              earlier = its;
+              later = later;
+              leads = course;
+              goes_on =
+                  rest.1;
+              all = refl;
+            }),
+          ));
     }
 
-has_come : (steps : ℕ) (file : List ℕ) (play : Underway) (calls : List Call) → StepsCall steps file play calls → HasCome file play calls
+has_come : (steps : ℕ) (file : List ℕ) (play : Underway) (calls : List Call) → StepsCall steps file play calls
+    → HasCome file play calls
 has_come zero file play calls called =
     record {
       of_file = ap (λ (at : Underway). at.file) called.0;
       here = before_play file;
       there = ap (λ (at : Underway). at.there) called.0;
-      on = λ outcome later course. subst (λ (all : List Call). GameCalls file outcome (all ++ later)) (sym called.1) course;
+      on = λ outcome later course. subst (λ (all : List Call). GameCalls file outcome (all ++ later)) (sym called.1)
+          course;
     }
 has_come (suc steps) file play calls called =
-    let more = one_more file called.0 play called.3 called.1 called.5 (has_come steps file called.0 called.1 called.2) called.4 called.6 in
+    let more = one_more file called.0 play called.3 called.1 called.5 (has_come steps file called.0 called.1 called.2)
+    called.4 called.6 in
     subst (HasCome file play) (sym called.7) more
 
 -- the calls of a step that is broken off are those of the round that comes next
 calls_of_broken :
-    (file : List ℕ) (here : Between) (old new : Underway) (fault : PlayFault) (calls : List Call) → old.file ≡ file → old.there ≡ Ok here → new.there ≡ Err fault →
+    (file : List ℕ) (here : Between) (old new : Underway) (fault : PlayFault) (calls : List Call) → old.file ≡ file
+    → old.there ≡ Ok here → new.there ≡ Err fault →
     goes_on file here.next ≡ true → StepCalls old new calls → RoundCalls file here (Err fault) calls
 calls_of_broken file here old new fault calls of_file at there goes its =
     let now : CallsBetween file (Ok here) (Err fault) calls =

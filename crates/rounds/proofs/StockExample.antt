@@ -24,7 +24,8 @@ abbrev opening_end : InPlay (List Event) Numbered
 opening_end = in_play second_opening 0 0 ([] ∷ [] ∷ [] ∷ [])
 
 -- before the sixth turn it is not over
-opening_goes_on : (k : ℕ) → k < 6 → turns_over (opening_turns 3) (iterate (after_turn (opening_turns 3)) k (opened 3 second_file (Opening 1) [])) ≡ false
+opening_goes_on : (k : ℕ) → k < 6 → turns_over (opening_turns 3)
+    (iterate (after_turn (opening_turns 3)) k (opened 3 second_file (Opening 1) [])) ≡ false
 unfolding sheet_of players_of body_of content_of version_of written_lines is_blank begins is_sheet_line settled
 opening_goes_on zero below = refl
 opening_goes_on (suc zero) below = refl
@@ -53,8 +54,10 @@ abbrev stock_end : InPlay (List Event) Numbered
 stock_end = in_play (second_opening ++ second_stock_round) 2 3 ([] ∷ [] ∷ [] ∷ [])
 
 -- before the fifth turn it is not over
-stock_goes_on : (k : ℕ) → k < 5 → turns_over (stock_turns 3) (iterate (after_turn (stock_turns 3)) k (stock.opened 3 second_file (Stock 1) second_opening)) ≡ false
-unfolding sheet_of players_of body_of content_of version_of written_lines is_blank begins is_sheet_line purchase_judgement is_sold_out_there is_short_of_cash is_at_limit is_over_six is_second
+stock_goes_on : (k : ℕ) → k < 5 → turns_over (stock_turns 3)
+    (iterate (after_turn (stock_turns 3)) k (stock.opened 3 second_file (Stock 1) second_opening)) ≡ false
+unfolding sheet_of players_of body_of content_of version_of written_lines is_blank begins is_sheet_line
+    purchase_judgement is_sold_out_there is_short_of_cash is_at_limit is_over_six is_second
 stock_goes_on zero below = refl
 stock_goes_on (suc zero) below = refl
 stock_goes_on (suc (suc zero)) below = refl
@@ -64,7 +67,8 @@ stock_goes_on (suc (suc (suc (suc (suc k))))) below = absurd (omega arith)
 
 -- the stock round leads to the end
 stock_played : stock.IsStockRound second_file (Stock 1) after_opening second_end.game
-unfolding sheet_of players_of body_of content_of version_of written_lines is_blank begins is_sheet_line purchase_judgement is_sold_out_there is_short_of_cash is_at_limit is_over_six is_second operating_order_of
+unfolding sheet_of players_of body_of content_of version_of written_lines is_blank begins is_sheet_line
+    purchase_judgement is_sold_out_there is_short_of_cash is_at_limit is_over_six is_second operating_order_of
 stock_played =
     record {
       last = stock_end;
@@ -79,12 +83,28 @@ between_rounds = record { game = after_opening; in_set = 1; next = next.Round (S
 -- the first round
 first_round : IsRound second_file (before_play second_file) between_rounds
 unfolding sheet_of players_of body_of content_of version_of written_lines is_blank begins is_sheet_line settled
-first_round = record { round = Opening 1; comes = refl; posted = refl; played = opening_played; next_then = refl; in_set_then = refl }
+first_round = record {
+  round = Opening 1;
+  comes = refl;
+  posted = refl;
+  played = opening_played;
+  next_then =
+      refl;
+  in_set_then = refl;
+}
 
 -- the second
 second_round : IsRound second_file between_rounds second_end
 unfolding sheet_of players_of body_of content_of version_of written_lines is_blank begins is_sheet_line
-second_round = record { round = Stock 1; comes = refl; posted = refl; played = stock_played; next_then = refl; in_set_then = refl }
+second_round = record {
+  round = Stock 1;
+  comes = refl;
+  posted = refl;
+  played = stock_played;
+  next_then =
+      refl;
+  in_set_then = refl;
+}
 
 -- so the game goes
 pub second_plays : Plays second_file second_end

@@ -54,14 +54,16 @@ president_grows seats events company = successor_grows seats events company (pre
 floated_grows : (seats : ℕ) (events : List Event) (company : Company) (par : ℕ) →
     GrowsPlainly is_still events (floated_at seats events company par)
 floated_grows seats events company par =
-    further events (events ++ event.Floats company (10 * par) ∷ []) _ (told events (event.Floats company (10 * par)) refl)
+    further events (events ++ event.Floats company (10 * par) ∷ []) _
+    (told events (event.Floats company (10 * par)) refl)
     (broken_grows seats (events ++ event.Floats company (10 * par) ∷ []))
 
 -- by a float
 float_grows : (seats : ℕ) (events : List Event) (company : Company) →
     GrowsPlainly is_still events (with_float seats events company)
 float_grows seats events company =
-    in_either events (floated_at seats events company (unwrap_or (par_of events company) 0)) events (is_to_float events company)
+    in_either events (floated_at seats events company (unwrap_or (par_of events company) 0)) events
+    (is_to_float events company)
     (floated_grows seats events company (unwrap_or (par_of events company) 0)) (stays events)
 
 -- by the move of a token from this square, if it is on one
@@ -69,7 +71,8 @@ pub token_grows : (move : Square → Square) (events : List Event) (company : Co
     GrowsPlainly is_still events (moved_from move events company square)
 token_grows move events company None = stays events
 token_grows move events company (Some square) =
-    in_either events events (events ++ event.Moves company (move square) ∷ []) (same_square (move square) square) (stays events)
+    in_either events events (events ++ event.Moves company (move square) ∷ []) (same_square (move square) square)
+    (stays events)
     (told events (event.Moves company (move square)) refl)
 
 -- by a purchase
@@ -85,12 +88,14 @@ purchase_grows seats events seat company from =
 pub sale_grows : (seats : ℕ) (events : List Event) (seat : Seat) (company : Company) (tenths : ℕ) →
     GrowsPlainly is_still events (after_sale seats events seat company tenths)
 sale_grows seats events seat company tenths =
-    let told_so : List Event = events ++ event.Sells company seat tenths (tenths * market_price_of events company) ∷ [] in
+    let told_so : List Event = events ++ event.Sells company seat tenths (tenths * market_price_of events company)
+    ∷ [] in
     let paid : List Event = sold seats events seat company tenths in
     let presided : List Event = with_president seats paid company in
     further events told_so _ (record { more = _; longer = refl; aside = refl })
     (further told_so paid _ (broken_grows seats told_so)
-    (further paid presided _ (president_grows seats paid company) (token_grows (fallen tenths) presided company (square_of presided company))))
+    (further paid presided _ (president_grows seats paid company)
+    (token_grows (fallen tenths) presided company (square_of presided company))))
 
 -- by an exchange
 exchange_grows : (seats : ℕ) (events : List Event) (seat : Seat) →
@@ -123,9 +128,11 @@ done_grows seats seat turn number condition done =
 line_grows : (seats : ℕ) (seat : Seat) (turn : InTurn) (line : Numbered) →
     GrowsStill turn.events (after_stock_line seats seat turn line).events
 line_grows seats seat turn line =
-    of_ruled (acted seats seat) (refusal_of seats turn.events seat turn.actions.bought) seat turn line.number (λ (after : InTurn). GrowsStill turn.events after.events)
+    of_ruled (acted seats seat) (refusal_of seats turn.events seat turn.actions.bought) seat turn line.number
+    (λ (after : InTurn). GrowsStill turn.events after.events)
     (λ (ruled : Ruling) (none : obeyed_by ruled ≡ None). told turn.events (event.Ruled seat line.number ruled) refl)
-    (λ (condition : Option Condition) (done : Order) (kept : refusal_of seats turn.events seat turn.actions.bought done ≡ None).
+    (λ (condition : Option Condition) (done : Order)
+    (kept : refusal_of seats turn.events seat turn.actions.bought done ≡ None).
     done_grows seats seat turn line.number condition done)
     has_place_in_group turn.events line
 
@@ -150,7 +157,8 @@ stock_round_still =
     (record {
       stays = stays;
       further = further;
-      standing = λ seat events line. told events (event.Ruled seat line.number (ruling.Faulty (fault_of_standing line.reading))) refl;
+      standing = λ seat events line. told events (event.Ruled seat line.number
+          (ruling.Faulty (fault_of_standing line.reading))) refl;
       line = line_grows;
       passes = λ events seat. told events (event.Passes seat) refl;
       closed = λ seats events.
@@ -176,7 +184,8 @@ stock_adds =
           (λ at done. passes_plain is_still at.events (after_act seats seat at.events done)
           (act_grows seats seat at.events done))
           seat turn line.number (ruling_in seats seat turn line)
-          (ruling_plain has_place_in_group (refusal_of seats turn.events seat turn.actions.bought) turn.events line plain);
+          (ruling_plain has_place_in_group (refusal_of seats turn.events seat turn.actions.bought) turn.events line
+          plain);
       closed = λ seats events.
           let order : List Company = operating_order_of events in
           passes_plain is_still events (all_risen events order) (rises_grow events order);

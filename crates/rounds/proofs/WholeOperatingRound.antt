@@ -22,7 +22,10 @@ same_game : (a b : Game) → a.seats ≡ b.seats → a.events ≡ b.events → a
 same_game a b seats events = λ i. record { seats = seats i; events = events i }
 
 -- the ROUND event, the standing lines and the revenues open a round
-pub round_opened : (file : List ℕ) (round : Round) (old told ruled paid : Game) → old.seats ≡ length (players_of file) → told ≡ with_event old (event.Round round) → ruled.seats ≡ told.seats → ruled.events ≡ after_standing (length (players_of file)) file round told.events → paid ≡ revenues_recorded ruled → paid ≡ opened file round old
+pub round_opened : (file : List ℕ) (round : Round) (old told ruled paid : Game) → old.seats ≡ length (players_of file)
+    → told ≡ with_event old (event.Round round) → ruled.seats ≡ told.seats
+    → ruled.events ≡ after_standing (length (players_of file)) file round told.events → paid ≡ revenues_recorded ruled
+    → paid ≡ opened file round old
 round_opened file round old told ruled paid players is_told ruled_seats is_ruled is_paid =
     let start : List Event = old.events ++ event.Round round ∷ [] in
     let events : ruled.events ≡ after_standing old.seats file round start =
@@ -31,38 +34,52 @@ round_opened file round old told ruled paid players is_told ruled_seats is_ruled
     ∙ ap (λ (seats : ℕ). after_standing seats file round start) (sym players)
     in
     let is : ruled ≡ record { seats = old.seats; events = after_standing old.seats file round start } =
-    same_game ruled (record { seats = old.seats; events = after_standing old.seats file round start }) (ruled_seats ∙ ap (λ (game : Game). game.seats) is_told) events
+    same_game ruled (record { seats = old.seats; events = after_standing old.seats file round start })
+    (ruled_seats ∙ ap (λ (game : Game). game.seats) is_told) events
     in
     is_paid ∙ ap revenues_recorded is
 
 -- what opened a round, the turns of the companies and what was left are a round
-pub whole_round : (file : List ℕ) (round : Round) (old paid turned new : Game) → old.seats ≡ length (players_of file) → paid ≡ opened file round old → TurnsLead file round paid turned → turned.seats ≡ paid.seats → new.seats ≡ turned.seats → new.events ≡ finished file round (length (players_of file)) turned.events → IsOperatingRound file round old new
+pub whole_round : (file : List ℕ) (round : Round) (old paid turned new : Game) → old.seats ≡ length (players_of file)
+    → paid ≡ opened file round old → TurnsLead file round paid turned → turned.seats ≡ paid.seats
+    → new.seats ≡ turned.seats → new.events ≡ finished file round (length (players_of file)) turned.events
+    → IsOperatingRound file round old new
 whole_round file round old paid turned new players is_paid lead turned_seats new_seats is_new =
     let seats : new.seats ≡ old.seats = new_seats ∙ turned_seats ∙ ap (λ (game : Game). game.seats) is_paid in
     record {
       turned = turned;
       turns = subst (λ (game : Game). TurnsLead file round game turned) is_paid lead;
-      after = same_game new (record { seats = old.seats; events = finished file round old.seats turned.events }) seats (is_new ∙ ap (λ (seats : ℕ). finished file round seats turned.events) (sym players));
+      after = same_game new (record { seats = old.seats; events = finished file round old.seats turned.events }) seats
+          (is_new ∙ ap (λ (seats : ℕ). finished file round seats turned.events) (sym players));
     }
 
 -- a count of lines that were left adds no ruling
-count_adds_none : RulingsAreCounted → (none : Bool) (events : List Event) (left : Seat) (count : ℕ) (seat : Seat) → rulings_in_round (events ++ (if none then [] else event.Left left count ∷ [])) seat ≡ rulings_in_round events seat
+count_adds_none : RulingsAreCounted → (none : Bool) (events : List Event) (left : Seat) (count : ℕ) (seat : Seat)
+    → rulings_in_round (events ++ (if none then [] else event.Left left count ∷ [])) seat ≡ rulings_in_round events seat
 count_adds_none counted true events left count seat =
     ap (λ (list : List Event). rulings_in_round list seat) (append-nil events)
 count_adds_none counted false events left count seat = counted events (event.Left left count) seat
 
 -- so as many were ruled
-pub as_many_ruled : RulingsAreCounted → (from old new : List Event) (left : Seat) (count : ℕ) (seat : Seat) → rulings_in_round old seat ≡ rulings_in_round from seat → new ≡ old ++ with_left left count [] → rulings_in_round new seat ≡ rulings_in_round from seat
+pub as_many_ruled : RulingsAreCounted → (from old new : List Event) (left : Seat) (count : ℕ) (seat : Seat)
+    → rulings_in_round old seat ≡ rulings_in_round from seat → new ≡ old ++ with_left left count []
+    → rulings_in_round new seat ≡ rulings_in_round from seat
 as_many_ruled counted from old new left count seat before told =
-    ap (λ (list : List Event). rulings_in_round list seat) told ∙ count_adds_none counted (count == 0) old left count seat ∙ before
+    ap (λ (list : List Event). rulings_in_round list seat) told
+    ∙ count_adds_none counted (count == 0) old left count seat ∙ before
 
 -- the seats that are left begin with the next
-next_seat : (seat total : ℕ) → seat < total → range_with_len seat (total - seat) ≡ seat ∷ range_with_len (seat + 1) (total - (seat + 1))
+next_seat : (seat total : ℕ) → seat < total → range_with_len seat (total - seat)
+    ≡ seat ∷ range_with_len (seat + 1) (total - (seat + 1))
 next_seat seat total within =
     let count : total - seat ≡ suc (total - (seat + 1)) = omega arith in ap (λ (n : ℕ). range_with_len seat n) count
 
 -- the seats that are left bring, after the next of them, what they bring before it
-pub left_goes_on : (file : List ℕ) (round : Round) (from old new : List Event) (seat total : ℕ) (left : Seat) → seat < total → left ≡ seat_at seat → rulings_in_round old left ≡ rulings_in_round from left → new ≡ old ++ with_left left (lines_left file round old left) [] → new ++ told_left file round from (range_with_len (seat + 1) (total - (seat + 1))) ≡ old ++ told_left file round from (range_with_len seat (total - seat))
+pub left_goes_on : (file : List ℕ) (round : Round) (from old new : List Event) (seat total : ℕ) (left : Seat)
+    → seat < total → left ≡ seat_at seat → rulings_in_round old left ≡ rulings_in_round from left
+    → new ≡ old ++ with_left left (lines_left file round old left) []
+    → new ++ told_left file round from (range_with_len (seat + 1) (total - (seat + 1)))
+    ≡ old ++ told_left file round from (range_with_len seat (total - seat))
 left_goes_on file round from old new seat total left within is_seat as_many told =
     let rest : List Event = told_left file round from (range_with_len (seat + 1) (total - (seat + 1))) in
     ap (λ (all : List Event). all ++ rest) told

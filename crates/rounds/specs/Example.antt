@@ -80,4 +80,9 @@ second_stock_round =
 
 -- where it ends
 abbrev pub second_end : Between
-second_end = record { game = record { seats = 3; events = second_opening ++ second_stock_round }; in_set = 1; next = next.Round (Operating 1 1) }
+second_end = record {
+  game = record { seats = 3; events = second_opening ++ second_stock_round };
+  in_set = 1;
+  next =
+      next.Round (Operating 1 1);
+}

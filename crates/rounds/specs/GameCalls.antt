@@ -65,7 +65,8 @@ between_after round in_set game =
 abbrev pub RoundCalls : List ℕ → Course Between Between PlayFault
 RoundCalls file old outcome calls =
     (round : Round) × IsToPlay file old.next round ×
-    Then (PlayedCalls file round) (Unasked Memory (λ game new. new ≡ between_after round old.in_set game)) old.game outcome calls
+    Then (PlayedCalls file round) (Unasked Memory (λ game new. new ≡ between_after round old.in_set game)) old.game
+    outcome calls
 
 -- play stops
 pub record Stops (file : List ℕ) (last : Between) (played : Played) : Type 0 where
@@ -79,7 +80,8 @@ GameCalls file = SomeTimesThen (RoundCalls file) (Unasked Memory (Stops file)) (
 -- what makes these calls and leads to a game leads to the game of the file
 abbrev pub CallsAreOfTheGame : Type 0
 CallsAreOfTheGame =
-    (file : List ℕ) (played : Played) (calls : List Call) → GameCalls file (Ok played) calls → (played.file ≡ file) × IsTheGame played
+    (file : List ℕ) (played : Played) (calls : List Call) → GameCalls file (Ok played) calls
+    → (played.file ≡ file) × IsTheGame played
 
 -- the calls of play that was broken off for this fault are a front of all calls of a game: the first of them, where memory
 -- was refused; or those up to one that was not answered, whose round and company the fault names if the runner refused it
@@ -98,7 +100,8 @@ EachGameCalls = (played : Played) → IsTheGame played → (calls : List Call) �
 
 -- so does that of each file that is not refused
 abbrev pub SomeCalls : Type 0
-SomeCalls = (file : List ℕ) → IsAccepted file → (played : Played) × (calls : List Call) × GameCalls file (Ok played) calls
+SomeCalls = (file : List ℕ) → IsAccepted file → (played : Played) × (calls : List Call)
+    × GameCalls file (Ok played) calls
 
 -- where play is broken off, it has made a front of the calls of the one game
 abbrev pub RefusedCallsAreAFront : Type 0

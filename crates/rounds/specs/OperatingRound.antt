@@ -21,7 +21,11 @@ use Rattle.tables.specs.declared.seat.Seat.{Seat}
 -- the round before its first company: its standing lines are ruled, and the privates have paid
 abbrev pub opened : List ℕ → Round → Game → Game
 opened file round old =
-    revenues_recorded (record { seats = old.seats; events = after_standing old.seats file round (old.events ++ event.Round round ∷ []) })
+    revenues_recorded (record {
+      seats = old.seats;
+      events =
+          after_standing old.seats file round (old.events ++ event.Round round ∷ []);
+    })
 
 -- the first company in operating order that has not operated in the round
 abbrev pub first_idle : List Event → Option Company
@@ -71,7 +75,8 @@ pub record IsOperatingRound (file : List ℕ) (round : Round) (old new : Game) :
 -- an operating round has at most one outcome
 abbrev pub OneOperatingRound : Type 0
 OneOperatingRound =
-    (file : List ℕ) (round : Round) (old a b : Game) → IsOperatingRound file round old a → IsOperatingRound file round old b → a ≡ b
+    (file : List ℕ) (round : Round) (old a b : Game) → IsOperatingRound file round old a
+    → IsOperatingRound file round old b → a ≡ b
 
 -- an operating round with the sheets of the file has an outcome
 pub record EndsSoon (file : List ℕ) (round : Round) (old : Game) : Type 0 where
@@ -83,9 +88,11 @@ pub record EndsSoon (file : List ℕ) (round : Round) (old : Game) : Type 0 wher
 pub record OperateOnceEach (companies : List Company) (turned : List Event) : Type 0 where
   pub at_most_eight : length companies ≤ 8
   pub no_second : (company : Company) → times company companies ≤ 1
-  pub no_one_missed : bankrupt_in turned ≡ false → (company : Company) → operates turned company ≡ true → times company companies ≡ 1
+  pub no_one_missed : bankrupt_in turned ≡ false → (company : Company) → operates turned company ≡ true
+      → times company companies ≡ 1
 
 -- so it is in each operating round
 abbrev pub CompaniesOperateOnce : Type 0
 CompaniesOperateOnce =
-    (file : List ℕ) (round : Round) (old new : Game) (played : IsOperatingRound file round old new) → OperateOnceEach played.turns.companies played.turned.events
+    (file : List ℕ) (round : Round) (old new : Game) (played : IsOperatingRound file round old new)
+    → OperateOnceEach played.turns.companies played.turned.events

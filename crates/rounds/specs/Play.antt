@@ -38,7 +38,8 @@ in_set_before other events in_set = in_set
 -- what comes after a round that has led to these events: nothing once a president is bankrupt, else what the
 -- sequence says
 abbrev pub coming : Round → ℕ → List Event → Next
-coming round in_set events = if bankrupt_in events then next.Ended else following round in_set (all_sold events) (broken_in events)
+coming round in_set events = if bankrupt_in events then next.Ended else following round in_set (all_sold events)
+    (broken_in events)
 
 -- before the first round
 abbrev pub before_play : List ℕ → Between
@@ -51,7 +52,8 @@ before_play file =
 
 -- every seat has a sheet for the round
 abbrev pub all_posted : List ℕ → Round → Bool
-all_posted file round = list_all (λ seat. is_some (sheet_of file seat round)) (range_with_len 0 (length (players_of file)))
+all_posted file round = list_all (λ seat. is_some (sheet_of file seat round))
+    (range_with_len 0 (length (players_of file)))
 
 -- a round comes next, and every seat has a sheet for it
 abbrev pub goes_on : List ℕ → Next → Bool

@@ -24,4 +24,5 @@ pub record AreReadAlike (first second : List ℕ) : Type 0 where
 
 -- where the sheets of two files of the same players are read alike, the game of the one is the game of the other
 abbrev pub SamePartsSameGame : Type 0
-SamePartsSameGame = (first second : List ℕ) → AreReadAlike first second → (last : Between) → Plays first last → Plays second last
+SamePartsSameGame = (first second : List ℕ) → AreReadAlike first second → (last : Between) → Plays first last
+    → Plays second last

@@ -19,7 +19,8 @@ pub record KeepsItsNumber (file : List ℕ) (set : ℕ) (begun there : Between) 
   pub number : there.in_set ≡ rounds_of_new_set begun.game.events
   pub within : turn_in_set round ≤ rounds_of_new_set begun.game.events
   pub whole :
-      (after : Between) (later : Round) → IsRound file there after → after.next ≡ next.Round later → ¬ IsOfSet set later →
+      (after : Between) (later : Round) → IsRound file there after → after.next ≡ next.Round later
+      → ¬ IsOfSet set later →
       round ≡ Operating set (rounds_of_new_set begun.game.events)
 
 -- so it is in each game of a file, wherever it has come to a stock round, and so many rounds later is still in its

@@ -10,4 +10,5 @@ use Rattle.rounds.specs.declared.fault.PlayFault.{PlayFault}
 abbrev pub BrokenStepsCallABrokenGame : Type 0
 BrokenStepsCallABrokenGame =
     (file : List ℕ) (steps : ℕ) (last broken : Underway) (fault : PlayFault) (calls its : List Call) →
-    StepsCall steps file last calls → BreaksOff last fault broken → StepCalls last broken its → GameCalls file (Err fault) (calls ++ its)
+    StepsCall steps file last calls → BreaksOff last fault broken → StepCalls last broken its
+    → GameCalls file (Err fault) (calls ++ its)

@@ -22,12 +22,14 @@ refused : (fault : FileFault) → HasPlayers (Err fault)
 refused fault ok = absurd (search rules)
 
 -- what is said of both is said of what a test chooses
-chosen : (test : Bool) (one other : Result Content FileFault) → HasPlayers one → HasPlayers other → HasPlayers (cond test one other)
+chosen : (test : Bool) (one other : Result Content FileFault) → HasPlayers one → HasPlayers other
+    → HasPlayers (cond test one other)
 chosen true one other first second = first
 chosen false one other first second = second
 
 -- the players that are taken are as many as may play
-from_names : (names players : List (List ℕ)) (fit : Bool) → (nat_le 3 (length names) && (nat_le (length names) 6 && all_differ names)) ≡ fit →
+from_names : (names players : List (List ℕ)) (fit : Bool)
+    → (nat_le 3 (length names) && (nat_le (length names) 6 && all_differ names)) ≡ fit →
     cond fit (Some names) None ≡ Some players → MayPlay (length players)
 from_names names players true fit taken =
     let parts = and_parts (nat_le 3 (length names)) (nat_le (length names) 6 && all_differ names) fit in
@@ -38,17 +40,20 @@ from_names names players true fit taken =
 from_names names players false fit taken = cc
 
 -- a line names as many as may play
-from_line : (reading : Result Order Fault) (players : List (List ℕ)) → players_named reading ≡ Some players → MayPlay (length players)
+from_line : (reading : Result Order Fault) (players : List (List ℕ)) → players_named reading ≡ Some players
+    → MayPlay (length players)
 from_line (Ok (order.Players names)) players named = from_names names.items players _ refl named
 from_line (Ok other) players named = cc
 from_line (Err fault) players named = cc
 
 -- so has what the lines after the header say
-from_body : (body : List (List ℕ)) (found : Option (List (List ℕ))) → ((players : List (List ℕ)) → found ≡ Some players → MayPlay (length players)) →
+from_body : (body : List (List ℕ)) (found : Option (List (List ℕ)))
+    → ((players : List (List ℕ)) → found ≡ Some players → MayPlay (length players)) →
     HasPlayers (body_content body found)
 from_body body None play = refused Players
 from_body body (Some players) play =
-    chosen (nat_lt sheets_most (good_lines players body)) (Err TooManySheets) (Ok (record { players = players; body = body })) (refused TooManySheets)
+    chosen (nat_lt sheets_most (good_lines players body)) (Err TooManySheets)
+    (Ok (record { players = players; body = body })) (refused TooManySheets)
     (λ ok. play players refl)
 
 from_players : (lines : List (List ℕ)) → HasPlayers (players_content lines)
@@ -65,4 +70,5 @@ from_lines (line ∷ lines) =
 pub three_to_six_play_law : ThreeToSixPlay
 unfolding content_of players_of
 three_to_six_play_law file accepted =
-    chosen (nat_lt file_most (length file)) (Err TooLong) (lines_content (written_lines file)) (refused TooLong) (from_lines (written_lines file)) accepted
+    chosen (nat_lt file_most (length file)) (Err TooLong) (lines_content (written_lines file)) (refused TooLong)
+    (from_lines (written_lines file)) accepted

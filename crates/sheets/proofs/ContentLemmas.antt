@@ -23,13 +23,16 @@ unfolding content_of
 short_enough file h = let t : nat_lt file_most (length file) ≡ false = le-ltb file_most (length file) h in rw t refl
 
 -- a body with too many good SHEET lines
-many : (players body : List (List ℕ)) → sheets_most < good_lines players body → body_content body (Some players) ≡ Err TooManySheets
-many players body h = let t : nat_lt sheets_most (good_lines players body) ≡ true = lt-ltb sheets_most (good_lines players body) h in rw t refl
+many : (players body : List (List ℕ)) → sheets_most < good_lines players body
+    → body_content body (Some players) ≡ Err TooManySheets
+many players body h = let t : nat_lt sheets_most (good_lines players body) ≡ true =
+    lt-ltb sheets_most (good_lines players body) h in rw t refl
 
 -- another body
 pub few_enough : (players body : List (List ℕ)) → good_lines players body ≤ sheets_most →
     body_content body (Some players) ≡ Ok (record { players = players; body = body })
-few_enough players body h = let t : nat_lt sheets_most (good_lines players body) ≡ false = le-ltb sheets_most (good_lines players body) h in rw t refl
+few_enough players body h = let t : nat_lt sheets_most (good_lines players body) ≡ false =
+    le-ltb sheets_most (good_lines players body) h in rw t refl
 
 -- a fault of the file
 pub fails : (fault : FileFault) (content : Result Content FileFault) → content ≡ Err fault → Fails fault content
@@ -40,7 +43,8 @@ fails TooLong content e = e
 fails TooManySheets content e = e
 
 -- a fault of the body
-pub fails_by : (players body : List (List ℕ)) (fault : FileFault) (content : Result Content FileFault) → content ≡ body_content body (Some players) →
+pub fails_by : (players body : List (List ℕ)) (fault : FileFault) (content : Result Content FileFault)
+    → content ≡ body_content body (Some players) →
     StopsBy (good_lines players body) fault → Fails fault content
 fails_by players body Memory content e h = tt
 fails_by players body Header content e h = absurd h
@@ -49,9 +53,12 @@ fails_by players body TooLong content e h = absurd h
 fails_by players body TooManySheets content e h = e ∙ many players body h
 
 -- what is kept of a file is what it says
-pub collected : (file : List ℕ) (version : Version) (players body : List (List ℕ)) (sheets : SheetKey → Option (List (List ℕ))) (unread : List Fault) →
-    version ≡ version_in (written_lines file) → content_of file ≡ Ok (record { players = players; body = body }) → 3 ≤ length players → length players ≤ 6 →
-    ((sheet_key : SheetKey) → sheets sheet_key ≡ sheet_in players body sheet_key) → unread ≡ unread_in version players false body → IsCollected file version players sheets unread
+pub collected : (file : List ℕ) (version : Version) (players body : List (List ℕ))
+    (sheets : SheetKey → Option (List (List ℕ))) (unread : List Fault) →
+    version ≡ version_in (written_lines file) → content_of file ≡ Ok (record { players = players; body = body })
+    → 3 ≤ length players → length players ≤ 6 →
+    ((sheet_key : SheetKey) → sheets sheet_key ≡ sheet_in players body sheet_key)
+    → unread ≡ unread_in version players false body → IsCollected file version players sheets unread
 unfolding version_of players_of body_of sheet_of unread_of
 collected file version players body sheets unread named e least most same codes = record {
   accepted = rw e refl;

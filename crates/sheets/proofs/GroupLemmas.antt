@@ -23,7 +23,10 @@ no_head_past (Operating set number) = refl
 
 module _ (opens : Result Order Fault → Bool) (no_head : opens (Err PastLastLine) ≡ false) where
   -- one line more in front of parts, by whether it is past the last and whether it is a head
-  one_more : (number : ℕ) (reading : Result Ordered Fault) (parts : Parts) (past : Bool) (head : Bool) → nat_lt lines_most number ≡ past → opens (reading_at number (order_read reading)) ≡ head → length (groups_of parts) ≤ lines_most - number → length (groups_of (with_line opens (numbered number reading) parts)) ≤ (lines_most + 1) - number
+  one_more : (number : ℕ) (reading : Result Ordered Fault) (parts : Parts) (past : Bool) (head : Bool)
+      → nat_lt lines_most number ≡ past → opens (reading_at number (order_read reading)) ≡ head
+      → length (groups_of parts) ≤ lines_most - number
+      → length (groups_of (with_line opens (numbered number reading) parts)) ≤ (lines_most + 1) - number
   one_more number reading parts past false is_past other few = rw other (omega arith)
   one_more number reading parts true true is_past head few =
       let same : opens (Err PastLastLine) ≡ true = rw is_past at head in cc
@@ -31,10 +34,12 @@ module _ (opens : Result Order Fault → Bool) (no_head : opens (Err PastLastLin
       let within : number ≤ lines_most = grind (arith, nat_tests) in rw head (omega arith)
 
   -- lines of which so many came before
-  few_after : (version : Version) (lines : List (List ℕ)) (count : ℕ) → length (groups_of (parts_after version opens count lines)) ≤ lines_most - count
+  few_after : (version : Version) (lines : List (List ℕ)) (count : ℕ)
+      → length (groups_of (parts_after version opens count lines)) ≤ lines_most - count
   few_after version [] count = omega arith
   few_after version (line ∷ lines) count =
-      let more = one_more (count + 1) (reading_in version line) (parts_after version opens (count + 1) lines) _ _ refl refl (few_after version lines (count + 1)) in
+      let more = one_more (count + 1) (reading_in version line) (parts_after version opens (count + 1) lines) _ _ refl
+      refl (few_after version lines (count + 1)) in
       omega arith
 
 -- a sheet has few groups

@@ -26,16 +26,19 @@ use Rattle.tables.specs.declared.round.Round.TheVariants as round
 
 -- a line is read as an order under a condition exactly where it spells that
 abbrev pub ReadWhereSpelt : Type 0
-ReadWhereSpelt = (version : Version) (line : List ℕ) (spelt : Ordered) → (reading_in version line ≡ Ok spelt) ↔ SpellsInVersion version line spelt
+ReadWhereSpelt = (version : Version) (line : List ℕ) (spelt : Ordered)
+    → (reading_in version line ≡ Ok spelt) ↔ SpellsInVersion version line spelt
 
 -- words of which the first is this one begin with it
-begins : (word : List ℕ) (others : List (List ℕ) → Type 0) (words : List (List ℕ)) → same_word word word ≡ true → Then (IsWord word) others words →
+begins : (word : List ℕ) (others : List (List ℕ) → Type 0) (words : List (List ℕ)) → same_word word word ≡ true
+    → Then (IsWord word) others words →
     same_word (first_of_words words) word ≡ true
 begins word others [] same is = absurd is
 begins word others (first ∷ words) same is = ap (λ (w : List ℕ). same_word w word) is.0 ∙ same
 
 -- the words behind a condition
-behind : (condition : Condition) (order : Order) (words : List (List ℕ)) → AreConditionWords condition (AreOrderWords order) words →
+behind : (condition : Condition) (order : Order) (words : List (List ℕ))
+    → AreConditionWords condition (AreOrderWords order) words →
     (rest : List (List ℕ)) × AreOrderWords order rest
 behind (Price company price) order [] are = absurd are
 behind (Price company price) order (a ∷ []) are = absurd are.1
@@ -50,18 +53,23 @@ behind (Floated company) order (a ∷ []) are = absurd are.1
 behind (Floated company) order (a ∷ b ∷ rest) are = (rest, are.1.1)
 
 -- an order whose first word stands behind no condition
-module _ (order : Order) (word : List ℕ) (others : List (List ℕ) → Type 0) (are_head : (words : List (List ℕ)) → AreWordsFor order words → Then (IsWord word) others words) (same : same_word word word ≡ true) (apart : list_all (λ (w : List ℕ). not (same_word w word)) play_words ≡ true) where
+module _ (order : Order) (word : List ℕ) (others : List (List ℕ) → Type 0)
+    (are_head : (words : List (List ℕ)) → AreWordsFor order words → Then (IsWord word) others words)
+    (same : same_word word word ≡ true) (apart : list_all (λ (w : List ℕ). not (same_word w word)) play_words
+    ≡ true) where
   -- stands behind none
   none_behind : (words : List (List ℕ)) → AreOrderWords order words → ⊥
   none_behind [] are = absurd are.0
   none_behind (first ∷ rest) are =
       let is : first ≡ word = (are_head (first ∷ rest) are.1).0 in
-      let other : not (same_word first word) ≡ true = passed (λ (w : List ℕ). not (same_word w word)) play_words first apart are.0 in
+      let other : not (same_word first word) ≡ true =
+      passed (λ (w : List ℕ). not (same_word w word)) play_words first apart are.0 in
       let wrong : false ≡ true = sym (ap (λ (w : List ℕ). not (same_word w word)) is ∙ ap not same) ∙ other in
       absurd cc
 
   -- so its line begins with that word
-  begins_with : (version : Version) (condition : Option Condition) (words : List (List ℕ)) → AreWordsUnder version condition order words →
+  begins_with : (version : Version) (condition : Option Condition) (words : List (List ℕ))
+      → AreWordsUnder version condition order words →
       same_word (first_of_words words) word ≡ true
   begins_with One None words are = begins word others words same (are_head words are.1)
   begins_with Two None words are = begins word others words same (are_head words are.1)
@@ -71,7 +79,8 @@ module _ (order : Order) (word : List ℕ) (others : List (List ℕ) → Type 0)
       let last = behind condition order rest are.1 in absurd (none_behind last.0 last.1)
 
   -- a line that begins with another is not read as it
-  pub not_read : ReadWhereSpelt → (version : Version) (line : List ℕ) (spelt : Ordered) → same_word (first_of_words (words_of line)) word ≡ false →
+  pub not_read : ReadWhereSpelt → (version : Version) (line : List ℕ) (spelt : Ordered)
+      → same_word (first_of_words (words_of line)) word ≡ false →
       reading_in version line ≡ Ok spelt → spelt.order ≡ order → ⊥
   not_read law version line spelt differs read is =
       let words = ((law version line spelt).0 read).loosely.words in
@@ -83,10 +92,12 @@ module _ (order : Order) (word : List ℕ) (others : List (List ℕ) → Type 0)
 
 module _ (law : ReadWhereSpelt) (version : Version) (line : List ℕ) where
   -- a line that does not begin with COMPANY is not read as one
-  no_company_order : (spelt : Ordered) (is : Order) → same_word (first_of_words (words_of line)) (codes "COMPANY") ≡ false →
+  no_company_order : (spelt : Ordered) (is : Order)
+      → same_word (first_of_words (words_of line)) (codes "COMPANY") ≡ false →
       reading_in version line ≡ Ok spelt → spelt.order ≡ is → is_company (Ok is) ≡ false
   no_company_order spelt (order.Company company) differs read is =
-      absurd (not_read (order.Company company) (codes "COMPANY") _ (λ words are. are) refl refl law version line spelt differs read is)
+      absurd (not_read (order.Company company) (codes "COMPANY") _ (λ words are. are) refl refl law version line spelt
+      differs read is)
   no_company_order spelt other differs read is = refl
 
   no_company : (reading : Result Ordered Fault) → same_word (first_of_words (words_of line)) (codes "COMPANY") ≡ false →
@@ -120,7 +131,8 @@ past_opens_none (round.Stock number) = refl
 past_opens_none (round.Opening number) = refl
 
 -- a line that does not begin with the word of heads opens no part where it stands
-pub no_head : ReadWhereSpelt → (round : Round) (version : Version) (number : ℕ) (line : List ℕ) → same_word (first_of_words (words_of line)) (head_word round) ≡ false →
+pub no_head : ReadWhereSpelt → (round : Round) (version : Version) (number : ℕ) (line : List ℕ)
+    → same_word (first_of_words (words_of line)) (head_word round) ≡ false →
     opens_part round (reading_at number (order_read (reading_in version line))) ≡ false
 no_head law round version number line differs =
     elim (cases_Bool (ltb lines_most number)) [

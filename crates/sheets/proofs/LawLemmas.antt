@@ -13,19 +13,24 @@ use Rattle.sheets.proofs.BodyLemmas.{option_or-none}
 
 -- what a line begins, in front of what later lines begin
 begun_first : (seat : ℕ) (round : Round) (lines : List (List ℕ)) (begun : Option SheetKey) (later : List Sent) →
-    option_or (last_for round later) (lines_begun (sheet_key_at seat round) lines begun) ≡ last_for round (sent_by seat lines begun ++ later)
+    option_or (last_for round later) (lines_begun (sheet_key_at seat round) lines begun)
+    ≡ last_for round (sent_by seat lines begun ++ later)
 begun_first seat round lines None later = option_or-none (last_for round later)
 begun_first seat round lines (Some sheet_key) later =
-    elim (eqb sheet_key.seat.0 seat) as (λ t. option_or (last_for round later) (cond (t && same_round sheet_key.round round) (Some lines) None) ≡ last_for round (cond t (record { round = sheet_key.round; lines = lines } ∷ []) [] ++ later)) [
+    elim (eqb sheet_key.seat.0 seat) as (λ t. option_or (last_for round later)
+    (cond (t && same_round sheet_key.round round) (Some lines) None)
+    ≡ last_for round (cond t (record { round = sheet_key.round; lines = lines } ∷ []) [] ++ later)) [
       | true ↦ refl
       | false ↦ option_or-none (last_for round later)
     ]
 
 -- the last sheet of some lines
-last_in : (players lines : List (List ℕ)) (seat : ℕ) (round : Round) → sheet_in players lines (sheet_key_at seat round) ≡ last_for round (sent_in players lines seat)
+last_in : (players lines : List (List ℕ)) (seat : ℕ) (round : Round)
+    → sheet_in players lines (sheet_key_at seat round) ≡ last_for round (sent_in players lines seat)
 last_in players [] seat round = refl
 last_in players (line ∷ lines) seat round =
-    ap (λ o. option_or o (lines_begun (sheet_key_at seat round) (block lines) (begins players line))) (last_in players lines seat round)
+    ap (λ o. option_or o (lines_begun (sheet_key_at seat round) (block lines) (begins players line)))
+    (last_in players lines seat round)
     ∙ begun_first seat round (block lines) (begins players line) (sent_in players lines seat)
 
 -- the law of the last sheet
@@ -42,4 +47,5 @@ arrival_law f g same seat round =
 pub no_parts_law : ArrivalChangesNoParts
 no_parts_law f g same version round seat =
     ap (λ (v : Version). parts_of v round (unwrap_or (sheet_of f seat round) [])) version
-    ∙ ap (λ (sheet : Option (List (List ℕ))). parts_of (version_of g) round (unwrap_or sheet [])) (arrival_law f g same seat round)
+    ∙ ap (λ (sheet : Option (List (List ℕ))). parts_of (version_of g) round (unwrap_or sheet []))
+    (arrival_law f g same seat round)

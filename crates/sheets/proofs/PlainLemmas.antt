@@ -28,13 +28,15 @@ none_alone (Ok order) = refl
 none_alone (Err fault) = refl
 
 -- nor past the last line that may be an order
-none_where : (past : Bool) (reading : Result Ordered Fault) → condition_read reading ≡ None → cond past None (condition_read reading) ≡ None
+none_where : (past : Bool) (reading : Result Ordered Fault) → condition_read reading ≡ None
+    → cond past None (condition_read reading) ≡ None
 none_where true reading none = refl
 none_where false reading none = none
 
 -- a line without a condition, where it stands
 plain_here : (number : ℕ) (reading : Result Order Fault) →
-    numbered number (unconditional reading) ≡ record { number = number; condition = None; reading = reading_at number reading }
+    numbered number (unconditional reading) ≡ record
+    { number = number; condition = None; reading = reading_at number reading }
 plain_here number reading =
     rw (order_alone reading, none_where (nat_lt lines_most number) (unconditional reading) (none_alone reading)) refl
 
@@ -48,7 +50,8 @@ module _ (law : ReadAsBefore) (opens : Result Order Fault → Bool) where
   plain_after : (lines : List (List ℕ)) (count : ℕ) → parts_after One opens count lines ≡ plain_parts opens count lines
   plain_after [] count = refl
   plain_after (line ∷ lines) count =
-      ap (λ (first : Numbered). with_line opens first (parts_after One opens (count + 1) lines)) (plain_line (count + 1) line)
+      ap (λ (first : Numbered). with_line opens first (parts_after One opens (count + 1) lines))
+      (plain_line (count + 1) line)
       ∙ ap (λ (parts : Parts). with_line opens (plain (count + 1) line) parts) (plain_after lines (count + 1))
 
 -- no line of a sheet stands under a condition

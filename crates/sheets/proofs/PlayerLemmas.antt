@@ -48,7 +48,8 @@ same_decides a b = subst (λ t. Decides t (a ≡ b)) (pointwise_is_same_word a b
 -- the derived test tells whether the texts are the same
 equal_texts : (a b : List ℕ) → is_equal a b ≡ true → a ≡ b
 equal_texts a b h =
-    let k : (pointwise nat_eq (filled a) (filled b) ≡ true) × (nat_eq (length a) (length b) ≡ true) = and_parts _ _ (sym (by_room a b) ∙ h) in
+    let k : (pointwise nat_eq (filled a) (filled b) ≡ true) × (nat_eq (length a) (length b) ≡ true) =
+    and_parts _ _ (sym (by_room a b) ∙ h) in
     let e : filled a ≡ filled b = (bytes_eq-Decides (filled a) (filled b)).0 k.0 in
     let n : length a ≡ length b = (Decides-eqb (length a) (length b)).0 k.1 in
     let t : take (length a) (filled a) ≡ take (length b) (filled b) = λ i. take (n i) (e i) in
@@ -56,7 +57,8 @@ equal_texts a b h =
 
 -- a name is equal to itself by the derived test
 equal_itself : (a : List ℕ) → is_equal a a ≡ true
-equal_itself a = by_room a a ∙ and_from _ _ ((bytes_eq-Decides (filled a) (filled a)).1 refl) ((Decides-eqb (length a) (length a)).1 refl)
+equal_itself a = by_room a a ∙ and_from _ _ ((bytes_eq-Decides (filled a) (filled a)).1 refl)
+    ((Decides-eqb (length a) (length a)).1 refl)
 
 -- so it is the test of the definitions
 pub name_test : (a b : List ℕ) → is_equal a b ≡ same_word b a
@@ -77,26 +79,31 @@ seat_looked_up seat [] name = refl
 seat_looked_up seat (player ∷ players) name = rw (name_test name player, seat_looked_up (seat + 1) players name) refl
 
 -- one player more, at the head
-seat_among_one : (t : Bool) (seat : Seat) (later : Option Seat) (others : Bool) → is_some later ≡ others → is_some (cond t (Some seat) later) ≡ (t || others)
+seat_among_one : (t : Bool) (seat : Seat) (later : Option Seat) (others : Bool) → is_some later ≡ others
+    → is_some (cond t (Some seat) later) ≡ (t || others)
 seat_among_one true seat later others e = refl
 seat_among_one false seat later others e = e
 
 -- there is one where the name is among the others
-seat_among : (test : List ℕ → Bool) (seat : ℕ) (players : List (List ℕ)) → is_some (lookup test (with_seats seat players)) ≡ list_any test players
+seat_among : (test : List ℕ → Bool) (seat : ℕ) (players : List (List ℕ))
+    → is_some (lookup test (with_seats seat players)) ≡ list_any test players
 seat_among test seat [] = refl
 seat_among test seat (player ∷ players) =
-    seat_among_one (test player) (record { 0 = seat }) (lookup test (with_seats (seat + 1) players)) (list_any test players)
+    seat_among_one (test player) (record { 0 = seat }) (lookup test (with_seats (seat + 1) players))
+    (list_any test players)
     (seat_among test (seat + 1) players)
 
 -- so for the entries of a map
-pub seat_there : (entries : List (List ℕ × Seat)) (keys : List (List ℕ)) (name : List ℕ) (found : Option Seat) → entries ≡ with_seats 0 keys →
+pub seat_there : (entries : List (List ℕ × Seat)) (keys : List (List ℕ)) (name : List ℕ) (found : Option Seat)
+    → entries ≡ with_seats 0 keys →
     found ≡ lookup (is_equal name) entries → list_any (is_equal name) keys ≡ is_some found
 seat_there entries keys name found seated is =
     sym (seat_among (is_equal name) 0 keys) ∙ ap is_some (ap (lookup (is_equal name)) (sym seated) ∙ sym is)
 
 -- a player more
 with_seats-more : (seat : ℕ) (players : List (List ℕ)) (name : List ℕ) →
-    with_seats seat (players ++ name ∷ []) ≡ with_seats seat players ++ (name, record { 0 = seat + length players }) ∷ []
+    with_seats seat (players ++ name ∷ []) ≡ with_seats seat players
+    ++ (name, record { 0 = seat + length players }) ∷ []
 with_seats-more seat [] name = ap (λ n. (name, record { 0 = n }) ∷ []) (let e : seat ≡ seat + 0 = omega arith in e)
 with_seats-more seat (player ∷ players) name =
     ap (λ (l : List (List ℕ × Seat)). (player, record { 0 = seat }) ∷ l)
@@ -113,44 +120,55 @@ twice false l false true rest h ih = refl
 twice false l false false rest h ih = ih h
 
 -- names do not differ where one of them stands among those before it
-repeats : (before after : List (List ℕ)) (name : List ℕ) → list_any (is_equal name) before ≡ true → all_differ (before ++ name ∷ after) ≡ false
+repeats : (before after : List (List ℕ)) (name : List ℕ) → list_any (is_equal name) before ≡ true
+    → all_differ (before ++ name ∷ after) ≡ false
 repeats [] after name h = absurd (true≢false (sym h))
 repeats (player ∷ before) after name h =
     rw (list_any-append (same_word player) before (name ∷ after))
-    (twice (same_word player name) (list_any (is_equal name) before) (list_any (same_word player) before) (list_any (same_word player) after) (all_differ (before ++ name ∷ after))
+    (twice (same_word player name) (list_any (is_equal name) before) (list_any (same_word player) before)
+    (list_any (same_word player) after) (all_differ (before ++ name ∷ after))
     (ap (λ t. t || list_any (is_equal name) before) (sym (name_test name player)) ∙ h) (repeats before after name))
 
 -- one name more
-more : (a l m rest longer : Bool) → (a || l) ≡ false → (not m && rest) ≡ true → (l ≡ false → rest ≡ true → longer ≡ true) →
+more : (a l m rest longer : Bool) → (a || l) ≡ false → (not m && rest) ≡ true
+    → (l ≡ false → rest ≡ true → longer ≡ true) →
     (not (m || (a || false)) && longer) ≡ true
 more true l m rest longer h d ih = absurd (true≢false h)
 more false l true rest longer h d ih = absurd (true≢false (sym d))
 more false l false rest longer h d ih = ih h d
 
 -- names still differ where the next is not among those before it
-differs : (before : List (List ℕ)) (name : List ℕ) → list_any (is_equal name) before ≡ false → all_differ before ≡ true →
+differs : (before : List (List ℕ)) (name : List ℕ) → list_any (is_equal name) before ≡ false
+    → all_differ before ≡ true →
     all_differ (before ++ name ∷ []) ≡ true
 differs [] name h d = refl
 differs (player ∷ before) name h d =
     rw (list_any-append (same_word player) before (name ∷ []))
-    (more (same_word player name) (list_any (is_equal name) before) (list_any (same_word player) before) (all_differ before) (all_differ (before ++ name ∷ []))
+    (more (same_word player name) (list_any (is_equal name) before) (list_any (same_word player) before)
+    (all_differ before) (all_differ (before ++ name ∷ []))
     (ap (λ t. t || list_any (is_equal name) before) (sym (name_test name player)) ∙ h) d (differs before name))
 
-module _ (names keys : List (List ℕ)) (i : ℕ) (name : List ℕ) (within : i < length names) (is : name ≡ get_or names i name) (kept : keys ≡ take i names) where
+module _ (names keys : List (List ℕ)) (i : ℕ) (name : List ℕ) (within : i < length names)
+    (is : name ≡ get_or names i name) (kept : keys ≡ take i names) where
   -- a name that is among those before it
   pub repeated : list_any (is_equal name) keys ≡ true → all_differ names ≡ false
   repeated h =
-      let before : list_any (is_equal name) (take i names) ≡ true = subst (λ l. list_any (is_equal name) l ≡ true) kept h in
-      let after : drop i names ≡ name ∷ drop (suc i) names = drop-cons names i name within ∙ ap (λ n. n ∷ drop (suc i) names) (sym is) in
-      let whole : take i names ++ name ∷ drop (suc i) names ≡ names = ap (λ l. take i names ++ l) (sym after) ∙ take-append-drop i names in
+      let before : list_any (is_equal name) (take i names) ≡ true =
+      subst (λ l. list_any (is_equal name) l ≡ true) kept h in
+      let after : drop i names ≡ name ∷ drop (suc i) names =
+      drop-cons names i name within ∙ ap (λ n. n ∷ drop (suc i) names) (sym is) in
+      let whole : take i names ++ name ∷ drop (suc i) names ≡ names =
+      ap (λ l. take i names ++ l) (sym after) ∙ take-append-drop i names in
       subst (λ l. all_differ l ≡ false) whole (repeats (take i names) (drop (suc i) names) name before)
 
   -- one name more is taken
   one_more : take (i + 1) names ≡ take i names ++ name ∷ []
-  one_more = ap (λ n. take n names) (add-one i) ∙ take-suc names i name within ∙ ap (λ n. take i names ++ n ∷ []) (sym is)
+  one_more = ap (λ n. take n names) (add-one i) ∙ take-suc names i name within
+      ∙ ap (λ n. take i names ++ n ∷ []) (sym is)
 
   -- a name that is not goes behind them, with the next seat
-  pub now_seated : (old new : List (List ℕ × Seat)) → old ≡ with_seats 0 (take i names) → new ≡ old ++ (name, record { 0 = i }) ∷ [] →
+  pub now_seated : (old new : List (List ℕ × Seat)) → old ≡ with_seats 0 (take i names)
+      → new ≡ old ++ (name, record { 0 = i }) ∷ [] →
       new ≡ with_seats 0 (take (i + 1) names)
   now_seated old new seated added =
       let size : length (take i names) ≡ i = length-take-le i names (omega arith) in
@@ -160,8 +178,10 @@ module _ (names keys : List (List ℕ)) (i : ℕ) (name : List ℕ) (within : i 
       ∙ sym (with_seats-more 0 (take i names) name) ∙ ap (with_seats 0) (sym one_more)
 
   -- and they still differ
-  pub now_differ : list_any (is_equal name) keys ≡ false → all_differ (take i names) ≡ true → all_differ (take (i + 1) names) ≡ true
-  now_differ h d = subst (λ l. all_differ l ≡ true) (sym one_more) (differs (take i names) name (subst (λ l. list_any (is_equal name) l ≡ false) kept h) d)
+  pub now_differ : list_any (is_equal name) keys ≡ false → all_differ (take i names) ≡ true
+      → all_differ (take (i + 1) names) ≡ true
+  now_differ h d = subst (λ l. all_differ l ≡ true) (sym one_more)
+      (differs (take i names) name (subst (λ l. list_any (is_equal name) l ≡ false) kept h) d)
 
 -- names that do not differ are no players
 refused : (a b d : Bool) (names : List (List ℕ)) → d ≡ false → None ≡ cond (a && (b && d)) (Some names) None
@@ -174,9 +194,11 @@ pub no_players : (names : List (List ℕ)) → all_differ names ≡ false → No
 no_players names h = refused (nat_le 3 (length names)) (nat_le (length names) 6) (all_differ names) names h
 
 -- names that differ are players, if they are 3 to 6
-pub all_play : (names keys : List (List ℕ)) → 3 ≤ length names → length names ≤ 6 → all_differ names ≡ true → keys ≡ names → Some keys ≡ players_from names
+pub all_play : (names keys : List (List ℕ)) → 3 ≤ length names → length names ≤ 6 → all_differ names ≡ true
+    → keys ≡ names → Some keys ≡ players_from names
 all_play names keys least most differ same =
-    rw (le-leb 3 (length names) least, le-leb (length names) 6 most, differ) (ap (λ (all : List (List ℕ)). Some all) same)
+    rw (le-leb 3 (length names) least, le-leb (length names) 6 most, differ)
+    (ap (λ (all : List (List ℕ)). Some all) same)
 
 -- there is none where there is not some
 pub none_from : (found : Option Seat) → is_some found ≡ false → found ≡ None

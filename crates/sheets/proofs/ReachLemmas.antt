@@ -14,9 +14,13 @@ use Rattle.sheets.specs.declared.sheet_key.SheetKey.{SheetKey}
 use Rattle.sheets.proofs.TextLemmas.{begins_with_nothing, one_after_another, front_by_rest, lines_of_both}
 use Rattle.sheets.proofs.BodyLemmas.{option_or-cond, stands_same, stands_inside, stands_stray, stands_closed, stands_begun, stands_bad, too_many}
 
-module _ (version : Version) (players body : List (List ℕ)) (sheets : SheetKey → Option (List (List ℕ))) (unread : List Fault) (good : ℕ) where
+module _ (version : Version) (players body : List (List ℕ)) (sheets : SheetKey → Option (List (List ℕ)))
+    (unread : List Fault) (good : ℕ) where
   -- a SHEET line comes, and the sheet before it is kept
-  pub kept_before : (line : List ℕ) (lines : List (List ℕ)) (text : List ℕ) (sheet : Option OpenSheet) (current : Option Open) → is_sheet_line line ≡ true → IsOpen sheet current text → Stands version players body (line ∷ lines) current sheets unread good → Stands version players body (line ∷ lines) None (closed sheet text sheets) unread good
+  pub kept_before : (line : List ℕ) (lines : List (List ℕ)) (text : List ℕ) (sheet : Option OpenSheet)
+      (current : Option Open) → is_sheet_line line ≡ true → IsOpen sheet current text
+      → Stands version players body (line ∷ lines) current sheets unread good
+      → Stands version players body (line ∷ lines) None (closed sheet text sheets) unread good
   kept_before line lines text None None is h s = s
   kept_before line lines text None (Some had) is h s = absurd h
   kept_before line lines text (Some sheet) None is h s = absurd h
@@ -24,12 +28,18 @@ module _ (version : Version) (players body : List (List ℕ)) (sheets : SheetKey
       let front : List ℕ = h.1.0 in
       let same : written_lines (take (length sheet.text.now - length text) sheet.text.now) ≡ had.lines =
       ap written_lines (front_by_rest front had.lines text sheet.text.now h.1.1) ∙ h.1.1.first in
-      stands_same version players body (λ q. cond (same_sheet_key had.sheet_key q) (Some had.lines) (sheets q)) unread good (closed (Some sheet) text sheets) (line ∷ lines) None
-      (λ q. ap (λ p. cond (same_sheet_key p q) (Some (written_lines (take (length sheet.text.now - length text) sheet.text.now))) (sheets q)) h.0 ∙ ap (λ ls. cond (same_sheet_key had.sheet_key q) (Some ls) (sheets q)) same)
+      stands_same version players body (λ q. cond (same_sheet_key had.sheet_key q) (Some had.lines) (sheets q)) unread
+      good (closed (Some sheet) text sheets) (line ∷ lines) None
+      (λ q. ap (λ p. cond (same_sheet_key p q) (Some
+      (written_lines (take (length sheet.text.now - length text) sheet.text.now))) (sheets q)) h.0
+      ∙ ap (λ ls. cond (same_sheet_key had.sheet_key q) (Some ls) (sheets q)) same)
       (stands_closed version players body sheets unread good line lines had.sheet_key had.lines is s)
 
   -- a line inside a sheet
-  pub reaches_inside : (front line : List ℕ) (rest text : List ℕ) (sheet : Option OpenSheet) (current : Option Open) → is_some sheet ≡ true → is_sheet_line line ≡ false → BeginsWith front (line ∷ []) rest text → IsOpen sheet current text → Stands version players body (line ∷ written_lines rest) current sheets unread good → Reaches version players body rest sheet sheets unread good
+  pub reaches_inside : (front line : List ℕ) (rest text : List ℕ) (sheet : Option OpenSheet) (current : Option Open)
+      → is_some sheet ≡ true → is_sheet_line line ≡ false → BeginsWith front (line ∷ []) rest text
+      → IsOpen sheet current text → Stands version players body (line ∷ written_lines rest) current sheets unread good
+      → Reaches version players body rest sheet sheets unread good
   reaches_inside front line rest text None current some other first h s = absurd (let wrong : false ≡ true = some in cc)
   reaches_inside front line rest text (Some sheet) None some other first h s = absurd h
   reaches_inside front line rest text (Some sheet) (Some had) some other first h s = (
@@ -39,47 +49,78 @@ module _ (version : Version) (players body : List (List ℕ)) (sheets : SheetKey
   )
 
   -- a line outside
-  pub reaches_stray : (line rest text : List ℕ) (sheet : Option OpenSheet) (current : Option Open) → is_some sheet ≡ false → is_sheet_line line ≡ false → IsOpen sheet current text → Stands version players body (line ∷ written_lines rest) current sheets unread good → Reaches version players body rest sheet sheets (unread ++ unread_fault version line ∷ []) good
-  reaches_stray line rest text None None none other h s = (None, tt, stands_stray version players body sheets unread good line (written_lines rest) other s)
+  pub reaches_stray : (line rest text : List ℕ) (sheet : Option OpenSheet) (current : Option Open)
+      → is_some sheet ≡ false → is_sheet_line line ≡ false → IsOpen sheet current text
+      → Stands version players body (line ∷ written_lines rest) current sheets unread good
+      → Reaches version players body rest sheet sheets (unread ++ unread_fault version line ∷ []) good
+  reaches_stray line rest text None None none other h s =
+      (None, tt, stands_stray version players body sheets unread good line (written_lines rest) other s)
   reaches_stray line rest text None (Some had) none other h s = absurd h
   reaches_stray line rest text (Some sheet) current none other h s = absurd (let wrong : true ≡ false = none in cc)
 
   -- a SHEET line where no sheet is open, by the sheet that it begins
-  reaches_by : (line rest : List ℕ) (begun : Option SheetKey) (sheet : Option OpenSheet) (codes : List Fault) (count : ℕ) → is_sheet_line line ≡ true → begins players line ≡ begun → HasBegun rest (unread_fault version line) good unread begun sheet count codes → Stands version players body (line ∷ written_lines rest) None sheets unread good → Reaches version players body rest sheet sheets codes count
+  reaches_by : (line rest : List ℕ) (begun : Option SheetKey) (sheet : Option OpenSheet) (codes : List Fault)
+      (count : ℕ) → is_sheet_line line ≡ true → begins players line ≡ begun
+      → HasBegun rest (unread_fault version line) good unread begun sheet count codes
+      → Stands version players body (line ∷ written_lines rest) None sheets unread good
+      → Reaches version players body rest sheet sheets codes count
   reaches_by line rest None sheet codes count is b h s =
       rw (h.0, h.1, h.2) (None, tt, stands_bad version players body sheets unread good line (written_lines rest) is b s)
   reaches_by line rest (Some sheet_key) None codes count is b h s = absurd h.0
   reaches_by line rest (Some sheet_key) (Some sheet) codes count is b h s =
-      rw (h.2, h.3)
-      (Some (record { sheet_key = sheet_key; lines = [] }), (h.0.0, ([], subst (λ t. BeginsWith [] [] rest t) (sym h.0.1) (begins_with_nothing rest))), stands_begun version players body sheets unread good line (written_lines rest) sheet_key is b h.1 s)
+      rw (h.2, h.3) (
+        Some (record { sheet_key = sheet_key; lines = [] }),
+        (h.0.0, ([], subst (λ t. BeginsWith [] [] rest t) (sym h.0.1) (begins_with_nothing rest))),
+        stands_begun
+            version players body sheets unread good line (written_lines rest) sheet_key is b h.1 s,
+      )
 
   -- after a SHEET line
-  pub reaches_begun : (line rest : List ℕ) (sheet : Option OpenSheet) (codes : List Fault) (count : ℕ) → is_sheet_line line ≡ true → HasBegun rest (unread_fault version line) good unread (sheet_key_begun players (reading_of line)) sheet count codes → Stands version players body (line ∷ written_lines rest) None sheets unread good → Reaches version players body rest sheet sheets codes count
+  pub reaches_begun : (line rest : List ℕ) (sheet : Option OpenSheet) (codes : List Fault) (count : ℕ)
+      → is_sheet_line line ≡ true → HasBegun rest (unread_fault version line) good unread
+      (sheet_key_begun players (reading_of line)) sheet count codes
+      → Stands version players body (line ∷ written_lines rest) None sheets unread good
+      → Reaches version players body rest sheet sheets codes count
   unfolding begins
-  reaches_begun line rest sheet codes count is h s = reaches_by line rest (sheet_key_begun players (reading_of line)) sheet codes count is (rw is refl) h s
+  reaches_begun line rest sheet codes count is h s =
+      reaches_by line rest (sheet_key_begun players (reading_of line)) sheet codes count is (rw is refl) h s
 
   -- why reading stops, by the sheet that the line begins
-  stops_by : (line : List ℕ) (lines : List (List ℕ)) (begun : Option SheetKey) (fault : FileFault) → begins players line ≡ begun → StopsAt good begun fault → Stands version players body (line ∷ lines) None sheets unread good → StopsBy (good_lines players body) fault
+  stops_by : (line : List ℕ) (lines : List (List ℕ)) (begun : Option SheetKey) (fault : FileFault)
+      → begins players line ≡ begun → StopsAt good begun fault
+      → Stands version players body (line ∷ lines) None sheets unread good → StopsBy (good_lines players body) fault
   stops_by line lines None fault b h s = rw h tt
-  stops_by line lines (Some sheet_key) fault b h s = rw h.0 (too_many version players body sheets unread good line lines sheet_key b h.1 s)
+  stops_by line lines (Some sheet_key) fault b h s =
+      rw h.0 (too_many version players body sheets unread good line lines sheet_key b h.1 s)
 
   -- why reading stops at a SHEET line
-  pub stops_begun : (line : List ℕ) (lines : List (List ℕ)) (fault : FileFault) → is_sheet_line line ≡ true → StopsAt good (sheet_key_begun players (reading_of line)) fault → Stands version players body (line ∷ lines) None sheets unread good → StopsBy (good_lines players body) fault
+  pub stops_begun : (line : List ℕ) (lines : List (List ℕ)) (fault : FileFault) → is_sheet_line line ≡ true
+      → StopsAt good (sheet_key_begun players (reading_of line)) fault
+      → Stands version players body (line ∷ lines) None sheets unread good → StopsBy (good_lines players body) fault
   unfolding begins
-  stops_begun line lines fault is h s = stops_by line lines (sheet_key_begun players (reading_of line)) fault (rw is refl) h s
+  stops_begun line lines fault is h s = stops_by line lines (sheet_key_begun players (reading_of line)) fault
+      (rw is refl) h s
 
 -- a SHEET line comes, and the sheet before it has been kept
-pub reaches_sheet_line : (version : Version) (players body : List (List ℕ)) (sheets kept : SheetKey → Option (List (List ℕ))) (unread : List Fault) (good : ℕ) (line rest text : List ℕ) (sheet : Option OpenSheet) →
-    is_sheet_line line ≡ true → written_lines text ≡ line ∷ written_lines rest → ((sheet_key : SheetKey) → kept sheet_key ≡ closed sheet text sheets sheet_key) →
-    Reaches version players body text sheet sheets unread good → Stands version players body (line ∷ written_lines rest) None kept unread good
+pub reaches_sheet_line : (version : Version) (players body : List (List ℕ))
+    (sheets kept : SheetKey → Option (List (List ℕ))) (unread : List Fault) (good : ℕ) (line rest text : List ℕ)
+    (sheet : Option OpenSheet) →
+    is_sheet_line line ≡ true → written_lines text ≡ line ∷ written_lines rest
+    → ((sheet_key : SheetKey) → kept sheet_key ≡ closed sheet text sheets sheet_key) →
+    Reaches version players body text sheet sheets unread good
+    → Stands version players body (line ∷ written_lines rest) None kept unread good
 reaches_sheet_line version players body sheets kept unread good line rest text sheet is lines same r =
     stands_same version players body (closed sheet text sheets) unread good kept (line ∷ written_lines rest) None same
-    (kept_before version players body sheets unread good line (written_lines rest) text sheet r.0 is r.1 (subst (λ ls. Stands version players body ls r.0 sheets unread good) lines r.2))
+    (kept_before version players body sheets unread good line (written_lines rest) text sheet r.0 is r.1
+    (subst (λ ls. Stands version players body ls r.0 sheets unread good) lines r.2))
 
 -- what is kept at the end
-module _ (version : Version) (players body : List (List ℕ)) (sheets : SheetKey → Option (List (List ℕ))) (unread : List Fault) (good : ℕ) where
+module _ (version : Version) (players body : List (List ℕ)) (sheets : SheetKey → Option (List (List ℕ)))
+    (unread : List Fault) (good : ℕ) where
   -- a sheet that is open goes to the end
-  ended : (text : List ℕ) (sheet : Option OpenSheet) (current : Option Open) → IsOpen sheet current text → written_lines text ≡ [] → Stands version players body [] current sheets unread good → (sheet_key : SheetKey) → closed sheet [] sheets sheet_key ≡ sheet_in players body sheet_key
+  ended : (text : List ℕ) (sheet : Option OpenSheet) (current : Option Open) → IsOpen sheet current text
+      → written_lines text ≡ [] → Stands version players body [] current sheets unread good → (sheet_key : SheetKey)
+      → closed sheet [] sheets sheet_key ≡ sheet_in players body sheet_key
   ended text None None h none s sheet_key = s.sheets_are sheet_key
   ended text None (Some had) h none s sheet_key = absurd h
   ended text (Some sheet) None h none s sheet_key = absurd h
@@ -87,11 +128,17 @@ module _ (version : Version) (players body : List (List ℕ)) (sheets : SheetKey
       let whole : take (length sheet.text.now - 0) sheet.text.now ≡ sheet.text.now =
       let n : length sheet.text.now - 0 ≡ length sheet.text.now = omega arith in rw n (take-length sheet.text.now) in
       let lines : written_lines (take (length sheet.text.now - 0) sheet.text.now) ≡ had.lines ++ [] =
-      ap written_lines whole ∙ lines_of_both h.1.0 had.lines text sheet.text.now h.1.1 ∙ ap (λ ls. had.lines ++ ls) none in
-      ap (λ p. cond (same_sheet_key p sheet_key) (Some (written_lines (take (length sheet.text.now - 0) sheet.text.now))) (sheets sheet_key)) h.0
+      ap written_lines whole ∙ lines_of_both h.1.0 had.lines text sheet.text.now h.1.1
+      ∙ ap (λ ls. had.lines ++ ls) none in
+      ap (λ p. cond (same_sheet_key p sheet_key) (Some
+      (written_lines (take (length sheet.text.now - 0) sheet.text.now))) (sheets sheet_key)) h.0
       ∙ ap (λ ls. cond (same_sheet_key had.sheet_key sheet_key) (Some ls) (sheets sheet_key)) lines
-      ∙ sym (option_or-cond (same_sheet_key had.sheet_key sheet_key) (had.lines ++ []) (sheets sheet_key)) ∙ s.sheets_are sheet_key
+      ∙ sym (option_or-cond (same_sheet_key had.sheet_key sheet_key) (had.lines ++ []) (sheets sheet_key))
+      ∙ s.sheets_are sheet_key
 
   -- the sheets of the whole body
-  pub sheets_at_end : (text : List ℕ) (sheet : Option OpenSheet) → written_lines text ≡ [] → Reaches version players body text sheet sheets unread good → (sheet_key : SheetKey) → closed sheet [] sheets sheet_key ≡ sheet_in players body sheet_key
-  sheets_at_end text sheet none r = ended text sheet r.0 r.1 none (subst (λ ls. Stands version players body ls r.0 sheets unread good) none r.2)
+  pub sheets_at_end : (text : List ℕ) (sheet : Option OpenSheet) → written_lines text ≡ []
+      → Reaches version players body text sheet sheets unread good → (sheet_key : SheetKey)
+      → closed sheet [] sheets sheet_key ≡ sheet_in players body sheet_key
+  sheets_at_end text sheet none r = ended text sheet r.0 r.1 none
+      (subst (λ ls. Stands version players body ls r.0 sheets unread good) none r.2)

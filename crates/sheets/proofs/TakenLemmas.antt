@@ -11,15 +11,19 @@ use Rattle.tables.specs.declared.round.Round.{Round}
 use Rattle.tables.specs.declared.seat.Seat.{Seat}
 
 -- the seats that are left begin with the next
-next_seat : (seat total : ℕ) → seat < total → range_with_len seat (total - seat) ≡ seat ∷ range_with_len (seat + 1) (total - (seat + 1))
+next_seat : (seat total : ℕ) → seat < total → range_with_len seat (total - seat)
+    ≡ seat ∷ range_with_len (seat + 1) (total - (seat + 1))
 next_seat seat total within =
     let count : total - seat ≡ suc (total - (seat + 1)) = omega arith in
     ap (λ (n : ℕ). range_with_len seat n) count
 
 -- the seats that are left lead, after the next of them, where they lead before it
-pub standing_goes_on : {State : Type 0} (step : Seat → State → Numbered → State) (file : List ℕ) (round : Round) (seat total : ℕ) (state after : State) (sheet : Parts) (taker : Seat) →
-    seat < total → after ≡ after_each (step taker) state sheet.before → taker ≡ seat_at seat → sheet ≡ parts_for file round taker.0 →
-    after_all_before step file round after (range_with_len (seat + 1) (total - (seat + 1))) ≡ after_all_before step file round state (range_with_len seat (total - seat))
+pub standing_goes_on : {State : Type 0} (step : Seat → State → Numbered → State) (file : List ℕ) (round : Round)
+    (seat total : ℕ) (state after : State) (sheet : Parts) (taker : Seat) →
+    seat < total → after ≡ after_each (step taker) state sheet.before → taker ≡ seat_at seat
+    → sheet ≡ parts_for file round taker.0 →
+    after_all_before step file round after (range_with_len (seat + 1) (total - (seat + 1)))
+    ≡ after_all_before step file round state (range_with_len seat (total - seat))
 standing_goes_on {State} step file round seat total state after sheet taker within ruled is_seat is_sheet =
     let here : after ≡ after_lines_before step file round state seat =
     ruled
@@ -32,7 +36,8 @@ standing_goes_on {State} step file round seat total state after sheet taker with
 -- the groups of the seats so far, and those of one more
 pub groups_more : (file : List ℕ) (round : Round) (seat : ℕ) (old : List Parts) (sheet new : Parts) (taker : Seat) →
     map groups_of old ≡ groups_for seat file round → taker ≡ seat_at seat → sheet ≡ parts_for file round taker.0 →
-    new ≡ record { before = []; opened = sheet.opened } → map groups_of (old ++ new ∷ []) ≡ groups_for (seat + 1) file round
+    new ≡ record { before = []; opened = sheet.opened }
+    → map groups_of (old ++ new ∷ []) ≡ groups_for (seat + 1) file round
 groups_more file round seat old sheet new taker before is_seat is_sheet left =
     let here : groups_of new ≡ groups_of (parts_for file round seat) =
     ap groups_of left ∙ ap groups_of is_sheet ∙ ap (λ (s : Seat). groups_of (parts_for file round s.0)) is_seat
@@ -55,11 +60,14 @@ lines_at_head sheet stands =
 -- the seats that are left bring, after the next of them, what they bring before it
 pub left_goes_on : {Told : Type 0} (tell : Seat → ℕ → List Told → List Told) →
     ((seat : Seat) (count : ℕ) (rest : List Told) → tell seat count [] ++ rest ≡ tell seat count rest) →
-    (old new : List Told) (seat count : ℕ) (sheet : Parts) (others : List Parts) → new ≡ old ++ tell (seat_at seat) count [] → count ≡ lines_in sheet →
-    StandsAtHead sheet → new ++ told_of_left tell (seat + 1) (map groups_of others) ≡ old ++ told_of_left tell seat (map groups_of (sheet ∷ others))
+    (old new : List Told) (seat count : ℕ) (sheet : Parts) (others : List Parts)
+    → new ≡ old ++ tell (seat_at seat) count [] → count ≡ lines_in sheet →
+    StandsAtHead sheet → new ++ told_of_left tell (seat + 1) (map groups_of others)
+    ≡ old ++ told_of_left tell seat (map groups_of (sheet ∷ others))
 left_goes_on {Told} tell first old new seat count sheet others told counted stands =
     let rest : List Told = told_of_left tell (seat + 1) (map groups_of others) in
     ap (λ (all : List Told). all ++ rest) told
     ∙ append_assoc old (tell (seat_at seat) count []) rest
     ∙ ap (λ (all : List Told). old ++ all)
-    (first (seat_at seat) count rest ∙ ap (λ (n : ℕ). tell (seat_at seat) n rest) (counted ∙ lines_at_head sheet stands))
+    (first (seat_at seat) count rest ∙ ap (λ (n : ℕ). tell (seat_at seat) n rest)
+    (counted ∙ lines_at_head sheet stands))

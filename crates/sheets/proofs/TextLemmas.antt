@@ -9,10 +9,14 @@ use Rattle.std.proofs.lemmas.Grind.{common_steps}
 use Rattle.sheets.specs.Text.{without_return, last_line, lines_from, lines_of, rest_of, is_blank, written, written_lines, IsCut, BeginsWith}
 
 -- what follows an LF is read apart from what stands before it
-closed : (line front more : List ℕ) → lines_from line ((front ++ 10 ∷ []) ++ more) ≡ lines_from line (front ++ 10 ∷ []) ++ lines_from [] more
+closed : (line front more : List ℕ) → lines_from line ((front ++ 10 ∷ []) ++ more)
+    ≡ lines_from line (front ++ 10 ∷ []) ++ lines_from [] more
 closed line [] more = refl
 closed line (byte ∷ front) more =
-    elim (eqb byte 10) as (λ b. cond b (without_return line ∷ lines_from [] ((front ++ 10 ∷ []) ++ more)) (lines_from (line ++ byte ∷ []) ((front ++ 10 ∷ []) ++ more)) ≡ cond b (without_return line ∷ lines_from [] (front ++ 10 ∷ [])) (lines_from (line ++ byte ∷ []) (front ++ 10 ∷ [])) ++ lines_from [] more) [
+    elim (eqb byte 10) as (λ b. cond b (without_return line ∷ lines_from [] ((front ++ 10 ∷ []) ++ more))
+    (lines_from (line ++ byte ∷ []) ((front ++ 10 ∷ []) ++ more))
+    ≡ cond b (without_return line ∷ lines_from [] (front ++ 10 ∷ []))
+    (lines_from (line ++ byte ∷ []) (front ++ 10 ∷ [])) ++ lines_from [] more) [
       | true ↦ ap (λ ls. without_return line ∷ ls) (closed [] front more)
       | false ↦ closed (line ++ byte ∷ []) front more
     ]
@@ -21,7 +25,8 @@ closed line (byte ∷ front) more =
 cut_after_newline : (front rest : List ℕ) → IsCut (front ++ 10 ∷ []) rest
 unfolding written_lines
 cut_after_newline front rest = record {
-  joins = λ more left e. ap written (closed [] front more) ∙ filter-append _ (lines_from [] (front ++ 10 ∷ [])) (lines_from [] more);
+  joins = λ more left e. ap written (closed [] front more)
+      ∙ filter-append _ (lines_from [] (front ++ 10 ∷ [])) (lines_from [] more);
 }
 
 -- nothing has only nothing as its front
@@ -33,7 +38,8 @@ nothing_before (byte ∷ more) left e = cc
 cut_at_end : (front : List ℕ) → IsCut front []
 unfolding written_lines
 cut_at_end front = record {
-  joins = λ more left e. let none : more ≡ [] = nothing_before more left e in rw (none, append-nil front, append-nil (written (lines_of front))) refl;
+  joins = λ more left e. let none : more ≡ [] = nothing_before more left e in rw
+      (none, append-nil front, append-nil (written (lines_of front))) refl;
 }
 
 -- a text may be cut at its beginning
@@ -48,10 +54,12 @@ cut_again front next rest a b = record {
       let whole : (next ++ more) ++ left ≡ next ++ rest = append_assoc next more left ∙ ap (λ t. next ++ t) e in
       let nothing : next ++ [] ≡ next = append-nil next in
       let only : written_lines (front ++ next) ≡ written_lines front ++ written_lines next = a.joins next rest refl in
-      let far : written_lines (front ++ (next ++ more)) ≡ written_lines front ++ written_lines (next ++ more) = a.joins (next ++ more) left whole in
+      let far : written_lines (front ++ (next ++ more)) ≡ written_lines front ++ written_lines (next ++ more) =
+      a.joins (next ++ more) left whole in
       let near : written_lines (next ++ more) ≡ written_lines next ++ written_lines more = b.joins more left e in
       ap written_lines (append_assoc front next more) ∙ far ∙ ap (λ ls. written_lines front ++ ls) near
-      ∙ sym (append_assoc (written_lines front) (written_lines next) (written_lines more)) ∙ ap (λ ls. ls ++ written_lines more) (sym only);
+      ∙ sym (append_assoc (written_lines front) (written_lines next) (written_lines more))
+      ∙ ap (λ ls. ls ++ written_lines more) (sym only);
 }
 
 -- the bytes before an LF are a line
@@ -60,26 +68,33 @@ one_line : (line front : List ℕ) → ((k : ℕ) → k < length front → get_o
 one_line line [] none = rw (append-nil line) refl
 one_line line (byte ∷ front) none =
     let other : eqb byte 10 ≡ false = ne_eqb byte 10 (none 0 (omega arith)) in
-    rw other (one_line (line ++ byte ∷ []) front (λ k h. none (suc k) (omega arith)) ∙ ap (λ l. without_return l ∷ []) (append_assoc line (byte ∷ []) front))
+    rw other (one_line (line ++ byte ∷ []) front (λ k h. none (suc k) (omega arith))
+    ∙ ap (λ l. without_return l ∷ []) (append_assoc line (byte ∷ []) front))
 
 -- bytes with no LF are a last line
-last_of : (line text : List ℕ) → ((k : ℕ) → k < length text → get_or text k 0 ≡ 10 → ⊥) → lines_from line text ≡ last_line (line ++ text)
+last_of : (line text : List ℕ) → ((k : ℕ) → k < length text → get_or text k 0 ≡ 10 → ⊥)
+    → lines_from line text ≡ last_line (line ++ text)
 last_of line [] none = rw (append-nil line) refl
 last_of line (byte ∷ text) none =
     let other : eqb byte 10 ≡ false = ne_eqb byte 10 (none 0 (omega arith)) in
-    rw other (last_of (line ++ byte ∷ []) text (λ k h. none (suc k) (omega arith)) ∙ ap last_line (append_assoc line (byte ∷ []) text))
+    rw other (last_of (line ++ byte ∷ []) text (λ k h. none (suc k) (omega arith))
+    ∙ ap last_line (append_assoc line (byte ∷ []) text))
 
 -- a CR at the end of a line that ended in LF goes
-pub without_return-last : (front : List ℕ) (last : ℕ) → without_return (front ++ last ∷ []) ≡ cond (eqb last 13) front (front ++ last ∷ [])
+pub without_return-last : (front : List ℕ) (last : ℕ)
+    → without_return (front ++ last ∷ []) ≡ cond (eqb last 13) front (front ++ last ∷ [])
 without_return-last [] last = refl
-without_return-last (a ∷ []) last = elim (eqb last 13) as (λ b. a ∷ cond b [] (last ∷ []) ≡ cond b (a ∷ []) (a ∷ last ∷ [])) [ true ↦ refl | false ↦ refl ]
+without_return-last (a ∷ []) last = elim (eqb last 13) as
+    (λ b. a ∷ cond b [] (last ∷ []) ≡ cond b (a ∷ []) (a ∷ last ∷ [])) [ true ↦ refl | false ↦ refl ]
 without_return-last (a ∷ b ∷ front) last =
     ap (λ l. a ∷ l) (without_return-last (b ∷ front) last)
-    ∙ elim (eqb last 13) as (λ t. a ∷ cond t (b ∷ front) (b ∷ (front ++ last ∷ [])) ≡ cond t (a ∷ b ∷ front) (a ∷ b ∷ (front ++ last ∷ [])))
+    ∙ elim (eqb last 13) as (λ t. a ∷ cond t (b ∷ front) (b ∷ (front ++ last ∷ []))
+    ≡ cond t (a ∷ b ∷ front) (a ∷ b ∷ (front ++ last ∷ [])))
     [ true ↦ refl | false ↦ refl ]
 
 -- a text with an LF begins with the line before it
-pub begins_with_line : (text : List ℕ) (end : ℕ) → end < length text → get_or text end 0 ≡ 10 → ((k : ℕ) → k < end → get_or text k 0 ≡ 10 → ⊥) →
+pub begins_with_line : (text : List ℕ) (end : ℕ) → end < length text → get_or text end 0 ≡ 10
+    → ((k : ℕ) → k < end → get_or text k 0 ≡ 10 → ⊥) →
     BeginsWith (take (end + 1) text) (written (without_return (take end text) ∷ [])) (drop (end + 1) text) text
 unfolding written_lines
 begins_with_line text end within here none =
@@ -90,7 +105,8 @@ begins_with_line text end within here none =
     record {
       whole = sym (take-append-drop (end + 1) text);
       first = ap (λ t. written (lines_from [] t)) front ∙ ap written (one_line [] (take end text) clear);
-      cut = subst (λ t. IsCut t (drop (end + 1) text)) (sym front) (cut_after_newline (take end text) (drop (end + 1) text));
+      cut = subst (λ t. IsCut t (drop (end + 1) text)) (sym front)
+          (cut_after_newline (take end text) (drop (end + 1) text));
     }
 
 -- a text with no LF is its last line
@@ -110,7 +126,8 @@ unfolding written_lines
 begins_with_nothing text = record { whole = refl; first = refl; cut = cut_at_start text }
 
 -- what stands behind a front comes after its lines
-pub one_after_another : (front next : List ℕ) (lines more : List (List ℕ)) (middle rest text : List ℕ) → BeginsWith front lines middle text →
+pub one_after_another : (front next : List ℕ) (lines more : List (List ℕ)) (middle rest text : List ℕ)
+    → BeginsWith front lines middle text →
     BeginsWith next more rest middle → BeginsWith (front ++ next) (lines ++ more) rest text
 one_after_another front next lines more middle rest text a b =
     let both : text ≡ front ++ (next ++ rest) = a.whole ∙ ap (λ t. front ++ t) b.whole in
@@ -125,7 +142,8 @@ one_after_another front next lines more middle rest text a b =
 pub lines_of_both : (front : List ℕ) (lines : List (List ℕ)) (rest text : List ℕ) → BeginsWith front lines rest text →
     written_lines text ≡ lines ++ written_lines rest
 lines_of_both front lines rest text a =
-    let cut : written_lines (front ++ rest) ≡ written_lines front ++ written_lines rest = a.cut.joins rest [] (append-nil rest) in
+    let cut : written_lines (front ++ rest) ≡ written_lines front ++ written_lines rest =
+    a.cut.joins rest [] (append-nil rest) in
     ap written_lines a.whole ∙ cut ∙ ap (λ ls. ls ++ written_lines rest) a.first
 
 -- the front of a text, by what is left of it
@@ -133,7 +151,8 @@ pub front_by_rest : (front : List ℕ) (lines : List (List ℕ)) (rest text : Li
     take (length text - length rest) text ≡ front
 front_by_rest front lines rest text a =
     rw (a.whole, length-append front rest)
-    (let n : (length front + length rest) - length rest ≡ length front = omega arith in rw (n, take-append_seam front rest) refl)
+    (let n : (length front + length rest) - length rest ≡ length front =
+    omega arith in rw (n, take-append_seam front rest) refl)
 
 -- what is left behind a place, up to the end
 pub behind : (text : List ℕ) (n : ℕ) → take (length text - n) (drop n text) ≡ drop n text
@@ -143,29 +162,37 @@ behind text n = rw (← length-drop n text) (take-length (drop n text))
 pub after_blank : (front next line middle rest text : List ℕ) → is_blank line ≡ true → BeginsWith front [] middle text →
     BeginsWith next (written (line ∷ [])) rest middle → BeginsWith (front ++ next) [] rest text
 after_blank front next line middle rest text blank a b =
-    one_after_another front next [] [] middle rest text a (subst (λ t. BeginsWith next (cond (not t) (line ∷ []) []) rest middle) blank b)
+    one_after_another front next [] [] middle rest text a
+    (subst (λ t. BeginsWith next (cond (not t) (line ∷ []) []) rest middle) blank b)
 
 -- a front without written lines, and then a line that counts
-pub before_line : (front next line middle rest text : List ℕ) → is_blank line ≡ false → BeginsWith front [] middle text →
+pub before_line : (front next line middle rest text : List ℕ) → is_blank line ≡ false
+    → BeginsWith front [] middle text →
     BeginsWith next (written (line ∷ [])) rest middle → BeginsWith (front ++ next) (line ∷ []) rest text
 before_line front next line middle rest text blank a b =
-    one_after_another front next [] (line ∷ []) middle rest text a (subst (λ t. BeginsWith next (cond (not t) (line ∷ []) []) rest middle) blank b)
+    one_after_another front next [] (line ∷ []) middle rest text a
+    (subst (λ t. BeginsWith next (cond (not t) (line ∷ []) []) rest middle) blank b)
 
 -- a text with an LF is the line before it, and then the lines behind it
-lines_by_newline : (line text : List ℕ) (end : ℕ) → end < length text → get_or text end 0 ≡ 10 → ((k : ℕ) → k < end → get_or text k 0 ≡ 10 → ⊥) →
+lines_by_newline : (line text : List ℕ) (end : ℕ) → end < length text → get_or text end 0 ≡ 10
+    → ((k : ℕ) → k < end → get_or text k 0 ≡ 10 → ⊥) →
     lines_from line text ≡ without_return (line ++ take end text) ∷ lines_from [] (drop (suc end) text)
 lines_by_newline line [] end within here none = absurd (omega arith)
 lines_by_newline line (byte ∷ text) zero within here none = rw (here, append-nil line) refl
 lines_by_newline line (byte ∷ text) (suc end) within here none =
     let other : eqb byte 10 ≡ false = ne_eqb byte 10 (none 0 (omega arith)) in
-    rw other (lines_by_newline (line ++ byte ∷ []) text end (omega arith) here (λ k h. none (suc k) (omega arith)) ∙ ap (λ l. without_return l ∷ lines_from [] (drop (suc end) text)) (append_assoc line (byte ∷ []) (take end text)))
+    rw other (lines_by_newline (line ++ byte ∷ []) text end (omega arith) here (λ k h. none (suc k) (omega arith))
+    ∙ ap (λ l. without_return l ∷ lines_from [] (drop (suc end) text))
+    (append_assoc line (byte ∷ []) (take end text)))
 
-pub lines_at_newline : (text : List ℕ) (end : ℕ) → end < length text → get_or text end 0 ≡ 10 → ((k : ℕ) → k < end → get_or text k 0 ≡ 10 → ⊥) →
+pub lines_at_newline : (text : List ℕ) (end : ℕ) → end < length text → get_or text end 0 ≡ 10
+    → ((k : ℕ) → k < end → get_or text k 0 ≡ 10 → ⊥) →
     lines_of text ≡ without_return (take end text) ∷ lines_of (drop (end + 1) text)
 lines_at_newline text end within here none = rw (add-one) (lines_by_newline [] text end within here none)
 
 -- what is behind the first LF is the rest
-rest_by_newline : (text : List ℕ) (end : ℕ) → end < length text → get_or text end 0 ≡ 10 → ((k : ℕ) → k < end → get_or text k 0 ≡ 10 → ⊥) →
+rest_by_newline : (text : List ℕ) (end : ℕ) → end < length text → get_or text end 0 ≡ 10
+    → ((k : ℕ) → k < end → get_or text k 0 ≡ 10 → ⊥) →
     drop (suc end) text ≡ rest_of text
 rest_by_newline [] end within here none = absurd (omega arith)
 rest_by_newline (byte ∷ text) zero within here none = rw here refl
@@ -173,7 +200,8 @@ rest_by_newline (byte ∷ text) (suc end) within here none =
     let other : eqb byte 10 ≡ false = ne_eqb byte 10 (none 0 (omega arith)) in
     rw other (rest_by_newline text end (omega arith) here (λ k h. none (suc k) (omega arith)))
 
-pub rest_at_newline : (text : List ℕ) (end : ℕ) → end < length text → get_or text end 0 ≡ 10 → ((k : ℕ) → k < end → get_or text k 0 ≡ 10 → ⊥) →
+pub rest_at_newline : (text : List ℕ) (end : ℕ) → end < length text → get_or text end 0 ≡ 10
+    → ((k : ℕ) → k < end → get_or text k 0 ≡ 10 → ⊥) →
     drop (end + 1) text ≡ rest_of text
 rest_at_newline text end within here none = rw (add-one) (rest_by_newline text end within here none)
 

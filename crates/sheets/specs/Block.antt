@@ -17,7 +17,8 @@ opens_block_of company other = false
 -- the lines of the company's first block among these parts; without one there are none
 abbrev pub block_in : Company → List Part → List Numbered
 block_in company [] = []
-block_in company (part ∷ parts) = if opens_block_of company part.head.reading then part.lines else block_in company parts
+block_in company (part ∷ parts) = if opens_block_of company part.head.reading then part.lines else block_in company
+    parts
 
 -- the lines of the company's block in the sheet of a seat for a round; without a sheet there are none
 abbrev pub block_for : List ℕ → Round → ℕ → Company → List Numbered

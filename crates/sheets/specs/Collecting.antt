@@ -27,24 +27,30 @@ IsOpen (Some sheet) (Some current) rest =
 -- the open sheet, with the lines that are still to come in it
 abbrev pub open_with : Option Open → List (List ℕ) → SheetKey → Option (List (List ℕ))
 open_with None more sheet_key = None
-open_with (Some current) more sheet_key = if same_sheet_key current.sheet_key sheet_key then Some (current.lines ++ block more) else None
+open_with (Some current) more sheet_key = if same_sheet_key current.sheet_key sheet_key then Some
+    (current.lines ++ block more) else None
 
 -- a sheet once these lines are read too
-abbrev pub sheet_with : List (List ℕ) → Option Open → (SheetKey → Option (List (List ℕ))) → List (List ℕ) → SheetKey → Option (List (List ℕ))
+abbrev pub sheet_with : List (List ℕ) → Option Open → (SheetKey → Option (List (List ℕ))) → List (List ℕ) → SheetKey
+    → Option (List (List ℕ))
 sheet_with players current sheets lines sheet_key =
     option_or (sheet_in players lines sheet_key) (option_or (open_with current lines sheet_key) (sheets sheet_key))
 
 -- what is kept and what is left are together what the whole body has
-pub record Stands (version : Version) (players body lines : List (List ℕ)) (current : Option Open) (sheets : SheetKey → Option (List (List ℕ))) (unread : List Fault) (good : ℕ) : Type 0 where
-  pub sheets_are : (sheet_key : SheetKey) → sheet_with players current sheets lines sheet_key ≡ sheet_in players body sheet_key
+pub record Stands (version : Version) (players body lines : List (List ℕ)) (current : Option Open)
+    (sheets : SheetKey → Option (List (List ℕ))) (unread : List Fault) (good : ℕ) : Type 0 where
+  pub sheets_are : (sheet_key : SheetKey) → sheet_with players current sheets lines sheet_key
+      ≡ sheet_in players body sheet_key
   pub unread_are : unread ++ unread_in version players (is_some current) lines ≡ unread_in version players false body
   pub good_are : good + good_lines players lines ≡ good_lines players body
   pub few : good ≤ sheets_most
 
 -- the same, where this text is left
-abbrev pub Reaches : Version → List (List ℕ) → List (List ℕ) → List ℕ → Option OpenSheet → (SheetKey → Option (List (List ℕ))) → List Fault → ℕ → Type 0
+abbrev pub Reaches : Version → List (List ℕ) → List (List ℕ) → List ℕ → Option OpenSheet
+    → (SheetKey → Option (List (List ℕ))) → List Fault → ℕ → Type 0
 Reaches version players body rest sheet sheets unread good =
-    (current : Option Open) × IsOpen sheet current rest × Stands version players body (written_lines rest) current sheets unread good
+    (current : Option Open) × IsOpen sheet current rest
+    × Stands version players body (written_lines rest) current sheets unread good
 
 -- the sheets once an open one is kept that ends where this is left
 abbrev pub closed : Option OpenSheet → List ℕ → (SheetKey → Option (List (List ℕ))) → SheetKey → Option (List (List ℕ))
@@ -80,7 +86,8 @@ StopsBy good TooManySheets = sheets_most < good
 StopsBy good other = ⊥
 
 -- what a file is kept as
-pub record IsCollected (file : List ℕ) (version : Version) (players : List (List ℕ)) (sheets : SheetKey → Option (List (List ℕ))) (unread : List Fault) : Type 0 where
+pub record IsCollected (file : List ℕ) (version : Version) (players : List (List ℕ))
+    (sheets : SheetKey → Option (List (List ℕ))) (unread : List Fault) : Type 0 where
   pub accepted : IsAccepted file
   pub version_is : version ≡ version_of file
   pub players_are : players ≡ players_of file

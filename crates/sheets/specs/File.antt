@@ -160,7 +160,8 @@ pub record Content : Type 0 where
 abbrev pub body_content : List (List ℕ) → Option (List (List ℕ)) → Result Content FileFault
 body_content body None = Err Players
 body_content body (Some players) =
-    if nat_lt sheets_most (good_lines players body) then Err TooManySheets else Ok (record { players = players; body = body })
+    if nat_lt sheets_most (good_lines players body) then Err TooManySheets else Ok
+    (record { players = players; body = body })
 
 -- what the lines after the header line say
 abbrev pub players_content : List (List ℕ) → Result Content FileFault
@@ -234,4 +235,5 @@ posts_of file seat = sent_in (players_of file) (body_of file) seat
 -- the last of some sheets that is for a round
 abbrev pub last_for : Round → List Sent → Option (List (List ℕ))
 last_for round [] = None
-last_for round (sent ∷ more) = option_or (last_for round more) (if same_round sent.round round then Some sent.lines else None)
+last_for round (sent ∷ more) = option_or (last_for round more)
+    (if same_round sent.round round then Some sent.lines else None)

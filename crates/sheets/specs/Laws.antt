@@ -14,7 +14,8 @@ use Rattle.tables.specs.declared.round.Round.TheVariants.{Opening, Stock, Operat
 
 -- a player's sheet for a round is the last that was sent for it
 abbrev pub LastSheetCounts : Type 0
-LastSheetCounts = (file : List ℕ) (seat : ℕ) (round : Round) → sheet_of file seat round ≡ last_for round (posts_of file seat)
+LastSheetCounts = (file : List ℕ) (seat : ℕ) (round : Round)
+    → sheet_of file seat round ≡ last_for round (posts_of file seat)
 
 -- each player sent the same sheets in the same order
 abbrev pub SentTheSame : List ℕ → List ℕ → Type 0
@@ -72,8 +73,10 @@ number_of (Operating set number) = set
 
 -- a sheet's round has a number that a line may have
 abbrev pub SheetsAreNumbered : Type 0
-SheetsAreNumbered = (file : List ℕ) (seat : ℕ) (round : Round) → IsSome (sheet_of file seat round) → number_of round ≤ number_most
+SheetsAreNumbered = (file : List ℕ) (seat : ℕ) (round : Round) → IsSome (sheet_of file seat round)
+    → number_of round ≤ number_most
 
 -- a sheet has no more groups or blocks than lines that may be orders
 abbrev pub SheetsHaveFewGroups : Type 0
-SheetsHaveFewGroups = (file : List ℕ) (round : Round) (seat : ℕ) → length (groups_of (parts_for file round seat)) ≤ lines_most
+SheetsHaveFewGroups = (file : List ℕ) (round : Round) (seat : ℕ)
+    → length (groups_of (parts_for file round seat)) ≤ lines_most

@@ -15,11 +15,14 @@ after_each step state [] = state
 after_each step state (item ∷ items) = after_each step (step state item) items
 
 -- after the standing lines of a seat's sheet for a round, where a line of a seat does this
-abbrev pub after_lines_before : {State : Type 0} → (Seat → State → Numbered → State) → List ℕ → Round → State → ℕ → State
-after_lines_before step file round state seat = after_each (step (seat_at seat)) state (parts_for file round seat).before
+abbrev pub after_lines_before : {State : Type 0} → (Seat → State → Numbered → State) → List ℕ → Round → State → ℕ
+    → State
+after_lines_before step file round state seat =
+    after_each (step (seat_at seat)) state (parts_for file round seat).before
 
 -- after the standing lines of these seats, in order
-abbrev pub after_all_before : {State : Type 0} → (Seat → State → Numbered → State) → List ℕ → Round → State → List ℕ → State
+abbrev pub after_all_before : {State : Type 0} → (Seat → State → Numbered → State) → List ℕ → Round → State → List ℕ
+    → State
 after_all_before step file round state seats = after_each (after_lines_before step file round) state seats
 
 -- the groups of each seat's sheet for a round
@@ -31,6 +34,8 @@ abbrev pub in_play : {State : Type 0} → State → ℕ → ℕ → List (List (
 in_play state seat passes groups = record { now = state; seat = seat; passes = passes; groups = groups }
 
 -- what is told of the lines that were not taken up, seat by seat, where so much is told in front of the rest
-abbrev pub told_of_left : {Told : Type 0} → (Seat → ℕ → List Told → List Told) → ℕ → List (List (List Numbered)) → List Told
+abbrev pub told_of_left : {Told : Type 0} → (Seat → ℕ → List Told → List Told) → ℕ → List (List (List Numbered))
+    → List Told
 told_of_left tell seat [] = []
-told_of_left tell seat (groups ∷ others) = tell (seat_at seat) (lines_in_groups groups) (told_of_left tell (seat + 1) others)
+told_of_left tell seat (groups ∷ others) = tell (seat_at seat) (lines_in_groups groups)
+    (told_of_left tell (seat + 1) others)

@@ -44,7 +44,8 @@ written_lines text = written (lines_of text)
 
 -- the lines of a front of a text and of any part of the rest are those of both together
 pub record IsCut (front rest : List ℕ) : Type 0 where
-  pub joins : (more left : List ℕ) → more ++ left ≡ rest → written_lines (front ++ more) ≡ written_lines front ++ written_lines more
+  pub joins : (more left : List ℕ) → more ++ left ≡ rest
+      → written_lines (front ++ more) ≡ written_lines front ++ written_lines more
 
 -- a text is a front with these written lines, cut from the rest
 pub record BeginsWith (front : List ℕ) (lines : List (List ℕ)) (rest text : List ℕ) : Type 0 where

@@ -32,23 +32,28 @@ module _ (seat : Seat) (seats : ℕ) where
   -- nobody acts where the bank breaks
   in_break : (events : List Event) → TellsWhoActed seat false events (with_broken seats events)
   in_break events =
-      in_either seat false events (events ++ event.Broken ∷ []) events (breaks seats events) (one_more seat false events event.Broken refl) (nobody seat events)
+      in_either seat false events (events ++ event.Broken ∷ []) events (breaks seats events)
+      (one_more seat false events event.Broken refl) (nobody seat events)
 
   -- nor where a presidency moves from this seat, if any has it
-  in_succession : (events : List Event) (company : Company) (old : Option Seat) → TellsWhoActed seat false events (with_successor seats events company old)
+  in_succession : (events : List Event) (company : Company) (old : Option Seat)
+      → TellsWhoActed seat false events (with_successor seats events company old)
   in_succession events company None = nobody seat events
   in_succession events company (Some old) =
       let new : Seat = successor_of seats events company old in
-      in_either seat false events events (events ++ event.President company new ∷ []) (new.0 == old.0) (nobody seat events)
+      in_either seat false events events (events ++ event.President company new ∷ []) (new.0 == old.0)
+      (nobody seat events)
       (one_more seat false events (event.President company new) refl)
 
   -- nor where a company floats
-  in_float : (events : List Event) (company : Company) → TellsWhoActed seat false events (with_float seats events company)
+  in_float : (events : List Event) (company : Company)
+      → TellsWhoActed seat false events (with_float seats events company)
   in_float events company =
       let par : ℕ = unwrap_or (par_of events company) 0 in
       let told : List Event = events ++ event.Floats company (10 * par) ∷ [] in
       in_either seat false events (floated_at seats events company par) events (is_to_float events company)
-      (in_both seat false false events told (with_broken seats told) (one_more seat false events (event.Floats company (10 * par)) refl) (in_break told))
+      (in_both seat false false events told (with_broken seats told)
+      (one_more seat false events (event.Floats company (10 * par)) refl) (in_break told))
       (nobody seat events)
 
   -- nor where a token moves from this square, if it is on one
@@ -56,39 +61,49 @@ module _ (seat : Seat) (seats : ℕ) where
       TellsWhoActed seat false events (moved_from move events company square)
   in_move move events company None = nobody seat events
   in_move move events company (Some square) =
-      in_either seat false events events (events ++ event.Moves company (move square) ∷ []) (same_square (move square) square) (nobody seat events)
+      in_either seat false events events (events ++ event.Moves company (move square) ∷ [])
+      (same_square (move square) square) (nobody seat events)
       (one_more seat false events (event.Moves company (move square)) refl)
 
   -- nor by what follows from tenths that have moved
-  in_what_follows : (events : List Event) (company : Company) → TellsWhoActed seat false events (with_float seats (with_president seats events company) company)
+  in_what_follows : (events : List Event) (company : Company)
+      → TellsWhoActed seat false events (with_float seats (with_president seats events company) company)
   in_what_follows events company =
       let presided : List Event = with_president seats events company in
-      in_both seat false false events presided (with_float seats presided company) (in_succession events company (president_of events company)) (in_float presided company)
+      in_both seat false false events presided (with_float seats presided company)
+      (in_succession events company (president_of events company)) (in_float presided company)
 
   -- by a purchase the seat acts
-  in_purchase : (events : List Event) (company : Company) (from : ShareSource) → TellsWhoActed seat true events (after_purchase seats events seat company from)
+  in_purchase : (events : List Event) (company : Company) (from : ShareSource)
+      → TellsWhoActed seat true events (after_purchase seats events seat company from)
   in_purchase events company from =
       let paid : List Event = bought events seat company from in
       in_both seat true false events paid (after_purchase seats events seat company from)
-      (one_more seat true events (event.Bought company seat 1 from (tenth_price_of events company from)) refl) (in_what_follows paid company)
+      (one_more seat true events (event.Bought company seat 1 from (tenth_price_of events company from)) refl)
+      (in_what_follows paid company)
 
   -- nobody acts by the events of a sale, since its line has told of it
-  in_sale : (events : List Event) (company : Company) (tenths : ℕ) → TellsWhoActed seat false events (after_sale seats events seat company tenths)
+  in_sale : (events : List Event) (company : Company) (tenths : ℕ)
+      → TellsWhoActed seat false events (after_sale seats events seat company tenths)
   in_sale events company tenths =
       let price : ℕ = tenths * market_price_of events company in
       let told : List Event = events ++ event.Sells company seat tenths price ∷ [] in
       let paid : List Event = sold seats events seat company tenths in
       let presided : List Event = with_president seats paid company in
       in_both seat false false events paid (after_sale seats events seat company tenths)
-      (in_both seat false false events told paid (one_more seat false events (event.Sells company seat tenths price) refl) (in_break told))
-      (in_both seat false false paid presided (after_sale seats events seat company tenths) (in_succession paid company (president_of paid company)) (in_move (fallen tenths) presided company (square_of presided company)))
+      (in_both seat false false events told paid (one_more seat false events (event.Sells company seat tenths price)
+      refl) (in_break told))
+      (in_both seat false false paid presided (after_sale seats events seat company tenths)
+      (in_succession paid company (president_of paid company))
+      (in_move (fallen tenths) presided company (square_of presided company)))
 
   -- nor by an exchange
   in_exchange : (events : List Event) → TellsWhoActed seat false events (after_exchange seats events seat)
   in_exchange events =
       let done : List Event = exchanged events seat in
       in_both seat false false events done (after_exchange seats events seat)
-      (one_more seat false events (event.Exchanged seat (exchange_source events)) refl) (in_what_follows done NewYorkCentral)
+      (one_more seat false events (event.Exchanged seat (exchange_source events)) refl)
+      (in_what_follows done NewYorkCentral)
 
 -- who has bought has acted
 has_bought : (before : Bool) → true ≡ (before || true)
@@ -102,14 +117,16 @@ has_sold false true = refl
 has_sold false false = refl
 
 -- by a line whose order is done
-order_tells : (seats : ℕ) (seat : Seat) (turn : InTurn) (number : ℕ) (condition : Option Condition) (done : Order) → refusal_of seats turn.events seat turn.actions.bought done ≡ None →
+order_tells : (seats : ℕ) (seat : Seat) (turn : InTurn) (number : ℕ) (condition : Option Condition) (done : Order)
+    → refusal_of seats turn.events seat turn.actions.bought done ≡ None →
     LineTells stock_rules seat turn (after_ruling seats seat turn number (Obeyed condition done))
 order_tells seats seat turn number condition (order.Par company price) kept =
     let line : Event = event.Ruled seat number (Obeyed condition (order.Par company price)) in
     let ruled : List Event = turn.events ++ line ∷ [] in
     record {
       acts = true;
-      told = in_both seat false true turn.events ruled (after_start ruled seat company price) (one_more seat false turn.events line refl) (record { more = _; longer = refl; last = refl });
+      told = in_both seat false true turn.events ruled (after_start ruled seat company price)
+          (one_more seat false turn.events line refl) (record { more = _; longer = refl; last = refl });
       acted = has_bought (is_some turn.actions.bought || turn.actions.sold);
     }
 order_tells seats seat turn number condition (order.BuyShare company from) kept =
@@ -117,7 +134,8 @@ order_tells seats seat turn number condition (order.BuyShare company from) kept 
     let ruled : List Event = turn.events ++ line ∷ [] in
     record {
       acts = true;
-      told = in_both seat false true turn.events ruled (after_purchase seats ruled seat company from) (one_more seat false turn.events line refl) (in_purchase seat seats ruled company from);
+      told = in_both seat false true turn.events ruled (after_purchase seats ruled seat company from)
+          (one_more seat false turn.events line refl) (in_purchase seat seats ruled company from);
       acted = has_bought (is_some turn.actions.bought || turn.actions.sold);
     }
 order_tells seats seat turn number condition (order.Sell company tenths) kept =
@@ -125,7 +143,8 @@ order_tells seats seat turn number condition (order.Sell company tenths) kept =
     let ruled : List Event = turn.events ++ line ∷ [] in
     record {
       acts = true;
-      told = in_both seat true false turn.events ruled (after_sale seats ruled seat company tenths) (one_more seat true turn.events line refl) (in_sale seat seats ruled company tenths);
+      told = in_both seat true false turn.events ruled (after_sale seats ruled seat company tenths)
+          (one_more seat true turn.events line refl) (in_sale seat seats ruled company tenths);
       acted = has_sold (is_some turn.actions.bought) turn.actions.sold;
     }
 order_tells seats seat turn number condition order.ExchangeMohawk kept =
@@ -133,7 +152,8 @@ order_tells seats seat turn number condition order.ExchangeMohawk kept =
     let ruled : List Event = turn.events ++ line ∷ [] in
     record {
       acts = false;
-      told = in_both seat false false turn.events ruled (after_exchange seats ruled seat) (one_more seat false turn.events line refl) (in_exchange seat seats ruled);
+      told = in_both seat false false turn.events ruled (after_exchange seats ruled seat)
+          (one_more seat false turn.events line refl) (in_exchange seat seats ruled);
       acted = or_nothing (is_some turn.actions.bought || turn.actions.sold);
     }
 order_tells seats seat turn number condition other kept = absurd (cc)
@@ -143,5 +163,7 @@ pub stock_turns_tell : TurnsTellWhoActed stock_rules
 stock_turns_tell =
     turns_tell stock_rules refl
     (λ (seats : ℕ) (seat : Seat) (turn : InTurn) (line : Numbered).
-    of_ruled (acted seats seat) (refusal_of seats turn.events seat turn.actions.bought) seat turn line.number (LineTells stock_rules seat turn)
-    (nobody_ruled stock_rules seat turn line.number) (order_tells seats seat turn line.number) has_place_in_group turn.events line)
+    of_ruled (acted seats seat) (refusal_of seats turn.events seat turn.actions.bought) seat turn line.number
+    (LineTells stock_rules seat turn)
+    (nobody_ruled stock_rules seat turn line.number) (order_tells seats seat turn line.number) has_place_in_group
+    turn.events line)

@@ -31,7 +31,8 @@ float_most = 4
 
 -- few enough tenths are left in the initial offering, and the company has not floated
 abbrev pub is_to_float : List Event → Company → Bool
-is_to_float events company = not (is_floated events company) && not (lt_z (pos float_most) (shares_of events company AtOffering))
+is_to_float events company = not (is_floated events company)
+    && not (lt_z (pos float_most) (shares_of events company AtOffering))
 
 -- with FLOATS for a company with this par value, and BROKEN where that breaks the bank
 abbrev pub floated_at : ℕ → List Event → Company → ℕ → List Event

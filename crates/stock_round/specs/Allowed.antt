@@ -21,7 +21,8 @@ pub record MayStart (seats : ℕ) (events : List Event) (seat : Seat) (company :
   pub pays : is_short_of_cash seats events seat (president_tenths * price) ≡ false
 
 -- the seat can buy a tenth of the company from there
-pub record MayBuy (seats : ℕ) (events : List Event) (seat : Seat) (company : Company) (from : ShareSource) : Type 0 where
+pub record MayBuy (seats : ℕ) (events : List Event) (seat : Seat) (company : Company) (from : ShareSource) : Type
+    0 where
   pub there : is_sold_out_there events (purchase.Share company from) ≡ false
   pub started : is_started events company ≡ true
   pub pays : is_short_of_cash seats events seat (tenth_price_of events company from) ≡ false
@@ -34,6 +35,7 @@ MayExchange events seat = is_no_exchange events seat ≡ false
 abbrev pub MayAct : ℕ → List Event → Seat → Order → Type 0
 MayAct seats events seat (Par company price) = MayStart seats events seat company price
 MayAct seats events seat (BuyShare company from) = MayBuy seats events seat company from
-MayAct seats events seat (Sell company tenths) = MaySell seats events seat (record { company = company; tenths = tenths })
+MayAct seats events seat (Sell company tenths) =
+    MaySell seats events seat (record { company = company; tenths = tenths })
 MayAct seats events seat ExchangeMohawk = MayExchange events seat
 MayAct seats events seat other = Unit {0}

@@ -54,7 +54,8 @@ exchange_tenths = 1
 -- pool has one; the seat would hold over six tenths
 abbrev pub is_no_exchange : List Event → Seat → Bool
 is_no_exchange events seat =
-    not (is_owner seat (owner_of events MohawkHudson)) || (not (is_offered events || is_pooled events) || is_over_six events seat NewYorkCentral exchange_tenths)
+    not (is_owner seat (owner_of events MohawkHudson))
+    || (not (is_offered events || is_pooled events) || is_over_six events seat NewYorkCentral exchange_tenths)
 
 -- the rule that an exchange may break
 abbrev pub exchange_rules : List Event → Seat → List (Rule StockRule)
@@ -63,9 +64,12 @@ exchange_rules events seat = record { code = NoExchange; broken = is_no_exchange
 -- the first rule that an order breaks in a turn in which the seat has bought of this company, if it has
 -- bought; any order but these four breaks the first
 abbrev pub judgement_of : ℕ → List Event → Seat → Option Company → Order → Option StockRule
-judgement_of seats events seat bought (Par company price) = purchase_judgement seats events seat (purchase.Par company price) bought
-judgement_of seats events seat bought (BuyShare company from) = purchase_judgement seats events seat (purchase.Share company from) bought
-judgement_of seats events seat bought (Sell company tenths) = sale_judgement seats events seat (record { company = company; tenths = tenths }) None
+judgement_of seats events seat bought (Par company price) =
+    purchase_judgement seats events seat (purchase.Par company price) bought
+judgement_of seats events seat bought (BuyShare company from) =
+    purchase_judgement seats events seat (purchase.Share company from) bought
+judgement_of seats events seat bought (Sell company tenths) =
+    sale_judgement seats events seat (record { company = company; tenths = tenths }) None
 judgement_of seats events seat bought ExchangeMohawk = first_broken (exchange_rules events seat)
 judgement_of seats events seat bought other = Some NotOfStock
 

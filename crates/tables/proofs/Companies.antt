@@ -13,7 +13,8 @@ at_place _ = refl
 -- companies that pass for one are one
 pub company_is : (a b : Company) → same_company a b ≡ true → a ≡ b
 company_is a b same =
-    sym (at_place a) ∙ ap (λ n. get_or companies n Pennsylvania) (eqb-true (place_of_company a) (place_of_company b) same) ∙ at_place b
+    sym (at_place a) ∙ ap (λ n. get_or companies n Pennsylvania)
+    (eqb-true (place_of_company a) (place_of_company b) same) ∙ at_place b
 
 -- one company passes for itself
 pub company_is_same : (a b : Company) → a ≡ b → same_company a b ≡ true

@@ -87,7 +87,8 @@ revenue_of BaltimoreOhio = 30
 -- what each player begins with
 abbrev pub start_money_of : ℕ → ℕ
 start_money_of players =
-    if players == 3 then 800 else if players == 4 then 600 else if players == 5 then 480 else if players == 6 then 400 else 0
+    if players == 3 then 800 else if players == 4 then 600 else if players == 5 then 480 else if players ==
+    6 then 400 else 0
 
 -- what the bank begins with: 12,000 less what the players are paid
 abbrev pub bank_start_of : ℕ → ℕ
@@ -96,7 +97,8 @@ bank_start_of players = 12000 - players * start_money_of players
 -- how many certificates a player may hold that count
 abbrev pub certificate_limit_of : ℕ → ℕ
 certificate_limit_of players =
-    if players == 3 then 20 else if players == 4 then 16 else if players == 5 then 13 else if players == 6 then 11 else 0
+    if players == 3 then 20 else if players == 4 then 16 else if players == 5 then 13 else if players ==
+    6 then 11 else 0
 
 -- how many tokens a company has, its home token among them
 abbrev pub token_supply_of : Company → ℕ

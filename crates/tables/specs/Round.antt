@@ -46,7 +46,8 @@ is_before a b = nat_lt (rank_of a) (rank_of b)
 -- the order of rounds in words of its own
 pub record RoundsAreInOrder : Type 0 where
   pub openings : (a b : ℕ) → a < b → is_before (Opening a) (Opening b) ≡ true
-  pub openings_first : (number set : ℕ) → IsRoundNumber number → IsRoundNumber set → is_before (Opening number) (Stock set) ≡ true
+  pub openings_first : (number set : ℕ) → IsRoundNumber number → IsRoundNumber set
+      → is_before (Opening number) (Stock set) ≡ true
   pub stock_first : (set : ℕ) → is_before (Stock set) (Operating set 1) ≡ true
   pub operating : (set number : ℕ) → is_before (Operating set number) (Operating set (number + 1)) ≡ true
   pub next_set : (set number : ℕ) → number ≤ operating_most → is_before (Operating set number) (Stock (set + 1)) ≡ true

@@ -20,7 +20,8 @@ AreKept (rule ∷ rules) = (rule.broken ≡ false) × AreKept rules
 -- a rule with this code is broken, and each before it is kept
 abbrev pub BreaksFirst : {Code : Type 0} → Code → List (Rule Code) → Type 0
 BreaksFirst code [] = ⊥
-BreaksFirst code (rule ∷ rules) = ((rule.broken ≡ true) × (rule.code ≡ code)) ⊎ ((rule.broken ≡ false) × BreaksFirst code rules)
+BreaksFirst code (rule ∷ rules) = ((rule.broken ≡ true) × (rule.code ≡ code))
+    ⊎ ((rule.broken ≡ false) × BreaksFirst code rules)
 
 -- where no rule of a table is broken, each is kept
 abbrev pub KeptWhereNoneIsBroken : Type 0 → Type 0
@@ -28,4 +29,5 @@ KeptWhereNoneIsBroken Code = (rules : List (Rule Code)) → first_broken rules �
 
 -- the code that a table gives is that of a rule that is broken while each before it is kept
 abbrev pub FirstOfThoseBroken : Type 0 → Type 0
-FirstOfThoseBroken Code = (code : Code) (rules : List (Rule Code)) → first_broken rules ≡ Some code → BreaksFirst code rules
+FirstOfThoseBroken Code = (code : Code) (rules : List (Rule Code)) → first_broken rules ≡ Some code
+    → BreaksFirst code rules

@@ -94,9 +94,11 @@ TurnsEndOnce State Line =
 -- turns have an outcome soon, where no seat acts without lines and none has over 512 groups
 abbrev pub TurnsEndSoon : Type 0 → Type 0 → Type 0
 TurnsEndSoon State Line =
-    (play : Play State Line) (start : InPlay State Line) → IsIdleWithoutLines play → CanBegin play start → EndSoon play start
+    (play : Play State Line) (start : InPlay State Line) → IsIdleWithoutLines play → CanBegin play start
+    → EndSoon play start
 
 -- each turn brings the end nearer, where no seat acts without lines
 abbrev pub TurnsComeNearer : Type 0 → Type 0 → Type 0
 TurnsComeNearer State Line =
-    (play : Play State Line) (at : InPlay State Line) → IsIdleWithoutLines play → turns_over play at ≡ false → turns_most play (after_turn play at) < turns_most play at
+    (play : Play State Line) (at : InPlay State Line) → IsIdleWithoutLines play → turns_over play at ≡ false
+    → turns_most play (after_turn play at) < turns_most play at

@@ -25,7 +25,8 @@ HasAccount (party.Holder (holder.Company company)) = Unit {0}
 abbrev pub cash_in : Accounts → Party → ℤ
 cash_in accounts party.Bank = accounts.bank
 cash_in accounts (party.Holder (holder.Seat seat)) = slice_index_or accounts.seats seat.0 (pos 0)
-cash_in accounts (party.Holder (holder.Company company)) = slice_index_or accounts.companies (place_of_company company) (pos 0)
+cash_in accounts (party.Holder (holder.Company company)) =
+    slice_index_or accounts.companies (place_of_company company) (pos 0)
 
 -- each account holds what its party has in a game
 abbrev pub AreAccountsOf : Game → Accounts → Type 0
@@ -53,7 +54,8 @@ part_of of party sum = if same_party of party then sum else pos 0
 -- what they had
 abbrev pub ArePaid : Accounts → Accounts → Party → Party → ℤ → Type 0
 ArePaid old new from to sum =
-    (party : Party) → HasAccount party → cash_in new party ≡ (cash_in old party +ℤ part_of to party sum) -ℤ part_of from party sum
+    (party : Party) → HasAccount party → cash_in new party
+    ≡ (cash_in old party +ℤ part_of to party sum) -ℤ part_of from party sum
 
 -- a sum that an event can name
 abbrev pub IsSum : ℤ → Type 0
@@ -76,7 +78,8 @@ AreModerateForSeats cash = (number : ℕ) → number < 6 → IsModerate (slice_i
 -- the cash of each company
 abbrev pub AreOfCompanies : ℕ → List Event → List ℤ → Type 0
 AreOfCompanies seats events cash =
-    (company : Company) → slice_index_or cash (place_of_company company) (pos 0) ≡ cash_of seats events (party.Holder (holder.Company company))
+    (company : Company) → slice_index_or cash (place_of_company company) (pos 0)
+    ≡ cash_of seats events (party.Holder (holder.Company company))
 
 -- no company has, or owes, more than 2 ^ 100
 abbrev pub AreModerateForCompanies : List ℤ → Type 0

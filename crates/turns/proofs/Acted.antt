@@ -35,7 +35,8 @@ said_in_both {A} says (event ∷ front) back =
 
 -- the seat acted in the one or the other
 in_one_of_both : (seat : Seat) (first second : Bool) →
-    option_or (if second then Some seat else None) (if first then Some seat else None) ≡ (if first || second then Some seat else None)
+    option_or (if second then Some seat else None) (if first then Some seat else None)
+    ≡ (if first || second then Some seat else None)
 in_one_of_both seat true true = refl
 in_one_of_both seat true false = refl
 in_one_of_both seat false true = refl
@@ -46,17 +47,20 @@ pub nobody : (seat : Seat) (events : List Event) → TellsWhoActed seat false ev
 nobody seat events = record { more = []; longer = sym (append-nil events); last = refl }
 
 -- by one more event
-pub one_more : (seat : Seat) (acted : Bool) (events : List Event) (event : Event) → actor_of event ≡ (if acted then Some seat else None) →
+pub one_more : (seat : Seat) (acted : Bool) (events : List Event) (event : Event)
+    → actor_of event ≡ (if acted then Some seat else None) →
     TellsWhoActed seat acted events (events ++ event ∷ [])
 one_more seat acted events event says = record { more = event ∷ []; longer = refl; last = says }
 
 -- a list that goes on, and then on
-pub in_both : (seat : Seat) (first second : Bool) (a b c : List Event) → TellsWhoActed seat first a b → TellsWhoActed seat second b c →
+pub in_both : (seat : Seat) (first second : Bool) (a b c : List Event) → TellsWhoActed seat first a b
+    → TellsWhoActed seat second b c →
     TellsWhoActed seat (first || second) a c
 in_both seat first second a b c before after =
     record {
       more = before.more ++ after.more;
-      longer = after.longer ∙ ap (λ (list : List Event). list ++ after.more) before.longer ∙ append_assoc a before.more after.more;
+      longer = after.longer ∙ ap (λ (list : List Event). list ++ after.more) before.longer
+          ∙ append_assoc a before.more after.more;
       last =
           said_in_both actor_of before.more after.more
           ∙ ap (λ (later : Option Seat). option_or later (last_said actor_of before.more)) after.last
@@ -65,20 +69,24 @@ in_both seat first second a b c before after =
     }
 
 -- nor do steps in none of which anybody acted
-pub nobody_in_steps : (seat : Seat) (step : List Event → List Event) → ((events : List Event) → TellsWhoActed seat false events (step events)) →
+pub nobody_in_steps : (seat : Seat) (step : List Event → List Event)
+    → ((events : List Event) → TellsWhoActed seat false events (step events)) →
     (n : ℕ) (events : List Event) → TellsWhoActed seat false events (iterate step n events)
 nobody_in_steps seat step each zero events = nobody seat events
 nobody_in_steps seat step each (suc n) events =
-    in_both seat false false events (iterate step n events) (step (iterate step n events)) (nobody_in_steps seat step each n events) (each (iterate step n events))
+    in_both seat false false events (iterate step n events) (step (iterate step n events))
+    (nobody_in_steps seat step each n events) (each (iterate step n events))
 
 -- either of two lists
-pub in_either : (seat : Seat) (acted : Bool) (old one other : List Event) (b : Bool) → TellsWhoActed seat acted old one →
+pub in_either : (seat : Seat) (acted : Bool) (old one other : List Event) (b : Bool)
+    → TellsWhoActed seat acted old one →
     TellsWhoActed seat acted old other → TellsWhoActed seat acted old (if b then one else other)
 in_either seat acted old one other true first second = first
 in_either seat acted old one other false first second = second
 
 -- a line of a turn tells who acted in it, and the turn has it too
-pub record LineTells {TurnActions : Type 0} (rules : RoundRules TurnActions) (seat : Seat) (old new : InTurn TurnActions) : Type 0 where
+pub record LineTells {TurnActions : Type 0} (rules : RoundRules TurnActions) (seat : Seat)
+    (old new : InTurn TurnActions) : Type 0 where
   pub acts : Bool
   pub told : TellsWhoActed seat acts old.events new.events
   pub acted : rules.has_acted new.actions ≡ (rules.has_acted old.actions || acts)
@@ -93,10 +101,18 @@ pub or_nothing : (a : Bool) → a ≡ (a || false)
 or_nothing true = refl
 or_nothing false = refl
 
-module _ {TurnActions : Type 0} (rules : RoundRules TurnActions) (seats : ℕ) (seat : Seat) (line_tells : (turn : InTurn TurnActions) (line : Numbered) → LineTells rules seat turn (rules.line seats seat turn line)) where
+module _ {TurnActions : Type 0} (rules : RoundRules TurnActions) (seats : ℕ) (seat : Seat)
+    (line_tells : (turn : InTurn TurnActions) (line : Numbered)
+    → LineTells rules seat turn (rules.line seats seat turn line)) where
   -- so do some lines
-  lines_tell : (turn : InTurn TurnActions) (lines : List Numbered) → LineTells rules seat turn (after_lines rules seats seat turn lines)
-  lines_tell turn [] = record { acts = false; told = nobody seat turn.events; acted = or_nothing (rules.has_acted turn.actions) }
+  lines_tell : (turn : InTurn TurnActions) (lines : List Numbered)
+      → LineTells rules seat turn (after_lines rules seats seat turn lines)
+  lines_tell turn [] = record {
+    acts = false;
+    told = nobody seat turn.events;
+    acted =
+        or_nothing (rules.has_acted turn.actions);
+  }
   lines_tell turn (line ∷ lines) =
       let next : InTurn TurnActions = rules.line seats seat turn line in
       let last : InTurn TurnActions = after_lines rules seats seat next lines in
@@ -105,28 +121,40 @@ module _ {TurnActions : Type 0} (rules : RoundRules TurnActions) (seats : ℕ) (
       record {
         acts = here.acts || rest.acts;
         told = in_both seat here.acts rest.acts turn.events next.events last.events here.told rest.told;
-        acted = rest.acted ∙ ap (λ (b : Bool). b || rest.acts) here.acted ∙ either_order (rules.has_acted turn.actions) here.acts rest.acts;
+        acted = rest.acted ∙ ap (λ (b : Bool). b || rest.acts) here.acted
+            ∙ either_order (rules.has_acted turn.actions) here.acts rest.acts;
       }
 
   -- so does a turn, at the start of which the seat has not acted
   group_tells : rules.has_acted rules.nothing ≡ false → (events : List Event) (lines : List Numbered) →
-      TellsWhoActed seat (rules.has_acted (after_lines rules seats seat (in_turn events rules.nothing) lines).actions) events (after_lines rules seats seat (in_turn events rules.nothing) lines).events
+      TellsWhoActed seat (rules.has_acted (after_lines rules seats seat (in_turn events rules.nothing) lines).actions)
+      events (after_lines rules seats seat (in_turn events rules.nothing) lines).events
   group_tells idle events lines =
       let all = lines_tell (in_turn events rules.nothing) lines in
-      let acted : all.acts ≡ rules.has_acted (after_lines rules seats seat (in_turn events rules.nothing) lines).actions =
+      let acted : all.acts ≡ rules.has_acted (after_lines rules seats seat (in_turn events rules.nothing)
+      lines).actions =
       sym (all.acted ∙ ap (λ (b : Bool). b || all.acts) idle)
       in
-      subst (λ (b : Bool). TellsWhoActed seat b events (after_lines rules seats seat (in_turn events rules.nothing) lines).events) acted all.told
+      subst (λ (b : Bool). TellsWhoActed seat b events
+      (after_lines rules seats seat (in_turn events rules.nothing) lines).events) acted all.told
 
 -- a ruling by which no order is done names nobody
-pub nobody_ruled : {TurnActions : Type 0} (rules : RoundRules TurnActions) (seat : Seat) (turn : InTurn TurnActions) (number : ℕ) (ruling : Ruling) →
+pub nobody_ruled : {TurnActions : Type 0} (rules : RoundRules TurnActions) (seat : Seat) (turn : InTurn TurnActions)
+    (number : ℕ) (ruling : Ruling) →
     obeyed_by ruling ≡ None → LineTells rules seat turn (in_turn (recorded seat number ruling turn.events) turn.actions)
 nobody_ruled rules seat turn number (Obeyed condition order) none = absurd (cc)
 nobody_ruled rules seat turn number other none =
-    record { acts = false; told = one_more seat false turn.events (event.Ruled seat number other) refl; acted = or_nothing (rules.has_acted turn.actions) }
+    record {
+      acts = false;
+      told = one_more seat false turn.events (event.Ruled seat number other) refl;
+      acted =
+          or_nothing (rules.has_acted turn.actions);
+    }
 
 -- so each turn of a round tells it
 pub turns_tell : {TurnActions : Type 0} (rules : RoundRules TurnActions) → rules.has_acted rules.nothing ≡ false →
-    ((seats : ℕ) (seat : Seat) (turn : InTurn TurnActions) (line : Numbered) → LineTells rules seat turn (rules.line seats seat turn line)) →
+    ((seats : ℕ) (seat : Seat) (turn : InTurn TurnActions) (line : Numbered)
+    → LineTells rules seat turn (rules.line seats seat turn line)) →
     TurnsTellWhoActed rules
-turns_tell rules idle line_tells seats seat events lines = group_tells rules seats seat (line_tells seats seat) idle events lines
+turns_tell rules idle line_tells seats seat events lines =
+    group_tells rules seats seat (line_tells seats seat) idle events lines

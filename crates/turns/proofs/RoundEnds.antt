@@ -20,7 +20,8 @@ few_at file round first (suc count) (suc seat) = few_at file round (first + 1) c
 
 module _ {TurnActions : Type 0} (rules : RoundRules TurnActions) where
   -- the turns of a round can begin
-  can_begin : (file : List ℕ) (round : Round) (old : Game) → CanBegin (turns_of rules old.seats) (opened rules old.seats file round old.events)
+  can_begin : (file : List ℕ) (round : Round) (old : Game)
+      → CanBegin (turns_of rules old.seats) (opened rules old.seats file round old.events)
   can_begin file round old =
       record {
         at_table = λ some. priority_at_table old.seats old.events some;
@@ -28,10 +29,12 @@ module _ {TurnActions : Type 0} (rules : RoundRules TurnActions) where
       }
 
   -- a round of turns ends soon, where no seat acts by doing nothing
-  pub ends_soon : rules.has_acted rules.nothing ≡ false → (file : List ℕ) (round : Round) (old : Game) → EndsSoon rules file round old
+  pub ends_soon : rules.has_acted rules.nothing ≡ false → (file : List ℕ) (round : Round) (old : Game)
+      → EndsSoon rules file round old
   ends_soon idle file round old =
       let end : EndSoon (turns_of rules old.seats) (opened rules old.seats file round old.events) =
-      turns_end_soon (turns_of rules old.seats) (opened rules old.seats file round old.events) (no_lines rules old.seats idle) (can_begin file round old)
+      turns_end_soon (turns_of rules old.seats) (opened rules old.seats file round old.events)
+      (no_lines rules old.seats idle) (can_begin file round old)
       in
       record {
         new = record { seats = old.seats; events = finished rules old.seats end.last };
@@ -40,9 +43,12 @@ module _ {TurnActions : Type 0} (rules : RoundRules TurnActions) where
       }
 
   -- it ends in one way
-  pub ends_once : (file : List ℕ) (round : Round) (old a b : Game) → IsRoundOfTurns rules file round old a → IsRoundOfTurns rules file round old b → a ≡ b
+  pub ends_once : (file : List ℕ) (round : Round) (old a b : Game) → IsRoundOfTurns rules file round old a
+      → IsRoundOfTurns rules file round old b → a ≡ b
   ends_once file round old a b first second =
-      let game : InPlay (List Event) Numbered → Game = λ last. record { seats = old.seats; events = finished rules old.seats last } in
+      let game : InPlay (List Event) Numbered → Game =
+      λ last. record { seats = old.seats; events = finished rules old.seats last } in
       first.after
-      ∙ ap game (turns_end_once (turns_of rules old.seats) (opened rules old.seats file round old.events) first.last second.last first.turns second.turns)
+      ∙ ap game (turns_end_once (turns_of rules old.seats) (opened rules old.seats file round old.events) first.last
+      second.last first.turns second.turns)
       ∙ sym second.after

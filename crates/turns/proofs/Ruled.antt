@@ -30,51 +30,63 @@ small_if_placed false judgement condition order small = tt
 
 -- so is a small line, by its condition and its reading
 small_ruling_of : (has_place : Order → Bool) (judgement : Order → Option Refusal) (condition : Option Condition)
-    (reading : Result Order Fault) → IsSmallReading reading → IsSmallRuling (ruling_of has_place judgement condition reading)
+    (reading : Result Order Fault) → IsSmallReading reading
+    → IsSmallRuling (ruling_of has_place judgement condition reading)
 small_ruling_of has_place judgement condition (Err fault) small = tt
 small_ruling_of has_place judgement condition (Ok order) small =
     small_if_placed (has_place order) judgement condition order small
 
 -- so is a small line
-pub small_ruling : (has_place : Order → Bool) (judgement : Order → Option Refusal) (events : List Event) (line : Numbered) →
+pub small_ruling : (has_place : Order → Bool) (judgement : Order → Option Refusal) (events : List Event)
+    (line : Numbered) →
     IsSmallReading line.reading → IsSmallRuling (line_ruling has_place judgement events line)
 small_ruling has_place judgement events line small =
     small_ruling_of has_place (under events line.condition judgement) line.condition line.reading small
 
 -- the order of a small line that is obeyed is small
-pub small_to_do : (has_place : Order → Bool) (judgement : Order → Option Refusal) (events : List Event) (line : Numbered) (order : Order) →
+pub small_to_do : (has_place : Order → Bool) (judgement : Order → Option Refusal) (events : List Event)
+    (line : Numbered) (order : Order) →
     IsToDo has_place judgement events line order → IsSmallReading line.reading → IsSmallOrder order
 small_to_do has_place judgement events line order to_do small = subst IsSmallReading to_do.read small
 
 -- a family's own rule is broken where it is as a refusal
-pub none_as_refusal : {Rule : Type 0} (refusal : Rule → Refusal) (broken : Option Rule) → option_map refusal broken ≡ None → broken ≡ None
+pub none_as_refusal : {Rule : Type 0} (refusal : Rule → Refusal) (broken : Option Rule)
+    → option_map refusal broken ≡ None → broken ≡ None
 none_as_refusal refusal None none = refl
 none_as_refusal refusal (Some rule) none = absurd (cc)
 
 -- an order breaks none of the rules of its family where it breaks none with its condition
-kept_under : (met : Bool) (broken : Option Refusal) → (if met then broken else Some refusal.Condition) ≡ None → broken ≡ None
+kept_under : (met : Bool) (broken : Option Refusal) → (if met then broken else Some refusal.Condition) ≡ None
+    → broken ≡ None
 kept_under true broken none = none
 kept_under false broken none = absurd (cc)
 
 -- what holds after each order that is done, and after each ruling by which none is, holds after a line of a turn
-module _ {TurnActions : Type 0} (act : InTurn TurnActions → Order → InTurn TurnActions) (judgement : Order → Option Refusal) (seat : Seat) (turn : InTurn TurnActions) (number : ℕ)
+module _ {TurnActions : Type 0} (act : InTurn TurnActions → Order → InTurn TurnActions)
+    (judgement : Order → Option Refusal) (seat : Seat) (turn : InTurn TurnActions) (number : ℕ)
     (P : InTurn TurnActions → Type 0)
-    (left : (ruling : Ruling) → obeyed_by ruling ≡ None → P (in_turn (recorded seat number ruling turn.events) turn.actions))
-    (each : (condition : Option Condition) (order : Order) → judgement order ≡ None → P (after_ruling act seat turn number (Obeyed condition order))) where
+    (left : (ruling : Ruling) → obeyed_by ruling ≡ None
+    → P (in_turn (recorded seat number ruling turn.events) turn.actions))
+    (each : (condition : Option Condition) (order : Order) → judgement order ≡ None
+    → P (after_ruling act seat turn number (Obeyed condition order))) where
   -- of an order that breaks this rule first, or none
-  of_judged : (condition : Option Condition) (order : Order) (broken : Option Refusal) → (broken ≡ None → judgement order ≡ None) → P (after_ruling act seat turn number (judged condition order broken))
+  of_judged : (condition : Option Condition) (order : Order) (broken : Option Refusal)
+      → (broken ≡ None → judgement order ≡ None) → P (after_ruling act seat turn number (judged condition order broken))
   of_judged condition order None is = each condition order (is refl)
   of_judged condition order (Some rule) is = left (Refused rule condition order) refl
 
   -- of one that has a place, or not
   of_if_placed : (has : Bool) (events : List Event) (condition : Option Condition) (order : Order) →
-      P (after_ruling act seat turn number (placed_ruling (under events condition judgement) condition (if has then Ok order else Err OutOfPlace)))
+      P (after_ruling act seat turn number (placed_ruling (under events condition judgement) condition
+      (if has then Ok order else Err OutOfPlace)))
   of_if_placed true events condition order =
-      of_judged condition order (under events condition judgement order) (kept_under (is_met events condition) (judgement order))
+      of_judged condition order (under events condition judgement order)
+      (kept_under (is_met events condition) (judgement order))
   of_if_placed false events condition order = left (Faulty OutOfPlace) refl
 
   -- of a line with this condition and this reading
-  of_read : (has_place : Order → Bool) (events : List Event) (condition : Option Condition) (reading : Result Order Fault) →
+  of_read : (has_place : Order → Bool) (events : List Event) (condition : Option Condition)
+      (reading : Result Order Fault) →
       P (after_ruling act seat turn number (ruling_of has_place (under events condition judgement) condition reading))
   of_read has_place events condition (Err fault) = left (Faulty fault) refl
   of_read has_place events condition (Ok order) = of_if_placed (has_place order) events condition order

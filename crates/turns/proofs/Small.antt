@@ -29,13 +29,15 @@ small_order (BuyTrain kind BankPool) small = tt
 small_order other small = tt
 
 -- what a line is read as is small
-small_reading : (version : Version) (line : List ℕ) (reading : Result Ordered Fault) → reading_in version line ≡ reading →
+small_reading : (version : Version) (line : List ℕ) (reading : Result Ordered Fault)
+    → reading_in version line ≡ reading →
     IsSmallReading (order_read reading)
 small_reading version line (Ok spelt) read = small_order spelt.order (read_spells_in version line spelt read).small.1
 small_reading version line (Err fault) read = tt
 
 -- also where it stands
-small_where : (past : Bool) (reading : Result Order Fault) → IsSmallReading reading → IsSmallReading (if past then Err PastLastLine else reading)
+small_where : (past : Bool) (reading : Result Order Fault) → IsSmallReading reading
+    → IsSmallReading (if past then Err PastLastLine else reading)
 small_where true reading small = tt
 small_where false reading small = small
 
@@ -51,7 +53,8 @@ small_after : (version : Version) (round : Round) (lines : List (List ℕ)) (cou
 small_after version round [] count = (tt, tt)
 small_after version round (line ∷ lines) count =
     let reading : Result Ordered Fault = reading_in version line in
-    let small = small_where (nat_lt lines_most (count + 1)) (order_read reading) (small_reading version line reading refl) in
+    let small = small_where (nat_lt lines_most (count + 1)) (order_read reading)
+    (small_reading version line reading refl) in
     small_with (opens_part round (reading_at (count + 1) (order_read reading))) (numbered (count + 1) reading)
     (parts_after version (opens_part round) (count + 1) lines) small (small_after version round lines (count + 1))
 
@@ -60,6 +63,7 @@ pub parts_small : (file : List ℕ) (round : Round) (seat : ℕ) → PartsAreSma
 parts_small file round seat = small_after (version_of file) round (unwrap_or (sheet_of file seat round) []) 0
 
 -- once the standing lines are ruled a sheet is ready
-pub ready_after : (sheet new : Parts) → new ≡ record { before = []; opened = sheet.opened } → PartsAreSmall sheet → IsReady new
+pub ready_after : (sheet new : Parts) → new ≡ record { before = []; opened = sheet.opened } → PartsAreSmall sheet
+    → IsReady new
 ready_after sheet new left small =
     subst IsReady (sym left) (record { stands = refl; small = (tt, small.1) })

@@ -14,11 +14,13 @@ use Rattle.tables.specs.declared.seat.Seat.{Seat}
 use Rattle.turns.specs.RoundOfTurns.{RoundRules, after_group, in_play, turned, turns_of}
 
 -- no seat acts without lines
-pub no_lines : {TurnActions : Type 0} (rules : RoundRules TurnActions) (seats : ℕ) → rules.has_acted rules.nothing ≡ false → IsIdleWithoutLines (turns_of rules seats)
+pub no_lines : {TurnActions : Type 0} (rules : RoundRules TurnActions) (seats : ℕ)
+    → rules.has_acted rules.nothing ≡ false → IsIdleWithoutLines (turns_of rules seats)
 no_lines rules seats idle = λ seat events. idle
 
 -- the turns are not over while nothing ends them and not all have passed
-pub going_on : (ended : Bool) (seats passes : ℕ) → ended ≡ false → passes < seats → (ended || nat_le seats passes) ≡ false
+pub going_on : (ended : Bool) (seats passes : ℕ) → ended ≡ false → passes < seats
+    → (ended || nat_le seats passes) ≡ false
 going_on ended seats passes unended fewer = grind (arith, nat_tests)
 
 -- they are over where something ends them
@@ -30,9 +32,11 @@ pub all_have_passed : (ended : Bool) (seats passes : ℕ) → seats ≤ passes �
 all_have_passed ended seats passes all = grind (arith, nat_tests)
 
 -- a seat's groups are those of what is left of its sheet
-groups_here : (unruled : List Parts) (seat : ℕ) (d : Parts) → seat < length unruled → groups_at (map groups_of unruled) seat ≡ groups_of (get_or unruled seat d)
+groups_here : (unruled : List Parts) (seat : ℕ) (d : Parts) → seat < length unruled
+    → groups_at (map groups_of unruled) seat ≡ groups_of (get_or unruled seat d)
 groups_here unruled seat d within =
-    ap (λ groups. unwrap_or groups []) (slice_get-map groups_of unruled seat ∙ ap (λ found. option_map groups_of found) (slice_get-get_or unruled seat d within))
+    ap (λ groups. unwrap_or groups []) (slice_get-map groups_of unruled seat
+    ∙ ap (λ found. option_map groups_of found) (slice_get-get_or unruled seat d within))
 
 -- a round in play after a turn, where the groups have come to these
 abbrev played : ℕ → ℕ → ℕ → Turned (List Event) → List (List (List Numbered)) → InPlay (List Event) Numbered
@@ -44,36 +48,57 @@ played seats seat passes turn groups =
       groups = groups;
     }
 
-module _ {TurnActions : Type 0} (rules : RoundRules TurnActions) (seats : ℕ) (events : List Event) (seat passes : ℕ) (unruled : List Parts) (d new : Parts) (taker : Seat) (within : seat < length unruled) (is_seat : taker ≡ seat_at seat) (dropped : groups_of new ≡ drop 1 (groups_of (get_or unruled seat d))) where
+module _ {TurnActions : Type 0} (rules : RoundRules TurnActions) (seats : ℕ) (events : List Event) (seat passes : ℕ)
+    (unruled : List Parts) (d new : Parts) (taker : Seat) (within : seat < length unruled)
+    (is_seat : taker ≡ seat_at seat) (dropped : groups_of new ≡ drop 1 (groups_of (get_or unruled seat d))) where
   -- a turn that took the next group of a seat's sheet is one turn of the round
   turn_taken : (turn : Turned (List Event)) →
       turn ≡ turned rules (after_group rules seats taker events (next_group (groups_of (get_or unruled seat d)))) →
-      played seats seat passes turn (map groups_of (set unruled seat new)) ≡ after_turn (turns_of rules seats) (in_play events seat passes (map groups_of unruled))
+      played seats seat passes turn (map groups_of (set unruled seat new))
+      ≡ after_turn (turns_of rules seats) (in_play events seat passes (map groups_of unruled))
   turn_taken turn taken =
       let here = groups_here unruled seat d within in
-      let same_turn : turn ≡ turned rules (after_group rules seats (seat_at seat) events (next_group (groups_at (map groups_of unruled) seat))) =
+      let same_turn : turn ≡ turned rules (after_group rules seats (seat_at seat) events
+      (next_group (groups_at (map groups_of unruled) seat))) =
       taken
-      ∙ ap (λ (s : Seat). turned rules (after_group rules seats s events (next_group (groups_of (get_or unruled seat d))))) is_seat
-      ∙ ap (λ (groups : List (List Numbered)). turned rules (after_group rules seats (seat_at seat) events (next_group groups))) (sym here)
+      ∙ ap (λ (s : Seat). turned rules (after_group rules seats s events
+      (next_group (groups_of (get_or unruled seat d))))) is_seat
+      ∙ ap (λ (groups : List (List Numbered)). turned rules
+      (after_group rules seats (seat_at seat) events (next_group groups))) (sym here)
       in
-      let same_groups : map groups_of (set unruled seat new) ≡ set (map groups_of unruled) seat (drop 1 (groups_at (map groups_of unruled) seat)) =
+      let same_groups : map groups_of (set unruled seat new)
+      ≡ set (map groups_of unruled) seat (drop 1 (groups_at (map groups_of unruled) seat)) =
       map-set groups_of unruled seat new
-      ∙ ap (λ (groups : List (List Numbered)). set (map groups_of unruled) seat groups) (dropped ∙ ap (λ (groups : List (List Numbered)). drop 1 groups) (sym here))
+      ∙ ap (λ (groups : List (List Numbered)). set (map groups_of unruled) seat groups)
+      (dropped ∙ ap (λ (groups : List (List Numbered)). drop 1 groups) (sym here))
       in
       ap (λ (groups : List (List (List Numbered))). played seats seat passes turn groups) same_groups
-      ∙ ap (λ (turn : Turned (List Event)). turn_over (turns_of rules seats) (in_play events seat passes (map groups_of unruled)) turn) same_turn
+      ∙ ap (λ (turn : Turned (List Event)). turn_over (turns_of rules seats)
+      (in_play events seat passes (map groups_of unruled)) turn) same_turn
 
   -- a turn in which the seat acted
-  pub turn_acted : (after : List Event) (acted : Bool) → acted ≡ true → record { state = after; acted = acted } ≡ turned rules (after_group rules seats taker events (next_group (groups_of (get_or unruled seat d)))) → in_play after (left_of seats (seat_at seat)).0 0 (map groups_of (set unruled seat new)) ≡ after_turn (turns_of rules seats) (in_play events seat passes (map groups_of unruled))
+  pub turn_acted : (after : List Event) (acted : Bool) → acted ≡ true
+      → record { state = after; acted = acted } ≡ turned rules
+      (after_group rules seats taker events (next_group (groups_of (get_or unruled seat d))))
+      → in_play after (left_of seats (seat_at seat)).0 0 (map groups_of (set unruled seat new))
+      ≡ after_turn (turns_of rules seats) (in_play events seat passes (map groups_of unruled))
   turn_acted after acted has_acted taken =
-      ap (λ (b : Bool). played seats seat passes (record { state = after; acted = b }) (map groups_of (set unruled seat new))) (sym has_acted)
+      ap (λ (b : Bool). played seats seat passes (record { state = after; acted = b })
+      (map groups_of (set unruled seat new))) (sym has_acted)
       ∙ turn_taken (record { state = after; acted = acted }) taken
 
   -- a turn in which it passed
-  pub turn_passed : (mid after : List Event) (acted : Bool) → acted ≡ false → record { state = mid; acted = acted } ≡ turned rules (after_group rules seats taker events (next_group (groups_of (get_or unruled seat d)))) → after ≡ mid ++ Passes (seat_at seat) ∷ [] → in_play after (left_of seats (seat_at seat)).0 (passes + 1) (map groups_of (set unruled seat new)) ≡ after_turn (turns_of rules seats) (in_play events seat passes (map groups_of unruled))
+  pub turn_passed : (mid after : List Event) (acted : Bool) → acted ≡ false
+      → record { state = mid; acted = acted } ≡ turned rules
+      (after_group rules seats taker events (next_group (groups_of (get_or unruled seat d))))
+      → after ≡ mid ++ Passes (seat_at seat) ∷ [] → in_play after (left_of seats (seat_at seat)).0 (passes + 1)
+      (map groups_of (set unruled seat new)) ≡ after_turn (turns_of rules seats)
+      (in_play events seat passes (map groups_of unruled))
   turn_passed mid after acted not_acted taken told =
-      ap (λ (events : List Event). in_play events (left_of seats (seat_at seat)).0 (passes + 1) (map groups_of (set unruled seat new))) told
-      ∙ ap (λ (b : Bool). played seats seat passes (record { state = mid; acted = b }) (map groups_of (set unruled seat new))) (sym not_acted)
+      ap (λ (events : List Event). in_play events (left_of seats (seat_at seat)).0 (passes + 1)
+      (map groups_of (set unruled seat new))) told
+      ∙ ap (λ (b : Bool). played seats seat passes (record { state = mid; acted = b })
+      (map groups_of (set unruled seat new))) (sym not_acted)
       ∙ turn_taken (record { state = mid; acted = acted }) taken
 
 -- the seat at the left of a seat, or the first, is at the table

@@ -23,4 +23,5 @@ TurnTells seat old turn = TellsWhoActed seat turn.acted old turn.state
 -- each turn of a round does, whatever its lines are
 abbrev pub TurnsTellWhoActed : {TurnActions : Type 0} → RoundRules TurnActions → Type 0
 TurnsTellWhoActed rules =
-    (seats : ℕ) (seat : Seat) (events : List Event) (lines : List Numbered) → TurnTells seat events ((turns_of rules seats).turn seat lines events)
+    (seats : ℕ) (seat : Seat) (events : List Event) (lines : List Numbered)
+    → TurnTells seat events ((turns_of rules seats).turn seat lines events)

@@ -37,15 +37,18 @@ pub record RoundRules (TurnActions : Type 0) : Type 0 where
   pub closed : ℕ → List Event → List Event
 
 -- after the standing lines of seats, in order
-abbrev pub after_standing : {TurnActions : Type 0} → RoundRules TurnActions → List ℕ → Round → List Event → List ℕ → List Event
+abbrev pub after_standing : {TurnActions : Type 0} → RoundRules TurnActions → List ℕ → Round → List Event → List ℕ
+    → List Event
 after_standing rules file round events seats = after_all_before rules.standing file round events seats
 
 -- after lines of a group, in order
-abbrev pub after_lines : {TurnActions : Type 0} → RoundRules TurnActions → ℕ → Seat → InTurn TurnActions → List Numbered → InTurn TurnActions
+abbrev pub after_lines : {TurnActions : Type 0} → RoundRules TurnActions → ℕ → Seat → InTurn TurnActions
+    → List Numbered → InTurn TurnActions
 after_lines rules seats seat turn lines = after_each (rules.line seats seat) turn lines
 
 -- after a group of lines, at the start of which a seat has done nothing
-abbrev pub after_group : {TurnActions : Type 0} → RoundRules TurnActions → ℕ → Seat → List Event → List Numbered → InTurn TurnActions
+abbrev pub after_group : {TurnActions : Type 0} → RoundRules TurnActions → ℕ → Seat → List Event → List Numbered
+    → InTurn TurnActions
 after_group rules seats seat events lines = after_lines rules seats seat (in_turn events rules.nothing) lines
 
 -- where a turn has led, and whether the seat acted in it
@@ -63,10 +66,12 @@ turns_of rules seats =
     }
 
 -- the round before its first turn: that is of the holder of priority
-abbrev pub opened : {TurnActions : Type 0} → RoundRules TurnActions → ℕ → List ℕ → Round → List Event → InPlay (List Event) Numbered
+abbrev pub opened : {TurnActions : Type 0} → RoundRules TurnActions → ℕ → List ℕ → Round → List Event
+    → InPlay (List Event) Numbered
 opened rules seats file round events =
     in_play
-    (after_standing rules file round (events ++ event.Round round ∷ []) (range_with_len 0 seats)) (priority_of seats events).0 0 (groups_for seats file round)
+    (after_standing rules file round (events ++ event.Round round ∷ []) (range_with_len 0 seats))
+    (priority_of seats events).0 0 (groups_for seats file round)
 
 -- the lines that were not taken up, seat by seat
 abbrev pub left_from : ℕ → List (List (List Numbered)) → List Event
@@ -77,20 +82,23 @@ abbrev pub finished : {TurnActions : Type 0} → RoundRules TurnActions → ℕ 
 finished rules seats last = rules.closed seats last.now ++ left_from 0 last.groups
 
 -- the turns lead from a round in play to these events and these groups that are left
-pub record TurnsLead {TurnActions : Type 0} (rules : RoundRules TurnActions) (seats : ℕ) (from : InPlay (List Event) Numbered) (events : List Event) (groups : List (List (List Numbered))) : Type 0 where
+pub record TurnsLead {TurnActions : Type 0} (rules : RoundRules TurnActions) (seats : ℕ)
+    (from : InPlay (List Event) Numbered) (events : List Event) (groups : List (List (List Numbered))) : Type 0 where
   pub last : InPlay (List Event) Numbered
   pub turns : TurnsEnd (turns_of rules seats) from last
   pub events_then : last.now ≡ events
   pub groups_then : last.groups ≡ groups
 
 -- new is old after a round of turns with the sheets of the file
-pub record IsRoundOfTurns {TurnActions : Type 0} (rules : RoundRules TurnActions) (file : List ℕ) (round : Round) (old new : Game) : Type 0 where
+pub record IsRoundOfTurns {TurnActions : Type 0} (rules : RoundRules TurnActions) (file : List ℕ) (round : Round)
+    (old new : Game) : Type 0 where
   pub last : InPlay (List Event) Numbered
   pub turns : TurnsEnd (turns_of rules old.seats) (opened rules old.seats file round old.events) last
   pub after : new ≡ record { seats = old.seats; events = finished rules old.seats last }
 
 -- a round of turns with the sheets of the file has an outcome, after at most 513 turns for each seat
-pub record EndsSoon {TurnActions : Type 0} (rules : RoundRules TurnActions) (file : List ℕ) (round : Round) (old : Game) : Type 0 where
+pub record EndsSoon {TurnActions : Type 0} (rules : RoundRules TurnActions) (file : List ℕ) (round : Round)
+    (old : Game) : Type 0 where
   pub new : Game
   pub played : IsRoundOfTurns rules file round old new
   pub few_turns : played.turns.steps ≤ 513 * old.seats

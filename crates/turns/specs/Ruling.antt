@@ -57,7 +57,8 @@ done act state None = state
 done act state (Some order) = act state order
 
 -- a line is obeyed, as the list is, and this order is to be done
-pub record IsToDo (has_place : Order → Bool) (judgement : Order → Option Refusal) (events : List Event) (line : Numbered) (order : Order) : Type 0 where
+pub record IsToDo (has_place : Order → Bool) (judgement : Order → Option Refusal) (events : List Event)
+    (line : Numbered) (order : Order) : Type 0 where
   pub read : line.reading ≡ Ok order
   pub met : IsTrue (is_met events line.condition)
   pub kept : judgement order ≡ None
@@ -73,6 +74,7 @@ abbrev pub has_place_in_group : Order → Bool
 has_place_in_group order = not (is_of_file order)
 
 -- in a turn of a seat, after a line with this number and this ruling, where an order that is done leads so far
-abbrev pub after_ruling : {TurnActions : Type 0} → (InTurn TurnActions → Order → InTurn TurnActions) → Seat → InTurn TurnActions → ℕ → Ruling → InTurn TurnActions
+abbrev pub after_ruling : {TurnActions : Type 0} → (InTurn TurnActions → Order → InTurn TurnActions) → Seat
+    → InTurn TurnActions → ℕ → Ruling → InTurn TurnActions
 after_ruling act seat turn number ruling =
     done act (in_turn (recorded seat number ruling turn.events) turn.actions) (obeyed_by ruling)

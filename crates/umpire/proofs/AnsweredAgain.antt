@@ -18,12 +18,19 @@ use Rattle.umpire.specs.Verify.{AnswersGame, AnswersInput, HasAllGroups, HasGrou
 use Rattle.umpire.specs.Written.{certificates_text}
 
 -- a group that is read again shows what it certifies
-shown_again : (call : Call) (group : Group) (read : Option Group) → Certifies call group → IsReadAgain group read → HasGroup call read
+shown_again : (call : Call) (group : Group) (read : Option Group) → Certifies call group → IsReadAgain group read
+    → HasGroup call read
 shown_again call group read certifies again =
     subst (HasGroup call) (sym again.is)
-    (record { round_is = certifies.of_round; company_is = certifies.of_company; accepted = certifies.filled again.filling again.fills })
+    (record {
+      round_is = certifies.of_round;
+      company_is = certifies.of_company;
+      accepted =
+          certifies.filled again.filling again.fills;
+    })
 
-have_again : (calls : List Call) (groups : List Group) (read : List (Option Group)) → AreCertified calls groups → AreReadAgain groups read → HaveGroups calls read
+have_again : (calls : List Call) (groups : List Group) (read : List (Option Group)) → AreCertified calls groups
+    → AreReadAgain groups read → HaveGroups calls read
 have_again [] groups read certified again = tt
 have_again (call ∷ calls) [] read certified again = absurd certified
 have_again (call ∷ calls) (group ∷ groups) [] certified again = absurd again
@@ -31,17 +38,25 @@ have_again (call ∷ calls) (group ∷ groups) (one ∷ read) certified again =
     (shown_again call group one certified.0 again.0, have_again calls groups read certified.1 again.1)
 
 -- so the game that they certify has all its groups
-pub answered_again : ((file : List ℕ) → (text : List ℕ) × IsReport file text) → CertifyingCanBeWritten → AcceptsWhatWasWritten
+pub answered_again : ((file : List ℕ) → (text : List ℕ) × IsReport file text) → CertifyingCanBeWritten
+    → AcceptsWhatWasWritten
 answered_again some written file groups accepted certify within =
     let can : AllByRecursion CanBeWritten groups = written file groups accepted certify in
     let text : List ℕ = certificates_text groups in
     let input : List ℕ = file ++ 10 ∷ text in
     let parted : ArePartedAgain file text = parted_again file text (begins_alone groups can) in
     let read : AreReadAgain groups (groups_of (certificates_of input)) =
-    subst (λ (behind : List ℕ). AreReadAgain groups (groups_of behind)) (sym parted.certificates) (reads_back groups can) in
+    subst (λ (behind : List ℕ). AreReadAgain groups (groups_of behind)) (sym parted.certificates)
+    (reads_back groups can) in
     let all : HasAllGroups (order_file_of input) (groups_of (certificates_of input)) =
     subst (λ (front : List ℕ). HasAllGroups front (groups_of (certificates_of input))) (sym parted.order_file)
-    (record { played = certify.played; calls = certify.calls; made = certify.made; have = have_again certify.calls groups (groups_of (certificates_of input)) certify.certified read }) in
+    (record {
+      played = certify.played;
+      calls = certify.calls;
+      made = certify.made;
+      have =
+          have_again certify.calls groups (groups_of (certificates_of input)) certify.certified read;
+    }) in
     let report = some (order_file_of input) in (
       report.0,
       judgement_answers input (order_file_of input) (certificates_of input) report.0 (Ok tt) refl refl

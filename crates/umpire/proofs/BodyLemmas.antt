@@ -14,7 +14,8 @@ use Rattle.umpire.proofs.GatherLemmas.{front_behind, gathers_both, gathers_none}
 front_of : (front rest : List ℕ) → take (length (front ++ rest) - length rest) (front ++ rest) ≡ front
 front_of front rest =
     rw (length-append front rest)
-    (let n : (length front + length rest) - length rest ≡ length front = omega arith in rw (n, take-append_seam front rest) refl)
+    (let n : (length front + length rest) - length rest ≡ length front =
+    omega arith in rw (n, take-append_seam front rest) refl)
 
 pub front_by_rest : (text front rest : List ℕ) → text ≡ front ++ rest → take (length text - length rest) text ≡ front
 front_by_rest text front rest is = rw is (front_of front rest)
@@ -28,25 +29,30 @@ pub record AreBlank (file rest : List ℕ) : Type 0 where
 pub none_blank : (file : List ℕ) → AreBlank file file
 none_blank file = record { front = []; whole = refl; stays = refl }
 
-pub one_more_blank : (file text line rest : List ℕ) → AreBlank file text → FirstEnded text line rest → is_blank line ≡ true → AreBlank file rest
+pub one_more_blank : (file text line rest : List ℕ) → AreBlank file text → FirstEnded text line rest
+    → is_blank line ≡ true → AreBlank file rest
 one_more_blank file text line rest so_far first blank =
     let more : List ℕ = line ++ first.end in
     let whole : text ≡ more ++ rest = first.whole ∙ sym (append_assoc line first.end rest) in
-    let stays : file_in_two text ≡ more ++ file_in_two rest = file_by_blank text line rest first blank ∙ sym (append_assoc line first.end (file_in_two rest)) in
+    let stays : file_in_two text ≡ more ++ file_in_two rest =
+    file_by_blank text line rest first blank ∙ sym (append_assoc line first.end (file_in_two rest)) in
     record {
       front = so_far.front ++ more;
       whole = so_far.whole ∙ ap (λ l. so_far.front ++ l) whole ∙ sym (append_assoc so_far.front more rest);
-      stays = so_far.stays ∙ ap (λ l. so_far.front ++ l) stays ∙ sym (append_assoc so_far.front more (file_in_two rest));
+      stays = so_far.stays ∙ ap (λ l. so_far.front ++ l) stays
+          ∙ sym (append_assoc so_far.front more (file_in_two rest));
     }
 
 -- the header line is reached
-pub at_header : (file text line : List ℕ) (lines : List (List ℕ)) → AreBlank file text → lines_of text ≡ line ∷ lines → is_blank line ≡ false → IsFromHeader file text
+pub at_header : (file text line : List ℕ) (lines : List (List ℕ)) → AreBlank file text → lines_of text ≡ line ∷ lines
+    → is_blank line ≡ false → IsFromHeader file text
 at_header file text line lines so_far are counts =
     record {
       front = so_far.front;
       whole = so_far.whole;
       stays = so_far.stays;
-      counts = λ other others e. let both : line ∷ lines ≡ other ∷ others = sym are ∙ e in let same : line ≡ other = cc in rw (← same) counts;
+      counts = λ other others e. let both : line ∷ lines ≡ other ∷ others = sym are ∙ e in let same : line ≡ other =
+          cc in rw (← same) counts;
     }
 
 -- there is none
@@ -56,19 +62,25 @@ no_header file text so_far none =
       front = so_far.front;
       whole = so_far.whole;
       stays = so_far.stays;
-      counts = λ other others e. let wrong : ◌≡◌ {A = List (List ℕ)} [] (other ∷ others) = ap lines_of (sym none) ∙ e in absurd (cc);
+      counts = λ other others e. let wrong : ◌≡◌ {A = List (List ℕ)} [] (other ∷ others) =
+          ap lines_of (sym none) ∙ e in absurd (cc);
     }
 
 -- a file without a header line stays
-pub blank_file_stays : (file text : List ℕ) (found : IsFromHeader file text) → text ≡ [] → file_in_two file ≡ found.front
-blank_file_stays file text found none = found.stays ∙ ap (λ l. found.front ++ file_in_two l) none ∙ rw nothing_in_two (append-nil found.front)
+pub blank_file_stays : (file text : List ℕ) (found : IsFromHeader file text) → text ≡ []
+    → file_in_two file ≡ found.front
+blank_file_stays file text found none = found.stays ∙ ap (λ l. found.front ++ file_in_two l) none
+    ∙ rw nothing_in_two (append-nil found.front)
 
 -- another is what stands before that, the header and the body
-pub file_by_parts : (file text line rest : List ℕ) (lines : List (List ℕ)) (found : IsFromHeader file text) → lines_of text ≡ line ∷ lines → FirstEnded text line rest →
+pub file_by_parts : (file text line rest : List ℕ) (lines : List (List ℕ)) (found : IsFromHeader file text)
+    → lines_of text ≡ line ∷ lines → FirstEnded text line rest →
     file_in_two file ≡ found.front ++ (header_of_two ++ body_in_two (drop (length line) text))
 file_by_parts file text line rest lines found are first =
-    let behind : drop (length line) text ≡ first.end ++ rest = ap (λ l. drop (length line) l) first.whole ∙ drop-append_seam line (first.end ++ rest) in
-    rw behind (found.stays ∙ ap (λ l. found.front ++ l) (file_by_header text line rest first (found.counts line lines are)))
+    let behind : drop (length line) text ≡ first.end ++ rest =
+    ap (λ l. drop (length line) l) first.whole ∙ drop-append_seam line (first.end ++ rest) in
+    rw behind (found.stays ∙ ap (λ l. found.front ++ l)
+    (file_by_header text line rest first (found.counts line lines are)))
 
 -- some lines have come behind what was gathered; of the text from `kept` on those from `rest` on are ahead
 pub record Putting (old new : Option (List ℕ)) (before after text kept rest : List ℕ) : Type 0 where
@@ -83,31 +95,41 @@ putting_none old before text =
     record { out = []; stretch = []; gathers = gathers_none old before; is_kept = refl; whole = refl }
 
 -- the next line stays
-pub putting_line : (old new : Option (List ℕ)) (before after text kept rest line next : List ℕ) → Putting old new before after text kept rest → FirstEnded rest line next → is_if_line line ≡ false → Putting old new before after text kept next
+pub putting_line : (old new : Option (List ℕ)) (before after text kept rest line next : List ℕ)
+    → Putting old new before after text kept rest → FirstEnded rest line next → is_if_line line ≡ false
+    → Putting old new before after text kept next
 putting_line old new before after text kept rest line next so_far first stays =
     let more : List ℕ = line ++ first.end in
     let whole : rest ≡ more ++ next = first.whole ∙ sym (append_assoc line first.end next) in
     let body : body_in_two rest ≡ more ++ body_in_two next =
-    body_by_line rest line next first ∙ ap (λ l. l ++ (first.end ++ body_in_two next)) (line_stays line stays) ∙ sym (append_assoc line first.end (body_in_two next))
+    body_by_line rest line next first ∙ ap (λ l. l ++ (first.end ++ body_in_two next)) (line_stays line stays)
+    ∙ sym (append_assoc line first.end (body_in_two next))
     in
     record {
       out = so_far.out;
       stretch = so_far.stretch ++ more;
       gathers = so_far.gathers;
       is_kept = so_far.is_kept ∙ ap (λ l. so_far.stretch ++ l) whole ∙ sym (append_assoc so_far.stretch more next);
-      whole = so_far.whole ∙ ap (λ l. so_far.out ++ l) (ap (λ l. so_far.stretch ++ l) body ∙ sym (append_assoc so_far.stretch more (body_in_two next)));
+      whole = so_far.whole ∙ ap (λ l. so_far.out ++ l)
+          (ap (λ l. so_far.stretch ++ l) body ∙ sym (append_assoc so_far.stretch more (body_in_two next)));
     }
 
 -- the next line becomes X
-pub putting_x : (old mid there new : Option (List ℕ)) (before after between behind text kept rest line next stretch left : List ℕ) (so_far : Putting old mid before after text kept rest) →
-    FirstEnded rest line next → is_if_line line ≡ true → stretch ≡ so_far.stretch → Gathers mid there after between stretch → Gathers there new between behind (88 ∷ []) → left ≡ drop (length line) rest →
+pub putting_x : (old mid there new : Option (List ℕ))
+    (before after between behind text kept rest line next stretch left : List ℕ)
+    (so_far : Putting old mid before after text kept rest) →
+    FirstEnded rest line next → is_if_line line ≡ true → stretch ≡ so_far.stretch
+    → Gathers mid there after between stretch → Gathers there new between behind (88 ∷ [])
+    → left ≡ drop (length line) rest →
     Putting old new before behind text left next
-putting_x old mid there new before after between behind text kept rest line next stretch left so_far first goes is one two behind_it =
+putting_x old mid there new before after between behind text kept rest line next stretch left so_far first goes is one
+    two behind_it =
     let body : body_in_two rest ≡ 88 ∷ (first.end ++ body_in_two next) =
     body_by_line rest line next first ∙ ap (λ l. l ++ (first.end ++ body_in_two next)) (line_goes line goes) in
     let out : List ℕ = (so_far.out ++ stretch) ++ 88 ∷ [] in
     let whole : body_in_two text ≡ out ++ (first.end ++ body_in_two next) =
-    so_far.whole ∙ rw (← is) (ap (λ l. so_far.out ++ (stretch ++ l)) body) ∙ sym (append_assoc so_far.out stretch (88 ∷ (first.end ++ body_in_two next)))
+    so_far.whole ∙ rw (← is) (ap (λ l. so_far.out ++ (stretch ++ l)) body)
+    ∙ sym (append_assoc so_far.out stretch (88 ∷ (first.end ++ body_in_two next)))
     ∙ sym (append_assoc (so_far.out ++ stretch) (88 ∷ []) (first.end ++ body_in_two next))
     in
     record {
@@ -119,34 +141,49 @@ putting_x old mid there new before after between behind text kept rest line next
     }
 
 -- no line is left
-pub putting_all : (old mid new : Option (List ℕ)) (before after behind text kept rest : List ℕ) → Putting old mid before after text kept rest → rest ≡ [] → Gathers mid new after behind kept → Gathers old new before behind (body_in_two text)
+pub putting_all : (old mid new : Option (List ℕ)) (before after behind text kept rest : List ℕ)
+    → Putting old mid before after text kept rest → rest ≡ [] → Gathers mid new after behind kept
+    → Gathers old new before behind (body_in_two text)
 putting_all old mid new before after behind text kept rest so_far none last =
-    let tail : kept ≡ so_far.stretch = so_far.is_kept ∙ ap (λ l. so_far.stretch ++ l) none ∙ append-nil so_far.stretch in
-    let body : so_far.stretch ++ body_in_two rest ≡ kept = rw (none, no_body_in_two) (append-nil so_far.stretch ∙ sym tail) in
+    let tail : kept ≡ so_far.stretch = so_far.is_kept ∙ ap (λ l. so_far.stretch ++ l) none
+    ∙ append-nil so_far.stretch in
+    let body : so_far.stretch ++ body_in_two rest ≡ kept =
+    rw (none, no_body_in_two) (append-nil so_far.stretch ∙ sym tail) in
     rw (so_far.whole, body) (gathers_both _ _ _ _ _ _ _ _ so_far.gathers last)
 
 -- a front of the stretch that is put is a front of all
-pub front_of_stretch : (old mid new : Option (List ℕ)) (before after text kept rest stretch : List ℕ) (so_far : Putting old mid before after text kept rest) → stretch ≡ so_far.stretch → AppendsFront mid new (after ++ stretch) → AppendsFront old new (before ++ body_in_two text)
+pub front_of_stretch : (old mid new : Option (List ℕ)) (before after text kept rest stretch : List ℕ)
+    (so_far : Putting old mid before after text kept rest) → stretch ≡ so_far.stretch
+    → AppendsFront mid new (after ++ stretch) → AppendsFront old new (before ++ body_in_two text)
 front_of_stretch old mid new before after text kept rest stretch so_far is front =
-    rw (so_far.whole, ← is) (front_behind old mid new before after so_far.out stretch (body_in_two rest) so_far.gathers front)
+    rw (so_far.whole, ← is) (front_behind old mid new before after so_far.out stretch (body_in_two rest)
+    so_far.gathers front)
 
 -- so is a front of the X behind it
-pub front_of_x : (old mid there new : Option (List ℕ)) (before after between text kept rest line next stretch : List ℕ) (so_far : Putting old mid before after text kept rest) →
-    FirstEnded rest line next → is_if_line line ≡ true → stretch ≡ so_far.stretch → Gathers mid there after between stretch → AppendsFront there new (between ++ 88 ∷ []) →
+pub front_of_x : (old mid there new : Option (List ℕ))
+    (before after between text kept rest line next stretch : List ℕ)
+    (so_far : Putting old mid before after text kept rest) →
+    FirstEnded rest line next → is_if_line line ≡ true → stretch ≡ so_far.stretch
+    → Gathers mid there after between stretch → AppendsFront there new (between ++ 88 ∷ []) →
     AppendsFront old new (before ++ body_in_two text)
 front_of_x old mid there new before after between text kept rest line next stretch so_far first goes is one front =
     let body : body_in_two rest ≡ 88 ∷ (first.end ++ body_in_two next) =
     body_by_line rest line next first ∙ ap (λ l. l ++ (first.end ++ body_in_two next)) (line_goes line goes) in
     let whole : body_in_two text ≡ (so_far.out ++ stretch) ++ (88 ∷ (first.end ++ body_in_two next)) =
-    so_far.whole ∙ rw (← is) (ap (λ l. so_far.out ++ (stretch ++ l)) body) ∙ sym (append_assoc so_far.out stretch (88 ∷ (first.end ++ body_in_two next)))
+    so_far.whole ∙ rw (← is) (ap (λ l. so_far.out ++ (stretch ++ l)) body)
+    ∙ sym (append_assoc so_far.out stretch (88 ∷ (first.end ++ body_in_two next)))
     in
     rw whole
-    (front_behind old there new before between (so_far.out ++ stretch) (88 ∷ []) (first.end ++ body_in_two next) (gathers_both _ _ _ _ _ _ _ _ so_far.gathers one) front)
+    (front_behind old there new before between (so_far.out ++ stretch) (88 ∷ []) (first.end ++ body_in_two next)
+    (gathers_both _ _ _ _ _ _ _ _ so_far.gathers one) front)
 
 -- and a front of what is left
-pub front_of_rest : (old mid new : Option (List ℕ)) (before after text kept rest : List ℕ) → Putting old mid before after text kept rest → rest ≡ [] → AppendsFront mid new (after ++ kept) → AppendsFront old new (before ++ body_in_two text)
+pub front_of_rest : (old mid new : Option (List ℕ)) (before after text kept rest : List ℕ)
+    → Putting old mid before after text kept rest → rest ≡ [] → AppendsFront mid new (after ++ kept)
+    → AppendsFront old new (before ++ body_in_two text)
 front_of_rest old mid new before after text kept rest so_far none front =
-    let tail : kept ≡ so_far.stretch = so_far.is_kept ∙ ap (λ l. so_far.stretch ++ l) none ∙ append-nil so_far.stretch in
+    let tail : kept ≡ so_far.stretch = so_far.is_kept ∙ ap (λ l. so_far.stretch ++ l) none
+    ∙ append-nil so_far.stretch in
     front_of_stretch old mid new before after text kept rest kept so_far tail front
 
 -- a line is no longer than its text
@@ -154,25 +191,41 @@ pub line_within : (text line rest : List ℕ) → FirstEnded text line rest → 
 line_within text line rest first = rw (first.whole, length-append line (first.end ++ rest)) (omega arith)
 
 -- a front of what is written of a file is a front of all
-pub front_of_file : (old mid new : Option (List ℕ)) (before after file text line rest first : List ℕ) (lines : List (List ℕ)) (found : IsFromHeader file text) → lines_of text ≡ line ∷ lines → FirstEnded text line rest →
-    first ≡ found.front → Gathers old mid before after first → AppendsFront mid new (after ++ header_of_two) → AppendsFront old new (before ++ file_in_two file)
+pub front_of_file : (old mid new : Option (List ℕ)) (before after file text line rest first : List ℕ)
+    (lines : List (List ℕ)) (found : IsFromHeader file text) → lines_of text ≡ line ∷ lines
+    → FirstEnded text line rest →
+    first ≡ found.front → Gathers old mid before after first → AppendsFront mid new (after ++ header_of_two)
+    → AppendsFront old new (before ++ file_in_two file)
 front_of_file old mid new before after file text line rest first lines found are ended is gathers front =
     rw (file_by_parts file text line rest lines found are ended, ← is)
     (front_behind old mid new before after first header_of_two (body_in_two (drop (length line) text)) gathers front)
 
-pub front_of_body : (old mid there new : Option (List ℕ)) (before after between file text line rest first left : List ℕ) (lines : List (List ℕ)) (found : IsFromHeader file text) → lines_of text ≡ line ∷ lines → FirstEnded text line rest →
-    first ≡ found.front → Gathers old mid before after first → Gathers mid there after between header_of_two → left ≡ drop (length line) text → AppendsFront there new (between ++ body_in_two left) → AppendsFront old new (before ++ file_in_two file)
-front_of_body old mid there new before after between file text line rest first left lines found are ended is gathers one behind_it front =
+pub front_of_body : (old mid there new : Option (List ℕ))
+    (before after between file text line rest first left : List ℕ) (lines : List (List ℕ))
+    (found : IsFromHeader file text) → lines_of text ≡ line ∷ lines → FirstEnded text line rest →
+    first ≡ found.front → Gathers old mid before after first → Gathers mid there after between header_of_two
+    → left ≡ drop (length line) text → AppendsFront there new (between ++ body_in_two left)
+    → AppendsFront old new (before ++ file_in_two file)
+front_of_body old mid there new before after between file text line rest first left lines found are ended is gathers
+    one behind_it front =
     let body : List ℕ = body_in_two left in
     let parts : file_in_two file ≡ (first ++ header_of_two) ++ body =
-    file_by_parts file text line rest lines found are ended ∙ rw (← is, ← behind_it) (sym (append_assoc first header_of_two body)) in
+    file_by_parts file text line rest lines found are ended
+    ∙ rw (← is, ← behind_it) (sym (append_assoc first header_of_two body)) in
     rw (parts, ← append-nil body)
-    (front_behind old there new before between (first ++ header_of_two) body [] (gathers_both _ _ _ _ _ _ _ _ gathers one) front)
+    (front_behind old there new before between (first ++ header_of_two) body []
+    (gathers_both _ _ _ _ _ _ _ _ gathers one) front)
 
-pub all_of_file : (old mid there new : Option (List ℕ)) (before after between behind file text line rest first left : List ℕ) (lines : List (List ℕ)) (found : IsFromHeader file text) → lines_of text ≡ line ∷ lines → FirstEnded text line rest →
-    first ≡ found.front → Gathers old mid before after first → Gathers mid there after between header_of_two → left ≡ drop (length line) text → Gathers there new between behind (body_in_two left) → Gathers old new before behind (file_in_two file)
-all_of_file old mid there new before after between behind file text line rest first left lines found are ended is gathers one behind_it two =
+pub all_of_file : (old mid there new : Option (List ℕ))
+    (before after between behind file text line rest first left : List ℕ) (lines : List (List ℕ))
+    (found : IsFromHeader file text) → lines_of text ≡ line ∷ lines → FirstEnded text line rest →
+    first ≡ found.front → Gathers old mid before after first → Gathers mid there after between header_of_two
+    → left ≡ drop (length line) text → Gathers there new between behind (body_in_two left)
+    → Gathers old new before behind (file_in_two file)
+all_of_file old mid there new before after between behind file text line rest first left lines found are ended is
+    gathers one behind_it two =
     let body : List ℕ = body_in_two left in
     let parts : file_in_two file ≡ (first ++ header_of_two) ++ body =
-    file_by_parts file text line rest lines found are ended ∙ rw (← is, ← behind_it) (sym (append_assoc first header_of_two body)) in
+    file_by_parts file text line rest lines found are ended
+    ∙ rw (← is, ← behind_it) (sym (append_assoc first header_of_two body)) in
     rw parts (gathers_both _ _ _ _ _ _ _ _ (gathers_both _ _ _ _ _ _ _ _ gathers one) two)

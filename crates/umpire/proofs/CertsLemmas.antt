@@ -23,13 +23,15 @@ use Rattle.umpire.proofs.Files.{Says, refused, says}
 use Rattle.umpire.proofs.Parts.{LeavesRest}
 
 -- a text of which nothing is left was written whole
-pub all_written : (old new : Option (List ℕ)) (text rest : List ℕ) → LeavesRest old new text rest → rest ≡ [] → Appends old new text
+pub all_written : (old new : Option (List ℕ)) (text rest : List ℕ) → LeavesRest old new text rest → rest ≡ []
+    → Appends old new text
 all_written old new text rest left none =
     let whole : left.done ≡ text = sym (append-nil left.done) ∙ ap (λ l. left.done ++ l) (sym none) ∙ left.whole in
     subst (Appends old new) whole left.appended
 
 -- groups certify calls, and others further calls
-pub certified_more : (calls others : List Call) (groups more : List Group) → AreCertified calls groups → AreCertified others more → AreCertified (calls ++ others) (groups ++ more)
+pub certified_more : (calls others : List Call) (groups more : List Group) → AreCertified calls groups
+    → AreCertified others more → AreCertified (calls ++ others) (groups ++ more)
 certified_more [] others [] more these those = those
 certified_more [] others (group ∷ groups) more these those = absurd these
 certified_more (call ∷ calls) others [] more these those = absurd these
@@ -43,8 +45,10 @@ pub record KeptOf (before after : List Group) (calls : List Call) : Type 0 where
   pub certified : AreCertified calls groups
 
 -- one call more in front, which was answered
-kept_first : (call : Call) (calls : List Call) (answer : Result ℤ RunnerFault) (before between after : List Group) → call.answer ≡ answer → IsOk answer →
-    KeepsBest before call.position call.round call.company call.trains answer between → KeptOf between after calls → KeptOf before after (call ∷ calls)
+kept_first : (call : Call) (calls : List Call) (answer : Result ℤ RunnerFault) (before between after : List Group)
+    → call.answer ≡ answer → IsOk answer →
+    KeepsBest before call.position call.round call.company call.trains answer between → KeptOf between after calls
+    → KeptOf before after (call ∷ calls)
 kept_first call calls (Ok money) before between after is answered one rest =
     record {
       groups = one.group ∷ rest.groups;
@@ -64,27 +68,33 @@ kept_first call calls (Ok money) before between after is answered one rest =
 kept_first call calls (Err fault) before between after is answered one rest = absurd (cc)
 
 -- what a runner that keeps the best runs has kept of calls that were answered
-pub kept_of : (calls : List Call) (before after : List Group) → AreAnswered calls → AreMade KeepsBest before calls after → KeptOf before after calls
+pub kept_of : (calls : List Call) (before after : List Group) → AreAnswered calls
+    → AreMade KeepsBest before calls after → KeptOf before after calls
 kept_of [] before after answered made = record { groups = []; kept = made ∙ sym (append-nil before); certified = tt }
 kept_of (call ∷ calls) before after answered made =
-    kept_first call calls call.answer before made.0 after refl answered.0 made.1 (kept_of calls made.0 after answered.1 made.2)
+    kept_first call calls call.answer before made.0 after refl answered.0 made.1
+    (kept_of calls made.0 after answered.1 made.2)
 
 -- the text of groups, and that of more
-text_more : (groups more : List Group) → certificates_text groups ++ flat_map group_text more ≡ certificates_text (groups ++ more)
+text_more : (groups more : List Group) → certificates_text groups ++ flat_map group_text more
+    ≡ certificates_text (groups ++ more)
 text_more groups more =
     append_assoc (order_line Certs) (flat_map group_text groups) (flat_map group_text more)
     ∙ ap (λ l. order_line Certs ++ l) (sym (flat_map-append group_text groups more))
 
 -- the text of the groups so far is written, and then that of more
-pub text_grows : (old mid new : Option (List ℕ)) (groups more kept : List Group) → kept ≡ more → Appends old mid (certificates_text groups) →
+pub text_grows : (old mid new : Option (List ℕ)) (groups more kept : List Group) → kept ≡ more
+    → Appends old mid (certificates_text groups) →
     Appends mid new (flat_map group_text kept) → Appends old new (certificates_text (groups ++ more))
 text_grows old mid new groups more kept is so_far written =
-    let behind : Appends mid new (flat_map group_text more) = subst (λ (l : List Group). Appends mid new (flat_map group_text l)) is written in
+    let behind : Appends mid new (flat_map group_text more) =
+    subst (λ (l : List Group). Appends mid new (flat_map group_text l)) is written in
     let all = Appends-trans old mid new (certificates_text groups) (flat_map group_text more) so_far behind in
     subst (Appends old new) (text_more groups more) all
 
 -- certificates that were written of a file that was read are those of the whole file
-pub certified_of : (given old new : Option (List ℕ)) (file : List ℕ) → IfSome given (λ bytes. file ≡ as_read bytes) → IsCertified (Some file) old new → IsCertified given old new
+pub certified_of : (given old new : Option (List ℕ)) (file : List ℕ) → IfSome given (λ bytes. file ≡ as_read bytes)
+    → IsCertified (Some file) old new → IsCertified given old new
 certified_of given old new file read known =
     let says_all : Says given file = says given file read in
     let accepted : IsAccepted file = subst IsAccepted known.whole known.accepted in
@@ -99,16 +109,20 @@ certified_of given old new file read known =
     }
 
 -- what a fault leaves where this was read
-pub stops_of : (given old new : Option (List ℕ)) (file : List ℕ) (read_failed write_failed : Bool) (fault : Fault) → IfSome given (λ bytes. file ≡ as_read bytes) →
-    read_failed ≡ false → StopsCerts (Some file) old new false write_failed fault → StopsCerts given old new read_failed write_failed fault
+pub stops_of : (given old new : Option (List ℕ)) (file : List ℕ) (read_failed write_failed : Bool) (fault : Fault)
+    → IfSome given (λ bytes. file ≡ as_read bytes) →
+    read_failed ≡ false → StopsCerts (Some file) old new false write_failed fault
+    → StopsCerts given old new read_failed write_failed fault
 stops_of given old new file read_failed write_failed Read read unfailed known = absurd cc
 stops_of given old new file read_failed write_failed Write read unfailed known = (unfailed, known.1)
 stops_of given old new file read_failed write_failed Memory read unfailed known = (unfailed, known.1)
-stops_of given old new file read_failed write_failed (File fault) read unfailed known = (unfailed, known.1, refused given old new file fault read known.2)
+stops_of given old new file read_failed write_failed (File fault) read unfailed known =
+    (unfailed, known.1, refused given old new file fault read known.2)
 stops_of given old new file read_failed write_failed (Certificate round company) read unfailed known = absurd known
 
 -- what reading leaves where it stops early
-pub read_stops_certs : (given old : Option (List ℕ)) (read_failed write_failed : Bool) (fault : Fault) → IsReadFault read_failed fault → write_failed ≡ false →
+pub read_stops_certs : (given old : Option (List ℕ)) (read_failed write_failed : Bool) (fault : Fault)
+    → IsReadFault read_failed fault → write_failed ≡ false →
     StopsCerts given old old read_failed write_failed fault
 read_stops_certs given old read_failed write_failed Read is unfailed = (is, unfailed, Keeps-refl old)
 read_stops_certs given old read_failed write_failed Memory is unfailed = (is, unfailed)
@@ -117,8 +131,10 @@ read_stops_certs given old read_failed write_failed (File fault) is unfailed = a
 read_stops_certs given old read_failed write_failed (Certificate round company) is unfailed = absurd is
 
 -- the texts of the groups ahead, from a group on
-pub groups_ahead : (groups : List Group) (place : ℕ) (group : Group) → place < length groups → group ≡ get_or groups place group →
+pub groups_ahead : (groups : List Group) (place : ℕ) (group : Group) → place < length groups
+    → group ≡ get_or groups place group →
     flat_map group_text (drop place groups) ≡ group_text group ++ flat_map group_text (drop (place + 1) groups)
 groups_ahead groups place group within is =
-    let ahead : drop place groups ≡ group ∷ drop (suc place) groups = drop-cons groups place group within ∙ ap (λ (g : Group). g ∷ drop (suc place) groups) (sym is) in
+    let ahead : drop place groups ≡ group ∷ drop (suc place) groups =
+    drop-cons groups place group within ∙ ap (λ (g : Group). g ∷ drop (suc place) groups) (sym is) in
     rw (ahead, add-one) refl

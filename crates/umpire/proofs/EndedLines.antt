@@ -21,7 +21,8 @@ IsReturn bytes = (bytes ≡ []) ⊎ (bytes ≡ 13 ∷ [])
 
 pub return_is : (bytes : List ℕ) → IsReturn (return_of bytes)
 return_is [] = inl refl
-return_is (byte ∷ []) = elim (eqb byte 13) as (λ b. IsReturn (cond b (13 ∷ []) [])) [ true ↦ inr refl | false ↦ inl refl ]
+return_is (byte ∷ []) = elim (eqb byte 13) as (λ b. IsReturn (cond b (13 ∷ []) []))
+    [ true ↦ inr refl | false ↦ inl refl ]
 return_is (byte ∷ next ∷ bytes) = return_is (next ∷ bytes)
 
 -- what ends a line: an LF, a CR and an LF, or nothing where nothing follows
@@ -47,7 +48,8 @@ at_newline begun byte text e =
     let returned : List ℕ = return_of begun in
     let behind : returned ++ 10 ∷ text ≡ (returned ++ 10 ∷ []) ++ text = sym (append_assoc returned (10 ∷ []) text) in
     let all : begun ++ 10 ∷ text ≡ front ++ ((returned ++ 10 ∷ []) ++ text) =
-    ap (λ l. l ++ 10 ∷ text) (sym (both_parts begun)) ∙ append_assoc front returned (10 ∷ text) ∙ ap (λ l. front ++ l) behind
+    ap (λ l. l ++ 10 ∷ text) (sym (both_parts begun)) ∙ append_assoc front returned (10 ∷ text)
+    ∙ ap (λ l. front ++ l) behind
     in
     record {
       line = front;
@@ -58,7 +60,8 @@ at_newline begun byte text e =
       ends = newline_is_end returned (rest_of (byte ∷ text)) (return_is begun);
     }
 
-further : (begun : List ℕ) (byte : ℕ) (text : List ℕ) → eqb byte 10 ≡ false → FirstFrom (begun ++ byte ∷ []) text → FirstFrom begun (byte ∷ text)
+further : (begun : List ℕ) (byte : ℕ) (text : List ℕ) → eqb byte 10 ≡ false → FirstFrom (begun ++ byte ∷ []) text
+    → FirstFrom begun (byte ∷ text)
 further begun byte text e next =
     record {
       line = next.line;
@@ -71,11 +74,20 @@ further begun byte text e next =
 
 first_begun : (begun text : List ℕ) → 0 < length begun → FirstFrom begun text
 first_begun [] [] some = absurd (omega arith)
-first_begun (a ∷ begun) [] some = record { line = a ∷ begun; end = []; ended = refl; plain = refl; whole = refl; ends = inl refl }
+first_begun (a ∷ begun) [] some = record {
+  line = a ∷ begun;
+  end = [];
+  ended = refl;
+  plain = refl;
+  whole =
+      refl;
+  ends = inl refl;
+}
 first_begun begun (byte ∷ text) some =
     elim (cases_Bool (eqb byte 10)) as (λ _. FirstFrom begun (byte ∷ text)) [
       | inl e ↦ at_newline begun byte text e
-      | inr e ↦ further begun byte text e (first_begun (begun ++ byte ∷ []) text (rw (length-append begun (byte ∷ [])) (omega arith)))
+      | inr e ↦ further begun byte text e (first_begun (begun ++ byte ∷ []) text
+          (rw (length-append begun (byte ∷ [])) (omega arith)))
     ]
 
 first_from : (byte : ℕ) (text : List ℕ) → FirstFrom [] (byte ∷ text)
@@ -92,7 +104,8 @@ pub record FirstEnded (text line rest : List ℕ) : Type 0 where
   pub whole : text ≡ line ++ (end ++ rest)
   pub ends : IsEnd end rest
 
-pub first_ended : (text line rest : List ℕ) → lines_of text ≡ line ∷ lines_of rest → rest ≡ rest_of text → FirstEnded text line rest
+pub first_ended : (text line rest : List ℕ) → lines_of text ≡ line ∷ lines_of rest → rest ≡ rest_of text
+    → FirstEnded text line rest
 unfolding ended_lines
 first_ended [] line rest e r = absurd (let wrong : ◌≡◌ {A = List (List ℕ)} [] (line ∷ lines_of rest) = e in cc)
 first_ended (byte ∷ text) line rest e r =
@@ -116,7 +129,8 @@ unfolding body_in_two ended_lines
 no_body_in_two = refl
 
 -- a text behind the header line goes over line by line
-pub body_by_line : (text line rest : List ℕ) (first : FirstEnded text line rest) → body_in_two text ≡ line_in_two line ++ (first.end ++ body_in_two rest)
+pub body_by_line : (text line rest : List ℕ) (first : FirstEnded text line rest)
+    → body_in_two text ≡ line_in_two line ++ (first.end ++ body_in_two rest)
 unfolding body_in_two
 body_by_line text line rest first =
     ap (λ lines. text_of_ended (map ended_in_two lines)) first.lines
@@ -145,18 +159,22 @@ body_behind end rest (inr (inl is)) = rw (is, empty_line_in_two) refl
 body_behind end rest (inr (inr is)) = rw (is, empty_line_in_two) refl
 
 -- a blank line before the header stays
-pub file_by_blank : (text line rest : List ℕ) (first : FirstEnded text line rest) → is_blank line ≡ true → file_in_two text ≡ line ++ (first.end ++ file_in_two rest)
+pub file_by_blank : (text line rest : List ℕ) (first : FirstEnded text line rest) → is_blank line ≡ true
+    → file_in_two text ≡ line ++ (first.end ++ file_in_two rest)
 unfolding file_in_two
 file_by_blank text line rest first blank =
     ap (λ lines. text_of_ended (lines_in_two lines)) first.lines
     ∙ rw blank (append_assoc line first.end (text_of_ended (lines_in_two (ended_lines rest))))
 
-header_text : (end rest : List ℕ) → text_of_ended (record { line = header_of_two; end = end } ∷ map ended_in_two (ended_lines rest)) ≡ header_of_two ++ (end ++ body_in_two rest)
+header_text : (end rest : List ℕ) → text_of_ended
+    (record { line = header_of_two; end = end } ∷ map ended_in_two (ended_lines rest))
+    ≡ header_of_two ++ (end ++ body_in_two rest)
 unfolding body_in_two
 header_text end rest = append_assoc header_of_two end (text_of_ended (map ended_in_two (ended_lines rest)))
 
 -- the first that is not blank becomes the header
-pub file_by_header : (text line rest : List ℕ) (first : FirstEnded text line rest) → is_blank line ≡ false → file_in_two text ≡ header_of_two ++ body_in_two (first.end ++ rest)
+pub file_by_header : (text line rest : List ℕ) (first : FirstEnded text line rest) → is_blank line ≡ false
+    → file_in_two text ≡ header_of_two ++ body_in_two (first.end ++ rest)
 unfolding file_in_two
 file_by_header text line rest first blank =
     rw (body_behind first.end rest first.ends)

@@ -14,7 +14,8 @@ use Rattle.umpire.specs.declared.fault.Fault.{Fault}
 use Rattle.umpire.specs.declared.fault.Fault.TheVariants.{Read, Write, Memory, File, Certificate}
 
 -- all of a file was read, or it is too long and so is what was read of it
-read_or_long : (bytes file : List ℕ) → file ≡ as_read bytes → (length bytes ≤ 67108864) ⊎ (67108864 < length bytes) → (bytes ≡ file) ⊎ ((content_of bytes ≡ Err TooLong) × (content_of file ≡ Err TooLong))
+read_or_long : (bytes file : List ℕ) → file ≡ as_read bytes → (length bytes ≤ 67108864) ⊎ (67108864 < length bytes)
+    → (bytes ≡ file) ⊎ ((content_of bytes ≡ Err TooLong) × (content_of file ≡ Err TooLong))
 unfolding as_read
 read_or_long bytes file read (inl within) = inl (sym (read ∙ take_all 67108865 bytes (grind arith)))
 read_or_long bytes file read (inr over) =
@@ -29,8 +30,15 @@ pub record Says (given : Option (List ℕ)) (file : List ℕ) : Type 0 where
   pub accepted : IsAccepted file → whole ≡ file
 
 -- the content of what was read is that of the whole file
-says_by : (bytes file : List ℕ) → (bytes ≡ file) ⊎ ((content_of bytes ≡ Err TooLong) × (content_of file ≡ Err TooLong)) → Says (Some bytes) file
-says_by bytes file (inl same) = record { whole = bytes; is_whole = refl; content = grind arith; accepted = λ accepted. same }
+says_by : (bytes file : List ℕ) → (bytes ≡ file)
+    ⊎ ((content_of bytes ≡ Err TooLong) × (content_of file ≡ Err TooLong)) → Says (Some bytes) file
+says_by bytes file (inl same) = record {
+  whole = bytes;
+  is_whole = refl;
+  content = grind arith;
+  accepted =
+      λ accepted. same;
+}
 says_by bytes file (inr (a, b)) =
     record { whole = bytes; is_whole = refl; content = a ∙ sym b; accepted = λ accepted. absurd (cc) }
 
@@ -40,21 +48,25 @@ says None file read = record { whole = file; is_whole = tt; content = refl; acce
 says (Some bytes) file read = says_by bytes file (read_or_long bytes file read (grind arith))
 
 -- the report of what was read is that of the whole file
-report_of_whole : (whole file text : List ℕ) (content : Result Content FileFault) → content_of file ≡ content → content_of whole ≡ content_of file → (IsAccepted file → whole ≡ file) → IsReport file text → IsReport whole text
+report_of_whole : (whole file text : List ℕ) (content : Result Content FileFault) → content_of file ≡ content
+    → content_of whole ≡ content_of file → (IsAccepted file → whole ≡ file) → IsReport file text → IsReport whole text
 report_of_whole whole file text (Ok content) is same accepted report =
-    subst (λ (other : List ℕ). IsReport other text) (sym (accepted (subst (λ (r : Result Content FileFault). IsOk r) (sym is) refl))) report
+    subst (λ (other : List ℕ). IsReport other text)
+    (sym (accepted (subst (λ (r : Result Content FileFault). IsOk r) (sym is) refl))) report
 report_of_whole whole file text (Err fault) is same accepted report =
     subst (λ (r : Result Content FileFault). IsReportOf whole r text) (sym (same ∙ is))
     (subst (λ (r : Result Content FileFault). IsReportOf file r text) is report)
 
 -- the report of the file that was read is that of the whole file
-report_of_read : (given : Option (List ℕ)) (file known text : List ℕ) (says_all : Says given file) → known ≡ file → IsReport known text → IsReport says_all.whole text
+report_of_read : (given : Option (List ℕ)) (file known text : List ℕ) (says_all : Says given file) → known ≡ file
+    → IsReport known text → IsReport says_all.whole text
 report_of_read given file known text says_all is report =
     report_of_whole says_all.whole file text (content_of file) refl says_all.content says_all.accepted
     (subst (λ (other : List ℕ). IsReport other text) is report)
 
 -- a report that was written whole
-pub reported : (given old new : Option (List ℕ)) (file : List ℕ) → IfSome given (λ bytes. file ≡ as_read bytes) → IsReported (Some file) old new → IsReported given old new
+pub reported : (given old new : Option (List ℕ)) (file : List ℕ) → IfSome given (λ bytes. file ≡ as_read bytes)
+    → IsReported (Some file) old new → IsReported given old new
 reported given old new file read known =
     let says_all : Says given file = says given file read in
     let accepted : IsAccepted file = subst (λ (other : List ℕ). IsAccepted other) known.whole known.accepted in
@@ -68,7 +80,8 @@ reported given old new file read known =
     }
 
 -- a refusal that was written whole
-pub refused : (given old new : Option (List ℕ)) (file : List ℕ) (fault : FileFault) → IfSome given (λ bytes. file ≡ as_read bytes) → IsRefused (Some file) old new fault → IsRefused given old new fault
+pub refused : (given old new : Option (List ℕ)) (file : List ℕ) (fault : FileFault)
+    → IfSome given (λ bytes. file ≡ as_read bytes) → IsRefused (Some file) old new fault → IsRefused given old new fault
 refused given old new file fault read known =
     let says_all : Says given file = says given file read in
     record {
@@ -79,7 +92,8 @@ refused given old new file fault read known =
     }
 
 -- a report of which a front was written
-cut_short : (given old new : Option (List ℕ)) (file : List ℕ) → IfSome given (λ bytes. file ≡ as_read bytes) → IsCutShort (Some file) old new → IsCutShort given old new
+cut_short : (given old new : Option (List ℕ)) (file : List ℕ) → IfSome given (λ bytes. file ≡ as_read bytes)
+    → IsCutShort (Some file) old new → IsCutShort given old new
 cut_short given old new file read known =
     let says_all : Says given file = says given file read in
     record {
@@ -91,21 +105,28 @@ cut_short given old new file read known =
     }
 
 -- what a fault leaves where this was read
-pub stops : (given old new : Option (List ℕ)) (file : List ℕ) (read_failed write_failed : Bool) (fault : Fault) → IfSome given (λ bytes. file ≡ as_read bytes) → read_failed ≡ false → Stops (Some file) old new false write_failed fault → Stops given old new read_failed write_failed fault
+pub stops : (given old new : Option (List ℕ)) (file : List ℕ) (read_failed write_failed : Bool) (fault : Fault)
+    → IfSome given (λ bytes. file ≡ as_read bytes) → read_failed ≡ false
+    → Stops (Some file) old new false write_failed fault → Stops given old new read_failed write_failed fault
 stops given old new file read_failed write_failed Read read unfailed known = absurd cc
-stops given old new file read_failed write_failed Write read unfailed known = (unfailed, known.1, cut_short given old new file read known.2)
-stops given old new file read_failed write_failed Memory read unfailed known = (unfailed, known.1, cut_short given old new file read known.2)
-stops given old new file read_failed write_failed (File fault) read unfailed known = (unfailed, known.1, refused given old new file fault read known.2)
+stops given old new file read_failed write_failed Write read unfailed known =
+    (unfailed, known.1, cut_short given old new file read known.2)
+stops given old new file read_failed write_failed Memory read unfailed known =
+    (unfailed, known.1, cut_short given old new file read known.2)
+stops given old new file read_failed write_failed (File fault) read unfailed known =
+    (unfailed, known.1, refused given old new file fault read known.2)
 stops given old new file read_failed write_failed (Certificate round company) read unfailed known = absurd known
 
 -- nothing of a report is a front of it
-front_of_none : (given old : Option (List ℕ)) (file : List ℕ) → IsFileOf given file → (text : List ℕ) × IsReport file text → IsCutShort given old old
+front_of_none : (given old : Option (List ℕ)) (file : List ℕ) → IsFileOf given file
+    → (text : List ℕ) × IsReport file text → IsCutShort given old old
 front_of_none given old file whole some =
     let none : AppendsFront old old some.0 = record { count = 0; within = omega arith; appended = Appends-nil old } in
     record { file = file; text = some.0; whole = whole; report = some.1; front = none }
 
 -- where nothing is written yet, that is a front of the report, since each file has one
-pub nothing_written : ((file : List ℕ) → (text : List ℕ) × IsReport file text) → (given old : Option (List ℕ)) → IsCutShort given old old
+pub nothing_written : ((file : List ℕ) → (text : List ℕ) × IsReport file text) → (given old : Option (List ℕ))
+    → IsCutShort given old old
 nothing_written some None old = front_of_none None old [] tt (some [])
 nothing_written some (Some bytes) old = front_of_none (Some bytes) old bytes refl (some bytes)
 
@@ -113,11 +134,14 @@ nothing_written some (Some bytes) old = front_of_none (Some bytes) old bytes ref
 pub cut_in_refusal : (file : List ℕ) (old new : Option (List ℕ)) (fault : FileFault) → content_of file ≡ Err fault →
     AppendsFront old new (refusal_line fault) → IsCutShort (Some file) old new
 cut_in_refusal file old new fault is front =
-    let report : IsReport file (refusal_line fault) = subst (λ (r : Result Content FileFault). IsReportOf file r (refusal_line fault)) (sym is) refl in
+    let report : IsReport file (refusal_line fault) =
+    subst (λ (r : Result Content FileFault). IsReportOf file r (refusal_line fault)) (sym is) refl in
     record { file = file; text = refusal_line fault; whole = refl; report = report; front = front }
 
 -- what reading leaves where it stops early
-pub read_stops : ((file : List ℕ) → (text : List ℕ) × IsReport file text) → (given old : Option (List ℕ)) (read_failed write_failed : Bool) (fault : Fault) → IsReadFault read_failed fault → write_failed ≡ false → Stops given old old read_failed write_failed fault
+pub read_stops : ((file : List ℕ) → (text : List ℕ) × IsReport file text)
+    → (given old : Option (List ℕ)) (read_failed write_failed : Bool) (fault : Fault) → IsReadFault read_failed fault
+    → write_failed ≡ false → Stops given old old read_failed write_failed fault
 read_stops some given old read_failed write_failed Read is unfailed = (is, unfailed, Keeps-refl old)
 read_stops some given old read_failed write_failed Memory is unfailed = (is, unfailed, nothing_written some given old)
 read_stops some given old read_failed write_failed Write is unfailed = absurd is

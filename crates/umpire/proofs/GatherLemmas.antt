@@ -13,16 +13,19 @@ pub gathers_none : (old : Option (List ℕ)) (before : List ℕ) → Gathers old
 gathers_none old before = record { done = []; whole = sym (append-nil before); appended = Appends-nil old }
 
 -- a text is kept behind what was gathered
-pub gathers_more : (old : Option (List ℕ)) (before after text : List ℕ) → after ≡ before ++ text → Gathers old old before after text
+pub gathers_more : (old : Option (List ℕ)) (before after text : List ℕ) → after ≡ before ++ text
+    → Gathers old old before after text
 gathers_more old before after text is = record { done = []; whole = is; appended = Appends-nil old }
 
 -- what was gathered is written
-pub gathers_written : (old new : Option (List ℕ)) (before after : List ℕ) → Appends old new before → after ≡ [] → Gathers old new before after []
+pub gathers_written : (old new : Option (List ℕ)) (before after : List ℕ) → Appends old new before → after ≡ []
+    → Gathers old new before after []
 gathers_written old new before after written none =
     record { done = before; whole = ap (λ l. before ++ l) none; appended = written }
 
 -- so is a text behind it
-pub gathers_all : (old mid new : Option (List ℕ)) (before after text : List ℕ) → Appends old mid before → after ≡ [] → Appends mid new text → Gathers old new before after text
+pub gathers_all : (old mid new : Option (List ℕ)) (before after text : List ℕ) → Appends old mid before → after ≡ []
+    → Appends mid new text → Gathers old new before after text
 gathers_all old mid new before after text written none more =
     record {
       done = before ++ text;
@@ -31,7 +34,9 @@ gathers_all old mid new before after text written none more =
     }
 
 -- one text has come after another
-pub gathers_both : (old mid new : Option (List ℕ)) (before between after first second : List ℕ) → Gathers old mid before between first → Gathers mid new between after second → Gathers old new before after (first ++ second)
+pub gathers_both : (old mid new : Option (List ℕ)) (before between after first second : List ℕ)
+    → Gathers old mid before between first → Gathers mid new between after second
+    → Gathers old new before after (first ++ second)
 gathers_both old mid new before between after first second a b =
     record {
       done = a.done ++ b.done;
@@ -42,34 +47,43 @@ gathers_both old mid new before between after first second a b =
     }
 
 -- a text that was begun is written with what was gathered
-pub gathers_end : (old mid new : Option (List ℕ)) (after text : List ℕ) → Gathers old mid [] after text → Appends mid new after → Appends old new text
-gathers_end old mid new after text gathered written = rw (← gathered.whole) (Appends-trans old mid new gathered.done after gathered.appended written)
+pub gathers_end : (old mid new : Option (List ℕ)) (after text : List ℕ) → Gathers old mid [] after text
+    → Appends mid new after → Appends old new text
+gathers_end old mid new after text gathered written =
+    rw (← gathered.whole) (Appends-trans old mid new gathered.done after gathered.appended written)
 
 -- a front of what is gathered, with what comes behind it, is a front of the whole
-pub front_behind : (old mid new : Option (List ℕ)) (before between first second rest : List ℕ) → Gathers old mid before between first → AppendsFront mid new (between ++ second) → AppendsFront old new (before ++ (first ++ (second ++ rest)))
+pub front_behind : (old mid new : Option (List ℕ)) (before between first second rest : List ℕ)
+    → Gathers old mid before between first → AppendsFront mid new (between ++ second)
+    → AppendsFront old new (before ++ (first ++ (second ++ rest)))
 front_behind old mid new before between first second rest a front =
     let behind : List ℕ = (between ++ second) ++ rest in
     let whole : a.done ++ behind ≡ before ++ (first ++ (second ++ rest)) =
     ap (λ l. a.done ++ l) (append_assoc between second rest) ∙ sym (append_assoc a.done between (second ++ rest))
     ∙ ap (λ l. l ++ (second ++ rest)) a.whole ∙ append_assoc before first (second ++ rest)
     in
-    let left : LeavesRest old mid (before ++ (first ++ (second ++ rest))) behind = record { done = a.done; whole = whole; appended = a.appended } in
+    let left : LeavesRest old mid (before ++ (first ++ (second ++ rest))) behind =
+    record { done = a.done; whole = whole; appended = a.appended } in
     front_of_part old mid new (before ++ (first ++ (second ++ rest))) behind (between ++ second) rest left refl front
 
 -- so it is where nothing of it was written
-pub front_so_far : (old mid : Option (List ℕ)) (before between first rest : List ℕ) → Gathers old mid before between first → AppendsFront old mid (before ++ (first ++ rest))
+pub front_so_far : (old mid : Option (List ℕ)) (before between first rest : List ℕ)
+    → Gathers old mid before between first → AppendsFront old mid (before ++ (first ++ rest))
 front_so_far old mid before between first rest a =
     front_behind old mid mid before between first [] rest a (none_of mid (between ++ []))
 
 -- what was gathered is written, and a front of the text behind it
-pub front_after : (old mid new : Option (List ℕ)) (before text : List ℕ) → Appends old mid before → AppendsFront mid new text → AppendsFront old new (before ++ text)
+pub front_after : (old mid new : Option (List ℕ)) (before text : List ℕ) → Appends old mid before
+    → AppendsFront mid new text → AppendsFront old new (before ++ text)
 front_after old mid new before text written front =
     let left : LeavesRest old mid (before ++ text) text = record { done = before; whole = refl; appended = written } in
     front_of_part old mid new (before ++ text) text text [] left (sym (append-nil text)) front
 
 -- what was gathered from nothing on is what is left of a text
-pub front_at_end : (old mid new : Option (List ℕ)) (before after text : List ℕ) → Gathers old mid before after text → before ≡ [] → AppendsFront mid new after → AppendsFront old new text
+pub front_at_end : (old mid new : Option (List ℕ)) (before after text : List ℕ) → Gathers old mid before after text
+    → before ≡ [] → AppendsFront mid new after → AppendsFront old new text
 front_at_end old mid new before after text gathered none front =
     let whole : gathered.done ++ after ≡ text = gathered.whole ∙ ap (λ l. l ++ text) none in
-    let left : LeavesRest old mid text after = record { done = gathered.done; whole = whole; appended = gathered.appended } in
+    let left : LeavesRest old mid text after = record
+    { done = gathered.done; whole = whole; appended = gathered.appended } in
     front_of_part old mid new text after after [] left (sym (append-nil after)) front

@@ -21,11 +21,13 @@ use Rattle.umpire.proofs.MigrationLemmas.{accepted_names}
 use Rattle.umpire.proofs.SheetsInTwo.{all_unread_alike, content_goes, goes_to_two, parts_alike, players_alike, posted_alike, version_named, with_body}
 
 -- what a file goes over to, by the version that it names
-goes : (file : List ℕ) (named : Option Version) → named_version (written_lines file) ≡ named → migrated file ≡ migrated_from named file
+goes : (file : List ℕ) (named : Option Version) → named_version (written_lines file) ≡ named
+    → migrated file ≡ migrated_from named file
 unfolding migrated
 goes file named e = rw e refl
 
-once_from : (file : List ℕ) (named : Option Version) → named_version (written_lines file) ≡ named → migrated (migrated_from named file) ≡ migrated_from named file
+once_from : (file : List ℕ) (named : Option Version) → named_version (written_lines file) ≡ named
+    → migrated (migrated_from named file) ≡ migrated_from named file
 once_from file None e = goes file None e
 once_from file (Some One) e = goes (file_in_two file) (Some Two) (goes_to_two file e)
 once_from file (Some Two) e = goes file (Some Two) e
@@ -35,7 +37,8 @@ goes_over_once file =
     let named : Option Version = named_version (written_lines file) in
     subst (λ (new : List ℕ). migrated new ≡ new) (sym (goes file named refl)) (once_from file named refl)
 
-fits_from : (file : List ℕ) (named : Option Version) → named_version (written_lines file) ≡ named → length (migrated_from named file) ≤ length file
+fits_from : (file : List ℕ) (named : Option Version) → named_version (written_lines file) ≡ named
+    → length (migrated_from named file) ≤ length file
 fits_from file None e = omega arith
 fits_from file (Some One) e = file_fits file e
 fits_from file (Some Two) e = omega arith
@@ -46,11 +49,14 @@ grows_no_longer file =
     subst (λ (new : List ℕ). length new ≤ length file) (sym (goes file named refl)) (fits_from file named refl)
 
 -- a fault stays, and what is no fault becomes none
-fault_stays : (content : Result Content FileFault) (fault : FileFault) → (with_body content ≡ Err fault) ↔ (content ≡ Err fault)
+fault_stays : (content : Result Content FileFault) (fault : FileFault)
+    → (with_body content ≡ Err fault) ↔ (content ≡ Err fault)
 fault_stays (Ok content) fault = (λ e. cc, λ e. cc)
 fault_stays (Err other) fault = (λ e. e, λ e. e)
 
-refused_from : (file : List ℕ) (fault : FileFault) (named : Option Version) → named_version (written_lines file) ≡ named → length file ≤ file_most → (content_of (migrated_from named file) ≡ Err fault) ↔ (content_of file ≡ Err fault)
+refused_from : (file : List ℕ) (fault : FileFault) (named : Option Version)
+    → named_version (written_lines file) ≡ named → length file ≤ file_most
+    → (content_of (migrated_from named file) ≡ Err fault) ↔ (content_of file ≡ Err fault)
 refused_from file fault None e short = (λ same. same, λ same. same)
 refused_from file fault (Some One) e short = rw (content_goes file e short) (fault_stays (content_of file) fault)
 refused_from file fault (Some Two) e short = (λ same. same, λ same. same)
@@ -58,10 +64,12 @@ refused_from file fault (Some Two) e short = (λ same. same, λ same. same)
 pub refused_alike : RefusedAlike
 refused_alike file fault short =
     let named : Option Version = named_version (written_lines file) in
-    subst (λ (new : List ℕ). (content_of new ≡ Err fault) ↔ (content_of file ≡ Err fault)) (sym (goes file named refl)) (refused_from file fault named refl short)
+    subst (λ (new : List ℕ). (content_of new ≡ Err fault) ↔ (content_of file ≡ Err fault))
+    (sym (goes file named refl)) (refused_from file fault named refl short)
 
 -- an accepted file has no more bytes than a file may have
-within : (bytes : ℕ) (content : Result Content FileFault) → IsOk (cond (nat_lt file_most bytes) (Err TooLong) content) → bytes ≤ file_most
+within : (bytes : ℕ) (content : Result Content FileFault) → IsOk (cond (nat_lt file_most bytes) (Err TooLong) content)
+    → bytes ≤ file_most
 within bytes content accepted =
     elim (cases_Bool (nat_lt file_most bytes)) [
       | inl long ↦ absurd (let wrong = rw long at accepted in cc)
@@ -85,11 +93,13 @@ record SaysItAgain (file new : List ℕ) : Type 0 where
   posted : (seat : ℕ) (round : Round) → is_some (sheet_of new seat round) ≡ is_some (sheet_of file seat round)
   parts : SameParts new file
 
-says_from : (file : List ℕ) (version : Version) → IsAccepted file → named_version (written_lines file) ≡ Some version → SaysItAgain file (migrated_from (Some version) file)
+says_from : (file : List ℕ) (version : Version) → IsAccepted file → named_version (written_lines file) ≡ Some version
+    → SaysItAgain file (migrated_from (Some version) file)
 says_from file One accepted e =
     let short = accepted_short file accepted in
     record {
-      accepted = subst (λ (content : Result Content FileFault). IsOk content) (sym (content_goes file e short)) (still_ok (content_of file) accepted);
+      accepted = subst (λ (content : Result Content FileFault). IsOk content) (sym (content_goes file e short))
+          (still_ok (content_of file) accepted);
       version = version_named (file_in_two file) Two (goes_to_two file e);
       players = players_alike file e short;
       unread = all_unread_alike file e short;
@@ -110,7 +120,8 @@ pub says_the_same : AcceptedSaysTheSame
 says_the_same file accepted =
     let named = accepted_names file accepted in
     let again : SaysItAgain file (migrated file) =
-    subst (λ (new : List ℕ). SaysItAgain file new) (sym (goes file (Some (version_of file)) named)) (says_from file (version_of file) accepted named) in
+    subst (λ (new : List ℕ). SaysItAgain file new) (sym (goes file (Some (version_of file)) named))
+    (says_from file (version_of file) accepted named) in
     record {
       accepted = again.accepted;
       version = again.version;
@@ -125,7 +136,11 @@ read_alike : (file : List ℕ) → SaysTheSame file → AreReadAlike file (migra
 read_alike file says =
     record {
       players = sym says.players;
-      sheets = λ round. record { posted = λ seat. sym (says.posted seat round); parts = λ seat. sym (says.parts round seat) };
+      sheets = λ round. record {
+        posted = λ seat. sym (says.posted seat round);
+        parts =
+            λ seat. sym (says.parts round seat);
+      };
     }
 
 pub changes_no_report : SamePartsSameReport → MigrationChangesNoReport
@@ -136,5 +151,6 @@ changes_no_report same_report file accepted text report =
     record {
       rest = differs.rest;
       is = differs.is;
-      report = subst (λ (version : Version). IsReport (migrated file) (game_line version ++ differs.rest)) says.version differs.report;
+      report = subst (λ (version : Version). IsReport (migrated file) (game_line version ++ differs.rest))
+          says.version differs.report;
     }

@@ -12,25 +12,29 @@ use Rattle.umpire.specs.Groups.{begins_group, group_begun, groups_in, second_of_
 use Rattle.certificate.specs.declared.group.Group.{Group}
 
 -- the next line is of the group
-pub next_line : (lines rest : List (List ℕ)) (line : List ℕ) (group : Group) (next : Option Group) → lines ≡ line ∷ rest → begins_group line ≡ false → with_line group line ≡ next →
+pub next_line : (lines rest : List (List ℕ)) (line : List ℕ) (group : Group) (next : Option Group)
+    → lines ≡ line ∷ rest → begins_group line ≡ false → with_line group line ≡ next →
     with_lines lines (Some group) ≡ with_lines rest next
 next_line lines rest line group next e b w = rw (e, b, w) refl
 
 -- the next line begins another group
-pub next_group : (lines rest : List (List ℕ)) (line : List ℕ) (group : Option Group) → lines ≡ line ∷ rest → begins_group line ≡ true → with_lines lines group ≡ group
+pub next_group : (lines rest : List (List ℕ)) (line : List ℕ) (group : Option Group) → lines ≡ line ∷ rest
+    → begins_group line ≡ true → with_lines lines group ≡ group
 next_group lines rest line group e b = rw (e, b) refl
 
 -- a malformed group stays one
 pub malformed : (lines : List (List ℕ)) → with_lines lines None ≡ None
 malformed [] = refl
-malformed (line ∷ lines) = elim (begins_group line) as (λ b. cond b None (with_lines lines None) ≡ None) [ true ↦ refl | false ↦ malformed lines ]
+malformed (line ∷ lines) = elim (begins_group line) as (λ b. cond b None (with_lines lines None) ≡ None)
+    [ true ↦ refl | false ↦ malformed lines ]
 
 -- the groups of some lines, by the first of them
 pub groups_at_group : (lines rest : List (List ℕ)) (line : List ℕ) → lines ≡ line ∷ rest → begins_group line ≡ true →
     groups_in lines ≡ with_lines rest (group_begun (cert_reading_of line)) ∷ groups_in rest
 groups_at_group lines rest line e b = rw (e, b) refl
 
-pub groups_behind : (lines rest : List (List ℕ)) (line : List ℕ) → lines ≡ line ∷ rest → begins_group line ≡ false → groups_in lines ≡ groups_in rest
+pub groups_behind : (lines rest : List (List ℕ)) (line : List ℕ) → lines ≡ line ∷ rest → begins_group line ≡ false
+    → groups_in lines ≡ groups_in rest
 groups_behind lines rest line e b = rw (e, b) refl
 
 -- digits stand for the same bits in either case
@@ -42,7 +46,8 @@ raised_digits [] = refl
 raised_digits (byte ∷ word) = rw (raised_digit byte, raised_digits word) refl
 
 -- the second of some words is given
-pub second_given : (words left more : List Placed) (first second : Option Token) (token : Token) → GivesFirst words first left → GivesFirst left second more →
+pub second_given : (words left more : List Placed) (first second : Option Token) (token : Token)
+    → GivesFirst words first left → GivesFirst left second more →
     second ≡ Some token → second_of_words (texts_of words) ≡ raised token.text.now
 second_given [] left more first second token a b is =
     let none : GivesFirst [] second more = subst (λ ws. GivesFirst ws second more) a.1 b in
@@ -51,8 +56,10 @@ second_given (word ∷ words) left more first second token a b is =
     gives_first words more second token (subst (λ ws. GivesFirst ws second more) a.3 b) is
 
 -- the marks of a line are taken as they are written there
-pub marks_taken : {E : Type 0} (group : Group) (word digits : List ℕ) (bits : List Bool) (done : Result Unit E) → word ≡ raised digits →
+pub marks_taken : {E : Type 0} (group : Group) (word digits : List ℕ) (bits : List Bool) (done : Result Unit E)
+    → word ≡ raised digits →
     OnOk done (bits ≡ group.bits ++ bits_of_digits digits) →
-    OnOk done (record { round = group.round; company = group.company; claim = group.claim; bits = bits } ≡ with_marks group word)
+    OnOk done (record { round = group.round; company = group.company; claim = group.claim; bits = bits }
+    ≡ with_marks group word)
 marks_taken group word digits bits (Ok done) w h = rw (h, w, raised_digits digits) refl
 marks_taken group word digits bits (Err error) w h = tt

@@ -36,7 +36,8 @@ version_is number e =
       | inr other ↦ absurd (let wrong = rw other at e in not_one (eqb number 2) wrong)
     ]
 
-game_is : (game number : ℕ) → cond (eqb game 1830) (version_numbered number) None ≡ Some One → (game ≡ 1830) × (number ≡ 1)
+game_is : (game number : ℕ) → cond (eqb game 1830) (version_numbered number) None ≡ Some One
+    → (game ≡ 1830) × (number ≡ 1)
 game_is game number e =
     elim (cases_Bool (eqb game 1830)) [
       | inl same ↦ (eqb-true game 1830 same, version_is number (rw same at e))
@@ -47,7 +48,8 @@ game_is game number e =
 abbrev HeaderWords : List (List ℕ) → Type 0
 HeaderWords words = Then (IsWord (codes "GAME")) (Then (IsNumber 1830) (Then (IsNumber 1) End)) words
 
-words_by : (line : List ℕ) (reading : Result Order Fault) → reading_of line ≡ reading → header_version reading ≡ Some One → HeaderWords (words_of line)
+words_by : (line : List ℕ) (reading : Result Order Fault) → reading_of line ≡ reading
+    → header_version reading ≡ Some One → HeaderWords (words_of line)
 words_by line (Ok (Game game number)) read e =
     let both = game_is game number e in
     let is : reading_of line ≡ Ok (Game 1830 1) = read ∙ rw (both.0, both.1) refl in
@@ -60,7 +62,8 @@ total : List (List ℕ) → ℕ
 total [] = 0
 total (word ∷ words) = length word + 1 + total words
 
-with_fit : (word : List ℕ) (words : List (List ℕ)) (n : ℕ) → total words ≤ n → total (with_word word words) ≤ length word + 1 + n
+with_fit : (word : List ℕ) (words : List (List ℕ)) (n : ℕ) → total words ≤ n
+    → total (with_word word words) ≤ length word + 1 + n
 unfolding total
 with_fit [] words n fits = omega arith
 with_fit (byte ∷ word) words n fits = omega arith
@@ -74,7 +77,8 @@ words_fit begun (byte ∷ text) =
     let here = with_fit begun (words_from [] text) (length text + 1) first in
     let later = words_fit (begun ++ byte ∷ []) text in
     let longer = length-append begun (byte ∷ []) in
-    elim (eqb byte 32) as (λ b. total (cond b (with_word begun (words_from [] text)) (words_from (begun ++ byte ∷ []) text)) ≤ length begun + length (byte ∷ text) + 1) [
+    elim (eqb byte 32) as (λ b. total (cond b (with_word begun (words_from [] text))
+    (words_from (begun ++ byte ∷ []) text)) ≤ length begun + length (byte ∷ text) + 1) [
       | true ↦ omega arith
       | false ↦ omega arith
     ]
@@ -83,7 +87,8 @@ before_fits : (stop : ℕ) (line : List ℕ) → length (before stop line) ≤ l
 before_fits stop [] = omega arith
 before_fits stop (byte ∷ line) =
     let rest = before_fits stop line in
-    elim (eqb byte stop) as (λ b. length (cond b [] (byte ∷ before stop line)) ≤ length (byte ∷ line)) [ true ↦ omega arith | false ↦ omega arith ]
+    elim (eqb byte stop) as (λ b. length (cond b [] (byte ∷ before stop line)) ≤ length (byte ∷ line))
+    [ true ↦ omega arith | false ↦ omega arith ]
 
 raised_total : (words : List (List ℕ)) → total (map raised words) ≡ total words
 unfolding total
@@ -160,42 +165,61 @@ line_fits line =
     ]
 
 -- so are all
-ended_fits : (line other end rest more : List ℕ) → length line ≤ length other → length rest ≤ length more → length ((line ++ end) ++ rest) ≤ length ((other ++ end) ++ more)
+ended_fits : (line other end rest more : List ℕ) → length line ≤ length other → length rest ≤ length more
+    → length ((line ++ end) ++ rest) ≤ length ((other ++ end) ++ more)
 ended_fits line other end rest more first behind =
-    rw (length-append (line ++ end) rest, length-append line end, length-append (other ++ end) more, length-append other end) (omega arith)
+    rw (
+      length-append (line ++ end) rest,
+      length-append line end,
+      length-append (other ++ end) more,
+      length-append
+          other end,
+    ) (omega arith)
 
 all_fit : (lines : List EndedLine) → length (text_of_ended (map ended_in_two lines)) ≤ length (text_of_ended lines)
 all_fit [] = omega arith
 all_fit (ended ∷ lines) =
-    ended_fits (line_in_two ended.line) ended.line ended.end (text_of_ended (map ended_in_two lines)) (text_of_ended lines) (line_fits ended.line) (all_fit lines)
+    ended_fits (line_in_two ended.line) ended.line ended.end (text_of_ended (map ended_in_two lines))
+    (text_of_ended lines) (line_fits ended.line) (all_fit lines)
 
-lines_fit : (lines : List EndedLine) → named_version (written (plain lines)) ≡ Some One → length (text_of_ended (lines_in_two lines)) ≤ length (text_of_ended lines)
+lines_fit : (lines : List EndedLine) → named_version (written (plain lines)) ≡ Some One
+    → length (text_of_ended (lines_in_two lines)) ≤ length (text_of_ended lines)
 unfolding plain
 lines_fit [] e = omega arith
 lines_fit (ended ∷ lines) e =
-    elim (cases_Bool (is_blank ended.line)) as (λ _. length (text_of_ended (lines_in_two (ended ∷ lines))) ≤ length (text_of_ended (ended ∷ lines))) [
-      | inl blank ↦ rw blank (ended_fits ended.line ended.line ended.end (text_of_ended (lines_in_two lines)) (text_of_ended lines) (omega arith) (lines_fit lines (rw blank at e)))
-      | inr counts ↦ rw counts (ended_fits header_of_two ended.line ended.end (text_of_ended (map ended_in_two lines)) (text_of_ended lines) (header_length ended.line (rw counts at e)) (all_fit lines))
+    elim (cases_Bool (is_blank ended.line)) as (λ _. length (text_of_ended (lines_in_two (ended ∷ lines)))
+    ≤ length (text_of_ended (ended ∷ lines))) [
+      | inl blank ↦ rw blank (ended_fits ended.line ended.line ended.end (text_of_ended (lines_in_two lines))
+          (text_of_ended lines) (omega arith) (lines_fit lines (rw blank at e)))
+      | inr counts ↦ rw counts (ended_fits header_of_two ended.line ended.end (text_of_ended (map ended_in_two lines))
+          (text_of_ended lines) (header_length ended.line (rw counts at e)) (all_fit lines))
     ]
 
 -- the lines of a text with their ends are the text
-whole_line : (begun : List ℕ) (byte : ℕ) (text : List ℕ) → eqb byte 10 ≡ true → (without_return begun ++ (return_of begun ++ 10 ∷ [])) ++ text ≡ begun ++ byte ∷ text
+whole_line : (begun : List ℕ) (byte : ℕ) (text : List ℕ) → eqb byte 10 ≡ true
+    → (without_return begun ++ (return_of begun ++ 10 ∷ [])) ++ text ≡ begun ++ byte ∷ text
 whole_line begun byte text e =
     rw (eqb-true byte 10 e)
-    (ap (λ l. l ++ text) (sym (append_assoc (without_return begun) (return_of begun) (10 ∷ [])) ∙ ap (λ l. l ++ 10 ∷ []) (both_parts begun)) ∙ append_assoc begun (10 ∷ []) text)
+    (ap (λ l. l ++ text) (sym (append_assoc (without_return begun) (return_of begun) (10 ∷ []))
+    ∙ ap (λ l. l ++ 10 ∷ []) (both_parts begun)) ∙ append_assoc begun (10 ∷ []) text)
 
 whole_text : (begun text : List ℕ) → text_of_ended (ended_lines_from begun text) ≡ begun ++ text
 whole_text [] [] = refl
 whole_text (a ∷ begun) [] = append-nil ((a ∷ begun) ++ [])
 whole_text begun (byte ∷ text) =
-    elim (cases_Bool (eqb byte 10)) as (λ _. text_of_ended (ended_lines_from begun (byte ∷ text)) ≡ begun ++ byte ∷ text) [
-      | inl e ↦ rw e (ap (λ l. (without_return begun ++ (return_of begun ++ 10 ∷ [])) ++ l) (whole_text [] text) ∙ whole_line begun byte text e)
+    elim (cases_Bool (eqb byte 10)) as (λ _. text_of_ended (ended_lines_from begun (byte ∷ text))
+    ≡ begun ++ byte ∷ text) [
+      | inl e ↦ rw e (ap (λ l. (without_return begun ++ (return_of begun ++ 10 ∷ [])) ++ l) (whole_text [] text)
+          ∙ whole_line begun byte text e)
       | inr e ↦ rw e (whole_text (begun ++ byte ∷ []) text ∙ append_assoc begun (byte ∷ []) text)
     ]
 
 -- a file of version 1 goes over to no more bytes
-pub file_fits : (file : List ℕ) → named_version (written_lines file) ≡ Some One → length (file_in_two file) ≤ length file
+pub file_fits : (file : List ℕ) → named_version (written_lines file) ≡ Some One
+    → length (file_in_two file) ≤ length file
 unfolding file_in_two ended_lines written_lines
 file_fits file e =
-    let named : named_version (written (plain (ended_lines_from [] file))) ≡ Some One = ap (λ lines. named_version (written lines)) (plain_lines [] file) ∙ e in
-    subst (λ (text : List ℕ). length (text_of_ended (lines_in_two (ended_lines_from [] file))) ≤ length text) (whole_text [] file) (lines_fit (ended_lines_from [] file) named)
+    let named : named_version (written (plain (ended_lines_from [] file))) ≡ Some One =
+    ap (λ lines. named_version (written lines)) (plain_lines [] file) ∙ e in
+    subst (λ (text : List ℕ). length (text_of_ended (lines_in_two (ended_lines_from [] file))) ≤ length text)
+    (whole_text [] file) (lines_fit (ended_lines_from [] file) named)

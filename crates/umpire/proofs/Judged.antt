@@ -30,47 +30,59 @@ has_group call (Some group) (Err fault) by answered = absurd cc
 
 -- calls that are made after others are made with them
 pub made_after :
-    (before between after : List (Option Group)) (earlier later : List Call) → AreMade AnswersByNext before earlier between →
+    (before between after : List (Option Group)) (earlier later : List Call)
+    → AreMade AnswersByNext before earlier between →
     AreMade AnswersByNext between later after → AreMade AnswersByNext before (earlier ++ later) after
-made_after before between after [] later is made = subst (λ (from : List (Option Group)). AreMade AnswersByNext from later after) is made
+made_after before between after [] later is made =
+    subst (λ (from : List (Option Group)). AreMade AnswersByNext from later after) is made
 made_after before between after (call ∷ earlier) later made others =
     (made.0, made.1, made_after made.0 between after earlier later made.2 others)
 
 -- so have calls that are answered, whatever is asked after them
 have_groups :
-    (calls rest others : List Call) (groups left : List (Option Group)) → AreMade AnswersByNext groups (calls ++ rest) left →
+    (calls rest others : List Call) (groups left : List (Option Group))
+    → AreMade AnswersByNext groups (calls ++ rest) left →
     AreAnswered (calls ++ others) → HaveGroups calls groups
 have_groups [] rest others groups left made answered = tt
 have_groups (call ∷ calls) rest others [] left made answered =
-    absurd (let wrong : IsOk {T = ℤ} (Err runner.Refused) = subst (λ (answer : Result ℤ RunnerFault). IsOk answer) made.1.0 answered.0 in cc)
+    absurd (let wrong : IsOk {T = ℤ} (Err runner.Refused) =
+    subst (λ (answer : Result ℤ RunnerFault). IsOk answer) made.1.0 answered.0 in cc)
 have_groups (call ∷ calls) rest others (group ∷ groups) left made answered = (
   has_group call group call.answer made.1.0 answered.0,
-  have_groups calls rest others groups left (subst (λ (after : List (Option Group)). AreMade AnswersByNext after (calls ++ rest) left) made.1.1 made.2) answered.1,
+  have_groups calls rest others groups left (subst
+      (λ (after : List (Option Group)). AreMade AnswersByNext after (calls ++ rest) left) made.1.1 made.2) answered.1,
 )
 
 -- so have all
-have_all : (calls : List Call) (groups left : List (Option Group)) → AreMade AnswersByNext groups calls left → AreAnswered calls → HaveGroups calls groups
+have_all : (calls : List Call) (groups left : List (Option Group)) → AreMade AnswersByNext groups calls left
+    → AreAnswered calls → HaveGroups calls groups
 have_all calls groups left made answered =
-    have_groups calls [] [] groups left (subst (λ (all : List Call). AreMade AnswersByNext groups all left) (sym (append-nil calls)) made)
+    have_groups calls [] [] groups left (subst (λ (all : List Call). AreMade AnswersByNext groups all left)
+    (sym (append-nil calls)) made)
     (subst AreAnswered (sym (append-nil calls)) answered)
 
 -- a call that is refused has no group
 lacks_group :
     (earlier : List Call) (next : Call) (groups left : List (Option Group)) →
-    AreMade AnswersByNext groups (earlier ++ unanswered runner.Refused next ∷ []) left → HaveGroups (earlier ++ next ∷ []) groups → ⊥
+    AreMade AnswersByNext groups (earlier ++ unanswered runner.Refused next ∷ []) left
+    → HaveGroups (earlier ++ next ∷ []) groups → ⊥
 lacks_group [] next [] left made have = have
 lacks_group [] next (None ∷ groups) left made have = have.0
 lacks_group [] next (Some group ∷ groups) left made have = made.1.0 have.0
 lacks_group (call ∷ earlier) next [] left made have = have
 lacks_group (call ∷ earlier) next (group ∷ groups) left made have =
     lacks_group earlier next groups left
-    (subst (λ (after : List (Option Group)). AreMade AnswersByNext after (earlier ++ unanswered runner.Refused next ∷ []) left) made.1.1 made.2) have.1
+    (subst (λ (after : List (Option Group)). AreMade AnswersByNext after
+    (earlier ++ unanswered runner.Refused next ∷ []) left) made.1.1 made.2) have.1
 
 -- the call that broke play off is the first that has no group
 lacks :
-    (file : List ℕ) (played : Played) (some whole : List Call) (groups left : List (Option Group)) (round : Round) (company : Company) (why : RunnerFault) →
-    (short : AreCutShort why some whole) → play.Refused round company ≡ fault_in_turn why short.next.round short.next.company →
-    GameCalls file (Ok played) whole → AreAnswered whole → AreMade AnswersByNext groups some left → LacksGroup file groups round company
+    (file : List ℕ) (played : Played) (some whole : List Call) (groups left : List (Option Group)) (round : Round)
+    (company : Company) (why : RunnerFault) →
+    (short : AreCutShort why some whole) → play.Refused round company
+    ≡ fault_in_turn why short.next.round short.next.company →
+    GameCalls file (Ok played) whole → AreAnswered whole → AreMade AnswersByNext groups some left
+    → LacksGroup file groups round company
 lacks file played some whole groups left round company runner.Memory short fault is answered made = absurd cc
 lacks file played some whole groups left round company runner.Refused short fault is answered made =
     let cut = subst (λ (calls : List Call). AreMade AnswersByNext groups calls left) short.cut made in
@@ -82,26 +94,33 @@ lacks file played some whole groups left round company runner.Refused short faul
       made = subst (λ (calls : List Call). GameCalls file (Ok played) calls) short.are is;
       of_round = cc;
       of_company = cc;
-      have = have_groups short.earlier (unanswered runner.Refused short.next ∷ []) (short.next ∷ short.later) groups left cut (subst AreAnswered short.are answered);
+      have = have_groups short.earlier (unanswered runner.Refused short.next ∷ []) (short.next ∷ short.later) groups
+          left cut (subst AreAnswered short.are answered);
       lacks = lacks_group short.earlier short.next groups left cut;
     }
 
 -- a game that a refusal broke off
 pub refused_lacks :
-    (file : List ℕ) (groups : List (Option Group)) (fault : PlayFault) (round : Round) (company : Company) → fault ≡ play.Refused round company →
+    (file : List ℕ) (groups : List (Option Group)) (fault : PlayFault) (round : Round) (company : Company)
+    → fault ≡ play.Refused round company →
     IsJudged {A = List ℕ} file groups (Err fault) → LacksGroup file groups round company
-refused_lacks file groups fault round company is judged = subst (λ (why : PlayFault). IsJudged {A = List ℕ} file groups (Err why)) is judged
+refused_lacks file groups fault round company is judged =
+    subst (λ (why : PlayFault). IsJudged {A = List ℕ} file groups (Err why)) is judged
 
-module _ (answered : GamesAreAnswered) (some_calls : SomeCalls) (fronts : RefusedCallsAreAFront) (file : List ℕ) (accepted : IsAccepted file) where
+module _ (answered : GamesAreAnswered) (some_calls : SomeCalls) (fronts : RefusedCallsAreAFront) (file : List ℕ)
+    (accepted : IsAccepted file) where
   -- play that was broken off by a refusal
   refused_by :
-      (groups left : List (Option Group)) (round : Round) (company : Company) (some whole : List Call) (played : Played) →
-      GameCalls file (Ok played) whole → AreMade AnswersByNext groups some left → AreFront (play.Refused round company) some whole →
+      (groups left : List (Option Group)) (round : Round) (company : Company) (some whole : List Call)
+      (played : Played) →
+      GameCalls file (Ok played) whole → AreMade AnswersByNext groups some left
+      → AreFront (play.Refused round company) some whole →
       LacksGroup file groups round company
   refused_by groups left round company some whole played is made front =
       elim front [
         | inl first ↦ absurd (let wrong : play.Refused round company ≡ play.Memory = first.0 in cc)
-        | inr short ↦ lacks file played some whole groups left round company short.0 short.1 short.2 is (answered file played whole is) made
+        | inr short ↦ lacks file played some whole groups left round company short.0 short.1 short.2 is
+            (answered file played whole is) made
       ]
 
   -- a game whose calls are answered has all its groups
@@ -109,7 +128,13 @@ module _ (answered : GamesAreAnswered) (some_calls : SomeCalls) (fronts : Refuse
       (groups left : List (Option Group)) (played : Played) (calls : List Call) → GameCalls file (Ok played) calls →
       AreMade AnswersByNext groups calls left → HasAllGroups file groups
   answered_have groups left played calls is made =
-      record { played = played; calls = calls; made = is; have = have_all calls groups left made (answered file played calls is) }
+      record {
+        played = played;
+        calls = calls;
+        made = is;
+        have =
+            have_all calls groups left made (answered file played calls is);
+      }
 
   -- a game that was broken off is judged by its last call
   pub broken_judged :

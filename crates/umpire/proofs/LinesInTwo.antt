@@ -21,7 +21,8 @@ unknown_is (Err other) e = absurd (cc)
 x_is_unknown : reading_of (codes "X") ≡ Err UnknownWord
 x_is_unknown = refl
 
-pub if_parts : (line : List ℕ) → is_if_line line ≡ true → (same_word (first_of_words (words_of line)) (codes "IF") ≡ true) × (reading_of line ≡ Err UnknownWord)
+pub if_parts : (line : List ℕ) → is_if_line line ≡ true
+    → (same_word (first_of_words (words_of line)) (codes "IF") ≡ true) × (reading_of line ≡ Err UnknownWord)
 unfolding is_if_line
 if_parts line e =
     let both = and_parts (same_word (first_of_words (words_of line)) (codes "IF")) (is_unknown (reading_of line)) e in
@@ -31,7 +32,8 @@ if_parts line e =
 pub read_alike : (line : List ℕ) → reading_of (line_in_two line) ≡ reading_of line
 unfolding line_in_two
 read_alike line =
-    elim (cases_Bool (is_if_line line)) as (λ _. reading_of (cond (is_if_line line) (codes "X") line) ≡ reading_of line) [
+    elim (cases_Bool (is_if_line line)) as (λ _. reading_of (cond (is_if_line line) (codes "X") line)
+    ≡ reading_of line) [
       | inl e ↦ rw e (x_is_unknown ∙ sym (if_parts line e).1)
       | inr e ↦ rw e refl
     ]
@@ -70,7 +72,8 @@ written_alike : (lines : List (List ℕ)) → written (map line_in_two lines) �
 written_alike [] = refl
 written_alike (line ∷ lines) =
     rw (blank_alike line)
-    (elim (is_blank line) as (λ b. cond (not b) (line_in_two line ∷ written (map line_in_two lines)) (written (map line_in_two lines)) ≡ map line_in_two (cond (not b) (line ∷ written lines) (written lines))) [
+    (elim (is_blank line) as (λ b. cond (not b) (line_in_two line ∷ written (map line_in_two lines))
+    (written (map line_in_two lines)) ≡ map line_in_two (cond (not b) (line ∷ written lines) (written lines))) [
       | true ↦ written_alike lines
       | false ↦ ap (λ ls. line_in_two line ∷ ls) (written_alike lines)
     ])
@@ -84,7 +87,8 @@ written_in_two : (lines : List (List ℕ)) → written (plain_in_two lines) ≡ 
 unfolding plain_in_two
 written_in_two [] = refl
 written_in_two (line ∷ lines) =
-    elim (cases_Bool (is_blank line)) as (λ _. written (plain_in_two (line ∷ lines)) ≡ headed (written (line ∷ lines))) [
+    elim (cases_Bool (is_blank line)) as (λ _. written (plain_in_two (line ∷ lines))
+    ≡ headed (written (line ∷ lines))) [
       | inl e ↦ rw e (rw e (written_in_two lines))
       | inr e ↦ rw e (rw header_counts (ap (λ ls. header_of_two ∷ ls) (written_alike lines)))
     ]

@@ -27,10 +27,12 @@ among_all p (y ∷ ys) x all among =
     let parts = and_parts (p y) (list_all p ys) all in
     elim among [ inl same ↦ ap p (sym same) ∙ parts.0 | inr later ↦ among_all p ys x parts.1 later ]
 
-all_lower : (p : ℕ → Bool) (digits : List ℕ) → list_all p lower_digits ≡ true → AreLower digits → list_all p digits ≡ true
+all_lower : (p : ℕ → Bool) (digits : List ℕ) → list_all p lower_digits ≡ true → AreLower digits
+    → list_all p digits ≡ true
 all_lower p [] each lower = refl
 all_lower p (digit ∷ digits) each lower =
-    and_from (p digit) (list_all p digits) (among_all p lower_digits digit each lower.0) (all_lower p digits each lower.1)
+    and_from (p digit) (list_all p digits) (among_all p lower_digits digit each lower.0)
+    (all_lower p digits each lower.1)
 
 -- a byte that begins no comment and ends no word
 abbrev stays : ℕ → Bool
@@ -52,13 +54,17 @@ one_word begun [] all = rw (append-nil begun) refl
 one_word begun (byte ∷ bytes) all =
     let parts = and_parts (stays byte) (list_all stays bytes) all in
     let here = denied (byte == 32) (and_parts (not (byte == 35)) (not (byte == 32)) parts.0).1 in
-    rw here (one_word (begun ++ byte ∷ []) bytes parts.1 ∙ ap (λ word. with_word word []) (append_assoc begun (byte ∷ []) bytes))
+    rw here (one_word (begun ++ byte ∷ []) bytes parts.1
+    ∙ ap (λ word. with_word word []) (append_assoc begun (byte ∷ []) bytes))
 
-raised_hex : (digits : List ℕ) → list_all (λ byte. is_hex_digit (to_ascii_uppercase byte)) digits ≡ true → list_all is_hex_digit (raised digits) ≡ true
+raised_hex : (digits : List ℕ) → list_all (λ byte. is_hex_digit (to_ascii_uppercase byte)) digits ≡ true
+    → list_all is_hex_digit (raised digits) ≡ true
 raised_hex [] all = refl
 raised_hex (byte ∷ digits) all =
-    let parts = and_parts (is_hex_digit (to_ascii_uppercase byte)) (list_all (λ b. is_hex_digit (to_ascii_uppercase b)) digits) all in
-    and_from (is_hex_digit (to_ascii_uppercase byte)) (list_all is_hex_digit (raised digits)) parts.0 (raised_hex digits parts.1)
+    let parts = and_parts (is_hex_digit (to_ascii_uppercase byte))
+    (list_all (λ b. is_hex_digit (to_ascii_uppercase b)) digits) all in
+    and_from (is_hex_digit (to_ascii_uppercase byte)) (list_all is_hex_digit (raised digits)) parts.0
+    (raised_hex digits parts.1)
 
 -- the line of these digits
 abbrev pub marks_of : List ℕ → List ℕ
@@ -73,30 +79,38 @@ comment_behind digits = refl
 words_behind : (digits : List ℕ) → words_from [] (marks_of digits) ≡ codes "MARKS" ∷ words_from [] digits
 words_behind digits = refl
 
-pub words_of_marks : (digits : List ℕ) → 0 < length digits → AreLower digits → words_of (marks_of digits) ≡ codes "MARKS" ∷ raised digits ∷ []
+pub words_of_marks : (digits : List ℕ) → 0 < length digits → AreLower digits
+    → words_of (marks_of digits) ≡ codes "MARKS" ∷ raised digits ∷ []
 words_of_marks [] some lower = absurd (omega arith)
 words_of_marks (digit ∷ digits) some lower =
     let all = all_lower stays (digit ∷ digits) refl lower in
     let whole : before 35 (marks_of (digit ∷ digits)) ≡ marks_of (digit ∷ digits) =
     comment_behind (digit ∷ digits) ∙ ap marks_of (no_comment (digit ∷ digits) all) in
-    ap (λ line. map raised (words_from [] line)) whole ∙ ap (map raised) (words_behind (digit ∷ digits) ∙ ap (λ words. codes "MARKS" ∷ words) (one_word [] (digit ∷ digits) all))
+    ap (λ line. map raised (words_from [] line)) whole
+    ∙ ap (map raised) (words_behind (digit ∷ digits)
+    ∙ ap (λ words. codes "MARKS" ∷ words) (one_word [] (digit ∷ digits) all))
 
 -- it is read as such a line
-pub marks_read : (digits : List ℕ) → 0 < length digits → length digits ≤ 1000 → AreLower digits → cert_reading_of (marks_of digits) ≡ Ok Marks
+pub marks_read : (digits : List ℕ) → 0 < length digits → length digits ≤ 1000 → AreLower digits
+    → cert_reading_of (marks_of digits) ≡ Ok Marks
 marks_read digits some few lower =
     let words = words_of_marks digits some lower in
     let long : length (marks_of digits) ≡ 6 + length digits = length-append (codes "MARKS ") digits in
     let all = all_lower stays digits refl lower in
     let printable : list_all is_printable (before 35 (marks_of digits)) ≡ true =
-    ap (list_all is_printable) (comment_behind digits ∙ ap marks_of (no_comment digits all)) ∙ printable_marks digits lower in
+    ap (list_all is_printable) (comment_behind digits ∙ ap marks_of (no_comment digits all))
+    ∙ printable_marks digits lower in
     let hex : are_hex_digits (raised digits) ≡ true =
-    and_from _ _ (and_from _ _ (le-leb 1 (length (raised digits)) (omega (arith, length-map digits to_ascii_uppercase, some))) (le-leb (length (raised digits)) 1000 (omega (arith, length-map digits to_ascii_uppercase, few))))
+    and_from _ _ (and_from _ _ (le-leb 1 (length (raised digits))
+    (omega (arith, length-map digits to_ascii_uppercase, some)))
+    (le-leb (length (raised digits)) 1000 (omega (arith, length-map digits to_ascii_uppercase, few))))
     (raised_hex digits (all_lower (λ byte. is_hex_digit (to_ascii_uppercase byte)) digits refl lower)) in
     spells_read certificate cert_forms rows_of_certificates (marks_of digits) Marks (record {
       loosely = record {
         short = omega (arith, long, few);
         printable = printable;
-        known = subst (λ (all : List (List ℕ)). BeginWithOneOf certificate.first_words all) (sym words) (3, omega arith, refl);
+        known = subst (λ (all : List (List ℕ)). BeginWithOneOf certificate.first_words all) (sym words)
+            (3, omega arith, refl);
         words = subst (λ (all : List (List ℕ)). AreWordsFor Marks all) (sym words) (refl, (hex, tt));
       };
       small = tt;
@@ -138,7 +152,8 @@ pub full_digits : (bits : List Bool) (count : ℕ) → length bits ≡ 4 * count
 full_digits bits count full =
     let again = reads_what_was_printed bits in
     let counted = bits_counted (digits_of bits) in
-    let both : length (bits_of_digits (digits_of bits)) ≡ length bits + length again.0 = ap length again.1 ∙ length-append bits again.0 in
+    let both : length (bits_of_digits (digits_of bits)) ≡ length bits + length again.0 =
+    ap length again.1 ∙ length-append bits again.0 in
     let filling : length again.0 ≤ 3 = again.2.0 in
     let empty : again.0 ≡ [] = none again.0 (omega (arith, counted, both, filling, full)) in
     again.1 ∙ ap (λ more. bits ++ more) empty ∙ append-nil bits

@@ -15,7 +15,8 @@ NoNewline bytes = AllByRecursion (λ byte. eqb byte 10 ≡ false) bytes
 
 clear_front : (bytes : List ℕ) → NoNewline bytes → NoNewline (without_return bytes)
 clear_front [] none = tt
-clear_front (byte ∷ []) none = elim (eqb byte 13) as (λ b. NoNewline (cond b [] (byte ∷ []))) [ true ↦ tt | false ↦ none ]
+clear_front (byte ∷ []) none = elim (eqb byte 13) as (λ b. NoNewline (cond b [] (byte ∷ [])))
+    [ true ↦ tt | false ↦ none ]
 clear_front (byte ∷ next ∷ bytes) none = (none.0, clear_front (next ∷ bytes) none.1)
 
 clear_more : (bytes : List ℕ) (byte : ℕ) → NoNewline bytes → eqb byte 10 ≡ false → NoNewline (bytes ++ byte ∷ [])
@@ -26,7 +27,8 @@ clear_more (first ∷ bytes) byte none e = (none.0, clear_more bytes byte none.1
 record IsEnded (ended : EndedLine) (lines : List EndedLine) : Type 0 where
   clear : NoNewline ended.line
   ends :
-      ((ended.end ≡ 10 ∷ []) × (return_of ended.line ≡ [])) ⊎ ((ended.end ≡ 13 ∷ 10 ∷ []) ⊎ ((ended.end ≡ []) × (lines ≡ []) × (0 < length ended.line)))
+      ((ended.end ≡ 10 ∷ []) × (return_of ended.line ≡ []))
+      ⊎ ((ended.end ≡ 13 ∷ 10 ∷ []) ⊎ ((ended.end ≡ []) × (lines ≡ []) × (0 < length ended.line)))
 
 AreEnded : List EndedLine → Type 0
 AreEnded [] = Unit {0}
@@ -34,9 +36,11 @@ AreEnded (ended ∷ lines) = IsEnded ended lines × AreEnded lines
 
 -- without a CR at its end the line is all the bytes
 all_is_line : (bytes : List ℕ) → return_of bytes ≡ [] → without_return bytes ≡ bytes
-all_is_line bytes none = sym (append-nil (without_return bytes)) ∙ ap (λ l. without_return bytes ++ l) (sym none) ∙ both_parts bytes
+all_is_line bytes none = sym (append-nil (without_return bytes)) ∙ ap (λ l. without_return bytes ++ l) (sym none)
+    ∙ both_parts bytes
 
-newline_ends : (begun : List ℕ) (lines : List EndedLine) → NoNewline begun → IsReturn (return_of begun) → IsEnded (ended_by_newline begun) lines
+newline_ends : (begun : List ℕ) (lines : List EndedLine) → NoNewline begun → IsReturn (return_of begun)
+    → IsEnded (ended_by_newline begun) lines
 newline_ends begun lines clear (inl none) =
     record { clear = clear_front begun clear; ends = inl (rw none refl, ap return_of (all_is_line begun none) ∙ none) }
 newline_ends begun lines clear (inr one) = record { clear = clear_front begun clear; ends = inr (inl (rw one refl)) }
@@ -53,10 +57,12 @@ are_ended begun (byte ∷ text) clear =
     ]
 
 -- a line before an LF
-cut_line : (begun line more : List ℕ) → NoNewline line → lines_from begun (line ++ 10 ∷ more) ≡ without_return (begun ++ line) ∷ lines_from [] more
+cut_line : (begun line more : List ℕ) → NoNewline line
+    → lines_from begun (line ++ 10 ∷ more) ≡ without_return (begun ++ line) ∷ lines_from [] more
 cut_line begun [] more clear = ap (λ l. without_return l ∷ lines_from [] more) (sym (append-nil begun))
 cut_line begun (byte ∷ line) more clear =
-    rw clear.0 (cut_line (begun ++ byte ∷ []) line more clear.1 ∙ ap (λ l. without_return l ∷ lines_from [] more) (append_assoc begun (byte ∷ []) line))
+    rw clear.0 (cut_line (begun ++ byte ∷ []) line more clear.1
+    ∙ ap (λ l. without_return l ∷ lines_from [] more) (append_assoc begun (byte ∷ []) line))
 
 -- a last line
 cut_last : (begun line : List ℕ) → NoNewline line → lines_from begun line ≡ last_line (begun ++ line)
@@ -72,16 +78,21 @@ return_goes : (line : List ℕ) → without_return (line ++ 13 ∷ []) ≡ line
 return_goes line = without_return-last line 13
 
 -- the first of such lines is the first line of their text
-first_of_text : (line end : List ℕ) (lines : List EndedLine) → NoNewline line → ((end ≡ 10 ∷ []) × (return_of line ≡ [])) ⊎ ((end ≡ 13 ∷ 10 ∷ []) ⊎ ((end ≡ []) × (lines ≡ []) × (0 < length line))) →
+first_of_text : (line end : List ℕ) (lines : List EndedLine) → NoNewline line
+    → ((end ≡ 10 ∷ []) × (return_of line ≡ [])) ⊎ ((end ≡ 13 ∷ 10 ∷ [])
+    ⊎ ((end ≡ []) × (lines ≡ []) × (0 < length line))) →
     lines_of ((line ++ end) ++ text_of_ended lines) ≡ line ∷ lines_of (text_of_ended lines)
 first_of_text line end lines clear (inl (is, none)) =
     rw (is, append_assoc line (10 ∷ []) (text_of_ended lines))
-    (cut_line [] line (text_of_ended lines) clear ∙ ap (λ l. l ∷ lines_of (text_of_ended lines)) (all_is_line line none))
+    (cut_line [] line (text_of_ended lines) clear ∙ ap (λ l. l ∷ lines_of (text_of_ended lines))
+    (all_is_line line none))
 first_of_text line end lines clear (inr (inl is)) =
     let more : List ℕ = text_of_ended lines in
-    let parted : (line ++ 13 ∷ 10 ∷ []) ++ more ≡ (line ++ 13 ∷ []) ++ 10 ∷ more = append_assoc line (13 ∷ 10 ∷ []) more ∙ sym (append_assoc line (13 ∷ []) (10 ∷ more)) in
+    let parted : (line ++ 13 ∷ 10 ∷ []) ++ more ≡ (line ++ 13 ∷ []) ++ 10 ∷ more =
+    append_assoc line (13 ∷ 10 ∷ []) more ∙ sym (append_assoc line (13 ∷ []) (10 ∷ more)) in
     rw (is, parted)
-    (cut_line [] (line ++ 13 ∷ []) more (clear_more line 13 clear refl) ∙ ap (λ l. l ∷ lines_of more) (return_goes line))
+    (cut_line [] (line ++ 13 ∷ []) more (clear_more line 13 clear refl)
+    ∙ ap (λ l. l ∷ lines_of more) (return_goes line))
 first_of_text line end lines clear (inr (inr (none, nothing, some))) =
     rw (none, nothing, append-nil line, append-nil line) (cut_last [] line clear ∙ is_last line some)
 
@@ -92,7 +103,8 @@ lines_of_ended : (lines : List EndedLine) → AreEnded lines → lines_of (text_
 unfolding AreEnded plain
 lines_of_ended [] are = refl
 lines_of_ended (ended ∷ lines) are =
-    first_of_text ended.line ended.end lines are.0.clear are.0.ends ∙ ap (λ ls. ended.line ∷ ls) (lines_of_ended lines are.1)
+    first_of_text ended.line ended.end lines are.0.clear are.0.ends
+    ∙ ap (λ ls. ended.line ∷ ls) (lines_of_ended lines are.1)
 
 -- the lines of a text, without their ends
 pub plain_lines : (begun text : List ℕ) → plain (ended_lines_from begun text) ≡ lines_from begun text
@@ -100,13 +112,17 @@ unfolding plain
 plain_lines [] [] = refl
 plain_lines (a ∷ begun) [] = refl
 plain_lines begun (byte ∷ text) =
-    elim (eqb byte 10) as (λ b. plain (cond b (ended_by_newline begun ∷ ended_lines_from [] text) (ended_lines_from (begun ++ byte ∷ []) text)) ≡ cond b (without_return begun ∷ lines_from [] text) (lines_from (begun ++ byte ∷ []) text)) [
+    elim (eqb byte 10) as (λ b. plain (cond b (ended_by_newline begun ∷ ended_lines_from [] text)
+    (ended_lines_from (begun ++ byte ∷ []) text)) ≡ cond b (without_return begun ∷ lines_from [] text)
+    (lines_from (begun ++ byte ∷ []) text)) [
       | true ↦ ap (λ ls. without_return begun ∷ ls) (plain_lines [] text)
       | false ↦ plain_lines (begun ++ byte ∷ []) text
     ]
 
 -- a line that takes the place of another
-in_place : (new : List ℕ) (ended : EndedLine) (lines others : List EndedLine) → NoNewline new → return_of new ≡ [] → 0 < length new → IsEnded ended lines → (lines ≡ [] → others ≡ []) → IsEnded (record { line = new; end = ended.end }) others
+in_place : (new : List ℕ) (ended : EndedLine) (lines others : List EndedLine) → NoNewline new → return_of new ≡ []
+    → 0 < length new → IsEnded ended lines → (lines ≡ [] → others ≡ [])
+    → IsEnded (record { line = new; end = ended.end }) others
 in_place new ended lines others clear none some is last =
     record {
       clear = clear;
@@ -118,7 +134,8 @@ in_place new ended lines others clear none some is last =
     }
 
 -- the same line before others
-as_it_was : (ended : EndedLine) (lines others : List EndedLine) → IsEnded ended lines → (lines ≡ [] → others ≡ []) → IsEnded ended others
+as_it_was : (ended : EndedLine) (lines others : List EndedLine) → IsEnded ended lines → (lines ≡ [] → others ≡ [])
+    → IsEnded ended others
 as_it_was ended lines others is last =
     record {
       clear = is.clear;
@@ -129,10 +146,12 @@ as_it_was ended lines others is last =
       ];
     }
 
-one_in_two : (ended : EndedLine) (lines others : List EndedLine) → IsEnded ended lines → (lines ≡ [] → others ≡ []) → IsEnded (ended_in_two ended) others
+one_in_two : (ended : EndedLine) (lines others : List EndedLine) → IsEnded ended lines → (lines ≡ [] → others ≡ [])
+    → IsEnded (ended_in_two ended) others
 unfolding line_in_two
 one_in_two ended lines others is last =
-    elim (is_if_line ended.line) as (λ b. IsEnded (record { line = cond b (codes "X") ended.line; end = ended.end }) others) [
+    elim (is_if_line ended.line) as (λ b. IsEnded (record { line = cond b (codes "X") ended.line; end = ended.end })
+    others) [
       | true ↦ in_place (codes "X") ended lines others (refl, tt) refl (omega arith) is last
       | false ↦ as_it_was ended lines others is last
     ]
@@ -140,23 +159,32 @@ one_in_two ended lines others is last =
 all_in_two : (lines : List EndedLine) → AreEnded lines → AreEnded (map ended_in_two lines)
 unfolding AreEnded
 all_in_two [] are = tt
-all_in_two (ended ∷ lines) are =
-    (one_in_two ended lines (map ended_in_two lines) are.0 (λ e. ap (λ ls. map ended_in_two ls) e), all_in_two lines are.1)
+all_in_two (ended ∷ lines) are = (
+  one_in_two ended lines (map ended_in_two lines) are.0 (λ e. ap (λ ls. map ended_in_two ls) e),
+  all_in_two lines
+      are.1,
+)
 
 header_is_clear : NoNewline header_of_two
 header_is_clear = (refl, (refl, (refl, (refl, (refl, (refl, (refl, (refl, (refl, (refl, (refl, tt)))))))))))
 
-header_in_place : (ended : EndedLine) (lines others : List EndedLine) → IsEnded ended lines → (lines ≡ [] → others ≡ []) → IsEnded (record { line = header_of_two; end = ended.end }) others
-header_in_place ended lines others is last = in_place header_of_two ended lines others header_is_clear refl (omega arith) is last
+header_in_place : (ended : EndedLine) (lines others : List EndedLine) → IsEnded ended lines
+    → (lines ≡ [] → others ≡ []) → IsEnded (record { line = header_of_two; end = ended.end }) others
+header_in_place ended lines others is last = in_place header_of_two ended lines others header_is_clear refl
+    (omega arith) is last
 
 -- so are the lines of a file that has gone over
 still_ended : (lines : List EndedLine) → AreEnded lines → AreEnded (lines_in_two lines)
 unfolding AreEnded
 still_ended [] are = tt
 still_ended (ended ∷ lines) are =
-    elim (is_blank ended.line) as (λ b. AreEnded (cond b (ended ∷ lines_in_two lines) (record { line = header_of_two; end = ended.end } ∷ map ended_in_two lines))) [
+    elim (is_blank ended.line) as (λ b. AreEnded (cond b (ended ∷ lines_in_two lines)
+    (record { line = header_of_two; end = ended.end } ∷ map ended_in_two lines))) [
       | true ↦ (as_it_was ended lines (lines_in_two lines) are.0 (λ e. ap lines_in_two e), still_ended lines are.1)
-      | false ↦ (header_in_place ended lines (map ended_in_two lines) are.0 (λ e. ap (λ ls. map ended_in_two ls) e), all_in_two lines are.1)
+      | false ↦ (
+        header_in_place ended lines (map ended_in_two lines) are.0 (λ e. ap (λ ls. map ended_in_two ls) e),
+        all_in_two lines are.1,
+      )
     ]
 
 -- what its lines are
@@ -173,7 +201,9 @@ plain_goes : (lines : List EndedLine) → plain (lines_in_two lines) ≡ plain_i
 unfolding plain plain_in_two
 plain_goes [] = refl
 plain_goes (ended ∷ lines) =
-    elim (is_blank ended.line) as (λ b. plain (cond b (ended ∷ lines_in_two lines) (record { line = header_of_two; end = ended.end } ∷ map ended_in_two lines)) ≡ cond b (ended.line ∷ plain_in_two (plain lines)) (header_of_two ∷ map line_in_two (plain lines))) [
+    elim (is_blank ended.line) as (λ b. plain (cond b (ended ∷ lines_in_two lines)
+    (record { line = header_of_two; end = ended.end } ∷ map ended_in_two lines))
+    ≡ cond b (ended.line ∷ plain_in_two (plain lines)) (header_of_two ∷ map line_in_two (plain lines))) [
       | true ↦ ap (λ ls. ended.line ∷ ls) (plain_goes lines)
       | false ↦ ap (λ ls. header_of_two ∷ ls) (all_plain lines)
     ]
@@ -182,4 +212,5 @@ pub lines_go : (file : List ℕ) → lines_of (file_in_two file) ≡ plain_in_tw
 unfolding file_in_two ended_lines
 lines_go file =
     let ended : List EndedLine = ended_lines_from [] file in
-    lines_of_ended (lines_in_two ended) (still_ended ended (are_ended [] file tt)) ∙ plain_goes ended ∙ ap plain_in_two (plain_lines [] file)
+    lines_of_ended (lines_in_two ended) (still_ended ended (are_ended [] file tt)) ∙ plain_goes ended
+    ∙ ap plain_in_two (plain_lines [] file)

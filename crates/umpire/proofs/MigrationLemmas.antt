@@ -21,16 +21,19 @@ use Rattle.umpire.specs.declared.fault.Fault.TheVariants.{Read, Write, Memory, F
 use Rattle.umpire.proofs.Files.{Says, refused, says}
 use Rattle.umpire.proofs.Parts.{none_of}
 
-by_content : (whole file : List ℕ) (content : Result Content FileFault) → content_of file ≡ content → content_of whole ≡ content_of file → (IsAccepted file → whole ≡ file) → migration_of whole ≡ migration_of file
+by_content : (whole file : List ℕ) (content : Result Content FileFault) → content_of file ≡ content
+    → content_of whole ≡ content_of file → (IsAccepted file → whole ≡ file) → migration_of whole ≡ migration_of file
 by_content whole file (Ok content) is same accepted =
     ap migration_of (accepted (subst (λ (r : Result Content FileFault). IsOk r) (sym is) refl))
 by_content whole file (Err fault) is same accepted = rw (same, is) refl
 
-of_whole : (given : Option (List ℕ)) (file : List ℕ) (says_all : Says given file) → migration_of says_all.whole ≡ migration_of file
+of_whole : (given : Option (List ℕ)) (file : List ℕ) (says_all : Says given file)
+    → migration_of says_all.whole ≡ migration_of file
 of_whole given file says_all = by_content says_all.whole file (content_of file) refl says_all.content says_all.accepted
 
 -- what was written whole
-pub migrated_whole : (given old new : Option (List ℕ)) (file : List ℕ) → IfSome given (λ bytes. file ≡ as_read bytes) → IsMigrated (Some file) old new → IsMigrated given old new
+pub migrated_whole : (given old new : Option (List ℕ)) (file : List ℕ) → IfSome given (λ bytes. file ≡ as_read bytes)
+    → IsMigrated (Some file) old new → IsMigrated given old new
 migrated_whole given old new file read known =
     let says_all : Says given file = says given file read in
     let accepted : IsAccepted file = subst (λ (other : List ℕ). IsAccepted other) known.whole known.accepted in
@@ -43,22 +46,31 @@ migrated_whole given old new file read known =
     }
 
 -- what was cut short
-cut_short : (given old new : Option (List ℕ)) (file : List ℕ) → IfSome given (λ bytes. file ≡ as_read bytes) → IsMigratedShort (Some file) old new → IsMigratedShort given old new
+cut_short : (given old new : Option (List ℕ)) (file : List ℕ) → IfSome given (λ bytes. file ≡ as_read bytes)
+    → IsMigratedShort (Some file) old new → IsMigratedShort given old new
 cut_short given old new file read known =
     let says_all : Says given file = says given file read in
     record {
       file = says_all.whole;
       whole = says_all.is_whole;
-      front = subst (λ (text : List ℕ). AppendsFront old new text) (sym (of_whole given file says_all ∙ ap migration_of (sym known.whole))) known.front;
+      front = subst (λ (text : List ℕ). AppendsFront old new text)
+          (sym (of_whole given file says_all ∙ ap migration_of (sym known.whole))) known.front;
     }
 
 -- what a fault leaves where this was read
-pub migration_stops : (given old new : Option (List ℕ)) (file : List ℕ) (read_failed write_failed : Bool) (fault : Fault) → IfSome given (λ bytes. file ≡ as_read bytes) → read_failed ≡ false → StopsMigration (Some file) old new false write_failed fault → StopsMigration given old new read_failed write_failed fault
+pub migration_stops : (given old new : Option (List ℕ)) (file : List ℕ) (read_failed write_failed : Bool)
+    (fault : Fault) → IfSome given (λ bytes. file ≡ as_read bytes) → read_failed ≡ false
+    → StopsMigration (Some file) old new false write_failed fault
+    → StopsMigration given old new read_failed write_failed fault
 migration_stops given old new file read_failed write_failed Read read unfailed known = absurd cc
-migration_stops given old new file read_failed write_failed Write read unfailed known = (unfailed, known.1, cut_short given old new file read known.2)
-migration_stops given old new file read_failed write_failed Memory read unfailed known = (unfailed, known.1, cut_short given old new file read known.2)
-migration_stops given old new file read_failed write_failed (File fault) read unfailed known = (unfailed, known.1, refused given old new file fault read known.2)
-migration_stops given old new file read_failed write_failed (Certificate round company) read unfailed known = absurd known
+migration_stops given old new file read_failed write_failed Write read unfailed known =
+    (unfailed, known.1, cut_short given old new file read known.2)
+migration_stops given old new file read_failed write_failed Memory read unfailed known =
+    (unfailed, known.1, cut_short given old new file read known.2)
+migration_stops given old new file read_failed write_failed (File fault) read unfailed known =
+    (unfailed, known.1, refused given old new file fault read known.2)
+migration_stops given old new file read_failed write_failed (Certificate round company) read unfailed known =
+    absurd known
 
 -- where nothing is written yet
 pub nothing_of_it : (given old : Option (List ℕ)) → IsMigratedShort given old old
@@ -66,7 +78,8 @@ nothing_of_it None old = record { file = []; whole = tt; front = none_of old (mi
 nothing_of_it (Some bytes) old = record { file = bytes; whole = refl; front = none_of old (migration_of bytes) }
 
 -- what reading leaves where it stops early
-pub migration_unread : (given old : Option (List ℕ)) (read_failed write_failed : Bool) (fault : Fault) → IsReadFault read_failed fault → write_failed ≡ false → StopsMigration given old old read_failed write_failed fault
+pub migration_unread : (given old : Option (List ℕ)) (read_failed write_failed : Bool) (fault : Fault)
+    → IsReadFault read_failed fault → write_failed ≡ false → StopsMigration given old old read_failed write_failed fault
 migration_unread given old read_failed write_failed Read is unfailed = (is, unfailed, Keeps-refl old)
 migration_unread given old read_failed write_failed Memory is unfailed = (is, unfailed, nothing_of_it given old)
 migration_unread given old read_failed write_failed Write is unfailed = absurd is
@@ -74,7 +87,9 @@ migration_unread given old read_failed write_failed (File fault) is unfailed = a
 migration_unread given old read_failed write_failed (Certificate round company) is unfailed = absurd is
 
 -- what a write that failed leaves, or want of memory, where this is written of the file
-pub migration_cut : (file text : List ℕ) (old new : Option (List ℕ)) (failed : Bool) (fault : Fault) → IsWriteFault failed fault → migration_of file ≡ text → AppendsFront old new text → StopsMigration (Some file) old new false failed fault
+pub migration_cut : (file text : List ℕ) (old new : Option (List ℕ)) (failed : Bool) (fault : Fault)
+    → IsWriteFault failed fault → migration_of file ≡ text → AppendsFront old new text
+    → StopsMigration (Some file) old new false failed fault
 migration_cut file text old new failed Read is of front = absurd is
 migration_cut file text old new failed Write is of front =
     (refl, is, record { file = file; whole = refl; front = rw of front })
@@ -92,7 +107,8 @@ pub accepted_goes : (file : List ℕ) → IsAccepted file → migration_of file 
 accepted_goes file accepted = by_answer file (content_of file) accepted
 
 -- an accepted file names its version
-header_named : (named : Option Version) (content : Result Content FileFault) → IsOk (cond (is_some named) content (Err Header)) → named ≡ Some (unwrap_or named One)
+header_named : (named : Option Version) (content : Result Content FileFault)
+    → IsOk (cond (is_some named) content (Err Header)) → named ≡ Some (unwrap_or named One)
 header_named None content accepted = absurd (cc)
 header_named (Some version) content accepted = refl
 
@@ -100,7 +116,8 @@ lines_named : (lines : List (List ℕ)) → IsOk (lines_content lines) → named
 lines_named [] accepted = absurd (cc)
 lines_named (line ∷ lines) accepted = header_named (header_version (reading_of line)) (players_content lines) accepted
 
-not_too_long : (long : Bool) (content : Result Content FileFault) → IsOk (cond long (Err TooLong) content) → IsOk content
+not_too_long : (long : Bool) (content : Result Content FileFault) → IsOk (cond long (Err TooLong) content)
+    → IsOk content
 not_too_long true content accepted = absurd (cc)
 not_too_long false content accepted = accepted
 
@@ -120,20 +137,26 @@ unfolding migrated
 two_stays file accepted is = rw (accepted_names file accepted, ← is) refl
 
 -- what was written of an accepted file
-pub migrated_by : (result : Result (Unit {0}) Fault) (file text : List ℕ) (old new : Option (List ℕ)) → IsAccepted file → migrated file ≡ text → OnOk result (Appends old new text) → OnOk result (IsMigrated (Some file) old new)
+pub migrated_by : (result : Result (Unit {0}) Fault) (file text : List ℕ) (old new : Option (List ℕ))
+    → IsAccepted file → migrated file ≡ text → OnOk result (Appends old new text)
+    → OnOk result (IsMigrated (Some file) old new)
 migrated_by (Ok done) file text old new accepted is written =
     record { file = file; whole = refl; accepted = accepted; written = rw is written }
 migrated_by (Err fault) file text old new accepted is written = tt
 
-pub cut_by : (result : Result (Unit {0}) Fault) (file text : List ℕ) (old new : Option (List ℕ)) (failed : Bool) → migration_of file ≡ text → IfErr result (IsWriteFault failed) → OnErr result (AppendsFront old new text) → IfErr result (StopsMigration (Some file) old new false failed)
+pub cut_by : (result : Result (Unit {0}) Fault) (file text : List ℕ) (old new : Option (List ℕ)) (failed : Bool)
+    → migration_of file ≡ text → IfErr result (IsWriteFault failed) → OnErr result (AppendsFront old new text)
+    → IfErr result (StopsMigration (Some file) old new false failed)
 cut_by (Ok done) file text old new failed of is front = tt
 cut_by (Err fault) file text old new failed of is front = migration_cut file text old new failed fault is of front
 
 -- only a write failed
-pub write_failed : (result : Result (Unit {0}) Fault) (failed : Bool) → IfErr result (λ fault. fault ≡ Write) → OnErr result (failed ≡ true) → IfErr result (IsWriteFault failed)
+pub write_failed : (result : Result (Unit {0}) Fault) (failed : Bool) → IfErr result (λ fault. fault ≡ Write)
+    → OnErr result (failed ≡ true) → IfErr result (IsWriteFault failed)
 write_failed (Ok done) failed is known = tt
 write_failed (Err fault) failed is known = rw is known
 
 -- the line of a refused file
-pub refused_goes : (file : List ℕ) (fault : FileFault) → content_of file ≡ Err fault → migration_of file ≡ refusal_line fault
+pub refused_goes : (file : List ℕ) (fault : FileFault) → content_of file ≡ Err fault
+    → migration_of file ≡ refusal_line fault
 refused_goes file fault refused = ap (answer_to file) refused

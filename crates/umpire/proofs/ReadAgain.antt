@@ -36,16 +36,19 @@ use Rattle.umpire.proofs.MarksLines.{HasLine, full_digits, has_line, marks_of}
 use Rattle.umpire.proofs.WrittenLines.{ArePrintable, IsWritten, all_written, both_printable, both_written, claim_fits, line_written, lines_written, nothing_written, printable_company, printable_kind, printable_number, printable_places, printable_round, printable_spaced}
 
 -- whether a line begins a group, by its first word
-begins_by : (line word : List ℕ) → first_of_words (words_of line) ≡ word → begins_group line ≡ same_word word (codes "CERT")
+begins_by : (line word : List ℕ) → first_of_words (words_of line) ≡ word
+    → begins_group line ≡ same_word word (codes "CERT")
 unfolding begins_group
 begins_by line word is = ap (λ (first : List ℕ). same_word first (codes "CERT")) is
 
-first_word : (word : List ℕ) (rest : List (List ℕ) → Type 0) (words : List (List ℕ)) → Then (IsWord word) rest words → first_of_words words ≡ word
+first_word : (word : List ℕ) (rest : List (List ℕ) → Type 0) (words : List (List ℕ)) → Then (IsWord word) rest words
+    → first_of_words words ≡ word
 first_word word rest [] then = absurd then
 first_word word rest (first ∷ words) then = then.0
 
 -- what a line adds to a group
-line_adds : (group : Group) (line : List ℕ) (order : Order) (words : List (List ℕ)) (next : Option Group) → cert_reading_of line ≡ Ok order → words_of line ≡ words →
+line_adds : (group : Group) (line : List ℕ) (order : Order) (words : List (List ℕ)) (next : Option Group)
+    → cert_reading_of line ≡ Ok order → words_of line ≡ words →
     with_reading group words (Ok order) ≡ next → with_line group line ≡ next
 unfolding with_line
 line_adds group line order words next reads is adds =
@@ -64,7 +67,8 @@ claims_of (claimed ∷ runs) = spelling_of (Claim claimed.kind claimed.run) ∷ 
 marks_within : ℕ → List Bool → List (List ℕ)
 marks_within zero bits = []
 marks_within (suc count) [] = []
-marks_within (suc count) (bit ∷ bits) = marks_of (digits_of (take 4000 (bit ∷ bits))) ∷ marks_within count (drop 4000 (bit ∷ bits))
+marks_within (suc count) (bit ∷ bits) = marks_of (digits_of (take 4000 (bit ∷ bits)))
+    ∷ marks_within count (drop 4000 (bit ∷ bits))
 
 -- the lines of a group, and those of some
 lines_of_group : Group → List (List ℕ)
@@ -80,19 +84,27 @@ record IsCertLine (round : Round) (company : Company) (revenue : ℕ) : Type 0 w
   reads : cert_reading_of (spelling_of (Cert round company revenue)) ≡ Ok (Cert round company revenue)
   begins : begins_group (spelling_of (Cert round company revenue)) ≡ true
 
-cert_line : (round : Round) (company : Company) (revenue : ℕ) → HasSpelling (Cert round company revenue) → IsCertLine round company revenue
+cert_line : (round : Round) (company : Company) (revenue : ℕ) → HasSpelling (Cert round company revenue)
+    → IsCertLine round company revenue
 cert_line round company revenue spelt =
     let order : Order = Cert round company revenue in
     let reads : cert_reading_of (spelling_of order) ≡ Ok order =
     spelling_read certificate cert_forms rows_of_certificates (omega arith) order (spelt, tt, (1, omega arith, refl)) in
-    let spells : SpellsIn certificate (spelling_of order) order = read_spells certificate cert_forms rows_of_certificates (spelling_of order) order reads in
+    let spells : SpellsIn certificate (spelling_of order) order =
+    read_spells certificate cert_forms rows_of_certificates (spelling_of order) order reads in
     let words : List (List ℕ) = text_of_round round ∷ code_of_company company ∷ decimal revenue ∷ [] in
     let small : revenue ≤ number_most = spelt.1 in
     record {
       printable = both_printable (codes "CERT") (spaced words) refl
-          (printable_spaced words (printable_round round spelt.0, (printable_company company, (printable_number revenue (omega (arith, small)), tt))));
+          (printable_spaced words (
+            printable_round round spelt.0,
+            (printable_company company, (printable_number revenue (omega (arith, small)), tt)),
+          ));
       reads = reads;
-      begins = begins_by (spelling_of order) (codes "CERT") (first_word (codes "CERT") (Then (IsRoundOfLine round) (Then (IsCompany company) (Then (IsNumber revenue) End))) (words_of (spelling_of order)) spells.loosely.words);
+      begins = begins_by (spelling_of order) (codes "CERT")
+          (first_word (codes "CERT") (Then (IsRoundOfLine round)
+          (Then (IsCompany company) (Then (IsNumber revenue) End))) (words_of (spelling_of order))
+          spells.loosely.words);
     }
 
 -- a run has a CLAIM line
@@ -109,39 +121,55 @@ claim_line_is : (claimed : ClaimedRun) → CanBeClaimed claimed → IsClaimLine 
 claim_line_is claimed spelt =
     let order : Order = Claim claimed.kind claimed.run in
     let reads : cert_reading_of (spelling_of order) ≡ Ok order =
-    spelling_read certificate cert_forms rows_of_certificates (omega arith) order (spelt, claim_fits claimed.kind claimed.run spelt.1, (2, omega arith, refl)) in
-    let spells : SpellsIn certificate (spelling_of order) order = read_spells certificate cert_forms rows_of_certificates (spelling_of order) order reads in
+    spelling_read certificate cert_forms rows_of_certificates (omega arith) order
+    (spelt, claim_fits claimed.kind claimed.run spelt.1, (2, omega arith, refl)) in
+    let spells : SpellsIn certificate (spelling_of order) order =
+    read_spells certificate cert_forms rows_of_certificates (spelling_of order) order reads in
     let words : List (List ℕ) = code_of_kind claimed.kind ∷ map text_of_place claimed.run in
     record {
-      printable = both_printable (codes "CLAIM") (spaced words) refl (printable_spaced words (printable_kind claimed.kind, printable_places claimed.run));
+      printable = both_printable (codes "CLAIM") (spaced words) refl
+          (printable_spaced words (printable_kind claimed.kind, printable_places claimed.run));
       reads = reads;
-      begins = begins_by (spelling_of order) (codes "CLAIM") (first_word (codes "CLAIM") (Then (IsKind claimed.kind) (ArePlaces claimed.run)) (words_of (spelling_of order)) spells.loosely.words);
+      begins = begins_by (spelling_of order) (codes "CLAIM")
+          (first_word (codes "CLAIM") (Then (IsKind claimed.kind) (ArePlaces claimed.run))
+          (words_of (spelling_of order)) spells.loosely.words);
     }
 
 -- a group with this claim and these bits
 abbrev having : Group → List ClaimedRun → List Bool → Group
 having group runs bits =
-    record { round = group.round; company = group.company; claim = record { revenue = group.claim.revenue; runs = runs }; bits = bits }
+    record {
+      round = group.round;
+      company = group.company;
+      claim =
+          record { revenue = group.claim.revenue; runs = runs };
+      bits = bits;
+    }
 
 -- a line of a group is taken up
-taken : (group next : Group) (line : List ℕ) (lines : List (List ℕ)) → begins_group line ≡ false → with_line group line ≡ Some next →
+taken : (group next : Group) (line : List ℕ) (lines : List (List ℕ)) → begins_group line ≡ false
+    → with_line group line ≡ Some next →
     with_lines (line ∷ lines) (Some group) ≡ with_lines lines (Some next)
 taken group next line lines begins adds = rw (begins, adds) refl
 
 -- the CLAIM lines are read
 claims_read :
     (group : Group) (before runs : List ClaimedRun) (more : List (List ℕ)) → AllByRecursion CanBeClaimed runs →
-    with_lines (claims_of runs ++ more) (Some (having group before [])) ≡ with_lines more (Some (having group (before ++ runs) []))
+    with_lines (claims_of runs ++ more) (Some (having group before []))
+    ≡ with_lines more (Some (having group (before ++ runs) []))
 unfolding claims_of
 claims_read group before [] more all = rw (append-nil before) refl
 claims_read group before (claimed ∷ runs) more all =
     let line = claim_line_is claimed all.0 in
     let text : List ℕ = spelling_of (Claim claimed.kind claimed.run) in
     let adds : with_line (having group before []) text ≡ Some (having group (before ++ claimed ∷ []) []) =
-    line_adds (having group before []) text (Claim claimed.kind claimed.run) (words_of text) (Some (having group (before ++ claimed ∷ []) [])) line.reads refl refl in
-    taken (having group before []) (having group (before ++ claimed ∷ []) []) text (claims_of runs ++ more) line.begins adds
+    line_adds (having group before []) text (Claim claimed.kind claimed.run) (words_of text)
+    (Some (having group (before ++ claimed ∷ []) [])) line.reads refl refl in
+    taken (having group before []) (having group (before ++ claimed ∷ []) []) text (claims_of runs ++ more)
+    line.begins adds
     ∙ claims_read group (before ++ claimed ∷ []) runs more all.1
-    ∙ ap (λ (all_runs : List ClaimedRun). with_lines more (Some (having group all_runs []))) (append_assoc before (claimed ∷ []) runs)
+    ∙ ap (λ (all_runs : List ClaimedRun). with_lines more (Some (having group all_runs [])))
+    (append_assoc before (claimed ∷ []) runs)
 
 -- no line is left for no bits
 no_marks : (count : ℕ) → marks_within count [] ≡ []
@@ -150,10 +178,12 @@ no_marks zero = refl
 no_marks (suc count) = refl
 
 -- bits are read behind others, and what fills up the last digit with them
-record AreRead (group : Group) (runs : List ClaimedRun) (before : List Bool) (lines more : List (List ℕ)) (bits : List Bool) : Type 0 where
+record AreRead (group : Group) (runs : List ClaimedRun) (before : List Bool) (lines more : List (List ℕ))
+    (bits : List Bool) : Type 0 where
   filling : List Bool
   fills : AreFilling filling
-  read : with_lines (lines ++ more) (Some (having group runs before)) ≡ with_lines more (Some (having group runs (before ++ (bits ++ filling))))
+  read : with_lines (lines ++ more) (Some (having group runs before))
+      ≡ with_lines more (Some (having group runs (before ++ (bits ++ filling))))
 
 -- a MARKS line adds its bits
 marks_add :
@@ -163,15 +193,19 @@ marks_add :
 marks_add group runs before bits lines line =
     let text : List ℕ = marks_of (digits_of bits) in
     let next : Group = having group runs (before ++ bits_of_digits (digits_of bits)) in
-    let same : bits_of_digits (raised (digits_of bits)) ≡ bits_of_digits (digits_of bits) = raised_digits (digits_of bits) in
+    let same : bits_of_digits (raised (digits_of bits)) ≡ bits_of_digits (digits_of bits) =
+    raised_digits (digits_of bits) in
     let adds : with_line (having group runs before) text ≡ Some next =
-    line_adds (having group runs before) text Marks (codes "MARKS" ∷ raised (digits_of bits) ∷ []) (Some next) line.reads line.words
+    line_adds (having group runs before) text Marks (codes "MARKS" ∷ raised (digits_of bits) ∷ []) (Some next)
+    line.reads line.words
     (ap (λ (more : List Bool). Some (having group runs (before ++ more))) same) in
-    taken (having group runs before) next text lines (begins_by text (codes "MARKS") (ap first_of_words line.words)) adds
+    taken (having group runs before) next text lines (begins_by text (codes "MARKS") (ap first_of_words line.words))
+    adds
 
 -- the MARKS lines are read
 marks_read_from :
-    (count : ℕ) (group : Group) (runs : List ClaimedRun) (before bits : List Bool) (more : List (List ℕ)) → length bits ≤ count →
+    (count : ℕ) (group : Group) (runs : List ClaimedRun) (before bits : List Bool) (more : List (List ℕ))
+    → length bits ≤ count →
     AreRead group runs before (marks_within count bits) more bits
 unfolding marks_within
 marks_read_from zero group runs before [] more within =
@@ -188,8 +222,10 @@ marks_read_from (suc count) group runs before (bit ∷ bits) more within =
           let rest : drop 4000 all ≡ [] = drop_all 4000 all few in
           let again = reads_what_was_printed all in
           let line = marks_add group runs before all more (has_line all (omega arith) few) in
-          let lines : marks_of (digits_of (take 4000 all)) ∷ marks_within count (drop 4000 all) ≡ marks_of (digits_of all) ∷ [] =
-          (λ i. marks_of (digits_of (whole i)) ∷ marks_within count (rest i)) ∙ ap (λ (l : List (List ℕ)). marks_of (digits_of all) ∷ l) (no_marks count) in
+          let lines : marks_of (digits_of (take 4000 all)) ∷ marks_within count (drop 4000 all)
+          ≡ marks_of (digits_of all) ∷ [] =
+          (λ i. marks_of (digits_of (whole i)) ∷ marks_within count (rest i))
+          ∙ ap (λ (l : List (List ℕ)). marks_of (digits_of all) ∷ l) (no_marks count) in
           record {
             filling = again.0;
             fills = again.2;
@@ -199,17 +235,23 @@ marks_read_from (suc count) group runs before (bit ∷ bits) more within =
           }
       | inr many ↦
           let size : length (take 4000 all) ≡ 4000 = length-take-le 4000 all (omega arith) in
-          let full : bits_of_digits (digits_of (take 4000 all)) ≡ take 4000 all = full_digits (take 4000 all) 1000 size in
-          let later = marks_read_from count group runs (before ++ take 4000 all) (drop 4000 all) more (omega (arith, length-drop 4000 all)) in
-          let line = marks_add group runs before (take 4000 all) (marks_within count (drop 4000 all) ++ more) (has_line (take 4000 all) (omega (arith, size)) (omega (arith, size))) in
-          let joined : (before ++ take 4000 all) ++ (drop 4000 all ++ later.filling) ≡ before ++ (all ++ later.filling) =
+          let full : bits_of_digits (digits_of (take 4000 all)) ≡ take 4000 all =
+          full_digits (take 4000 all) 1000 size in
+          let later = marks_read_from count group runs (before ++ take 4000 all) (drop 4000 all) more
+          (omega (arith, length-drop 4000 all)) in
+          let line = marks_add group runs before (take 4000 all) (marks_within count (drop 4000 all) ++ more)
+          (has_line (take 4000 all) (omega (arith, size)) (omega (arith, size))) in
+          let joined : (before ++ take 4000 all) ++ (drop 4000 all ++ later.filling)
+          ≡ before ++ (all ++ later.filling) =
           append_assoc before (take 4000 all) (drop 4000 all ++ later.filling)
-          ∙ ap (λ (b : List Bool). before ++ b) (sym (append_assoc (take 4000 all) (drop 4000 all) later.filling) ∙ ap (λ (b : List Bool). b ++ later.filling) (take-append-drop 4000 all)) in
+          ∙ ap (λ (b : List Bool). before ++ b) (sym (append_assoc (take 4000 all) (drop 4000 all) later.filling)
+          ∙ ap (λ (b : List Bool). b ++ later.filling) (take-append-drop 4000 all)) in
           record {
             filling = later.filling;
             fills = later.fills;
             read =
-                line ∙ ap (λ (b : List Bool). with_lines (marks_within count (drop 4000 all) ++ more) (Some (having group runs (before ++ b)))) full
+                line ∙ ap (λ (b : List Bool). with_lines (marks_within count (drop 4000 all) ++ more)
+                (Some (having group runs (before ++ b)))) full
                 ∙ later.read ∙ ap (λ (b : List Bool). with_lines more (Some (having group runs b))) joined;
           }
     ]
@@ -232,8 +274,10 @@ unfolding marks_within
 marks_begin_none zero bits = tt
 marks_begin_none (suc count) [] = tt
 marks_begin_none (suc count) (bit ∷ bits) =
-    let line = first_line_of bit bits in
-    (begins_by (marks_of (digits_of (take 4000 (bit ∷ bits)))) (codes "MARKS") (ap first_of_words line.words), marks_begin_none count (drop 4000 (bit ∷ bits)))
+    let line = first_line_of bit bits in (
+      begins_by (marks_of (digits_of (take 4000 (bit ∷ bits)))) (codes "MARKS") (ap first_of_words line.words),
+      marks_begin_none count (drop 4000 (bit ∷ bits)),
+    )
 
 -- lines that begin no group are passed over
 passed : (lines more : List (List ℕ)) → NoneBegins lines → groups_in (lines ++ more) ≡ groups_in more
@@ -241,7 +285,8 @@ passed [] more none = refl
 passed (line ∷ lines) more none = rw none.0 (passed lines more none.1)
 
 -- a line that begins a group begins it with what is read of it
-groups_at : (line : List ℕ) (lines : List (List ℕ)) (begun : Option Group) → begins_group line ≡ true → group_begun (cert_reading_of line) ≡ begun →
+groups_at : (line : List ℕ) (lines : List (List ℕ)) (begun : Option Group) → begins_group line ≡ true
+    → group_begun (cert_reading_of line) ≡ begun →
     groups_in (line ∷ lines) ≡ with_lines lines begun ∷ groups_in lines
 groups_at line lines begun begins is = rw (begins, is) refl
 
@@ -269,7 +314,8 @@ group_read group more can anew =
     let begun : Group = having group [] [] in
     let read_marks = marks_read_from (length group.bits) group group.claim.runs [] group.bits more (omega arith) in
     let parted : (claims ++ marks) ++ more ≡ claims ++ (marks ++ more) = append_assoc claims marks more in
-    let whole : with_lines ((claims ++ marks) ++ more) (Some begun) ≡ Some (having group group.claim.runs (group.bits ++ read_marks.filling)) =
+    let whole : with_lines ((claims ++ marks) ++ more) (Some begun)
+    ≡ Some (having group group.claim.runs (group.bits ++ read_marks.filling)) =
     ap (λ (lines : List (List ℕ)). with_lines lines (Some begun)) parted
     ∙ claims_read group [] group.claim.runs (marks ++ more) can.claims
     ∙ read_marks.read
@@ -280,7 +326,8 @@ group_read group more can anew =
     ∙ passed claims (marks ++ more) (claims_begin_none group.claim.runs can.claims)
     ∙ passed marks more (marks_begin_none (length group.bits) group.bits)
     in
-    let head : groups_in (cert_of group ∷ ((claims ++ marks) ++ more)) ≡ with_lines ((claims ++ marks) ++ more) (Some begun) ∷ groups_in ((claims ++ marks) ++ more) =
+    let head : groups_in (cert_of group ∷ ((claims ++ marks) ++ more))
+    ≡ with_lines ((claims ++ marks) ++ more) (Some begun) ∷ groups_in ((claims ++ marks) ++ more) =
     groups_at (cert_of group) ((claims ++ marks) ++ more) (Some begun) cert.begins (ap group_begun cert.reads)
     in
     record {
@@ -297,23 +344,29 @@ groups_begin : (groups : List Group) → AllByRecursion CanBeWritten groups → 
 unfolding lines_of_groups lines_of_group cert_of
 groups_begin [] all = tt
 groups_begin (group ∷ groups) all =
-    subst BeginAnew (sym (flat_map-cons lines_of_group group groups)) (cert_line group.round group.company group.claim.revenue all.0.cert).begins
+    subst BeginAnew (sym (flat_map-cons lines_of_group group groups))
+    (cert_line group.round group.company group.claim.revenue all.0.cert).begins
 
-groups_read : (groups : List Group) → AllByRecursion CanBeWritten groups → AreReadAgain groups (groups_in (lines_of_groups groups))
+groups_read : (groups : List Group) → AllByRecursion CanBeWritten groups
+    → AreReadAgain groups (groups_in (lines_of_groups groups))
 unfolding lines_of_groups
 groups_read [] all = tt
 groups_read (group ∷ groups) all =
     let one = group_read group (lines_of_groups groups) all.0 (groups_begin groups all.1) in
-    subst (AreReadAgain (group ∷ groups)) (sym (ap groups_in (flat_map-cons lines_of_group group groups) ∙ one.read)) (one.again, groups_read groups all.1)
+    subst (AreReadAgain (group ∷ groups)) (sym (ap groups_in (flat_map-cons lines_of_group group groups) ∙ one.read))
+    (one.again, groups_read groups all.1)
 
 -- the text of a group is its lines
-claims_written : (runs : List ClaimedRun) → AllByRecursion CanBeClaimed runs → IsWritten (flat_map claim_line runs) (claims_of runs)
+claims_written : (runs : List ClaimedRun) → AllByRecursion CanBeClaimed runs
+    → IsWritten (flat_map claim_line runs) (claims_of runs)
 unfolding claims_of
 claims_written [] all = nothing_written
 claims_written (claimed ∷ runs) all =
     let text : List ℕ = spelling_of (Claim claimed.kind claimed.run) in
-    subst (λ (written : List ℕ). IsWritten written (text ∷ claims_of runs)) (sym (flat_map-cons claim_line claimed runs))
-    (both_written (claim_line claimed) (flat_map claim_line runs) (text ∷ []) (claims_of runs) (line_written text (claim_line_is claimed all.0).printable) (claims_written runs all.1))
+    subst (λ (written : List ℕ). IsWritten written (text ∷ claims_of runs))
+    (sym (flat_map-cons claim_line claimed runs))
+    (both_written (claim_line claimed) (flat_map claim_line runs) (text ∷ []) (claims_of runs)
+    (line_written text (claim_line_is claimed all.0).printable) (claims_written runs all.1))
 
 marks_written : (count : ℕ) (bits : List Bool) → IsWritten (marks_lines_within count bits) (marks_within count bits)
 unfolding marks_within
@@ -321,7 +374,8 @@ marks_written zero bits = nothing_written
 marks_written (suc count) [] = nothing_written
 marks_written (suc count) (bit ∷ bits) =
     let text : List ℕ = marks_of (digits_of (take 4000 (bit ∷ bits))) in
-    both_written (text ++ 10 ∷ []) (marks_lines_within count (drop 4000 (bit ∷ bits))) (text ∷ []) (marks_within count (drop 4000 (bit ∷ bits)))
+    both_written (text ++ 10 ∷ []) (marks_lines_within count (drop 4000 (bit ∷ bits))) (text ∷ [])
+    (marks_within count (drop 4000 (bit ∷ bits)))
     (line_written text (first_line_of bit bits).printable) (marks_written count (drop 4000 (bit ∷ bits)))
 
 group_written : (group : Group) → CanBeWritten group → IsWritten (group_text group) (lines_of_group group)
@@ -329,20 +383,25 @@ unfolding lines_of_group cert_of
 group_written group can =
     let cert = cert_line group.round group.company group.claim.revenue can.cert in
     let head : List ℕ = order_line (Cert group.round group.company group.claim.revenue) in
-    both_written (head ++ flat_map claim_line group.claim.runs) (marks_lines group.bits) (cert_of group ∷ claims_of group.claim.runs) (marks_within (length group.bits) group.bits)
-    (both_written head (flat_map claim_line group.claim.runs) (cert_of group ∷ []) (claims_of group.claim.runs) (line_written (cert_of group) cert.printable) (claims_written group.claim.runs can.claims))
+    both_written (head ++ flat_map claim_line group.claim.runs) (marks_lines group.bits)
+    (cert_of group ∷ claims_of group.claim.runs) (marks_within (length group.bits) group.bits)
+    (both_written head (flat_map claim_line group.claim.runs) (cert_of group ∷ []) (claims_of group.claim.runs)
+    (line_written (cert_of group) cert.printable) (claims_written group.claim.runs can.claims))
     (marks_written (length group.bits) group.bits)
 
-groups_written : (groups : List Group) → AllByRecursion CanBeWritten groups → AllByRecursion (λ group. IsWritten (group_text group) (lines_of_group group)) groups
+groups_written : (groups : List Group) → AllByRecursion CanBeWritten groups
+    → AllByRecursion (λ group. IsWritten (group_text group) (lines_of_group group)) groups
 groups_written [] all = tt
 groups_written (group ∷ groups) all = (group_written group all.0, groups_written groups all.1)
 
 -- the lines of a text of certificates
-pub certificates_lines : (groups : List Group) → AllByRecursion CanBeWritten groups → lines_of (certificates_text groups) ≡ spelling_of Certs ∷ lines_of_groups groups
+pub certificates_lines : (groups : List Group) → AllByRecursion CanBeWritten groups
+    → lines_of (certificates_text groups) ≡ spelling_of Certs ∷ lines_of_groups groups
 unfolding lines_of_groups
 certificates_lines groups all =
     lines_written (certificates_text groups) (spelling_of Certs ∷ flat_map lines_of_group groups)
-    (both_written (order_line Certs) (flat_map group_text groups) (spelling_of Certs ∷ []) (flat_map lines_of_group groups)
+    (both_written (order_line Certs) (flat_map group_text groups) (spelling_of Certs ∷ [])
+    (flat_map lines_of_group groups)
     (line_written (spelling_of Certs) refl) (all_written group_text lines_of_group groups (groups_written groups all)))
 
 head_begins_none : begins_group (spelling_of Certs) ≡ false
@@ -353,7 +412,8 @@ pub reads_back : ReadsBack
 unfolding groups_of
 reads_back groups all =
     subst (AreReadAgain groups)
-    (sym (ap groups_in (certificates_lines groups all) ∙ passed (spelling_of Certs ∷ []) (lines_of_groups groups) (head_begins_none, tt)))
+    (sym (ap groups_in (certificates_lines groups all)
+    ∙ passed (spelling_of Certs ∷ []) (lines_of_groups groups) (head_begins_none, tt)))
     (groups_read groups all)
 
 -- no line divides
@@ -373,7 +433,8 @@ claims_divide_none : (runs : List ClaimedRun) → AllByRecursion CanBeClaimed ru
 unfolding claims_of
 claims_divide_none [] all = tt
 claims_divide_none (claimed ∷ runs) all = (
-  divides_by (spelling_of (Claim claimed.kind claimed.run)) (Claim claimed.kind claimed.run) (claim_line_is claimed all.0).reads,
+  divides_by (spelling_of (Claim claimed.kind claimed.run)) (Claim claimed.kind claimed.run)
+      (claim_line_is claimed all.0).reads,
   claims_divide_none runs all.1,
 )
 
@@ -390,7 +451,8 @@ group_divides_none : (group : Group) → CanBeWritten group → NoneDivide (line
 unfolding lines_of_group cert_of
 group_divides_none group can =
     both_divide_none (cert_of group ∷ claims_of group.claim.runs) (marks_within (length group.bits) group.bits) (
-      divides_by (cert_of group) (Cert group.round group.company group.claim.revenue) (cert_line group.round group.company group.claim.revenue can.cert).reads,
+      divides_by (cert_of group) (Cert group.round group.company group.claim.revenue)
+          (cert_line group.round group.company group.claim.revenue can.cert).reads,
       claims_divide_none group.claim.runs can.claims,
     )
     (marks_divide_none (length group.bits) group.bits)
@@ -400,7 +462,8 @@ unfolding lines_of_groups
 groups_divide_none [] all = tt
 groups_divide_none (group ∷ groups) all =
     subst NoneDivide (sym (flat_map-cons lines_of_group group groups))
-    (both_divide_none (lines_of_group group) (lines_of_groups groups) (group_divides_none group all.0) (groups_divide_none groups all.1))
+    (both_divide_none (lines_of_group group) (lines_of_groups groups) (group_divides_none group all.0)
+    (groups_divide_none groups all.1))
 
 -- a text of certificates begins with the one line that divides
 pub begins_alone : (groups : List Group) → AllByRecursion CanBeWritten groups → BeginsAlone (certificates_text groups)

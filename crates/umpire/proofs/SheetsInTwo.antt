@@ -46,7 +46,8 @@ if_is_no_sheet line e =
 sheet_line_alike : (line : List ℕ) → is_sheet_line (line_in_two line) ≡ is_sheet_line line
 unfolding line_in_two
 sheet_line_alike line =
-    elim (cases_Bool (is_if_line line)) as (λ _. is_sheet_line (cond (is_if_line line) (codes "X") line) ≡ is_sheet_line line) [
+    elim (cases_Bool (is_if_line line)) as (λ _. is_sheet_line (cond (is_if_line line) (codes "X") line)
+    ≡ is_sheet_line line) [
       | inl e ↦ rw e (x_is_no_sheet ∙ sym (if_is_no_sheet line e))
       | inr e ↦ rw e refl
     ]
@@ -68,42 +69,52 @@ inside_alike (line ∷ lines) = rw (sheet_line_alike line, inside_alike lines) r
 
 block_alike : (lines : List (List ℕ)) → block (map line_in_two lines) ≡ map line_in_two (block lines)
 block_alike lines =
-    ap (λ n. take n (map line_in_two lines)) (inside_alike lines) ∙ take-map line_in_two (prefix_len is_inside lines) lines
+    ap (λ n. take n (map line_in_two lines)) (inside_alike lines)
+    ∙ take-map line_in_two (prefix_len is_inside lines) lines
 
 -- a sheet with its lines gone over
 abbrev gone : Option (List (List ℕ)) → Option (List (List ℕ))
 gone sheet = option_map (map line_in_two) sheet
 
-begun_goes : (sheet_key : SheetKey) (lines : List (List ℕ)) (begun : Option SheetKey) → lines_begun sheet_key (map line_in_two lines) begun ≡ gone (lines_begun sheet_key lines begun)
+begun_goes : (sheet_key : SheetKey) (lines : List (List ℕ)) (begun : Option SheetKey)
+    → lines_begun sheet_key (map line_in_two lines) begun ≡ gone (lines_begun sheet_key lines begun)
 begun_goes sheet_key lines None = refl
 begun_goes sheet_key lines (Some begun) =
-    elim (same_sheet_key begun sheet_key) as (λ b. cond b (Some (map line_in_two lines)) None ≡ gone (cond b (Some lines) None)) [ true ↦ refl | false ↦ refl ]
+    elim (same_sheet_key begun sheet_key) as (λ b. cond b (Some (map line_in_two lines)) None
+    ≡ gone (cond b (Some lines) None)) [ true ↦ refl | false ↦ refl ]
 
-either_goes : (first second : Option (List (List ℕ))) → option_or (gone first) (gone second) ≡ gone (option_or first second)
+either_goes : (first second : Option (List (List ℕ)))
+    → option_or (gone first) (gone second) ≡ gone (option_or first second)
 either_goes None second = refl
 either_goes (Some lines) second = refl
 
-sheet_goes : (players lines : List (List ℕ)) (sheet_key : SheetKey) → sheet_in players (map line_in_two lines) sheet_key ≡ gone (sheet_in players lines sheet_key)
+sheet_goes : (players lines : List (List ℕ)) (sheet_key : SheetKey)
+    → sheet_in players (map line_in_two lines) sheet_key ≡ gone (sheet_in players lines sheet_key)
 sheet_goes players [] sheet_key = refl
 sheet_goes players (line ∷ lines) sheet_key =
-    let here : lines_begun sheet_key (block (map line_in_two lines)) (begins players (line_in_two line)) ≡ gone (lines_begun sheet_key (block lines) (begins players line)) =
+    let here : lines_begun sheet_key (block (map line_in_two lines)) (begins players (line_in_two line))
+    ≡ gone (lines_begun sheet_key (block lines) (begins players line)) =
     rw (begins_alike players line, block_alike lines) (begun_goes sheet_key (block lines) (begins players line)) in
-    rw (sheet_goes players lines sheet_key, here) (either_goes (sheet_in players lines sheet_key) (lines_begun sheet_key (block lines) (begins players line)))
+    rw (sheet_goes players lines sheet_key, here) (either_goes (sheet_in players lines sheet_key)
+    (lines_begun sheet_key (block lines) (begins players line)))
 
 -- a line is read in version 2 as the line that it stands for in version 1
-pub if_unknown : (words : List (List ℕ)) → same_word (first_of_words words) (codes "IF") ≡ true → words_reading order_forms words ≡ Err UnknownWord
+pub if_unknown : (words : List (List ℕ)) → same_word (first_of_words words) (codes "IF") ≡ true
+    → words_reading order_forms words ≡ Err UnknownWord
 if_unknown [] e = absurd (cc)
 if_unknown (first ∷ rest) e = rw (same_word-is first (codes "IF") e) refl
 
 -- one that stays although its first word is IF has a fault before that
-no_words : (line : List ℕ) → same_word (first_of_words (words_of line)) (codes "IF") ≡ true → is_unknown (reading_of line) ≡ false → reading_in Two line ≡ reading_in One line
+no_words : (line : List ℕ) → same_word (first_of_words (words_of line)) (codes "IF") ≡ true
+    → is_unknown (reading_of line) ≡ false → reading_in Two line ≡ reading_in One line
 no_words line first known =
     elim (cases_Bool (nat_lt line_most (length line))) [
       | inl long ↦ rw long refl
       | inr short ↦
           elim (cases_Bool (list_all is_printable (before_comment line))) [
             | inl printable ↦
-                let read : reading_of line ≡ Err UnknownWord = rw (short, printable) (if_unknown (words_of line) first) in
+                let read : reading_of line ≡ Err UnknownWord =
+                rw (short, printable) (if_unknown (words_of line) first) in
                 absurd (let wrong = rw read at known in cc)
             | inr stray ↦ rw (short, stray) refl
           ]
@@ -117,7 +128,8 @@ stays_alike : (line : List ℕ) → is_if_line line ≡ false → reading_in Two
 unfolding is_if_line
 stays_alike line e =
     elim (cases_Bool (same_word (first_of_words (words_of line)) (codes "IF"))) [
-      | inl first ↦ no_words line first (both_false (same_word (first_of_words (words_of line)) (codes "IF")) (is_unknown (reading_of line)) e first)
+      | inl first ↦ no_words line first (both_false (same_word (first_of_words (words_of line)) (codes "IF"))
+          (is_unknown (reading_of line)) e first)
       | inr other ↦ same_without_if line (λ is. let wrong = rw is at other in cc)
     ]
 
@@ -127,7 +139,8 @@ x_in_two = refl
 versions_alike : (line : List ℕ) → reading_in Two (line_in_two line) ≡ reading_in One line
 unfolding line_in_two
 versions_alike line =
-    elim (cases_Bool (is_if_line line)) as (λ _. reading_in Two (cond (is_if_line line) (codes "X") line) ≡ reading_in One line) [
+    elim (cases_Bool (is_if_line line)) as (λ _. reading_in Two (cond (is_if_line line) (codes "X") line)
+    ≡ reading_in One line) [
       | inl e ↦ rw e (x_in_two ∙ sym (one_is_as_it_was line ∙ ap unconditional (if_parts line e).1))
       | inr e ↦ rw e (stays_alike line e)
     ]
@@ -136,12 +149,21 @@ unread_alike : (line : List ℕ) → unread_fault Two (line_in_two line) ≡ unr
 unfolding unread_fault
 unread_alike line = rw (versions_alike line) refl
 
-unread_go : (players : List (List ℕ)) (inside : Bool) (lines : List (List ℕ)) → unread_in Two players inside (map line_in_two lines) ≡ unread_in One players inside lines
+unread_go : (players : List (List ℕ)) (inside : Bool) (lines : List (List ℕ))
+    → unread_in Two players inside (map line_in_two lines) ≡ unread_in One players inside lines
 unread_go players inside [] = refl
 unread_go players inside (line ∷ lines) =
-    rw (sheet_line_alike line, begins_alike players line, unread_alike line, unread_go players true lines, unread_go players false lines) refl
+    rw (
+      sheet_line_alike line,
+      begins_alike players line,
+      unread_alike line,
+      unread_go players true lines,
+      unread_go
+          players false lines,
+    ) refl
 
-parts_go : (opens : Result Order Fault → Bool) (count : ℕ) (lines : List (List ℕ)) → parts_after Two opens count (map line_in_two lines) ≡ parts_after One opens count lines
+parts_go : (opens : Result Order Fault → Bool) (count : ℕ) (lines : List (List ℕ))
+    → parts_after Two opens count (map line_in_two lines) ≡ parts_after One opens count lines
 parts_go opens count [] = refl
 parts_go opens count (line ∷ lines) = rw (versions_alike line, parts_go opens (count + 1) lines) refl
 
@@ -158,11 +180,14 @@ abbrev pub with_body : Result Content FileFault → Result Content FileFault
 with_body (Ok content) = Ok (record { players = content.players; body = map line_in_two content.body })
 with_body (Err fault) = Err fault
 
-body_goes : (lines : List (List ℕ)) (named : Option (List (List ℕ))) → body_content (map line_in_two lines) named ≡ with_body (body_content lines named)
+body_goes : (lines : List (List ℕ)) (named : Option (List (List ℕ)))
+    → body_content (map line_in_two lines) named ≡ with_body (body_content lines named)
 body_goes lines None = refl
 body_goes lines (Some players) =
     rw (good_alike players lines)
-    (elim (nat_lt sheets_most (good_lines players lines)) as (λ b. cond b (Err TooManySheets) (Ok (record { players = players; body = map line_in_two lines })) ≡ with_body (cond b (Err TooManySheets) (Ok (record { players = players; body = lines })))) [
+    (elim (nat_lt sheets_most (good_lines players lines)) as
+    (λ b. cond b (Err TooManySheets) (Ok (record { players = players; body = map line_in_two lines }))
+    ≡ with_body (cond b (Err TooManySheets) (Ok (record { players = players; body = lines })))) [
       | true ↦ refl
       | false ↦ refl
     ])
@@ -174,7 +199,8 @@ players_go (line ∷ lines) = rw (read_alike line) (body_goes lines (players_nam
 header_is_named : header_version (reading_of header_of_two) ≡ Some Two
 header_is_named = refl
 
-content_of_lines : (lines : List (List ℕ)) → named_version lines ≡ Some One → lines_content (headed lines) ≡ with_body (lines_content lines)
+content_of_lines : (lines : List (List ℕ)) → named_version lines ≡ Some One
+    → lines_content (headed lines) ≡ with_body (lines_content lines)
 content_of_lines [] e = absurd (let wrong : ◌≡◌ {A = Option Version} None (Some One) = e in cc)
 content_of_lines (line ∷ lines) e = rw e (players_go lines)
 
@@ -186,7 +212,8 @@ module _ (file : List ℕ) (named : named_version (written_lines file) ≡ Some 
   pub content_goes : content_of (file_in_two file) ≡ with_body (content_of file)
   content_goes =
       let fits : length (file_in_two file) ≤ file_most = let less = file_fits file named in omega arith in
-      short_enough (file_in_two file) fits ∙ ap lines_content (written_lines_go file) ∙ content_of_lines (written_lines file) named
+      short_enough (file_in_two file) fits ∙ ap lines_content (written_lines_go file)
+      ∙ content_of_lines (written_lines file) named
       ∙ ap with_body (sym (short_enough file short))
 
 players_stay : (content : Result Content FileFault) → players_in (with_body content) ≡ players_in content
@@ -197,15 +224,18 @@ bodies_go : (content : Result Content FileFault) → body_in (with_body content)
 bodies_go (Ok content) = refl
 bodies_go (Err fault) = refl
 
-version_by_name : (lines : List (List ℕ)) (version : Version) → named_version lines ≡ Some version → version_in lines ≡ version
+version_by_name : (lines : List (List ℕ)) (version : Version) → named_version lines ≡ Some version
+    → version_in lines ≡ version
 version_by_name [] version e = absurd (let wrong : ◌≡◌ {A = Option Version} None (Some version) = e in cc)
 version_by_name (line ∷ lines) version e = rw e refl
 
-pub version_named : (file : List ℕ) (version : Version) → named_version (written_lines file) ≡ Some version → version_of file ≡ version
+pub version_named : (file : List ℕ) (version : Version) → named_version (written_lines file) ≡ Some version
+    → version_of file ≡ version
 unfolding version_of
 version_named file version e = version_by_name (written_lines file) version e
 
-pub goes_to_two : (file : List ℕ) → named_version (written_lines file) ≡ Some One → named_version (written_lines (file_in_two file)) ≡ Some Two
+pub goes_to_two : (file : List ℕ) → named_version (written_lines file) ≡ Some One
+    → named_version (written_lines (file_in_two file)) ≡ Some Two
 goes_to_two file e = ap named_version (written_lines_go file) ∙ named_in_two (written_lines file) e
 
 module _ (file : List ℕ) (named : named_version (written_lines file) ≡ Some One) (short : length file ≤ file_most) where
@@ -217,21 +247,35 @@ module _ (file : List ℕ) (named : named_version (written_lines file) ≡ Some 
   unfolding body_of
   body_goes_over = ap body_in (content_goes file named short) ∙ bodies_go (content_of file)
 
-  sheet_goes_over : (seat : ℕ) (round : Round) → sheet_of (file_in_two file) seat round ≡ gone (sheet_of file seat round)
+  sheet_goes_over : (seat : ℕ) (round : Round) → sheet_of (file_in_two file) seat round
+      ≡ gone (sheet_of file seat round)
   unfolding sheet_of
   sheet_goes_over seat round =
       rw (players_alike, body_goes_over) (sheet_goes (players_of file) (body_of file) (sheet_key_at seat round))
 
-  pub posted_alike : (seat : ℕ) (round : Round) → is_some (sheet_of (file_in_two file) seat round) ≡ is_some (sheet_of file seat round)
+  pub posted_alike : (seat : ℕ) (round : Round) → is_some (sheet_of (file_in_two file) seat round)
+      ≡ is_some (sheet_of file seat round)
   posted_alike seat round = ap is_some (sheet_goes_over seat round) ∙ still_posted (sheet_of file seat round)
 
   pub all_unread_alike : unread_of (file_in_two file) ≡ unread_of file
   unfolding unread_of
   all_unread_alike =
-      rw (players_alike, body_goes_over, version_named (file_in_two file) Two (goes_to_two file named), version_named file One named)
+      rw (
+        players_alike,
+        body_goes_over,
+        version_named (file_in_two file) Two (goes_to_two file named),
+        version_named
+            file One named,
+      )
       (unread_go (players_of file) false (body_of file))
 
   pub parts_alike : SameParts (file_in_two file) file
   parts_alike round seat =
-      rw (version_named (file_in_two file) Two (goes_to_two file named), version_named file One named, sheet_goes_over seat round, lines_go (sheet_of file seat round))
+      rw (
+        version_named (file_in_two file) Two (goes_to_two file named),
+        version_named file One named,
+        sheet_goes_over
+            seat round,
+        lines_go (sheet_of file seat round),
+      )
       (parts_go (opens_part round) 0 (unwrap_or (sheet_of file seat round) []))

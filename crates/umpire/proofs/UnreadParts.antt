@@ -25,7 +25,8 @@ lines_parted before (fault ∷ part) later =
     rw others (line_parted (codes "UNREAD ") (decimal (before + 1)) (code_of fault) here there)
 
 -- the lines of the first so many faults, and then those of the others
-pub unread_parted : (before most : ℕ) (faults part later : List Fault) → part ≡ take most faults → later ≡ drop most faults →
+pub unread_parted : (before most : ℕ) (faults part later : List Fault) → part ≡ take most faults
+    → later ≡ drop most faults →
     unread_lines before faults ≡ unread_lines before part ++ unread_lines (before + length part) later
 unread_parted before most faults part later is_part is_later =
     let whole : faults ≡ part ++ later = rw (is_part, is_later) (sym (take-append-drop most faults)) in
@@ -36,5 +37,6 @@ pub all_unread_told : (old new : Option (List ℕ)) (text : List ℕ) (before : 
     LeavesRest old new text (unread_lines before rest) → Appends old new text
 all_unread_told old new text before rest none left =
     let nothing : unread_lines before rest ≡ [] = ap (λ faults. unread_lines before faults) none in
-    let whole : left.done ≡ text = sym (append-nil left.done) ∙ ap (λ more. left.done ++ more) (sym nothing) ∙ left.whole in
+    let whole : left.done ≡ text = sym (append-nil left.done) ∙ ap (λ more. left.done ++ more) (sym nothing)
+    ∙ left.whole in
     rw (← whole) left.appended

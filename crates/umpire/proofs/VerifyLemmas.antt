@@ -31,11 +31,13 @@ either a b = grind arith
 less_newline : (bytes : List ℕ) → length bytes ≤ suc (length (without_newline bytes))
 less_newline [] = omega arith
 less_newline (byte ∷ []) =
-    elim (eqb byte 10) as (λ b. length (byte ∷ []) ≤ suc (length (cond b [] (byte ∷ [])))) [ true ↦ omega arith | false ↦ omega arith ]
+    elim (eqb byte 10) as (λ b. length (byte ∷ []) ≤ suc (length (cond b [] (byte ∷ []))))
+    [ true ↦ omega arith | false ↦ omega arith ]
 less_newline (byte ∷ next ∷ bytes) = omega (arith, less_newline (next ∷ bytes))
 
 -- the two parts and an LF make up the whole
-parts_of : (input : List ℕ) (found : Option (List ℕ)) → ((text : List ℕ) → found ≡ Some text → length text ≤ length input) →
+parts_of : (input : List ℕ) (found : Option (List ℕ))
+    → ((text : List ℕ) → found ≡ Some text → length text ≤ length input) →
     length input ≤ length (file_before input found) + 1 + length (unwrap_or found [])
 parts_of input None within = omega arith
 parts_of input (Some text) within =
@@ -49,17 +51,21 @@ unfolding order_file_of certificates_of
 make_up input = parts_of input (from_divider true input) (λ text is. found_within true input text is)
 
 -- the text of certificates is over its limit
-pub over_limit : (input : List ℕ) → certificates_most < length (certificates_of input) → content_of_input input ≡ Err TooLong
+pub over_limit : (input : List ℕ) → certificates_most < length (certificates_of input)
+    → content_of_input input ≡ Err TooLong
 unfolding content_of_input
 over_limit input over =
-    let t : nat_lt certificates_most (length (certificates_of input)) ≡ true = lt-ltb certificates_most (length (certificates_of input)) over in
+    let t : nat_lt certificates_most (length (certificates_of input)) ≡ true =
+    lt-ltb certificates_most (length (certificates_of input)) over in
     rw t refl
 
 -- it is within
-pub within_limit : (input : List ℕ) → length (certificates_of input) ≤ certificates_most → content_of_input input ≡ content_of (order_file_of input)
+pub within_limit : (input : List ℕ) → length (certificates_of input) ≤ certificates_most
+    → content_of_input input ≡ content_of (order_file_of input)
 unfolding content_of_input
 within_limit input within =
-    let t : nat_lt certificates_most (length (certificates_of input)) ≡ false = le-ltb certificates_most (length (certificates_of input)) within in
+    let t : nat_lt certificates_most (length (certificates_of input)) ≡ false =
+    le-ltb certificates_most (length (certificates_of input)) within in
     rw t refl
 
 -- an input over both limits and the LF is refused
@@ -77,7 +83,8 @@ pub record SaysInput (given : Option (List ℕ)) (input : List ℕ) : Type 0 whe
   pub content : content_of_input whole ≡ content_of_input input
   pub taken : IsOk (content_of_input input) → whole ≡ input
 
-says_input_by : (bytes input : List ℕ) → input ≡ take 134217730 bytes → (length bytes ≤ 134217729) ⊎ (134217729 < length bytes) → SaysInput (Some bytes) input
+says_input_by : (bytes input : List ℕ) → input ≡ take 134217730 bytes
+    → (length bytes ≤ 134217729) ⊎ (134217729 < length bytes) → SaysInput (Some bytes) input
 says_input_by bytes input read (inl few) =
     let same : bytes ≡ input = sym (read ∙ take_all 134217730 bytes (omega arith)) in
     record { whole = bytes; is_whole = refl; content = ap content_of_input same; taken = λ taken. same }
@@ -88,26 +95,32 @@ says_input_by bytes input read (inr many) =
       whole = bytes;
       is_whole = refl;
       content = input_too_long bytes many ∙ sym refused;
-      taken = λ taken. absurd (let wrong : IsOk {T = Content} (Err TooLong) = subst (λ (content : Result Content FileFault). IsOk content) refused taken in cc);
+      taken = λ taken. absurd (let wrong : IsOk {T = Content} (Err TooLong) =
+          subst (λ (content : Result Content FileFault). IsOk content) refused taken in cc);
     }
 
-pub says_input : (given : Option (List ℕ)) (input : List ℕ) → IfSome given (λ bytes. input ≡ take 134217730 bytes) → SaysInput given input
+pub says_input : (given : Option (List ℕ)) (input : List ℕ) → IfSome given (λ bytes. input ≡ take 134217730 bytes)
+    → SaysInput given input
 says_input None input read = record { whole = input; is_whole = tt; content = refl; taken = λ taken. refl }
 says_input (Some bytes) input read = says_input_by bytes input read (either (length bytes) 134217729)
 
 -- what was read is answered as the whole input is
 answers_whole :
-    (input whole text : List ℕ) (outcome : Result (Unit {0}) Fault) (content : Result Content FileFault) → content_of_input input ≡ content →
-    content_of_input whole ≡ content_of_input input → (IsOk (content_of_input input) → whole ≡ input) → AnswersInput input outcome text →
+    (input whole text : List ℕ) (outcome : Result (Unit {0}) Fault) (content : Result Content FileFault)
+    → content_of_input input ≡ content →
+    content_of_input whole ≡ content_of_input input → (IsOk (content_of_input input) → whole ≡ input)
+    → AnswersInput input outcome text →
     AnswersInput whole outcome text
 answers_whole input whole text outcome (Ok content) is same taken answers =
-    subst (λ (other : List ℕ). AnswersInput other outcome text) (sym (taken (subst (λ (r : Result Content FileFault). IsOk r) (sym is) refl))) answers
+    subst (λ (other : List ℕ). AnswersInput other outcome text)
+    (sym (taken (subst (λ (r : Result Content FileFault). IsOk r) (sym is) refl))) answers
 answers_whole input whole text outcome (Err fault) is same taken answers =
     subst (λ (r : Result Content FileFault). AnswersContent whole r outcome text) (sym (same ∙ is))
     (subst (λ (r : Result Content FileFault). AnswersContent input r outcome text) is answers)
 
 pub answered :
-    (given old new : Option (List ℕ)) (input text : List ℕ) (outcome : Result (Unit {0}) Fault) → IfSome given (λ bytes. input ≡ take 134217730 bytes) →
+    (given old new : Option (List ℕ)) (input text : List ℕ) (outcome : Result (Unit {0}) Fault)
+    → IfSome given (λ bytes. input ≡ take 134217730 bytes) →
     AnswersInput input outcome text → Appends old new text → IsAnswered given outcome old new
 answered given old new input text outcome read answers written =
     let says : SaysInput given input = says_input given input read in
@@ -115,21 +128,25 @@ answered given old new input text outcome read answers written =
       input = says.whole;
       text = text;
       whole = says.is_whole;
-      answers = answers_whole input says.whole text outcome (content_of_input input) refl says.content says.taken answers;
+      answers = answers_whole input says.whole text outcome (content_of_input input) refl says.content says.taken
+          answers;
       written = written;
     }
 
 -- the answer to what was read is that to the whole input
 pub answered_whole :
-    (given old new : Option (List ℕ)) (input : List ℕ) (outcome : Result (Unit {0}) Fault) → IfSome given (λ bytes. input ≡ take 134217730 bytes) →
+    (given old new : Option (List ℕ)) (input : List ℕ) (outcome : Result (Unit {0}) Fault)
+    → IfSome given (λ bytes. input ≡ take 134217730 bytes) →
     IsAnswered (Some input) outcome old new → IsAnswered given outcome old new
 answered_whole given old new input outcome read known =
-    answered given old new input known.text outcome read (subst (λ (other : List ℕ). AnswersInput other outcome known.text) known.whole known.answers)
+    answered given old new input known.text outcome read
+    (subst (λ (other : List ℕ). AnswersInput other outcome known.text) known.whole known.answers)
     known.written
 
 pub stops_whole :
     (given old new : Option (List ℕ)) (input : List ℕ) (read_failed write_failed : Bool) (fault : Fault) →
-    IfSome given (λ bytes. input ≡ take 134217730 bytes) → read_failed ≡ false → StopsVerify (Some input) old new false write_failed fault →
+    IfSome given (λ bytes. input ≡ take 134217730 bytes) → read_failed ≡ false
+    → StopsVerify (Some input) old new false write_failed fault →
     StopsVerify given old new read_failed write_failed fault
 stops_whole given old new input rf wf Read read unfailed known = absurd cc
 stops_whole given old new input rf wf Write read unfailed known = (unfailed, known.1)
@@ -141,7 +158,8 @@ stops_whole given old new input rf wf (Certificate round company) read unfailed 
 
 -- reading stopped early, and nothing was written
 pub stops_reading :
-    (given old : Option (List ℕ)) (read_failed write_failed : Bool) (fault : Fault) → IsReadFault read_failed fault → write_failed ≡ false →
+    (given old : Option (List ℕ)) (read_failed write_failed : Bool) (fault : Fault) → IsReadFault read_failed fault
+    → write_failed ≡ false →
     StopsVerify given old old read_failed write_failed fault
 stops_reading given old rf wf Read is unfailed = (is, unfailed, Keeps-refl old)
 stops_reading given old rf wf Memory is unfailed = (is, unfailed)
@@ -150,32 +168,38 @@ stops_reading given old rf wf (File fault) is unfailed = absurd is
 stops_reading given old rf wf (Certificate round company) is unfailed = absurd is
 
 -- a file that is refused is answered by its refusal
-pub refusal_answers : (input text : List ℕ) (fault : FileFault) (outcome : Result (Unit {0}) Fault) → content_of_input input ≡ Err fault → IsRefusal fault outcome text → AnswersInput input outcome text
+pub refusal_answers : (input text : List ℕ) (fault : FileFault) (outcome : Result (Unit {0}) Fault)
+    → content_of_input input ≡ Err fault → IsRefusal fault outcome text → AnswersInput input outcome text
 refusal_answers input text fault outcome is refusal =
     subst (λ (content : Result Content FileFault). AnswersContent input content outcome text) (sym is) refusal
 
 -- one that is not, as its game is judged
 judgement_by :
     (input text : List ℕ) (outcome : Result (Unit {0}) Fault) (content : Result Content FileFault) → IsOk content →
-    AnswersGame (order_file_of input) (groups_of (certificates_of input)) outcome text → AnswersContent input content outcome text
+    AnswersGame (order_file_of input) (groups_of (certificates_of input)) outcome text
+    → AnswersContent input content outcome text
 judgement_by input text outcome (Ok content) accepted answers = answers
 judgement_by input text outcome (Err fault) accepted answers = absurd cc
 
 pub judgement_answers :
-    (input file certificates text : List ℕ) (outcome : Result (Unit {0}) Fault) → file ≡ order_file_of input → certificates ≡ certificates_of input →
+    (input file certificates text : List ℕ) (outcome : Result (Unit {0}) Fault) → file ≡ order_file_of input
+    → certificates ≡ certificates_of input →
     length certificates ≤ certificates_most → IsAccepted file → AnswersGame file (groups_of certificates) outcome text →
     AnswersInput input outcome text
 judgement_answers input file certificates text outcome of_file of_certificates within accepted answers =
-    let few : length (certificates_of input) ≤ certificates_most = subst (λ (t : List ℕ). length t ≤ certificates_most) of_certificates within in
+    let few : length (certificates_of input) ≤ certificates_most =
+    subst (λ (t : List ℕ). length t ≤ certificates_most) of_certificates within in
     let of_whole : AnswersGame (order_file_of input) (groups_of (certificates_of input)) outcome text =
     subst (λ (t : List ℕ). AnswersGame (order_file_of input) (groups_of t) outcome text) of_certificates
     (subst (λ (f : List ℕ). AnswersGame f (groups_of certificates) outcome text) of_file answers) in
-    subst (λ (content : Result Content FileFault). AnswersContent input content outcome text) (sym (within_limit input few))
+    subst (λ (content : Result Content FileFault). AnswersContent input content outcome text)
+    (sym (within_limit input few))
     (judgement_by input text outcome (content_of (order_file_of input)) (subst IsAccepted of_file accepted) of_whole)
 
 -- so an input is answered as its game is
 pub game_answers :
-    (input file certificates : List ℕ) (old new : Option (List ℕ)) (outcome : Result (Unit {0}) Fault) → file ≡ order_file_of input →
+    (input file certificates : List ℕ) (old new : Option (List ℕ)) (outcome : Result (Unit {0}) Fault)
+    → file ≡ order_file_of input →
     certificates ≡ certificates_of input → length certificates ≤ certificates_most → IsAccepted file →
     IsGameAnswered file (groups_of certificates) outcome old new → IsAnswered (Some input) outcome old new
 game_answers input file certificates old new outcome of_file of_certificates within accepted known =
@@ -183,27 +207,41 @@ game_answers input file certificates old new outcome of_file of_certificates wit
       input = input;
       text = known.text;
       whole = refl;
-      answers = judgement_answers input file certificates known.text outcome of_file of_certificates within accepted known.answers;
+      answers = judgement_answers input file certificates known.text outcome of_file of_certificates within accepted
+          known.answers;
       written = known.written;
     }
 
 pub game_stops :
-    (input file certificates : List ℕ) (old new : Option (List ℕ)) (failed : Bool) (fault : Fault) → file ≡ order_file_of input →
+    (input file certificates : List ℕ) (old new : Option (List ℕ)) (failed : Bool) (fault : Fault)
+    → file ≡ order_file_of input →
     certificates ≡ certificates_of input → length certificates ≤ certificates_most → IsAccepted file →
     StopsGame file (groups_of certificates) old new failed fault → StopsVerify (Some input) old new false failed fault
 game_stops input file certificates old new failed Read of_file of_certificates within accepted stops = absurd stops
 game_stops input file certificates old new failed Write of_file of_certificates within accepted stops = (refl, stops)
 game_stops input file certificates old new failed Memory of_file of_certificates within accepted stops = (refl, stops)
-game_stops input file certificates old new failed (File fault) of_file of_certificates within accepted stops = absurd stops
-game_stops input file certificates old new failed (Certificate round company) of_file of_certificates within accepted stops =
-    (refl, stops.0, game_answers input file certificates old new (Err (Certificate round company)) of_file of_certificates within accepted stops.1)
+game_stops input file certificates old new failed (File fault) of_file of_certificates within accepted stops =
+    absurd stops
+game_stops input file certificates old new failed (Certificate round company) of_file of_certificates within accepted
+    stops = (
+      refl,
+      stops.0,
+      game_answers input file certificates old new (Err (Certificate round company)) of_file
+          of_certificates within accepted stops.1,
+    )
 
 -- a fault of a file that is refused is the one with which its input is
-same_outcome : (fault refusal : FileFault) → fault ≡ refusal → IsRefusal refusal (Err (File fault)) (refusal_line refusal)
-same_outcome fault refusal is = (ap (λ (f : FileFault). let outcome : Result (Unit {0}) Fault = Err (File f) in outcome) is, refl)
+same_outcome : (fault refusal : FileFault) → fault ≡ refusal
+    → IsRefusal refusal (Err (File fault)) (refusal_line refusal)
+same_outcome fault refusal is = (
+  ap (λ (f : FileFault). let outcome : Result (Unit {0}) Fault =
+      Err (File f) in outcome) is,
+  refl,
+)
 
 pub refusal_stops :
-    (input : List ℕ) (old new : Option (List ℕ)) (failed : Bool) (refusal : FileFault) (fault : Fault) → content_of_input input ≡ Err refusal →
+    (input : List ℕ) (old new : Option (List ℕ)) (failed : Bool) (refusal : FileFault) (fault : Fault)
+    → content_of_input input ≡ Err refusal →
     Refuses refusal old new failed fault → StopsVerify (Some input) old new false failed fault
 refusal_stops input old new failed refusal Read is refuses = absurd refuses
 refusal_stops input old new failed refusal Write is refuses = (refl, refuses)
@@ -215,7 +253,8 @@ refusal_stops input old new failed refusal (File fault) is refuses = (
     input = input;
     text = refusal_line refusal;
     whole = refl;
-    answers = refusal_answers input (refusal_line refusal) refusal (Err (File fault)) is (same_outcome fault refusal refuses.1);
+    answers = refusal_answers input (refusal_line refusal) refusal (Err (File fault)) is
+        (same_outcome fault refusal refuses.1);
     written = refuses.2;
   },
 )
@@ -223,7 +262,8 @@ refusal_stops input old new failed refusal (Certificate round company) is refuse
 
 -- a game that has all its groups is answered by its report
 pub report_answers :
-    (file : List ℕ) (groups : List (Option Group)) (old new : Option (List ℕ)) → HasAllGroups file groups → IsReported (Some file) old new →
+    (file : List ℕ) (groups : List (Option Group)) (old new : Option (List ℕ)) → HasAllGroups file groups
+    → IsReported (Some file) old new →
     IsGameAnswered file groups (Ok tt) old new
 report_answers file groups old new all reported =
     record {
@@ -234,7 +274,8 @@ report_answers file groups old new all reported =
 
 -- one in which a call is the first that has none is answered by the line that says so
 pub refusal_answers_game :
-    (file : List ℕ) (groups : List (Option Group)) (old new : Option (List ℕ)) (failed : Bool) (round : Round) (company : Company) →
+    (file : List ℕ) (groups : List (Option Group)) (old new : Option (List ℕ)) (failed : Bool) (round : Round)
+    (company : Company) →
     Appends old new (uncertified_line round company) → failed ≡ false → LacksGroup file groups round company →
     StopsGame file groups old new failed (Certificate round company)
 refusal_answers_game file groups old new failed round company written unfailed lacks =
@@ -242,7 +283,8 @@ refusal_answers_game file groups old new failed round company written unfailed l
 
 -- a fault of writing there
 pub writing_stops :
-    (file : List ℕ) (groups : List (Option Group)) (old new : Option (List ℕ)) (failed : Bool) (fault : Fault) → IsWriteFault failed fault →
+    (file : List ℕ) (groups : List (Option Group)) (old new : Option (List ℕ)) (failed : Bool) (fault : Fault)
+    → IsWriteFault failed fault →
     StopsGame file groups old new failed fault
 writing_stops file groups old new failed Read is = absurd is
 writing_stops file groups old new failed Write is = is
@@ -252,7 +294,8 @@ writing_stops file groups old new failed (Certificate round company) is = absurd
 
 -- the texts of all rounds, once they are written
 pub rounds_told :
-    (file : List ℕ) (ended : Underway) (text : List ℕ) (old new : Option (List ℕ)) → IsTextOfRounds file ended text → Appends old new text →
+    (file : List ℕ) (ended : Underway) (text : List ℕ) (old new : Option (List ℕ)) → IsTextOfRounds file ended text
+    → Appends old new text →
     TellsAllRounds file ended old new
 rounds_told file ended text old new all written =
     record {

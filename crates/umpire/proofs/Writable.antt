@@ -15,7 +15,8 @@ use Rattle.umpire.specs.Certified.{AreCertified, Certifies}
 use Rattle.umpire.specs.ReadAgain.{CanBeWritten, CertifyingCanBeWritten}
 
 -- a number is within its bounds, by the test of both
-both_within : (least number most : ℕ) → least ≤ number → number ≤ most → (nat_le least number && nat_le number most) ≡ true
+both_within : (least number most : ℕ) → least ≤ number → number ≤ most
+    → (nat_le least number && nat_le number most) ≡ true
 both_within least number most from to =
     and_from (nat_le least number) (nat_le number most) (le-leb least number from) (le-leb number most to)
 
@@ -28,7 +29,8 @@ of_line (Operating set number) named =
     (both_within 1 set number_most named.0.0 named.0.1) (both_within 1 number operating_most named.1.0 named.1.1)
 
 -- a group that certifies a call for such a round can be written
-one_can : ClaimsHavePlaces → (call : Call) (group : Group) → IsNamed call.round → Certifies call group → CanBeWritten group
+one_can : ClaimsHavePlaces → (call : Call) (group : Group) → IsNamed call.round → Certifies call group
+    → CanBeWritten group
 one_can places call group named certifies =
     let small : group.claim.revenue < 50000 = certifies.small in
     record {
@@ -47,4 +49,5 @@ all_can places (call ∷ calls) (group ∷ groups) named certified =
 
 pub certifying_can : CallsAreNamed → ClaimsHavePlaces → CertifyingCanBeWritten
 certifying_can named places file groups accepted certify =
-    all_can places certify.calls groups (named file certify.played certify.calls accepted certify.made) certify.certified
+    all_can places certify.calls groups (named file certify.played certify.calls accepted certify.made)
+    certify.certified

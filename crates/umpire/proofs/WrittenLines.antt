@@ -52,12 +52,14 @@ whole_line (byte ∷ next ∷ bytes) h =
     ap (λ l. byte ∷ l) (whole_line (next ∷ bytes) parts.1)
 
 -- the first line of a text
-first_from : (begun line rest : List ℕ) → ArePrintable line → lines_from begun (line ++ 10 ∷ rest) ≡ without_return (begun ++ line) ∷ lines_from [] rest
+first_from : (begun line rest : List ℕ) → ArePrintable line
+    → lines_from begun (line ++ 10 ∷ rest) ≡ without_return (begun ++ line) ∷ lines_from [] rest
 first_from begun [] rest h = rw (append-nil begun) refl
 first_from begun (byte ∷ line) rest h =
     let parts = and_parts (is_printable byte) (list_all is_printable line) h in
     rw (no_newline byte parts.0)
-    (first_from (begun ++ byte ∷ []) line rest parts.1 ∙ ap (λ l. without_return l ∷ lines_from [] rest) (append_assoc begun (byte ∷ []) line))
+    (first_from (begun ++ byte ∷ []) line rest parts.1
+    ∙ ap (λ l. without_return l ∷ lines_from [] rest) (append_assoc begun (byte ∷ []) line))
 
 -- a text is these lines, and whatever follows it is the lines after them
 pub record IsWritten (text : List ℕ) (lines : List (List ℕ)) : Type 0 where
@@ -70,7 +72,8 @@ pub line_written : (line : List ℕ) → ArePrintable line → IsWritten (line +
 line_written line h =
     record {
       before = λ rest.
-          ap lines_of (append_assoc line (10 ∷ []) rest) ∙ first_from [] line rest h ∙ ap (λ l. l ∷ lines_of rest) (whole_line line h);
+          ap lines_of (append_assoc line (10 ∷ []) rest) ∙ first_from [] line rest h
+          ∙ ap (λ l. l ∷ lines_of rest) (whole_line line h);
     }
 
 pub both_written : (a b : List ℕ) (l m : List (List ℕ)) → IsWritten a l → IsWritten b m → IsWritten (a ++ b) (l ++ m)
@@ -82,7 +85,8 @@ both_written a b l m first second =
     }
 
 pub all_written :
-    {X : Type 0} (f : X → List ℕ) (g : X → List (List ℕ)) (xs : List X) → AllByRecursion (λ x. IsWritten (f x) (g x)) xs →
+    {X : Type 0} (f : X → List ℕ) (g : X → List (List ℕ)) (xs : List X)
+    → AllByRecursion (λ x. IsWritten (f x) (g x)) xs →
     IsWritten (flat_map f xs) (flat_map g xs)
 all_written f g [] all = nothing_written
 all_written {X = X} f g (x ∷ xs) all =
@@ -96,7 +100,8 @@ lines_written text lines is = ap lines_of (sym (append-nil text)) ∙ is.before 
 
 -- what is printed of numbers, rounds, companies, kinds of trains and places is printable
 pub both_printable : (a b : List ℕ) → ArePrintable a → ArePrintable b → ArePrintable (a ++ b)
-both_printable a b first second = list_all-append is_printable a b ∙ and_from (list_all is_printable a) (list_all is_printable b) first second
+both_printable a b first second = list_all-append is_printable a b
+    ∙ and_from (list_all is_printable a) (list_all is_printable b) first second
 
 one_digit : (number : ℕ) → number < 10 → ArePrintable ((48 + number) ∷ [])
 one_digit number small = grind (arith, nat_tests)
@@ -114,11 +119,13 @@ printable_round (Stock number) h =
     let most = leb-true number number_most (and_parts (nat_le 1 number) (nat_le number number_most) h).1 in
     both_printable (codes "SR") (decimal number) refl (printable_number number (omega (arith, most)))
 printable_round (Operating set number) h =
-    let parts = and_parts (nat_le 1 set && nat_le set number_most) (nat_le 1 number && nat_le number operating_most) h in
+    let parts = and_parts (nat_le 1 set && nat_le set number_most) (nat_le 1 number && nat_le number operating_most)
+    h in
     let set_most = leb-true set number_most (and_parts (nat_le 1 set) (nat_le set number_most) parts.0).1 in
     let most = leb-true number operating_most (and_parts (nat_le 1 number) (nat_le number operating_most) parts.1).1 in
     both_printable ((codes "OR" ++ decimal set) ++ codes ".") (decimal number)
-    (both_printable (codes "OR" ++ decimal set) (codes ".") (both_printable (codes "OR") (decimal set) refl (printable_number set (omega (arith, set_most)))) refl)
+    (both_printable (codes "OR" ++ decimal set) (codes ".")
+    (both_printable (codes "OR") (decimal set) refl (printable_number set (omega (arith, set_most)))) refl)
     (printable_number number (omega (arith, most)))
 
 pub printable_company : (company : Company) → ArePrintable (code_of_company company)
@@ -134,7 +141,8 @@ capital_printable byte h = grind (arith, nat_tests)
 
 printable_hex : (hex : Hex) → ArePrintable (text_of_hex hex)
 printable_hex hex =
-    and_from (is_printable (row_of hex)) (list_all is_printable (decimal (column_of hex))) (capital_printable (row_of hex) (row_capital hex))
+    and_from (is_printable (row_of hex)) (list_all is_printable (decimal (column_of hex)))
+    (capital_printable (row_of hex) (row_capital hex))
     (printable_number (column_of hex) (omega (arith, column_short hex)))
 
 printable_stop : (stop : Option StopNumber) → ArePrintable (stop_text stop)
@@ -143,7 +151,8 @@ printable_stop (Some First) = printable_number 0 (omega arith)
 printable_stop (Some Second) = printable_number 1 (omega arith)
 
 printable_place : (place : Place) → ArePrintable (text_of_place place)
-printable_place place = both_printable (text_of_hex place.hex) (stop_text place.stop) (printable_hex place.hex) (printable_stop place.stop)
+printable_place place = both_printable (text_of_hex place.hex) (stop_text place.stop) (printable_hex place.hex)
+    (printable_stop place.stop)
 
 -- words with a space before each
 pub printable_spaced : (words : List (List ℕ)) → AllByRecursion ArePrintable words → ArePrintable (spaced words)
@@ -160,11 +169,19 @@ short_stop (Some Second) = omega (arith, ap length (decimal_digit 1 (omega arith
 
 short_place : (place : Place) → length (text_of_place place) ≤ 5
 short_place place =
-    omega (arith, length-append (text_of_hex place.hex) (stop_text place.stop), hex_text-le place.hex, short_stop place.stop)
+    omega (
+      arith,
+      length-append (text_of_hex place.hex) (stop_text place.stop),
+      hex_text-le place.hex,
+      short_stop
+          place.stop,
+    )
 
-one_more : (word : List ℕ) (words : List (List ℕ)) → length (spaced (word ∷ words)) ≡ 1 + length word + length (spaced words)
+one_more : (word : List ℕ) (words : List (List ℕ))
+    → length (spaced (word ∷ words)) ≡ 1 + length word + length (spaced words)
 one_more word words =
-    ap length (flat_map-cons (λ (w : List ℕ). 32 ∷ w) word words) ∙ length-append (32 ∷ word) (spaced words) ∙ omega arith
+    ap length (flat_map-cons (λ (w : List ℕ). 32 ∷ w) word words) ∙ length-append (32 ∷ word) (spaced words)
+    ∙ omega arith
 
 short_places : (places : List Place) → length (spaced (map text_of_place places)) ≤ 6 * length places
 short_places [] = omega arith

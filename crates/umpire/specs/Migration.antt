@@ -34,7 +34,8 @@ pub record IsMigratedShort (given old new : Option (List ℕ)) : Type 0 where
 
 -- what a fault leaves, and which calls of the reader and the writer have failed
 abbrev pub StopsMigration : Option (List ℕ) → Option (List ℕ) → Option (List ℕ) → Bool → Bool → Fault → Type 0
-StopsMigration given old new read_failed write_failed Read = (read_failed ≡ true) × (write_failed ≡ false) × Keeps old new
+StopsMigration given old new read_failed write_failed Read =
+    (read_failed ≡ true) × (write_failed ≡ false) × Keeps old new
 StopsMigration given old new read_failed write_failed Write =
     (read_failed ≡ false) × (write_failed ≡ true) × IsMigratedShort given old new
 StopsMigration given old new read_failed write_failed Memory =

@@ -30,7 +30,8 @@ pub record SaysTheSame (file : List ℕ) : Type 0 where
   pub version : version_of (migrated file) ≡ Two
   pub players : players_of (migrated file) ≡ players_of file
   pub unread : unread_of (migrated file) ≡ unread_of file
-  pub posted : (seat : ℕ) (round : Round) → is_some (sheet_of (migrated file) seat round) ≡ is_some (sheet_of file seat round)
+  pub posted : (seat : ℕ) (round : Round) → is_some (sheet_of (migrated file) seat round)
+      ≡ is_some (sheet_of file seat round)
   pub parts : SameParts (migrated file) file
 
 -- a file that is not refused does so
@@ -46,4 +47,5 @@ pub record IsReportOfBoth (file text : List ℕ) : Type 0 where
 
 -- so it is with the report of a file that is not refused
 abbrev pub MigrationChangesNoReport : Type 0
-MigrationChangesNoReport = (file : List ℕ) → IsAccepted file → (text : List ℕ) → IsReport file text → IsReportOfBoth file text
+MigrationChangesNoReport = (file : List ℕ) → IsAccepted file → (text : List ℕ) → IsReport file text
+    → IsReportOfBoth file text

@@ -21,7 +21,13 @@ pub record CanBeWritten (group : Group) : Type 0 where
 pub record IsReadAgain (group : Group) (read : Option Group) : Type 0 where
   pub filling : List Bool
   pub fills : AreFilling filling
-  pub is : read ≡ Some (record { round = group.round; company = group.company; claim = group.claim; bits = group.bits ++ filling })
+  pub is : read ≡ Some (record {
+    round = group.round;
+    company = group.company;
+    claim = group.claim;
+    bits =
+        group.bits ++ filling;
+  })
 
 -- so are groups, one after the other
 abbrev pub AreReadAgain : List Group → List (Option Group) → Type 0
@@ -32,12 +38,14 @@ AreReadAgain (group ∷ groups) (read ∷ others) = IsReadAgain group read × Ar
 
 -- groups that can be written are read again
 abbrev pub ReadsBack : Type 0
-ReadsBack = (groups : List Group) → AllByRecursion CanBeWritten groups → AreReadAgain groups (groups_of (certificates_text groups))
+ReadsBack = (groups : List Group) → AllByRecursion CanBeWritten groups
+    → AreReadAgain groups (groups_of (certificates_text groups))
 
 -- so can groups that certify a game
 abbrev pub CertifyingCanBeWritten : Type 0
 CertifyingCanBeWritten =
-    (file : List ℕ) (groups : List Group) → IsAccepted file → CertifyGame file groups → AllByRecursion CanBeWritten groups
+    (file : List ℕ) (groups : List Group) → IsAccepted file → CertifyGame file groups
+    → AllByRecursion CanBeWritten groups
 
 -- behind their file and one LF groups that certify its game are answered by its report, where their text is within its limit
 abbrev pub AcceptsWhatWasWritten : Type 0

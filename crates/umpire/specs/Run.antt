@@ -67,7 +67,10 @@ pub record IsCutShort (given old new : Option (List ℕ)) : Type 0 where
 -- what a fault leaves, and which calls of the reader and the writer have failed
 abbrev pub Stops : Option (List ℕ) → Option (List ℕ) → Option (List ℕ) → Bool → Bool → Fault → Type 0
 Stops given old new read_failed write_failed Read = (read_failed ≡ true) × (write_failed ≡ false) × Keeps old new
-Stops given old new read_failed write_failed Write = (read_failed ≡ false) × (write_failed ≡ true) × IsCutShort given old new
-Stops given old new read_failed write_failed Memory = (read_failed ≡ false) × (write_failed ≡ false) × IsCutShort given old new
-Stops given old new read_failed write_failed (File fault) = (read_failed ≡ false) × (write_failed ≡ false) × IsRefused given old new fault
+Stops given old new read_failed write_failed Write =
+    (read_failed ≡ false) × (write_failed ≡ true) × IsCutShort given old new
+Stops given old new read_failed write_failed Memory =
+    (read_failed ≡ false) × (write_failed ≡ false) × IsCutShort given old new
+Stops given old new read_failed write_failed (File fault) =
+    (read_failed ≡ false) × (write_failed ≡ false) × IsRefused given old new fault
 Stops given old new read_failed write_failed (Certificate round company) = ⊥

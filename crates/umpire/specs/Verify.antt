@@ -76,7 +76,8 @@ AnswersGame file groups (Err Write) text = ⊥
 AnswersGame file groups (Err Memory) text = ⊥
 
 -- it is answered so, and the answer follows what the writer held
-pub record IsGameAnswered (file : List ℕ) (groups : List (Option Group)) (outcome : Result (Unit {0}) Fault) (old new : Option (List ℕ)) : Type 0 where
+pub record IsGameAnswered (file : List ℕ) (groups : List (Option Group)) (outcome : Result (Unit {0}) Fault)
+    (old new : Option (List ℕ)) : Type 0 where
   pub text : List ℕ
   pub answers : AnswersGame file groups outcome text
   pub written : Appends old new text
@@ -95,7 +96,8 @@ abbrev pub Refuses : FileFault → Option (List ℕ) → Option (List ℕ) → B
 Refuses refusal old new failed Read = ⊥
 Refuses refusal old new failed Write = failed ≡ true
 Refuses refusal old new failed Memory = failed ≡ false
-Refuses refusal old new failed (File fault) = (failed ≡ false) × (fault ≡ refusal) × Appends old new (refusal_line refusal)
+Refuses refusal old new failed (File fault) = (failed ≡ false) × (fault ≡ refusal)
+    × Appends old new (refusal_line refusal)
 Refuses refusal old new failed (Certificate round company) = ⊥
 
 -- what the order file of an input says, or why the input is refused: its text of certificates is over its limit, or the
@@ -119,7 +121,8 @@ abbrev pub AnswersInput : List ℕ → Result (Unit {0}) Fault → List ℕ → 
 AnswersInput input outcome text = AnswersContent input (content_of_input input) outcome text
 
 -- the input is answered so, and the answer follows what the writer held
-pub record IsAnswered (given : Option (List ℕ)) (outcome : Result (Unit {0}) Fault) (old new : Option (List ℕ)) : Type 0 where
+pub record IsAnswered (given : Option (List ℕ)) (outcome : Result (Unit {0}) Fault) (old new : Option (List ℕ)) : Type
+    0 where
   pub input : List ℕ
   pub text : List ℕ
   pub whole : IsFileOf given input

@@ -6,4 +6,11 @@ use Rattle.best_run.proofs.bits.without.Goals as goal
 
 pub returns : goal.returns
 returns c bit low =
-    omega (arith, bit_at_and c.args.word (bit_not w64 c.args.other) bit, bit_at_not w64 c.args.other bit (omega arith) low, bit_at-lt c.args.word bit, bit_at-lt c.args.other bit)
+    omega (
+      arith,
+      bit_at_and c.args.word (bit_not w64 c.args.other) bit,
+      bit_at_not w64 c.args.other bit (omega arith)
+          low,
+      bit_at-lt c.args.word bit,
+      bit_at-lt c.args.other bit,
+    )

@@ -6,5 +6,6 @@ use Rattle.best_run.proofs.claimed.claimed_runs.Given as goal
 
 abbrev pub invariant-loop-kind : goal.invariant-loop-kind
 invariant-loop-kind l =
-    (l.runs ++ written (runs_told (drop l.kind-index l.kinds) [] (reverse l.marks.items)) ≡ written (runs_told l.kinds [] (reverse l.initial.marks.items))) ×
+    (l.runs ++ written (runs_told (drop l.kind-index l.kinds) [] (reverse l.marks.items))
+    ≡ written (runs_told l.kinds [] (reverse l.initial.marks.items))) ×
     AllByRecursion CanBeClaimed (runs_told (drop l.kind-index l.kinds) [] (reverse l.marks.items))

@@ -12,7 +12,8 @@ use Rattle.best_run.proofs.claimed.read_walk.Goals as goal
 -- what is written to all items of a vector stands there
 all_written : (new old : List Step) (n : ℕ) → n ≡ length new → take n (new ++ drop (length new) old) ≡ new
 all_written new old n all =
-    take-append-le n new (drop (length new) old) (omega (arith, all)) ∙ (ap (λ (m : ℕ). take m new) all ∙ take-length new)
+    take-append-le n new (drop (length new) old) (omega (arith, all))
+    ∙ (ap (λ (m : ℕ). take m new) all ∙ take-length new)
 
 pub loop-mark-preserved : goal.loop-mark-preserved
 loop-mark-preserved c =
@@ -20,9 +21,12 @@ loop-mark-preserved c =
     let turned : List Step = c.turn_about.new.walk in
     let rest : List Mark = reverse c.pop.new.self.items in
     let read : reverse c.loop-mark.marks.items ≡ Turn ∷ rest =
-    last_read c.loop-mark.marks.items c.pop.new.self.items c.in-Some.mark c.in-Some.ensures.items ∙ ap (λ (m : Mark). m ∷ rest) c.in-Turn.is in
-    let about : reverse turned ≡ turned_about (reverse walk) = ap reverse (c.turn_about.ensures ∙ ap turned_about c.deref_mut.ensures.value) ∙ about_reversed walk in (
-      ap (λ (steps : List Step). walk_told (reverse steps) rest) (all_written turned walk c.loop-mark.walk.len (omega arith))
+    last_read c.loop-mark.marks.items c.pop.new.self.items c.in-Some.mark c.in-Some.ensures.items
+    ∙ ap (λ (m : Mark). m ∷ rest) c.in-Turn.is in
+    let about : reverse turned ≡ turned_about (reverse walk) =
+    ap reverse (c.turn_about.ensures ∙ ap turned_about c.deref_mut.ensures.value) ∙ about_reversed walk in (
+      ap (λ (steps : List Step). walk_told (reverse steps) rest)
+          (all_written turned walk c.loop-mark.walk.len (omega arith))
           ∙ ap (λ (steps : List Step). walk_told steps rest) about
           ∙ ap (λ (marks : List Mark). walk_told (reverse walk) marks) (sym read)
           ∙ c.loop-mark.invariant.0,

@@ -16,9 +16,12 @@ returns g c =
     let found = c.in_ok-found.found in
     let lawful = c.keeps_laws.ensures in
     let laid : Describes position company kinds task = c.in_ok-task.ensures.described in
-    let tells : TellSet position company lawful kinds task laid (marks_in found.move_path) found.amount = tell_set position company lawful kinds task laid (marks_in found.move_path) found.amount c.in_ok-found.ensures.earns in
+    let tells : TellSet position company lawful kinds task laid (marks_in found.move_path) found.amount =
+    tell_set position company lawful kinds task laid (marks_in found.move_path) found.amount
+    c.in_ok-found.ensures.earns in
     let runs : List TrainRun = runs_told kinds [] (marks_in found.move_path) in
-    let greatest : IsGreatest position company kinds found.amount = greatest_found position company lawful kinds task laid found c.in_ok-found.ensures in
+    let greatest : IsGreatest position company kinds found.amount =
+    greatest_found position company lawful kinds task laid found c.in_ok-found.ensures in
     let some = a_greatest_exists position company kinds lawful in
     let same : found.amount ≡ some.0 = one_greatest position company kinds found.amount some.0 greatest some.1 in
     record {

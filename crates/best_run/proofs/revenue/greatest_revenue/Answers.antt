@@ -15,4 +15,5 @@ returns g c =
     let kinds = greatest_first trains in
     let amount = c.in_ok-found.found.amount in
     order_of_trains position company kinds trains amount (λ kind. same_number kind trains)
-    (subst (λ (ks : List Kind). IsGreatest position company ks amount) (c.deref.ensures.value ∙ c.in_ok-kinds.ensures) c.in_ok-found.ensures.greatest)
+    (subst (λ (ks : List Kind). IsGreatest position company ks amount) (c.deref.ensures.value ∙ c.in_ok-kinds.ensures)
+    c.in_ok-found.ensures.greatest)

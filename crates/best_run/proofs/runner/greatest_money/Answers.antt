@@ -5,4 +5,9 @@ use mir.Syntax.{w128}
 use Rattle.best_run.proofs.runner.greatest_money.Goals as goal
 
 pub returns : goal.returns
-returns g c = (c.in_ok-revenue.revenue, to_z-of_z w128 c.from.result (record { sfits = c.from.type_inv }) ∙ c.from.ensures, c.in_ok-revenue.ensures)
+returns g c = (
+  c.in_ok-revenue.revenue,
+  to_z-of_z w128 c.from.result (record { sfits = c.from.type_inv })
+      ∙ c.from.ensures,
+  c.in_ok-revenue.ensures,
+)

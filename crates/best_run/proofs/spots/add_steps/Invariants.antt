@@ -6,4 +6,5 @@ use Rattle.best_run.proofs.Laid.{LaidIn}
 use Rattle.best_run.proofs.spots.add_steps.Given as goal
 
 abbrev pub invariant-loop-link : goal.invariant-loop-link
-invariant-loop-link g l = LaidIn (g.N.Network.position l.network) (index_of l.fn.hex) (take l.link-index (links_of (g.N.Network.position l.network) l.fn.hex)) l.segments
+invariant-loop-link g l = LaidIn (g.N.Network.position l.network) (index_of l.fn.hex)
+    (take l.link-index (links_of (g.N.Network.position l.network) l.fn.hex)) l.segments

@@ -9,12 +9,15 @@ loop-index-init g c = rw c.in_ok-segments.ensures (laid_none (g.N.Network.positi
 
 pub add_steps-requires-clause-laid : goal.add_steps-requires-clause-laid
 add_steps-requires-clause-laid g c =
-    subst (λ (n : ℕ). LaidBefore (g.N.Network.position c.args.network.now) n c.loop-index.segments) (sym c.at_index.ensures) c.loop-index.invariant
+    subst (λ (n : ℕ). LaidBefore (g.N.Network.position c.args.network.now) n c.loop-index.segments)
+    (sym c.at_index.ensures) c.loop-index.invariant
 
 pub loop-index-preserved : goal.loop-index-preserved
 loop-index-preserved g c =
-    subst (λ (n : ℕ). LaidBefore (g.N.Network.position c.args.network.now) (n + 1) c.add_steps.new.segments) c.at_index.ensures c.in_ok-add_steps.ensures
+    subst (λ (n : ℕ). LaidBefore (g.N.Network.position c.args.network.now) (n + 1) c.add_steps.new.segments)
+    c.at_index.ensures c.in_ok-add_steps.ensures
 
 pub returns : goal.returns
 returns g c =
-    laid_all (g.N.Network.position c.args.network.now) c.loop-index.index _ (omega (arith, c.loop-index-test.false)) c.loop-index.invariant
+    laid_all (g.N.Network.position c.args.network.now) c.loop-index.index _ (omega (arith, c.loop-index-test.false))
+    c.loop-index.invariant

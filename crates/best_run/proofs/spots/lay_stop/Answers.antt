@@ -8,4 +8,5 @@ returns g c =
     let position = g.N.Network.position c.args.network.now in
     let stop : Stop = record { hex = c.at_index-hex.result; number = c.stop_numbered-number.result } in
     numbered_next position c.args.company c.args.stop c.args.nodes.now.items c.stop_node.result c.requires.before
-    (numbered_stop position c.args.company c.args.stop c.stop_node.result stop c.requires.least c.at_index-hex.ensures c.stop_numbered-number.ensures c.stop_node.ensures.node c.stop_node.ensures.value)
+    (numbered_stop position c.args.company c.args.stop c.stop_node.result stop c.requires.least c.at_index-hex.ensures
+    c.stop_numbered-number.ensures c.stop_node.ensures.node c.stop_node.ensures.value)

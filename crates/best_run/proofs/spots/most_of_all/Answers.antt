@@ -7,7 +7,9 @@ use Rattle.best_run.proofs.spots.most_of_all.Goals as goal
 
 pub loop-kind-preserved : goal.loop-kind-preserved
 loop-kind-preserved c =
-    rw (c.in_ok-push.ensures.items, c.loop-kind.invariant, c.most_of.ensures) (sym (most_more c.args.kinds.now c.loop-kind.kind-index _ c.loop-kind-test.true))
+    rw (c.in_ok-push.ensures.items, c.loop-kind.invariant, c.most_of.ensures)
+    (sym (most_more c.args.kinds.now c.loop-kind.kind-index _ c.loop-kind-test.true))
 
 pub returns : goal.returns
-returns c = c.loop-kind.invariant ∙ ap most_of_all (take_all c.loop-kind.kind-index c.args.kinds.now c.loop-kind-test.false)
+returns c = c.loop-kind.invariant ∙ ap most_of_all
+    (take_all c.loop-kind.kind-index c.args.kinds.now c.loop-kind-test.false)

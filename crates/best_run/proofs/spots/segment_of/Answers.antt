@@ -6,4 +6,5 @@ use Rattle.best_run.proofs.Advance.{border_fits}
 use Rattle.best_run.proofs.spots.segment_of.Goals as goal
 
 pub of-requires : goal.of-requires
-of-requires c = subst BordersFit (sym c.requires) (border_fits (entered_at c.args.step).hex (entered_at c.args.step).end)
+of-requires c = subst BordersFit (sym c.requires)
+    (border_fits (entered_at c.args.step).hex (entered_at c.args.step).end)

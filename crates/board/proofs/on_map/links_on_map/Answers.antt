@@ -5,4 +5,5 @@ use Rattle.reach.specs.Position.{InHex}
 use Rattle.board.proofs.on_map.links_on_map.Goals as goal
 
 pub returns : goal.returns
-returns g c = c.track_in.ensures ∙ sym (ap (λ (h : InHex). h.links) (in_hex_is (g.L.OnMap.laid c.args.board.now) c.args.hex))
+returns g c = c.track_in.ensures ∙ sym (ap (λ (h : InHex). h.links)
+    (in_hex_is (g.L.OnMap.laid c.args.board.now) c.args.hex))

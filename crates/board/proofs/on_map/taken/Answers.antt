@@ -21,6 +21,7 @@ returns g c =
     let laid = g.L.OnMap.laid c.args.board.now in
     let is : is_stop (joined_stop_of c.args.stop) ≡ true = cc in
     c.count_at.ensures
-    ∙ ap (λ (stop : Stop). count_by (λ (token : Place × Company). names stop token.0) laid.tokens) c.joined_stop-stop.ensures
+    ∙ ap (λ (stop : Stop). count_by (λ (token : Place × Company). names stop token.0) laid.tokens)
+    c.joined_stop-stop.ensures
     ∙ sym (count_is laid.tokens (joined_stop_of c.args.stop))
     ∙ sym (ap (λ (s : AtStop). length s.tokens) (shown laid c.args.stop is))

@@ -11,23 +11,29 @@ use Rattle.board.proofs.Tokens.{among_is, is_among}
 use Rattle.board.proofs.on_map.token_on_map.Goals as goal
 
 -- where a company has a token there is a stop
-stop_there : (map_state : MapState) (stop : Stop) (company : Company) → HasToken (position_of map_state) stop company → is_stop (joined_stop_of stop) ≡ true
+stop_there : (map_state : MapState) (stop : Stop) (company : Company) → HasToken (position_of map_state) stop company
+    → is_stop (joined_stop_of stop) ≡ true
 stop_there map_state stop company has = by_test (is_stop (joined_stop_of stop)) refl
   where
     by_test : (is : Bool) → is_stop (joined_stop_of stop) ≡ is → is_stop (joined_stop_of stop) ≡ true
     by_test true is = is
     by_test false is =
-        absurd (let none : ⊥ = subst (IsAmong company) (ap (λ (s : AtStop). s.tokens) (not_on_map map_state stop is)) has in none)
+        absurd (let none : ⊥ = subst (IsAmong company) (ap (λ (s : AtStop). s.tokens) (not_on_map map_state stop is))
+        has in none)
 
 -- at a stop the tokens are those that name it
-token_there : (map_state : MapState) (stop : Stop) (company : Company) → is_stop (joined_stop_of stop) ≡ true → has_token map_state.tokens (joined_stop_of stop) company ≡ true → HasToken (position_of map_state) stop company
+token_there : (map_state : MapState) (stop : Stop) (company : Company) → is_stop (joined_stop_of stop) ≡ true
+    → has_token map_state.tokens (joined_stop_of stop) company ≡ true → HasToken (position_of map_state) stop company
 token_there map_state stop company is has =
-    subst (IsAmong company) (sym (ap (λ (s : AtStop). s.tokens) (shown map_state stop is))) (among_is map_state.tokens (joined_stop_of stop) company has)
+    subst (IsAmong company) (sym (ap (λ (s : AtStop). s.tokens) (shown map_state stop is)))
+    (among_is map_state.tokens (joined_stop_of stop) company has)
 
-there_token : (map_state : MapState) (stop : Stop) (company : Company) → HasToken (position_of map_state) stop company → has_token map_state.tokens (joined_stop_of stop) company ≡ true
+there_token : (map_state : MapState) (stop : Stop) (company : Company) → HasToken (position_of map_state) stop company
+    → has_token map_state.tokens (joined_stop_of stop) company ≡ true
 there_token map_state stop company has =
     is_among map_state.tokens (joined_stop_of stop) company
-    (subst (IsAmong company) (ap (λ (s : AtStop). s.tokens) (shown map_state stop (stop_there map_state stop company has))) has)
+    (subst (IsAmong company) (ap (λ (s : AtStop). s.tokens)
+    (shown map_state stop (stop_there map_state stop company has))) has)
 
 pub returns-then-holds : goal.returns-then-holds
 returns-then-holds g c =
@@ -43,5 +49,6 @@ returns-else-holds g c =
     let laid = g.L.OnMap.laid c.args.board.now in
     let named = c.holds.ensures ∙ ap (λ stop. has_token laid.tokens stop c.args.company) c.joined_stop-stop.ensures in (
       λ stands. absurd (let wrong : ⊥ = cc in wrong),
-      λ has. absurd (let found : false ≡ true = sym c.if-holds.false ∙ (named ∙ there_token laid c.args.stop c.args.company has) in cc),
+      λ has. absurd (let found : false ≡ true = sym c.if-holds.false
+          ∙ (named ∙ there_token laid c.args.stop c.args.company has) in cc),
     )

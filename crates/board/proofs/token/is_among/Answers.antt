@@ -15,5 +15,6 @@ loop-one-preserved c =
 pub returns : goal.returns
 returns c = (
   λ wrong. absurd (let no : ⊥ = cc in no),
-  λ among. absurd (none_all (λ (one : Stop). one ≡ c.args.stop) c.args.stops.now c.loop-one.one-index c.loop-one-test.false c.loop-one.invariant c.args.stop among refl),
+  λ among. absurd (none_all (λ (one : Stop). one ≡ c.args.stop) c.args.stops.now c.loop-one.one-index
+      c.loop-one-test.false c.loop-one.invariant c.args.stop among refl),
 )

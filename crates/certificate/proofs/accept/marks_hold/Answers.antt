@@ -24,13 +24,22 @@ returns-then-not-choose g c =
     let bits : List Bool = g.M.Marks.left c.args.marks in
     let rest : List Bool = g.M.Marks.left c.choose.new.decider.marks in
     let nodes : List Node = node_from tree [] 0 ∷ [] in
-    let walk = c.choose.ensures.walks [] (root_stands position tree c.of-tree.ensures.tree) (subst (λ (u : List Bool). AreCrossed u []) (sym c.new-used.ensures) none_crossed) (omega arith) in
-    let read = walk_reads {S = Reader g.row.M.Denot} (λ s. g.M.Marks.left s.marks) (λ s. s.revenue) position tree.company reached revenue low (record { marks = c.args.marks; revenue = revenue }) c.choose.new.decider nodes c.choose.result refl walk in
+    let walk = c.choose.ensures.walks [] (root_stands position tree c.of-tree.ensures.tree)
+    (subst (λ (u : List Bool). AreCrossed u []) (sym c.new-used.ensures) none_crossed) (omega arith) in
+    let read = walk_reads {S = Reader g.row.M.Denot} (λ s. g.M.Marks.left s.marks) (λ s. s.revenue) position
+    tree.company reached revenue low (record { marks = c.args.marks; revenue = revenue }) c.choose.new.decider
+    nodes c.choose.result refl walk in
     let over : left_over position c.args.company reached revenue (root_of trains ∷ []) bits ≡ if_whole false rest =
-    subst (λ (n : Node). left_over position c.args.company reached revenue (n ∷ []) bits ≡ if_whole false rest) (root_is tree trains c.of-tree.ensures.trains)
-    (subst (λ (o : Company). left_over position o reached revenue nodes bits ≡ if_whole false rest) c.of-tree.ensures.company (read ∙ ap (λ (b : Bool). if_whole b rest) c.if-not-choose.true)) in
-    let law = c.marks_are_read.ensures position c.args.company trains reached revenue bits (reached_are position c.args.company reached c.of-tree.ensures.reached) in
-    (λ wrong. absurd cc, λ marks. let found = law.0 marks in let wrong : None ≡ Some found.filling = sym over ∙ found.left in absurd cc)
+    subst (λ (n : Node). left_over position c.args.company reached revenue (n ∷ []) bits ≡ if_whole false rest)
+    (root_is tree trains c.of-tree.ensures.trains)
+    (subst (λ (o : Company). left_over position o reached revenue nodes bits ≡ if_whole false rest)
+    c.of-tree.ensures.company (read ∙ ap (λ (b : Bool). if_whole b rest) c.if-not-choose.true)) in
+    let law = c.marks_are_read.ensures position c.args.company trains reached revenue bits
+    (reached_are position c.args.company reached c.of-tree.ensures.reached) in (
+      λ wrong. absurd cc,
+      λ marks. let found = law.0 marks in let wrong : None ≡ Some found.filling =
+          sym over ∙ found.left in absurd cc,
+    )
 
 pub returns : goal.returns
 returns g c =
@@ -43,12 +52,18 @@ returns g c =
     let bits : List Bool = g.M.Marks.left c.args.marks in
     let rest : List Bool = g.M.Marks.left c.choose.new.decider.marks in
     let nodes : List Node = node_from tree [] 0 ∷ [] in
-    let walk = c.choose.ensures.walks [] (root_stands position tree c.of-tree.ensures.tree) (subst (λ (u : List Bool). AreCrossed u []) (sym c.new-used.ensures) none_crossed) (omega arith) in
-    let read = walk_reads {S = Reader g.row.M.Denot} (λ s. g.M.Marks.left s.marks) (λ s. s.revenue) position tree.company reached revenue low (record { marks = c.args.marks; revenue = revenue }) c.choose.new.decider nodes c.choose.result refl walk in
+    let walk = c.choose.ensures.walks [] (root_stands position tree c.of-tree.ensures.tree)
+    (subst (λ (u : List Bool). AreCrossed u []) (sym c.new-used.ensures) none_crossed) (omega arith) in
+    let read = walk_reads {S = Reader g.row.M.Denot} (λ s. g.M.Marks.left s.marks) (λ s. s.revenue) position
+    tree.company reached revenue low (record { marks = c.args.marks; revenue = revenue }) c.choose.new.decider
+    nodes c.choose.result refl walk in
     let over : left_over position c.args.company reached revenue (root_of trains ∷ []) bits ≡ if_whole true rest =
-    subst (λ (n : Node). left_over position c.args.company reached revenue (n ∷ []) bits ≡ if_whole true rest) (root_is tree trains c.of-tree.ensures.trains)
-    (subst (λ (o : Company). left_over position o reached revenue nodes bits ≡ if_whole true rest) c.of-tree.ensures.company (read ∙ ap (λ (b : Bool). if_whole b rest) c.if-not-choose.false)) in
-    let law = c.marks_are_read.ensures position c.args.company trains reached revenue bits (reached_are position c.args.company reached c.of-tree.ensures.reached) in (
+    subst (λ (n : Node). left_over position c.args.company reached revenue (n ∷ []) bits ≡ if_whole true rest)
+    (root_is tree trains c.of-tree.ensures.trains)
+    (subst (λ (o : Company). left_over position o reached revenue nodes bits ≡ if_whole true rest)
+    c.of-tree.ensures.company (read ∙ ap (λ (b : Bool). if_whole b rest) c.if-not-choose.false)) in
+    let law = c.marks_are_read.ensures position c.args.company trains reached revenue bits
+    (reached_are position c.args.company reached c.of-tree.ensures.reached) in (
       λ yes. law.1 (record { filling = rest; left = over; fill = c.are_zeros.ensures.0 yes }),
       λ marks.
           let found = law.0 marks in

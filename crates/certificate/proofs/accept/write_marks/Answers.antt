@@ -24,17 +24,28 @@ returns-in-None g c =
     let low : revenue ≤ 4294967295 = omega arith in
     let start : Writer = record { bits = c.new.result; revenue = revenue; refused = None } in
     let nodes : List Node = node_from tree [] 0 ∷ [] in
-    let walk = c.choose-whole.ensures.walks [] (root_stands position tree c.of-tree.ensures.tree) (subst (λ (u : List Bool). AreCrossed u []) (sym c.new-used.ensures) none_crossed) (omega arith) in
-    let made = walk_writes {S = Writer} (λ w. w.bits) (λ w. w.revenue) (λ w. is_some w.refused) position tree.company reached revenue low start c.choose-whole.new.decider nodes c.choose-whole.result refl walk in
-    let written = whole_written {S = Writer} (λ w. w.bits) (λ w. w.revenue) (λ w. is_some w.refused) position tree.company reached revenue low c.choose-whole.result start c.choose-whole.new.decider nodes made (ap is_some c.in-None.is) in
+    let walk = c.choose-whole.ensures.walks [] (root_stands position tree c.of-tree.ensures.tree)
+    (subst (λ (u : List Bool). AreCrossed u []) (sym c.new-used.ensures) none_crossed) (omega arith) in
+    let made = walk_writes {S = Writer} (λ w. w.bits) (λ w. w.revenue) (λ w. is_some w.refused) position tree.company
+    reached revenue low start c.choose-whole.new.decider nodes c.choose-whole.result refl walk in
+    let written = whole_written {S = Writer} (λ w. w.bits) (λ w. w.revenue) (λ w. is_some w.refused) position
+    tree.company reached revenue low c.choose-whole.result start c.choose-whole.new.decider nodes made
+    (ap is_some c.in-None.is) in
     let at_root : Writes position c.args.company reached revenue (root_of trains ∷ []) written.0 =
-    subst (λ (n : Node). Writes position c.args.company reached revenue (n ∷ []) written.0) (root_is tree trains c.of-tree.ensures.trains)
+    subst (λ (n : Node). Writes position c.args.company reached revenue (n ∷ []) written.0)
+    (root_is tree trains c.of-tree.ensures.trains)
     (subst (λ (o : Company). Writes position o reached revenue nodes written.0) c.of-tree.ensures.company written.1) in
-    let bits : c.choose-whole.new.decider.bits ≡ written.0 = written.2 ∙ ap (λ (l : List Bool). l ++ written.0) c.new.ensures in
-    let filled : IsGreatest position c.args.company trains revenue → AreMarksFilled position c.args.company trains revenue written.0 =
-    λ greatest filling fills. c.written_marks_hold.ensures position c.args.company trains reached revenue written.0 filling c.keeps_laws.ensures (reached_are position c.args.company reached c.of-tree.ensures.reached) greatest at_root fills
+    let bits : c.choose-whole.new.decider.bits ≡ written.0 =
+    written.2 ∙ ap (λ (l : List Bool). l ++ written.0) c.new.ensures in
+    let filled : IsGreatest position c.args.company trains revenue
+    → AreMarksFilled position c.args.company trains revenue written.0 =
+    λ greatest filling fills. c.written_marks_hold.ensures position c.args.company trains reached revenue written.0
+    filling c.keeps_laws.ensures (reached_are position c.args.company reached c.of-tree.ensures.reached) greatest
+    at_root fills
     in
     record {
-      marks = λ greatest. subst (λ (l : List Bool). AreMarks position c.args.company trains revenue l) (append-nil written.0 ∙ sym bits) (filled greatest [] (omega arith, tt));
-      filled = λ greatest. subst (λ (l : List Bool). AreMarksFilled position c.args.company trains revenue l) (sym bits) (filled greatest);
+      marks = λ greatest. subst (λ (l : List Bool). AreMarks position c.args.company trains revenue l)
+          (append-nil written.0 ∙ sym bits) (filled greatest [] (omega arith, tt));
+      filled = λ greatest. subst (λ (l : List Bool). AreMarksFilled position c.args.company trains revenue l)
+          (sym bits) (filled greatest);
     }

@@ -8,7 +8,8 @@ abbrev pub invariant-loop-place : goal.invariant-loop-place
 invariant-loop-place g l =
     let position = g.N.Network.position l.network in
     record {
-      left : travelled (counted position l.company) position l.at l.tally (drop l.place-index l.place-items) ≡ made_along (counted position l.company) position (no_steps l.used) l.run;
+      left : travelled (counted position l.company) position l.at l.tally (drop l.place-index l.place-items)
+          ≡ made_along (counted position l.company) position (no_steps l.used) l.run;
       short : length l.place-items ≤ 280;
       few : l.tally.stops ≤ 4 * l.place-index;
       low : l.tally.value ≤ 80 * l.tally.stops;

@@ -6,7 +6,8 @@ use Rattle.certificate.proofs.in_turn.are_legal_in_turn.Goals as goal
 
 pub loop-run-init : goal.loop-run-init
 loop-run-init g c =
-    let P = λ (u : List Bool). AreLegalInTurn (g.N.Network.position c.args.network.now) c.args.company u c.args.revenue c.args.claimed.now in (
+    let P = λ (u : List Bool). AreLegalInTurn (g.N.Network.position c.args.network.now) c.args.company u
+    c.args.revenue c.args.claimed.now in (
       c.args.revenue,
       to_z-of_z w128 c.from-left.result (record { sfits = c.from-left.type_inv }) ∙ c.from-left.ensures,
       (λ legal. subst P (sym c.new-used.ensures) legal, λ legal. subst P c.new-used.ensures legal),

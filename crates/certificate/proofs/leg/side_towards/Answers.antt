@@ -8,4 +8,5 @@ use Rattle.certificate.proofs.leg.side_towards.Goals as goal
 pub returns : goal.returns
 unfolding side_towards
 returns c =
-    c.first_towards.ensures ∙ ap (find (λ side. is_hex c.args.other (neighbour_of c.args.hex side))) c.sides_and_rotations_are_all.ensures.sides
+    c.first_towards.ensures ∙ ap (find (λ side. is_hex c.args.other (neighbour_of c.args.hex side)))
+    c.sides_and_rotations_are_all.ensures.sides

@@ -4,4 +4,5 @@ use Rattle.certificate.proofs.tally.has_token.Goals as goal
 
 pub returns : goal.returns
 returns g c =
-    tests_agree c.token.result _ c.token.ensures (has_token_is (g.N.Network.position c.args.network.now) c.args.company c.args.stop)
+    tests_agree c.token.result _ c.token.ensures (has_token_is (g.N.Network.position c.args.network.now)
+    c.args.company c.args.stop)

@@ -4,4 +4,5 @@ use Rattle.certificate.proofs.tally.is_full.Goals as goal
 
 pub returns : goal.returns
 returns g c =
-    tests_agree c.full.result _ c.full.ensures (is_full_is (g.N.Network.position c.args.network.now) c.args.company c.args.stop)
+    tests_agree c.full.result _ c.full.ensures (is_full_is (g.N.Network.position c.args.network.now) c.args.company
+    c.args.stop)

@@ -42,20 +42,26 @@ decreases-choose-trains g l = l.place
 abbrev pub invariant-choose-trains : goal.invariant-choose-trains
 invariant-choose-trains g l =
     (l.used ≡ l.fn.used)
-    × ((settled : List TrainRun) → StandsBetween (g.N.Network.position l.network) l.tree l.fn.value settled → AreCrossed l.fn.used (run_borders settled) →
+    × ((settled : List TrainRun) → StandsBetween (g.N.Network.position l.network) l.tree l.fn.value settled
+    → AreCrossed l.fn.used (run_borders settled) →
     l.fn.first ≤ length (trains_of_tree l.tree) →
     (l.place ≤ length (trains_of_tree l.tree))
-    × LeavesOver g.D.Decider.decides (g.N.Network.position l.network) l.tree l.fn.decider (node_from l.tree settled l.fn.first ∷ [])
+    × LeavesOver g.D.Decider.decides (g.N.Network.position l.network) l.tree l.fn.decider
+    (node_from l.tree settled l.fn.first ∷ [])
     l.decider (set_outs (g.N.Network.position l.network) l.tree settled l.fn.first (l.place - l.fn.first)))
 
 abbrev pub invariant-set_out-loop-stop : goal.invariant-set_out-loop-stop
 invariant-set_out-loop-stop g l =
     (l.used ≡ l.fn.used) × (l.seen ≡ replicate 186 false)
-    × ((settled : List TrainRun) → StandsBetween (g.N.Network.position l.network) l.tree l.fn.value settled → AreCrossed l.fn.used (run_borders settled) →
+    × ((settled : List TrainRun) → StandsBetween (g.N.Network.position l.network) l.tree l.fn.value settled
+    → AreCrossed l.fn.used (run_borders settled) →
     l.fn.place < length (trains_of_tree l.tree) →
     LeavesOver g.D.Decider.decides (g.N.Network.position l.network) l.tree l.fn.decider
-    (setting_out (g.N.Network.position l.network) l.tree.company (reached_in l.tree) (node_from l.tree settled l.fn.place)) l.decider
-    (with_steps (goes_over (taken_borders (node_from l.tree settled l.fn.place))) (node_from l.tree settled l.fn.place) (for_each (ways_from (g.N.Network.position l.network)) (drop l.stop-index l.stop-items))))
+    (setting_out (g.N.Network.position l.network) l.tree.company (reached_in l.tree)
+    (node_from l.tree settled l.fn.place)) l.decider
+    (with_steps (goes_over (taken_borders (node_from l.tree settled l.fn.place)))
+    (node_from l.tree settled l.fn.place) (for_each (ways_from (g.N.Network.position l.network))
+    (drop l.stop-index l.stop-items))))
 
 abbrev pub invariant-follow-loop-link : goal.invariant-follow-loop-link
 invariant-follow-loop-link g l =
@@ -64,5 +70,8 @@ invariant-follow-loop-link g l =
     Stands (g.N.Network.position l.network) l.tree l.begun l.fn.used l.fn.seen settled steps stops →
     ((step : Step) → entered_at step ≡ l.fn.at → Continues steps stops step) →
     LeavesOver g.D.Decider.decides (g.N.Network.position l.network) l.tree l.fn.decider
-    (with_steps (may_take (reached_in l.tree) (node_at l.tree l.begun settled steps) l.fn.at.end) (node_at l.tree l.begun settled steps) (ways_at (g.N.Network.position l.network) l.fn.at.hex l.fn.at.end)) l.decider
-    (with_steps (may_take (reached_in l.tree) (node_at l.tree l.begun settled steps) l.fn.at.end) (node_at l.tree l.begun settled steps) (for_each (ways_by l.fn.at.end) (drop l.link-index l.link-items))))
+    (with_steps (may_take (reached_in l.tree) (node_at l.tree l.begun settled steps) l.fn.at.end)
+    (node_at l.tree l.begun settled steps) (ways_at (g.N.Network.position l.network) l.fn.at.hex l.fn.at.end))
+    l.decider
+    (with_steps (may_take (reached_in l.tree) (node_at l.tree l.begun settled steps) l.fn.at.end)
+    (node_at l.tree l.begun settled steps) (for_each (ways_by l.fn.at.end) (drop l.link-index l.link-items))))

@@ -18,8 +18,14 @@ returns g c = λ position crossed settled steps stands.
     let values = new_values position stops (reached_in tree) in
     let amount : ℕ = may_earn position (reached_in tree) begun.kind stops in
     let still : c.may_earn-still.result ≡ amount =
-    c.may_earn-still.ensures position stops stands.told stands.seen ∙ (ap (λ (left : Option ℕ). most_of left values) stands.left ∙ sym (still_is (stops_of begun.kind) (length stops) values)) in
-    let is : c.saturating_add-bound.result ≡ capped (bound position (reached_in tree) (node_at tree begun settled steps)) =
+    c.may_earn-still.ensures position stops stands.told stands.seen
+    ∙ (ap (λ (left : Option ℕ). most_of left values) stands.left
+    ∙ sym (still_is (stops_of begun.kind) (length stops) values)) in
+    let is : c.saturating_add-bound.result ≡ capped
+    (bound position (reached_in tree) (node_at tree begun settled steps)) =
     c.saturating_add-bound.ensures ∙ (ap (λ (n : ℕ). capped (n + begun.later)) c.saturating_add.ensures
-    ∙ bound_is begun.value c.may_earn-still.result begun.later (revenue_of position settled) (worth position stops) amount (may_all_earn position (reached_in tree) (drop begun.next (trains_of_tree tree))) stands.value still stands.later) in
-    subst (λ (n : ℕ). g.D.Decider.decides c.args.decider.now n false c.decide.result c.decide.new.self) is c.decide.ensures
+    ∙ bound_is begun.value c.may_earn-still.result begun.later (revenue_of position settled) (worth position stops)
+    amount (may_all_earn position (reached_in tree) (drop begun.next (trains_of_tree tree))) stands.value still
+    stands.later) in
+    subst (λ (n : ℕ). g.D.Decider.decides c.args.decider.now n false c.decide.result c.decide.new.self) is
+    c.decide.ensures

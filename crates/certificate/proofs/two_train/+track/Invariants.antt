@@ -16,4 +16,5 @@ decreases-leads_by_link g l = 3 * count_by not l.used.now + 2
 
 abbrev pub invariant-leads_on-loop-link : goal.invariant-leads_on-loop-link
 invariant-leads_on-loop-link g l =
-    (step : Step) → IsAmong step.link (take l.link-index (links_of (g.N.Network.position l.network) l.next.hex)) → LeadsFrom (g.N.Network.position l.network) l.start l.crossing l.next step → ⊥
+    (step : Step) → IsAmong step.link (take l.link-index (links_of (g.N.Network.position l.network) l.next.hex))
+    → LeadsFrom (g.N.Network.position l.network) l.start l.crossing l.next step → ⊥

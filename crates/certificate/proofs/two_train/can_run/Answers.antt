@@ -9,8 +9,11 @@ use Rattle.certificate.proofs.two_train.can_run.Goals as goal
 pub returns-then-leaves_in : goal.returns-then-leaves_in
 returns-then-leaves_in g c =
     let position : Position = g.N.Network.position c.args.network.now in
-    let found = c.leaves_in.ensures.0 c.if-leaves_in.true in
-    (λ yes. run_found position c.args.company found.0 (own_hex position c.keeps_laws.ensures c.at_index.result found.0.link found.1) found.2, λ can. refl)
+    let found = c.leaves_in.ensures.0 c.if-leaves_in.true in (
+      λ yes. run_found position c.args.company found.0
+          (own_hex position c.keeps_laws.ensures c.at_index.result found.0.link found.1) found.2,
+      λ can. refl,
+    )
 
 pub loop-index-preserved : goal.loop-index-preserved
 loop-index-preserved g c =
@@ -18,7 +21,8 @@ loop-index-preserved g c =
     λ step low track leaves.
     elim (hexes_more position c.at_index.result c.loop-index.index c.at_index.ensures step.link low track) [
       | inl before ↦ c.loop-index.invariant step before track leaves
-      | inr here ↦ let wrong : true ≡ false = sym (c.leaves_in.ensures.1 (step, here, leaves)) ∙ c.if-leaves_in.false in cc
+      | inr here ↦ let wrong : true ≡ false = sym (c.leaves_in.ensures.1 (step, here, leaves))
+          ∙ c.if-leaves_in.false in cc
     ]
 
 pub returns : goal.returns
@@ -27,5 +31,6 @@ returns g c =
       λ wrong. absurd cc,
       λ can.
           let first = run_begins position c.keeps_laws.ensures c.args.company can in
-          absurd (c.loop-index.invariant first.0 (omega (arith, c.loop-index-test.false, index_low first.0.link.hex)) first.1 first.2),
+          absurd (c.loop-index.invariant first.0 (omega (arith, c.loop-index-test.false, index_low first.0.link.hex))
+          first.1 first.2),
     )

@@ -8,4 +8,5 @@ use Rattle.certificate.proofs.two_train.can_run.Given as goal
 
 abbrev pub invariant-loop-index : goal.invariant-loop-index
 invariant-loop-index g l =
-    (step : Step) → index_of step.link.hex < l.index → IsTrack (g.N.Network.position l.network) step → LeavesToken (g.N.Network.position l.network) l.company step → ⊥
+    (step : Step) → index_of step.link.hex < l.index → IsTrack (g.N.Network.position l.network) step
+    → LeavesToken (g.N.Network.position l.network) l.company step → ⊥

@@ -9,6 +9,9 @@ pub returns : goal.returns
 returns c =
     let one = c.stop_order.ensures.value in
     let other = c.stop_order-2.ensures.value in (
-      λ differ is. let same : c.stop_order.result ≡ c.stop_order-2.result = one ∙ ap stop_order is ∙ sym other in grind (arith, nat_tests, differ, same),
-      λ differ. let apart : c.stop_order.result ≡ c.stop_order-2.result → ⊥ = λ same. differ (same_order c.args.stop c.args.start (sym one ∙ same ∙ other)) in grind (arith, nat_tests, apart),
+      λ differ is. let same : c.stop_order.result ≡ c.stop_order-2.result =
+          one ∙ ap stop_order is ∙ sym other in grind (arith, nat_tests, differ, same),
+      λ differ. let apart : c.stop_order.result ≡ c.stop_order-2.result → ⊥ =
+          λ same. differ (same_order c.args.stop c.args.start (sym one ∙ same ∙ other)) in grind
+          (arith, nat_tests, apart),
     )

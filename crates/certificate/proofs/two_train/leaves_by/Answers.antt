@@ -10,5 +10,6 @@ returns-then-leaves g c = (λ yes. (_, refl, c.leaves.ensures.0 yes), λ found. 
 pub returns-else-leaves : goal.returns-else-leaves
 returns-else-leaves g c = (
   λ yes. (_, refl, c.leaves-else-leaves.ensures.0 yes),
-  λ found. by_turn (LeavesToken (g.N.Network.position c.args.network.now) c.args.company) c.args.link c.leaves.result c.leaves-else-leaves.result c.leaves.ensures c.leaves-else-leaves.ensures c.if-leaves.false found,
+  λ found. by_turn (LeavesToken (g.N.Network.position c.args.network.now) c.args.company) c.args.link c.leaves.result
+      c.leaves-else-leaves.result c.leaves.ensures c.leaves-else-leaves.ensures c.if-leaves.false found,
 )

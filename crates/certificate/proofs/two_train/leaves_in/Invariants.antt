@@ -7,4 +7,5 @@ use Rattle.certificate.proofs.two_train.leaves_in.Given as goal
 
 abbrev pub invariant-loop-link : goal.invariant-loop-link
 invariant-loop-link g l =
-    (step : Step) → IsAmong step.link (take l.link-index (links_of (g.N.Network.position l.network) l.fn.hex)) → LeavesToken (g.N.Network.position l.network) l.company step → ⊥
+    (step : Step) → IsAmong step.link (take l.link-index (links_of (g.N.Network.position l.network) l.fn.hex))
+    → LeavesToken (g.N.Network.position l.network) l.company step → ⊥

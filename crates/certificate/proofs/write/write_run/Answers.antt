@@ -20,7 +20,8 @@ loop-step-init c =
     c.push.ensures.items ∙ ap (λ (places : List Place). places ++ c.place_at.result ∷ []) c.new-places.ensures in (
       tt,
       tt,
-      ap (λ (places : List Place). places ++ places_over (iter_rest (rev_source c.into_iter-step-iterator.result))) first
+      ap (λ (places : List Place). places ++ places_over (iter_rest (rev_source c.into_iter-step-iterator.result)))
+          first
           ∙ ap (λ (steps : List Step). c.place_at.result ∷ places_over steps) left
           ∙ ap (λ (place : Place). place ∷ places_over all) (c.place_at.ensures ∙ ap place_at c.entered.ensures)
           ∙ begun_with all _ c.requires.least,
@@ -43,7 +44,8 @@ loop-step-preserved-in-Some-place_over c =
     let place : Place = c.in-Some-place_over.place in (
       tt,
       tt,
-      ap (λ (places : List Place). places ++ places_over (iter_rest (rev_source c.next.new.self))) c.push-in-Some-place_over.ensures.items
+      ap (λ (places : List Place). places ++ places_over (iter_rest (rev_source c.next.new.self)))
+          c.push-in-Some-place_over.ensures.items
           ∙ step_further c.loop-step.places.items all (Some place) _ _ _
           c.in-Some.ensures.steps (sym c.in-Some-place_over.is ∙ c.place_over.ensures) c.loop-step.invariant.2,
     )
@@ -53,6 +55,8 @@ loop-step-preserved c =
     let all : List Place = places_of c.args.steps.now in (
       tt,
       tt,
-      ap (λ (places : List Place). places ++ places_over (iter_rest (rev_source c.next.new.self))) (sym (append-nil c.loop-step.places.items))
-          ∙ step_further c.loop-step.places.items all None _ _ _ c.in-Some.ensures.steps (sym c.in_default.is ∙ c.place_over.ensures) c.loop-step.invariant.2,
+      ap (λ (places : List Place). places ++ places_over (iter_rest (rev_source c.next.new.self)))
+          (sym (append-nil c.loop-step.places.items))
+          ∙ step_further c.loop-step.places.items all None _ _ _ c.in-Some.ensures.steps
+          (sym c.in_default.is ∙ c.place_over.ensures) c.loop-step.invariant.2,
     )

@@ -13,5 +13,6 @@ invariant-loop-company g l =
     record {
       items : l.company-items ≡ companies;
       low : IsLow l.count l.company-index;
-      whole : l.count +ℤ certificates_in of (drop l.company-index companies) ≡ pos (privates_owned (owner_in l.fn.owners) l.fn.seat) +ℤ certificates_in of companies;
+      whole : l.count +ℤ certificates_in of (drop l.company-index companies)
+          ≡ pos (privates_owned (owner_in l.fn.owners) l.fn.seat) +ℤ certificates_in of companies;
     }

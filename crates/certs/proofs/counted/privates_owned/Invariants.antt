@@ -8,5 +8,6 @@ use Rattle.certs.proofs.counted.privates_owned.Given as goal
 abbrev pub invariant-loop-private : goal.invariant-loop-private
 invariant-loop-private l =
     (l.private-items ≡ privates)
-    × (l.count ≡ sum_by (λ private. one_owned l.seat (owner_in l.owners private)) (take l.private-index l.private-items))
+    × (l.count ≡ sum_by (λ private. one_owned l.seat (owner_in l.owners private))
+    (take l.private-index l.private-items))
     × (l.count ≤ l.private-index)

@@ -24,4 +24,5 @@ returns-then-is_named c =
 pub returns : goal.returns
 returns c =
     sym (c.loop-number.invariant
-    ∙ no_seat_left c.loop-number.number (players_of c.args.sheets.now) c.loop-number.number c.args.name.now (omega arith))
+    ∙ no_seat_left c.loop-number.number (players_of c.args.sheets.now) c.loop-number.number c.args.name.now
+    (omega arith))

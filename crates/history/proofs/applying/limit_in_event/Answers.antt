@@ -8,5 +8,6 @@ pub returns-in-None : goal.returns-in-None
 returns-in-None c = λ private seat.
     let none = ap (limit_said private) (sym c.in-None.is) ∙ c.limit.ensures private in
     ap (option_map Some)
-    (no_word_told (limit_in private) (limit_obeyed private) c.args.event.now c.in-Ruled.seat c.in-Ruled.line seat c.in-Ruled.ruling (λ condition order. refl)
+    (no_word_told (limit_in private) (limit_obeyed private) c.args.event.now c.in-Ruled.seat c.in-Ruled.line seat
+    c.in-Ruled.ruling (λ condition order. refl)
     c.in-Ruled.is none)

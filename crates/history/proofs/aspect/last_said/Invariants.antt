@@ -9,4 +9,5 @@ abbrev pub invariant-loop-event : goal.invariant-loop-event
 invariant-loop-event g l =
     (goal.iterator-loop-event g).can_next l.event-iterator ×
     (goal.iterator-loop-event g).is_finite l.event-iterator ×
-    (last_said (g.T.Topic.word l.topic) l.events ≡ last_said (g.T.Topic.word l.topic) (iter_rest (rev_source l.event-iterator)))
+    (last_said (g.T.Topic.word l.topic) l.events ≡ last_said (g.T.Topic.word l.topic)
+    (iter_rest (rev_source l.event-iterator)))

@@ -6,5 +6,7 @@ use Rattle.history.proofs.nets.apply_train_owner.Goals as goal
 
 pub returns-in-Some : goal.returns-in-Some
 returns-in-Some c = λ owner moderate.
-    train_count_moved c.in-Some.train _ owner _ _ _ _ c.in-Some.ensures c.row_of_trains-from.ensures.row c.row_of_trains-to.ensures.row
-    (c.move_sum.ensures.moved (train_row (train_owner_place owner)) (omega (arith, train_row_low (train_owner_place owner), c.told-nets)) moderate)
+    train_count_moved c.in-Some.train _ owner _ _ _ _ c.in-Some.ensures c.row_of_trains-from.ensures.row
+    c.row_of_trains-to.ensures.row
+    (c.move_sum.ensures.moved (train_row (train_owner_place owner))
+    (omega (arith, train_row_low (train_owner_place owner), c.told-nets)) moderate)

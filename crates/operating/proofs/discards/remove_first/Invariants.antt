@@ -9,5 +9,6 @@ decreases-loop-place l = length l.lines.items - l.place
 abbrev pub invariant-loop-place : goal.invariant-loop-place
 invariant-loop-place l = record {
   same : l.lines.items ≡ l.fn.lines.items;
-  kept : without_first l.kind l.lines.items ≡ take l.place l.lines.items ++ without_first l.kind (drop l.place l.lines.items);
+  kept : without_first l.kind l.lines.items ≡ take l.place l.lines.items
+      ++ without_first l.kind (drop l.place l.lines.items);
 }

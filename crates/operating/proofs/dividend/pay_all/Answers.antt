@@ -25,7 +25,8 @@ loop-seat-preserved c =
       seats = ap (λ (game : Game). game.seats) told
           ∙ paid_seats game company (holder.Seat seat) (dividend_of game.events company (place.Seat seat) revenue)
           ∙ so_far.seats;
-      paid = seats_go_on company revenue game c.pay_for.new.history seat c.loop-seat.seat c.args.history.now.seats (omega arith) c.at-seat.ensures told
+      paid = seats_go_on company revenue game c.pay_for.new.history seat c.loop-seat.seat c.args.history.now.seats
+          (omega arith) c.at-seat.ensures told
           ∙ so_far.paid;
       sound = c.in_ok-pay_for.ensures.sound;
     }

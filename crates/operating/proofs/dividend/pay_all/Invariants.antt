@@ -9,6 +9,8 @@ use Rattle.operating.proofs.dividend.pay_all.Given as goal
 abbrev pub invariant-loop-seat : goal.invariant-loop-seat
 invariant-loop-seat l = record {
   seats : l.history.seats ≡ l.fn.history.seats;
-  paid : paid_to_seats l.company l.revenue l.history (map seat_at (range_with_len l.seat (l.fn.history.seats - l.seat))) ≡ paid_to_seats l.company l.revenue l.fn.history (all_seats l.fn.history.seats);
+  paid : paid_to_seats l.company l.revenue l.history
+      (map seat_at (range_with_len l.seat (l.fn.history.seats - l.seat)))
+      ≡ paid_to_seats l.company l.revenue l.fn.history (all_seats l.fn.history.seats);
   sound : IsSound l.history;
 }

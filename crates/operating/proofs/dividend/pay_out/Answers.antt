@@ -5,8 +5,11 @@ use Rattle.operating.proofs.dividend.pay_out.Goals as goal
 
 pub returns-clause-after : goal.returns-clause-after
 returns-clause-after c =
-    paid_out_steps c.args.history.now c.pay_all.new.history c.move_token_right.new.history c.args.company c.args.revenue c.in_ok-pay_all.ensures.after c.in_ok-move_token_right.ensures.seats c.in_ok-move_token_right.ensures.events
+    paid_out_steps c.args.history.now c.pay_all.new.history c.move_token_right.new.history c.args.company
+    c.args.revenue c.in_ok-pay_all.ensures.after c.in_ok-move_token_right.ensures.seats
+    c.in_ok-move_token_right.ensures.events
 
 pub returns-clause-sound : goal.returns-clause-sound
 returns-clause-sound c =
-    move_sound right_of c.pay_all.new.history c.move_token_right.new.history c.args.company c.in_ok-move_token_right.ensures.seats c.in_ok-move_token_right.ensures.events c.in_ok-pay_all.ensures.sound
+    move_sound right_of c.pay_all.new.history c.move_token_right.new.history c.args.company
+    c.in_ok-move_token_right.ensures.seats c.in_ok-move_token_right.ensures.events c.in_ok-pay_all.ensures.sound

@@ -14,4 +14,5 @@ returns c =
     let short : SFits w128 c.lack.result = record { sfits = c.lack.type_inv } in
     let game = c.args.history.now in
     rw (to_z-of_z w128 c.free_cash.result free, to_z-of_z w128 c.lack.result short)
-    (ap (λ (z : ℤ). lt_z z c.lack.result) c.free_cash.ensures ∙ ap (lt_z (free_cash_of game.seats game.events c.args.by.president)) c.lack.ensures)
+    (ap (λ (z : ℤ). lt_z z c.lack.result) c.free_cash.ensures
+    ∙ ap (lt_z (free_cash_of game.seats game.events c.args.by.president)) c.lack.ensures)

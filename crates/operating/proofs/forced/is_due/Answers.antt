@@ -10,12 +10,20 @@ pub returns-then-has_trains-clause-due : goal.returns-then-has_trains-clause-due
 returns-then-has_trains-clause-due c = (
   λ wrong. absurd cc,
   λ due.
-      let wrong : true ≡ false = sym c.if-has_trains.true ∙ c.has_trains.ensures ∙ ap (λ (events : List Event). has_trains events c.args.company) c.now.ensures.events ∙ due.0 in
+      let wrong : true ≡ false = sym c.if-has_trains.true ∙ c.has_trains.ensures
+      ∙ ap (λ (events : List Event). has_trains events c.args.company) c.now.ensures.events ∙ due.0 in
       absurd cc,
 )
 
 pub returns-clause-due : goal.returns-clause-due
 returns-clause-due c = (
-  λ yes. (ap (λ (events : List Event). has_trains events c.args.company) (sym c.now.ensures.events) ∙ sym c.has_trains.ensures ∙ c.if-has_trains.false, subst (λ (laid : MapState). CanRun (position_of laid) c.args.company) c.in_ok-update_map_state.ensures.map_state (c.can_run.ensures.0 yes)),
-  λ due. c.can_run.ensures.1 (subst (λ (laid : MapState). CanRun (position_of laid) c.args.company) (sym c.in_ok-update_map_state.ensures.map_state) due.1),
+  λ yes. (
+    ap (λ (events : List Event). has_trains events c.args.company) (sym c.now.ensures.events)
+        ∙ sym c.has_trains.ensures ∙ c.if-has_trains.false,
+    subst
+        (λ (laid : MapState). CanRun (position_of laid) c.args.company) c.in_ok-update_map_state.ensures.map_state
+        (c.can_run.ensures.0 yes),
+  ),
+  λ due. c.can_run.ensures.1 (subst (λ (laid : MapState). CanRun (position_of laid) c.args.company)
+      (sym c.in_ok-update_map_state.ensures.map_state) due.1),
 )

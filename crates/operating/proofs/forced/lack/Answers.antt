@@ -19,8 +19,10 @@ returns c =
     let past = c.args.history.now in
     let price = c.price-cost.ensures in
     let cash = c.cash.ensures in
-    ap (λ (z : ℤ). to_z w128 (of_z w128 (to_z w128 (of_z w128 z) -ℤ to_z w128 (of_z w128 c.cash.result)))) c.from.ensures
+    ap (λ (z : ℤ). to_z w128 (of_z w128 (to_z w128 (of_z w128 z) -ℤ to_z w128 (of_z w128 c.cash.result))))
+    c.from.ensures
     ∙ difference_kept c.price-cost.result c.cash.result (omega (arith, price.small)) cash.within
-    ∙ ap (λ (n : ℕ). pos n -ℤ c.cash.result) (price.price ∙ ap cost_of (c.cheapest.ensures.purchase ∙ ap cheapest c.now.ensures.events))
+    ∙ ap (λ (n : ℕ). pos n -ℤ c.cash.result) (price.price
+    ∙ ap cost_of (c.cheapest.ensures.purchase ∙ ap cheapest c.now.ensures.events))
     ∙ ap (λ (z : ℤ). pos (cost_of (cheapest past.events)) -ℤ z)
     (cash.sum ∙ ap (cash_of past.seats past.events) c.of_company.ensures)

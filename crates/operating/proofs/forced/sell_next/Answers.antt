@@ -5,11 +5,13 @@ use Rattle.operating.proofs.forced.sell_next.Goals as goal
 
 pub sell_block-requires-clause-may : goal.sell_block-requires-clause-may
 sell_block-requires-clause-may c =
-    may_sell_tenth c.args.by c.args.history.now c.in-Some.company _ c.tenth_of.ensures (sym c.next_to_sell.ensures ∙ c.in-Some.is)
+    may_sell_tenth c.args.by c.args.history.now c.in-Some.company _ c.tenth_of.ensures
+    (sym c.next_to_sell.ensures ∙ c.in-Some.is)
 
 pub returns-in-Some-clause-after : goal.returns-in-Some-clause-after
 returns-in-Some-clause-after c =
-    one_sold c.args.by c.args.history.now c.sell_block.new.history c.in-Some.company _ c.tenth_of.ensures (sym c.next_to_sell.ensures ∙ c.in-Some.is) c.in_ok-sell_block.ensures.seats c.in_ok-sell_block.ensures.events
+    one_sold c.args.by c.args.history.now c.sell_block.new.history c.in-Some.company _ c.tenth_of.ensures
+    (sym c.next_to_sell.ensures ∙ c.in-Some.is) c.in_ok-sell_block.ensures.seats c.in_ok-sell_block.ensures.events
 
 pub returns-clause-after : goal.returns-clause-after
 returns-clause-after c =

@@ -8,7 +8,8 @@ use Rattle.operating.proofs.forced.sell_tenths.Goals as goal
 pub loop-preserved : goal.loop-preserved
 loop-preserved c =
     record {
-      so_far = iterate_goes_on (sold_further c.args.by) c.args.history.now c.loop.history c.sell_further.new.history c.loop.counter c.loop.invariant.so_far c.in_ok-sell_further.ensures.after;
+      so_far = iterate_goes_on (sold_further c.args.by) c.args.history.now c.loop.history c.sell_further.new.history
+          c.loop.counter c.loop.invariant.so_far c.in_ok-sell_further.ensures.after;
       seats = c.in_ok-sell_further.ensures.seats ∙ c.loop.invariant.seats;
       sound = c.in_ok-sell_further.ensures.sound;
     }

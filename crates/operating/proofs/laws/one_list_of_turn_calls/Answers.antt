@@ -6,7 +6,8 @@ use Rattle.operating.proofs.laws.one_list_of_turn_calls.Goals as goal
 pub returns-clause-one : goal.returns-clause-one
 returns-clause-one c =
     one_list
-    (lawful c.neighbours_pair.ensures c.printed_links_are_in_order.ensures c.laid_links_are_in_order.ensures c.values_are_at_most_80.ensures)
+    (lawful c.neighbours_pair.ensures c.printed_links_are_in_order.ensures c.laid_links_are_in_order.ensures
+    c.values_are_at_most_80.ensures)
 
 pub returns-clause-some : goal.returns-clause-some
 returns-clause-some c = turn_called
@@ -14,4 +15,5 @@ returns-clause-some c = turn_called
 pub returns-clause-front : goal.returns-clause-front
 returns-clause-front c =
     a_front
-    (lawful c.neighbours_pair.ensures c.printed_links_are_in_order.ensures c.laid_links_are_in_order.ensures c.values_are_at_most_80.ensures)
+    (lawful c.neighbours_pair.ensures c.printed_links_are_in_order.ensures c.laid_links_are_in_order.ensures
+    c.values_are_at_most_80.ensures)

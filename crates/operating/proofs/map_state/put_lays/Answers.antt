@@ -13,11 +13,13 @@ loop-lay-preserved c =
     let front = c.loop-lay.board.lays in
     record {
       begins = subst (λ (laid : MapState). BeginsWith laid.lays all) (sym c.in_ok-put_lay.ensures.ok)
-          (next front all c.in-Some.lay c.loop-lay.invariant.begins (ap (λ n. slice_get all n) (sym c.tiles_laid.ensures) ∙ sym c.laid.ensures ∙ c.in-Some.is));
+          (next front all c.in-Some.lay c.loop-lay.invariant.begins
+          (ap (λ n. slice_get all n) (sym c.tiles_laid.ensures) ∙ sym c.laid.ensures ∙ c.in-Some.is));
       others = ap (λ (laid : MapState). laid.tokens) c.in_ok-put_lay.ensures.ok ∙ c.loop-lay.invariant.others;
     }
 
 pub returns-clause-lays : goal.returns-clause-lays
 returns-clause-lays c =
     let all = lays_of c.args.history.now.events in
-    all_told c.loop-lay.board.lays all c.loop-lay.invariant.begins (ap (λ n. slice_get all n) (sym c.tiles_laid.ensures) ∙ sym c.laid.ensures ∙ c.in_default.is)
+    all_told c.loop-lay.board.lays all c.loop-lay.invariant.begins
+    (ap (λ n. slice_get all n) (sym c.tiles_laid.ensures) ∙ sym c.laid.ensures ∙ c.in_default.is)

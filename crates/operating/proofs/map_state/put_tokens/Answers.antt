@@ -13,11 +13,13 @@ loop-place-preserved c =
     let front = c.loop-place.board.tokens in
     record {
       begins = subst (λ (laid : MapState). BeginsWith laid.tokens all) (sym c.in_ok-put_token.ensures.ok)
-          (next front all (c.in-Some.place, c.in-Some.company) c.loop-place.invariant.begins (ap (λ n. slice_get all n) (sym c.tokens_placed.ensures) ∙ sym c.token.ensures ∙ c.in-Some.is));
+          (next front all (c.in-Some.place, c.in-Some.company) c.loop-place.invariant.begins
+          (ap (λ n. slice_get all n) (sym c.tokens_placed.ensures) ∙ sym c.token.ensures ∙ c.in-Some.is));
       others = ap (λ (laid : MapState). laid.lays) c.in_ok-put_token.ensures.ok ∙ c.loop-place.invariant.others;
     }
 
 pub returns-clause-tokens : goal.returns-clause-tokens
 returns-clause-tokens c =
     let all = tokens_of c.args.history.now.events in
-    all_told c.loop-place.board.tokens all c.loop-place.invariant.begins (ap (λ n. slice_get all n) (sym c.tokens_placed.ensures) ∙ sym c.token.ensures ∙ c.in_default.is)
+    all_told c.loop-place.board.tokens all c.loop-place.invariant.begins
+    (ap (λ n. slice_get all n) (sym c.tokens_placed.ensures) ∙ sym c.token.ensures ∙ c.in_default.is)

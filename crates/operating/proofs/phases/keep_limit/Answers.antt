@@ -5,6 +5,7 @@ use Rattle.operating.proofs.phases.keep_limit.Goals as goal
 pub loop-preserved : goal.loop-preserved
 loop-preserved c =
     record {
-      so_far = iterate_goes_on (with_next_discarded c.args.company) c.args.history.now c.loop.history c.discard.new.history c.loop.counter c.loop.invariant.so_far c.in_ok-discard.ensures.after;
+      so_far = iterate_goes_on (with_next_discarded c.args.company) c.args.history.now c.loop.history
+          c.discard.new.history c.loop.counter c.loop.invariant.so_far c.in_ok-discard.ensures.after;
       sound = c.in_ok-discard.ensures.sound;
     }

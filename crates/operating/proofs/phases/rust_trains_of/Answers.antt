@@ -10,8 +10,12 @@ loop-init c = record { so_far = refl; rusted = none_rusted c.args.owner c.args.k
 
 pub loop-preserved : goal.loop-preserved
 loop-preserved c =
-    let many = c.so_many-end.ensures ∙ ap so_many (counted_whole c.trains.result c.from.result (record { sfits = c.trains.type_inv }) (record { sfits = c.from.type_inv }) c.from.ensures ∙ c.trains.ensures) in
+    let many = c.so_many-end.ensures ∙ ap so_many (counted_whole c.trains.result c.from.result
+    (record { sfits = c.trains.type_inv }) (record { sfits = c.from.type_inv }) c.from.ensures
+    ∙ c.trains.ensures) in
     record {
-      so_far = iterate_goes_on (with_one_rusted c.args.owner c.args.kind) c.args.history.now c.loop.history c.append.new.self c.loop.counter c.loop.invariant.so_far c.in_ok-append.ensures.ok;
-      rusted = one_rusts c.args.owner c.args.kind c.loop.counter c.args.history.now c.loop.history c.append.new.self (subst (λ end. c.loop.counter < end) many c.loop-test.true) c.in_ok-append.ensures.ok c.loop.invariant.rusted;
+      so_far = iterate_goes_on (with_one_rusted c.args.owner c.args.kind) c.args.history.now c.loop.history
+          c.append.new.self c.loop.counter c.loop.invariant.so_far c.in_ok-append.ensures.ok;
+      rusted = one_rusts c.args.owner c.args.kind c.loop.counter c.args.history.now c.loop.history c.append.new.self
+          (subst (λ end. c.loop.counter < end) many c.loop-test.true) c.in_ok-append.ensures.ok c.loop.invariant.rusted;
     }

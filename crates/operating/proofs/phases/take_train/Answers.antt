@@ -12,6 +12,8 @@ close_bop-requires c =
     let company = c.args.company in
     subst IsSound
     (sym (c.in_ok-append.ensures.ok
-    ∙ ap (λ (game : Game). with_event game (event.Train company purchase.kind purchase.from c.price.result)) c.in_ok-trade_in.ensures
-    ∙ ap (λ (price : ℕ). with_event (with_trade c.args.history.now company purchase.trade_in) (event.Train company purchase.kind purchase.from price)) c.price.ensures.price))
+    ∙ ap (λ (game : Game). with_event game (event.Train company purchase.kind purchase.from c.price.result))
+    c.in_ok-trade_in.ensures
+    ∙ ap (λ (price : ℕ). with_event (with_trade c.args.history.now company purchase.trade_in)
+    (event.Train company purchase.kind purchase.from price)) c.price.ensures.price))
     (train_sound c.args.history.now company purchase c.requires.may c.requires.sound)

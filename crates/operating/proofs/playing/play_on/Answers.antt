@@ -28,15 +28,18 @@ use Rattle.operating.proofs.playing.play_on.Goals as goal
 
 pub rule_lines-requires-clause-small : goal.rule_lines-requires-clause-small
 rule_lines-requires-clause-small g c =
-    subst AreSmall (sym c.block-orders.ensures) (block_small c.args.sheets.now c.args.round c.in-Some.president.0 c.args.company)
+    subst AreSmall (sym c.block-orders.ensures) (block_small c.args.sheets.now c.args.round c.in-Some.president.0
+    c.args.company)
 
 pub rule_lines-requires-clause-order : goal.rule_lines-requires-clause-order
 rule_lines-requires-clause-order g c =
     record {
       sound = subst IsSound (sym c.begin-turn.ensures.history) c.in_ok-place_home.ensures.sound;
-      front = subst (λ (board : Box MapState Global). IsFront board.value c.begin-turn.result.history.events) (sym c.begin-turn.ensures.board)
+      front = subst (λ (board : Box MapState Global). IsFront board.value c.begin-turn.result.history.events)
+          (sym c.begin-turn.ensures.board)
           (subst (λ (game : Game). IsFront c.args.table.board.value game.events) (sym c.begin-turn.ensures.history)
-          (home_front c.args.table.board.value c.args.table.history c.place_home.new.history c.args.company c.in_ok-place_home.ensures.event c.requires.laid.front));
+          (home_front c.args.table.board.value c.args.table.history c.place_home.new.history c.args.company
+          c.in_ok-place_home.ensures.event c.requires.laid.front));
     }
 
 pub end-requires-clause-few : goal.end-requires-clause-few
@@ -46,13 +49,27 @@ end-requires-clause-few g c =
     let turn = c.begin-turn.result in
     let raises = c.duplicate-raises.result.before in
     let begun : HasBegun file c.args.round c.args.company c.in-Some.president first turn raises =
-    record { is_by = c.begin-turn.ensures.by; is_round = c.begin-turn.ensures.round; is_game = c.begin-turn.ensures.history; is_start = c.begin-turn.ensures.progress; are_lines = ap (λ (parts : Parts). parts.before) c.duplicate-raises.ensures ∙ c.block-orders.ensures }
+    record {
+      is_by = c.begin-turn.ensures.by;
+      is_round = c.begin-turn.ensures.round;
+      is_game =
+          c.begin-turn.ensures.history;
+      is_start = c.begin-turn.ensures.progress;
+      are_lines =
+          ap (λ (parts : Parts). parts.before) c.duplicate-raises.ensures ∙ c.block-orders.ensures;
+    }
     in
-    let same : c.duplicate-raises.result.before ≡ c.block-orders.result.before = ap (λ (parts : Parts). parts.before) c.duplicate-raises.ensures in
-    let block = block_led file c.args.round c.args.company c.in-Some.president first turn raises begun (state c.rule_lines.new.self)
-    (subst (λ (lines : List Numbered). LinesLead turn.by (state turn) lines (state c.rule_lines.new.self)) (sym same) c.in_ok-rule_lines.ensures.turn) in
-    let settled = settled_led file c.args.round c.args.company c.in-Some.president first turn raises begun c.rule_lines.new.self c.settle.new.self c.in_ok-rule_lines.ensures.by c.in_ok-settle.ensures.turn in
-    let seats = paid_seats file c.args.round c.args.company c.args.table.history first c.rule_lines.new.self.history c.settle.new.self.history c.rule_lines.new.self.progress c.settle.new.self.progress (Some c.in-Some.president) c.in_ok-place_home.ensures.event block settled in
+    let same : c.duplicate-raises.result.before ≡ c.block-orders.result.before =
+    ap (λ (parts : Parts). parts.before) c.duplicate-raises.ensures in
+    let block = block_led file c.args.round c.args.company c.in-Some.president first turn raises begun
+    (state c.rule_lines.new.self)
+    (subst (λ (lines : List Numbered). LinesLead turn.by (state turn) lines (state c.rule_lines.new.self)) (sym same)
+    c.in_ok-rule_lines.ensures.turn) in
+    let settled = settled_led file c.args.round c.args.company c.in-Some.president first turn raises begun
+    c.rule_lines.new.self c.settle.new.self c.in_ok-rule_lines.ensures.by c.in_ok-settle.ensures.turn in
+    let seats = paid_seats file c.args.round c.args.company c.args.table.history first c.rule_lines.new.self.history
+    c.settle.new.self.history c.rule_lines.new.self.progress c.settle.new.self.progress (Some c.in-Some.president)
+    c.in_ok-place_home.ensures.event block settled in
     let few : c.args.table.history.seats ≤ 6 = omega arith in
     subst (λ (n : ℕ). n ≤ 6) (sym seats) few
 
@@ -63,16 +80,33 @@ end-requires-clause-at_table g c =
     let turn = c.begin-turn.result in
     let raises = c.duplicate-raises.result.before in
     let begun : HasBegun file c.args.round c.args.company c.in-Some.president first turn raises =
-    record { is_by = c.begin-turn.ensures.by; is_round = c.begin-turn.ensures.round; is_game = c.begin-turn.ensures.history; is_start = c.begin-turn.ensures.progress; are_lines = ap (λ (parts : Parts). parts.before) c.duplicate-raises.ensures ∙ c.block-orders.ensures }
+    record {
+      is_by = c.begin-turn.ensures.by;
+      is_round = c.begin-turn.ensures.round;
+      is_game =
+          c.begin-turn.ensures.history;
+      is_start = c.begin-turn.ensures.progress;
+      are_lines =
+          ap (λ (parts : Parts). parts.before) c.duplicate-raises.ensures ∙ c.block-orders.ensures;
+    }
     in
-    let same : c.duplicate-raises.result.before ≡ c.block-orders.result.before = ap (λ (parts : Parts). parts.before) c.duplicate-raises.ensures in
-    let block = block_led file c.args.round c.args.company c.in-Some.president first turn raises begun (state c.rule_lines.new.self)
-    (subst (λ (lines : List Numbered). LinesLead turn.by (state turn) lines (state c.rule_lines.new.self)) (sym same) c.in_ok-rule_lines.ensures.turn) in
-    let settled = settled_led file c.args.round c.args.company c.in-Some.president first turn raises begun c.rule_lines.new.self c.settle.new.self c.in_ok-rule_lines.ensures.by c.in_ok-settle.ensures.turn in
-    let seats = paid_seats file c.args.round c.args.company c.args.table.history first c.rule_lines.new.self.history c.settle.new.self.history c.rule_lines.new.self.progress c.settle.new.self.progress (Some c.in-Some.president) c.in_ok-place_home.ensures.event block settled in
-    let president : Some c.in-Some.president ≡ president_of c.args.table.history.events c.args.company = sym c.in-Some.is ∙ c.president-president.ensures in
-    let there = president_there c.args.table.history c.settle.new.self.history c.args.company (Some c.in-Some.president) c.requires.laid.sound c.requires.floated president seats in
-    subst (λ (by : Operator). by.president.0 < c.settle.new.self.history.seats) (sym (c.in_ok-settle.ensures.order.by ∙ c.in_ok-rule_lines.ensures.by ∙ c.begin-turn.ensures.by)) there
+    let same : c.duplicate-raises.result.before ≡ c.block-orders.result.before =
+    ap (λ (parts : Parts). parts.before) c.duplicate-raises.ensures in
+    let block = block_led file c.args.round c.args.company c.in-Some.president first turn raises begun
+    (state c.rule_lines.new.self)
+    (subst (λ (lines : List Numbered). LinesLead turn.by (state turn) lines (state c.rule_lines.new.self)) (sym same)
+    c.in_ok-rule_lines.ensures.turn) in
+    let settled = settled_led file c.args.round c.args.company c.in-Some.president first turn raises begun
+    c.rule_lines.new.self c.settle.new.self c.in_ok-rule_lines.ensures.by c.in_ok-settle.ensures.turn in
+    let seats = paid_seats file c.args.round c.args.company c.args.table.history first c.rule_lines.new.self.history
+    c.settle.new.self.history c.rule_lines.new.self.progress c.settle.new.self.progress (Some c.in-Some.president)
+    c.in_ok-place_home.ensures.event block settled in
+    let president : Some c.in-Some.president ≡ president_of c.args.table.history.events c.args.company =
+    sym c.in-Some.is ∙ c.president-president.ensures in
+    let there = president_there c.args.table.history c.settle.new.self.history c.args.company
+    (Some c.in-Some.president) c.requires.laid.sound c.requires.floated president seats in
+    subst (λ (by : Operator). by.president.0 < c.settle.new.self.history.seats)
+    (sym (c.in_ok-settle.ensures.order.by ∙ c.in_ok-rule_lines.ensures.by ∙ c.begin-turn.ensures.by)) there
 
 pub end-requires-clause-order : goal.end-requires-clause-order
 end-requires-clause-order g c =
@@ -85,19 +119,37 @@ returns-clause-turn g c =
     let turn = c.begin-turn.result in
     let raises = c.duplicate-raises.result.before in
     let begun : HasBegun file c.args.round c.args.company c.in-Some.president first turn raises =
-    record { is_by = c.begin-turn.ensures.by; is_round = c.begin-turn.ensures.round; is_game = c.begin-turn.ensures.history; is_start = c.begin-turn.ensures.progress; are_lines = ap (λ (parts : Parts). parts.before) c.duplicate-raises.ensures ∙ c.block-orders.ensures }
+    record {
+      is_by = c.begin-turn.ensures.by;
+      is_round = c.begin-turn.ensures.round;
+      is_game =
+          c.begin-turn.ensures.history;
+      is_start = c.begin-turn.ensures.progress;
+      are_lines =
+          ap (λ (parts : Parts). parts.before) c.duplicate-raises.ensures ∙ c.block-orders.ensures;
+    }
     in
-    let same : c.duplicate-raises.result.before ≡ c.block-orders.result.before = ap (λ (parts : Parts). parts.before) c.duplicate-raises.ensures in
-    let block = block_led file c.args.round c.args.company c.in-Some.president first turn raises begun (state c.rule_lines.new.self)
-    (subst (λ (lines : List Numbered). LinesLead turn.by (state turn) lines (state c.rule_lines.new.self)) (sym same) c.in_ok-rule_lines.ensures.turn) in
-    let settled = settled_led file c.args.round c.args.company c.in-Some.president first turn raises begun c.rule_lines.new.self c.settle.new.self c.in_ok-rule_lines.ensures.by c.in_ok-settle.ensures.turn in
-    let president : Some c.in-Some.president ≡ president_of c.args.table.history.events c.args.company = sym c.in-Some.is ∙ c.president-president.ensures in
-    let ended = end_led file c.args.round c.args.company c.in-Some.president first turn raises begun c.settle.new.self raises c.end.new.self.history (c.in_ok-settle.ensures.order.by ∙ c.in_ok-rule_lines.ensures.by) refl c.in_ok-end.ensures.turn in
-    turn_of_parts file c.args.round c.args.company c.args.table.history first c.rule_lines.new.self.history c.settle.new.self.history c.end.new.self.history c.rule_lines.new.self.progress c.settle.new.self.progress (Some c.in-Some.president) president c.in_ok-place_home.ensures.event block settled ended
+    let same : c.duplicate-raises.result.before ≡ c.block-orders.result.before =
+    ap (λ (parts : Parts). parts.before) c.duplicate-raises.ensures in
+    let block = block_led file c.args.round c.args.company c.in-Some.president first turn raises begun
+    (state c.rule_lines.new.self)
+    (subst (λ (lines : List Numbered). LinesLead turn.by (state turn) lines (state c.rule_lines.new.self)) (sym same)
+    c.in_ok-rule_lines.ensures.turn) in
+    let settled = settled_led file c.args.round c.args.company c.in-Some.president first turn raises begun
+    c.rule_lines.new.self c.settle.new.self c.in_ok-rule_lines.ensures.by c.in_ok-settle.ensures.turn in
+    let president : Some c.in-Some.president ≡ president_of c.args.table.history.events c.args.company =
+    sym c.in-Some.is ∙ c.president-president.ensures in
+    let ended = end_led file c.args.round c.args.company c.in-Some.president first turn raises begun c.settle.new.self
+    raises c.end.new.self.history (c.in_ok-settle.ensures.order.by ∙ c.in_ok-rule_lines.ensures.by) refl
+    c.in_ok-end.ensures.turn in
+    turn_of_parts file c.args.round c.args.company c.args.table.history first c.rule_lines.new.self.history
+    c.settle.new.self.history c.end.new.self.history c.rule_lines.new.self.progress c.settle.new.self.progress
+    (Some c.in-Some.president) president c.in_ok-place_home.ensures.event block settled ended
 
 pub returns-clause-seats : goal.returns-clause-seats
 returns-clause-seats g c =
-    seats_stay c.args.sheets.now c.args.round c.args.company c.args.table.history c.end.new.self.history (returns-clause-turn g c)
+    seats_stay c.args.sheets.now c.args.round c.args.company c.args.table.history c.end.new.self.history
+    (returns-clause-turn g c)
 
 pub returns-clause-calls : goal.returns-clause-calls
 returns-clause-calls g c =
@@ -106,18 +158,40 @@ returns-clause-calls g c =
     let turn = c.begin-turn.result in
     let raises = c.duplicate-raises.result.before in
     let begun : HasBegun file c.args.round c.args.company c.in-Some.president first turn raises =
-    record { is_by = c.begin-turn.ensures.by; is_round = c.begin-turn.ensures.round; is_game = c.begin-turn.ensures.history; is_start = c.begin-turn.ensures.progress; are_lines = ap (λ (parts : Parts). parts.before) c.duplicate-raises.ensures ∙ c.block-orders.ensures }
+    record {
+      is_by = c.begin-turn.ensures.by;
+      is_round = c.begin-turn.ensures.round;
+      is_game =
+          c.begin-turn.ensures.history;
+      is_start = c.begin-turn.ensures.progress;
+      are_lines =
+          ap (λ (parts : Parts). parts.before) c.duplicate-raises.ensures ∙ c.block-orders.ensures;
+    }
     in
-    let same : c.duplicate-raises.result.before ≡ c.block-orders.result.before = ap (λ (parts : Parts). parts.before) c.duplicate-raises.ensures in
-    let block = block_led file c.args.round c.args.company c.in-Some.president first turn raises begun (state c.rule_lines.new.self)
-    (subst (λ (lines : List Numbered). LinesLead turn.by (state turn) lines (state c.rule_lines.new.self)) (sym same) c.in_ok-rule_lines.ensures.turn) in
-    let called = block_called file c.args.round c.args.company c.in-Some.president first turn raises begun g.R.Runner.earns (Ok (state c.rule_lines.new.self)) c.args.runner.now c.rule_lines.new.runner
-    (subst (λ (lines : List Numbered). Makes g.R.Runner.earns c.args.runner.now (LinesCall turn.by turn.round lines (state turn) (Ok (state c.rule_lines.new.self))) c.rule_lines.new.runner) (sym same) c.in_ok-rule_lines.ensures.calls) in
-    let settled = settled_led file c.args.round c.args.company c.in-Some.president first turn raises begun c.rule_lines.new.self c.settle.new.self c.in_ok-rule_lines.ensures.by c.in_ok-settle.ensures.turn in
-    let president : Some c.in-Some.president ≡ president_of c.args.table.history.events c.args.company = sym c.in-Some.is ∙ c.president-president.ensures in
-    let ended = end_led file c.args.round c.args.company c.in-Some.president first turn raises begun c.settle.new.self raises c.end.new.self.history (c.in_ok-settle.ensures.order.by ∙ c.in_ok-rule_lines.ensures.by) refl c.in_ok-end.ensures.turn in
-    turn_calls g.R.Runner.earns file c.args.round c.args.company c.args.table.history first c.rule_lines.new.self.history c.rule_lines.new.self.progress (Some c.in-Some.president) _ c.args.runner.now c.rule_lines.new.runner president c.in_ok-place_home.ensures.event called
-    (end_calls g.R.Runner.earns file c.args.round c.args.company c.rule_lines.new.self.history c.settle.new.self.history c.end.new.self.history c.rule_lines.new.self.progress c.settle.new.self.progress (Some c.in-Some.president) c.rule_lines.new.runner settled ended)
+    let same : c.duplicate-raises.result.before ≡ c.block-orders.result.before =
+    ap (λ (parts : Parts). parts.before) c.duplicate-raises.ensures in
+    let block = block_led file c.args.round c.args.company c.in-Some.president first turn raises begun
+    (state c.rule_lines.new.self)
+    (subst (λ (lines : List Numbered). LinesLead turn.by (state turn) lines (state c.rule_lines.new.self)) (sym same)
+    c.in_ok-rule_lines.ensures.turn) in
+    let called = block_called file c.args.round c.args.company c.in-Some.president first turn raises begun
+    g.R.Runner.earns (Ok (state c.rule_lines.new.self)) c.args.runner.now c.rule_lines.new.runner
+    (subst (λ (lines : List Numbered). Makes g.R.Runner.earns c.args.runner.now
+    (LinesCall turn.by turn.round lines (state turn) (Ok (state c.rule_lines.new.self))) c.rule_lines.new.runner)
+    (sym same) c.in_ok-rule_lines.ensures.calls) in
+    let settled = settled_led file c.args.round c.args.company c.in-Some.president first turn raises begun
+    c.rule_lines.new.self c.settle.new.self c.in_ok-rule_lines.ensures.by c.in_ok-settle.ensures.turn in
+    let president : Some c.in-Some.president ≡ president_of c.args.table.history.events c.args.company =
+    sym c.in-Some.is ∙ c.president-president.ensures in
+    let ended = end_led file c.args.round c.args.company c.in-Some.president first turn raises begun c.settle.new.self
+    raises c.end.new.self.history (c.in_ok-settle.ensures.order.by ∙ c.in_ok-rule_lines.ensures.by) refl
+    c.in_ok-end.ensures.turn in
+    turn_calls g.R.Runner.earns file c.args.round c.args.company c.args.table.history first
+    c.rule_lines.new.self.history c.rule_lines.new.self.progress (Some c.in-Some.president) _ c.args.runner.now
+    c.rule_lines.new.runner president c.in_ok-place_home.ensures.event called
+    (end_calls g.R.Runner.earns file c.args.round c.args.company c.rule_lines.new.self.history
+    c.settle.new.self.history c.end.new.self.history c.rule_lines.new.self.progress c.settle.new.self.progress
+    (Some c.in-Some.president) c.rule_lines.new.runner settled ended)
 
 pub returns-in_err-settle-clause-calls : goal.returns-in_err-settle-clause-calls
 returns-in_err-settle-clause-calls g c =
@@ -128,16 +202,35 @@ returns-in_err-settle-clause-calls g c =
     let turn = c.begin-turn.result in
     let raises = c.duplicate-raises.result.before in
     let begun : HasBegun file c.args.round c.args.company c.in-Some.president first turn raises =
-    record { is_by = c.begin-turn.ensures.by; is_round = c.begin-turn.ensures.round; is_game = c.begin-turn.ensures.history; is_start = c.begin-turn.ensures.progress; are_lines = ap (λ (parts : Parts). parts.before) c.duplicate-raises.ensures ∙ c.block-orders.ensures }
+    record {
+      is_by = c.begin-turn.ensures.by;
+      is_round = c.begin-turn.ensures.round;
+      is_game =
+          c.begin-turn.ensures.history;
+      is_start = c.begin-turn.ensures.progress;
+      are_lines =
+          ap (λ (parts : Parts). parts.before) c.duplicate-raises.ensures ∙ c.block-orders.ensures;
+    }
     in
-    let same : c.duplicate-raises.result.before ≡ c.block-orders.result.before = ap (λ (parts : Parts). parts.before) c.duplicate-raises.ensures in
-    let block = block_led file c.args.round c.args.company c.in-Some.president first turn raises begun (state c.rule_lines.new.self)
-    (subst (λ (lines : List Numbered). LinesLead turn.by (state turn) lines (state c.rule_lines.new.self)) (sym same) c.in_ok-rule_lines.ensures.turn) in
-    let called = block_called file c.args.round c.args.company c.in-Some.president first turn raises begun g.R.Runner.earns (Ok (state c.rule_lines.new.self)) c.args.runner.now c.rule_lines.new.runner
-    (subst (λ (lines : List Numbered). Makes g.R.Runner.earns c.args.runner.now (LinesCall turn.by turn.round lines (state turn) (Ok (state c.rule_lines.new.self))) c.rule_lines.new.runner) (sym same) c.in_ok-rule_lines.ensures.calls) in
-    let president : Some c.in-Some.president ≡ president_of c.args.table.history.events c.args.company = sym c.in-Some.is ∙ c.president-president.ensures in
-    subst (λ (met : Result Table RunnerFault). Makes g.R.Runner.earns c.args.runner.now (TurnCalls file c.args.round c.args.company c.args.table.history (game_on met)) c.rule_lines.new.runner) (sym is)
-    (turn_calls g.R.Runner.earns file c.args.round c.args.company c.args.table.history first c.rule_lines.new.self.history c.rule_lines.new.self.progress (Some c.in-Some.president) _ c.args.runner.now c.rule_lines.new.runner president c.in_ok-place_home.ensures.event called
+    let same : c.duplicate-raises.result.before ≡ c.block-orders.result.before =
+    ap (λ (parts : Parts). parts.before) c.duplicate-raises.ensures in
+    let block = block_led file c.args.round c.args.company c.in-Some.president first turn raises begun
+    (state c.rule_lines.new.self)
+    (subst (λ (lines : List Numbered). LinesLead turn.by (state turn) lines (state c.rule_lines.new.self)) (sym same)
+    c.in_ok-rule_lines.ensures.turn) in
+    let called = block_called file c.args.round c.args.company c.in-Some.president first turn raises begun
+    g.R.Runner.earns (Ok (state c.rule_lines.new.self)) c.args.runner.now c.rule_lines.new.runner
+    (subst (λ (lines : List Numbered). Makes g.R.Runner.earns c.args.runner.now
+    (LinesCall turn.by turn.round lines (state turn) (Ok (state c.rule_lines.new.self))) c.rule_lines.new.runner)
+    (sym same) c.in_ok-rule_lines.ensures.calls) in
+    let president : Some c.in-Some.president ≡ president_of c.args.table.history.events c.args.company =
+    sym c.in-Some.is ∙ c.president-president.ensures in
+    subst (λ (met : Result Table RunnerFault). Makes g.R.Runner.earns c.args.runner.now
+    (TurnCalls file c.args.round c.args.company c.args.table.history (game_on met)) c.rule_lines.new.runner)
+    (sym is)
+    (turn_calls g.R.Runner.earns file c.args.round c.args.company c.args.table.history first
+    c.rule_lines.new.self.history c.rule_lines.new.self.progress (Some c.in-Some.president) _ c.args.runner.now
+    c.rule_lines.new.runner president c.in_ok-place_home.ensures.event called
     ([], (refl, refl), refl))
 
 pub returns-in_err-end-clause-calls : goal.returns-in_err-end-clause-calls
@@ -149,36 +242,73 @@ returns-in_err-end-clause-calls g c =
     let turn = c.begin-turn.result in
     let raises = c.duplicate-raises.result.before in
     let begun : HasBegun file c.args.round c.args.company c.in-Some.president first turn raises =
-    record { is_by = c.begin-turn.ensures.by; is_round = c.begin-turn.ensures.round; is_game = c.begin-turn.ensures.history; is_start = c.begin-turn.ensures.progress; are_lines = ap (λ (parts : Parts). parts.before) c.duplicate-raises.ensures ∙ c.block-orders.ensures }
+    record {
+      is_by = c.begin-turn.ensures.by;
+      is_round = c.begin-turn.ensures.round;
+      is_game =
+          c.begin-turn.ensures.history;
+      is_start = c.begin-turn.ensures.progress;
+      are_lines =
+          ap (λ (parts : Parts). parts.before) c.duplicate-raises.ensures ∙ c.block-orders.ensures;
+    }
     in
-    let same : c.duplicate-raises.result.before ≡ c.block-orders.result.before = ap (λ (parts : Parts). parts.before) c.duplicate-raises.ensures in
-    let block = block_led file c.args.round c.args.company c.in-Some.president first turn raises begun (state c.rule_lines.new.self)
-    (subst (λ (lines : List Numbered). LinesLead turn.by (state turn) lines (state c.rule_lines.new.self)) (sym same) c.in_ok-rule_lines.ensures.turn) in
-    let called = block_called file c.args.round c.args.company c.in-Some.president first turn raises begun g.R.Runner.earns (Ok (state c.rule_lines.new.self)) c.args.runner.now c.rule_lines.new.runner
-    (subst (λ (lines : List Numbered). Makes g.R.Runner.earns c.args.runner.now (LinesCall turn.by turn.round lines (state turn) (Ok (state c.rule_lines.new.self))) c.rule_lines.new.runner) (sym same) c.in_ok-rule_lines.ensures.calls) in
-    let president : Some c.in-Some.president ≡ president_of c.args.table.history.events c.args.company = sym c.in-Some.is ∙ c.president-president.ensures in
-    subst (λ (met : Result Table RunnerFault). Makes g.R.Runner.earns c.args.runner.now (TurnCalls file c.args.round c.args.company c.args.table.history (game_on met)) c.rule_lines.new.runner) (sym is)
-    (turn_calls g.R.Runner.earns file c.args.round c.args.company c.args.table.history first c.rule_lines.new.self.history c.rule_lines.new.self.progress (Some c.in-Some.president) _ c.args.runner.now c.rule_lines.new.runner president c.in_ok-place_home.ensures.event called
+    let same : c.duplicate-raises.result.before ≡ c.block-orders.result.before =
+    ap (λ (parts : Parts). parts.before) c.duplicate-raises.ensures in
+    let block = block_led file c.args.round c.args.company c.in-Some.president first turn raises begun
+    (state c.rule_lines.new.self)
+    (subst (λ (lines : List Numbered). LinesLead turn.by (state turn) lines (state c.rule_lines.new.self)) (sym same)
+    c.in_ok-rule_lines.ensures.turn) in
+    let called = block_called file c.args.round c.args.company c.in-Some.president first turn raises begun
+    g.R.Runner.earns (Ok (state c.rule_lines.new.self)) c.args.runner.now c.rule_lines.new.runner
+    (subst (λ (lines : List Numbered). Makes g.R.Runner.earns c.args.runner.now
+    (LinesCall turn.by turn.round lines (state turn) (Ok (state c.rule_lines.new.self))) c.rule_lines.new.runner)
+    (sym same) c.in_ok-rule_lines.ensures.calls) in
+    let president : Some c.in-Some.president ≡ president_of c.args.table.history.events c.args.company =
+    sym c.in-Some.is ∙ c.president-president.ensures in
+    subst (λ (met : Result Table RunnerFault). Makes g.R.Runner.earns c.args.runner.now
+    (TurnCalls file c.args.round c.args.company c.args.table.history (game_on met)) c.rule_lines.new.runner)
+    (sym is)
+    (turn_calls g.R.Runner.earns file c.args.round c.args.company c.args.table.history first
+    c.rule_lines.new.self.history c.rule_lines.new.self.progress (Some c.in-Some.president) _ c.args.runner.now
+    c.rule_lines.new.runner president c.in_ok-place_home.ensures.event called
     ([], (refl, refl), refl))
 
 pub returns-in_err-rule_lines-clause-calls : goal.returns-in_err-rule_lines-clause-calls
 returns-in_err-rule_lines-clause-calls g c =
-    let told = err_from_is_err_and c.from_residual-in_err-rule_lines.result c.from_residual-in_err-rule_lines.ensures.1 in
+    let told = err_from_is_err_and c.from_residual-in_err-rule_lines.result
+    c.from_residual-in_err-rule_lines.ensures.1 in
     let is : c.from_residual-in_err-rule_lines.result ≡ Err c.in_err-rule_lines.field-0.0 = told.1 ∙ ap Err told.2 in
     let file = c.args.sheets.now in
     let first = c.place_home.new.history in
     let turn = c.begin-turn.result in
     let raises = c.duplicate-raises.result.before in
     let begun : HasBegun file c.args.round c.args.company c.in-Some.president first turn raises =
-    record { is_by = c.begin-turn.ensures.by; is_round = c.begin-turn.ensures.round; is_game = c.begin-turn.ensures.history; is_start = c.begin-turn.ensures.progress; are_lines = ap (λ (parts : Parts). parts.before) c.duplicate-raises.ensures ∙ c.block-orders.ensures }
+    record {
+      is_by = c.begin-turn.ensures.by;
+      is_round = c.begin-turn.ensures.round;
+      is_game =
+          c.begin-turn.ensures.history;
+      is_start = c.begin-turn.ensures.progress;
+      are_lines =
+          ap (λ (parts : Parts). parts.before) c.duplicate-raises.ensures ∙ c.block-orders.ensures;
+    }
     in
-    let president : Some c.in-Some.president ≡ president_of c.args.table.history.events c.args.company = sym c.in-Some.is ∙ c.president-president.ensures in
-    let same : c.duplicate-raises.result.before ≡ c.block-orders.result.before = ap (λ (parts : Parts). parts.before) c.duplicate-raises.ensures in
+    let president : Some c.in-Some.president ≡ president_of c.args.table.history.events c.args.company =
+    sym c.in-Some.is ∙ c.president-president.ensures in
+    let same : c.duplicate-raises.result.before ≡ c.block-orders.result.before =
+    ap (λ (parts : Parts). parts.before) c.duplicate-raises.ensures in
     let fault : RunnerFault = c.in_err-rule_lines.field-0.0 in
-    let called = block_called file c.args.round c.args.company c.in-Some.president first turn raises begun g.R.Runner.earns (Err fault) c.args.runner.now c.rule_lines.new.runner
-    (subst (λ (lines : List Numbered). Makes g.R.Runner.earns c.args.runner.now (LinesCall turn.by turn.round lines (state turn) (Err fault)) c.rule_lines.new.runner) (sym same) c.in_err-rule_lines.ensures.calls) in
-    subst (λ (met : Result Table RunnerFault). Makes g.R.Runner.earns c.args.runner.now (TurnCalls file c.args.round c.args.company c.args.table.history (game_on met)) c.rule_lines.new.runner) (sym is)
-    (turn_broken_off g.R.Runner.earns file c.args.round c.args.company c.args.table.history first (Some c.in-Some.president) fault c.args.runner.now c.rule_lines.new.runner president c.in_ok-place_home.ensures.event called)
+    let called = block_called file c.args.round c.args.company c.in-Some.president first turn raises begun
+    g.R.Runner.earns (Err fault) c.args.runner.now c.rule_lines.new.runner
+    (subst (λ (lines : List Numbered). Makes g.R.Runner.earns c.args.runner.now
+    (LinesCall turn.by turn.round lines (state turn) (Err fault)) c.rule_lines.new.runner) (sym same)
+    c.in_err-rule_lines.ensures.calls) in
+    subst (λ (met : Result Table RunnerFault). Makes g.R.Runner.earns c.args.runner.now
+    (TurnCalls file c.args.round c.args.company c.args.table.history (game_on met)) c.rule_lines.new.runner)
+    (sym is)
+    (turn_broken_off g.R.Runner.earns file c.args.round c.args.company c.args.table.history first
+    (Some c.in-Some.president) fault c.args.runner.now c.rule_lines.new.runner president
+    c.in_ok-place_home.ensures.event called)
 
 pub returns-clause-laid : goal.returns-clause-laid
 returns-clause-laid g c =
@@ -187,10 +317,21 @@ returns-clause-laid g c =
     let turn = c.begin-turn.result in
     let raises = c.duplicate-raises.result.before in
     let begun : HasBegun file c.args.round c.args.company c.in-Some.president first turn raises =
-    record { is_by = c.begin-turn.ensures.by; is_round = c.begin-turn.ensures.round; is_game = c.begin-turn.ensures.history; is_start = c.begin-turn.ensures.progress; are_lines = ap (λ (parts : Parts). parts.before) c.duplicate-raises.ensures ∙ c.block-orders.ensures }
+    record {
+      is_by = c.begin-turn.ensures.by;
+      is_round = c.begin-turn.ensures.round;
+      is_game =
+          c.begin-turn.ensures.history;
+      is_start = c.begin-turn.ensures.progress;
+      are_lines =
+          ap (λ (parts : Parts). parts.before) c.duplicate-raises.ensures ∙ c.block-orders.ensures;
+    }
     in
-    let ended = end_led file c.args.round c.args.company c.in-Some.president first turn raises begun c.settle.new.self raises c.end.new.self.history (c.in_ok-settle.ensures.order.by ∙ c.in_ok-rule_lines.ensures.by) refl c.in_ok-end.ensures.turn in
+    let ended = end_led file c.args.round c.args.company c.in-Some.president first turn raises begun c.settle.new.self
+    raises c.end.new.self.history (c.in_ok-settle.ensures.order.by ∙ c.in_ok-rule_lines.ensures.by) refl
+    c.in_ok-end.ensures.turn in
     record {
       sound = c.in_ok-end.ensures.sound;
-      front = end_front file c.args.round c.args.company c.end.new.self.board.value c.settle.new.self.history c.end.new.self.history (Some c.in-Some.president) ended c.in_ok-end.ensures.front;
+      front = end_front file c.args.round c.args.company c.end.new.self.board.value c.settle.new.self.history
+          c.end.new.self.history (Some c.in-Some.president) ended c.in_ok-end.ensures.front;
     }

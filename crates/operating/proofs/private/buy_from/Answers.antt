@@ -13,4 +13,5 @@ pub returns-clause-sound : goal.returns-clause-sound
 returns-clause-sound c =
     let may = may_sell c.args.history.now c.args.company c.args.private c.args.price c.requires.may in
     subst IsSound (sym c.in_ok-append.ensures.ok)
-    (private_sound c.args.history.now c.args.private c.args.company _ c.args.price (c.requires.owner ∙ ap Some c.in-Seat.is) may.pays c.requires.sound)
+    (private_sound c.args.history.now c.args.private c.args.company _ c.args.price
+    (c.requires.owner ∙ ap Some c.in-Seat.is) may.pays c.requires.sound)

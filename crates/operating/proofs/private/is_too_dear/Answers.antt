@@ -12,4 +12,5 @@ returns c =
     let price : SFits w128 c.from.result = record { sfits = c.from.type_inv } in
     let past = c.args.past.now in
     rw (to_z-of_z w128 c.cash.result cash, to_z-of_z w128 c.from.result price, c.from.ensures)
-    (ap (λ (z : ℤ). lt_z z (pos c.args.price)) (c.cash.ensures.sum ∙ ap (cash_of past.seats past.events.now) c.of_company.ensures))
+    (ap (λ (z : ℤ). lt_z z (pos c.args.price)) (c.cash.ensures.sum
+    ∙ ap (cash_of past.seats past.events.now) c.of_company.ensures))

@@ -13,6 +13,9 @@ pub returns : goal.returns
 returns c =
     let size = c.train_count.result in
     let same = c.from.ensures ∙ to_z-of_z w64 size (record { sfits = c.train_count.type_inv }) in
-    at_limit c.from.result size c.args.trade_in c.phase.result c.traded_count.result c.limit.result same c.train_count.ensures.within c.traded_count.ensures c.limit.ensures
-    ∙ (ap (λ trains. not (lt_z (trains -ℤ pos (traded_count c.args.trade_in)) (pos (limit_of c.phase.result)))) c.train_count.ensures.sum
-    ∙ ap (λ phase. not (lt_z (train_count c.args.past.now.events.now (Some c.args.company) -ℤ pos (traded_count c.args.trade_in)) (pos (limit_of phase)))) c.phase.ensures)
+    at_limit c.from.result size c.args.trade_in c.phase.result c.traded_count.result c.limit.result same
+    c.train_count.ensures.within c.traded_count.ensures c.limit.ensures
+    ∙ (ap (λ trains. not (lt_z (trains -ℤ pos (traded_count c.args.trade_in)) (pos (limit_of c.phase.result))))
+    c.train_count.ensures.sum
+    ∙ ap (λ phase. not (lt_z (train_count c.args.past.now.events.now (Some c.args.company) -ℤ pos
+    (traded_count c.args.trade_in)) (pos (limit_of phase)))) c.phase.ensures)

@@ -8,5 +8,7 @@ pub returns : goal.returns
 returns c =
     let past = c.now.result in
     c.broken_by.ensures
-    ∙ ap (λ (seats : ℕ). train_judgement (record { seats = seats; events = past.events.now }) c.args.company c.args.purchase) c.now.ensures.seats
-    ∙ ap (λ (events : List Event). train_judgement (record { seats = c.args.history.now.seats; events = events }) c.args.company c.args.purchase) c.now.ensures.events
+    ∙ ap (λ (seats : ℕ). train_judgement (record { seats = seats; events = past.events.now }) c.args.company
+    c.args.purchase) c.now.ensures.seats
+    ∙ ap (λ (events : List Event). train_judgement (record { seats = c.args.history.now.seats; events = events })
+    c.args.company c.args.purchase) c.now.ensures.events

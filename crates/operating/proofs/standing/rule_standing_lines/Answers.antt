@@ -10,6 +10,8 @@ loop-seat-preserved c =
     let within : c.loop-seat.seat < length (players_of file) = search rules in
     record {
       seats = c.in_ok-rule_standing.ensures.seats ∙ c.loop-seat.invariant.seats;
-      events = standing_goes_on after_standing_line file c.args.round c.loop-seat.seat (length (players_of file)) c.loop-seat.history.events c.rule_standing.new.history.events c.parts.result c.at-seat.result within c.in_ok-rule_standing.ensures.events c.at-seat.ensures c.parts.ensures ∙ c.loop-seat.invariant.events;
+      events = standing_goes_on after_standing_line file c.args.round c.loop-seat.seat (length (players_of file))
+          c.loop-seat.history.events c.rule_standing.new.history.events c.parts.result c.at-seat.result within
+          c.in_ok-rule_standing.ensures.events c.at-seat.ensures c.parts.ensures ∙ c.loop-seat.invariant.events;
       sound = c.in_ok-rule_standing.ensures.sound;
     }

@@ -10,6 +10,9 @@ use Rattle.operating.proofs.standing.rule_standing_lines.Given as goal
 abbrev pub invariant-loop-seat : goal.invariant-loop-seat
 invariant-loop-seat l = record {
   seats : l.history.seats ≡ l.fn.history.seats;
-  events : after_all_before after_standing_line l.sheets l.round l.history.events (range_with_len l.seat (length (players_of l.sheets) - l.seat)) ≡ after_all_before after_standing_line l.sheets l.round l.fn.history.events (range_with_len 0 (length (players_of l.sheets)));
+  events : after_all_before after_standing_line l.sheets l.round l.history.events
+      (range_with_len l.seat (length (players_of l.sheets) - l.seat))
+      ≡ after_all_before after_standing_line l.sheets l.round l.fn.history.events
+      (range_with_len 0 (length (players_of l.sheets)));
   sound : IsSound l.history;
 }

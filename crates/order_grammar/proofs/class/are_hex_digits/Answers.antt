@@ -9,5 +9,6 @@ pub returns : goal.returns
 returns c =
     let word = c.args.word.now in
     let all =
-    all_from_yields_List is_ascii_hexdigit _ _ c.all.result c.all.ensures.ran (YieldsList-from_slice word cc) (λ x b q k. search (rules, tests)) in
+    all_from_yields_List is_ascii_hexdigit _ _ c.all.result c.all.ensures.ran (YieldsList-from_slice word cc)
+    (λ x b q k. search (rules, tests)) in
     all ∙ sym (hex_digits-raised word)

@@ -7,4 +7,5 @@ use Rattle.order_grammar.proofs.class.digits_value.Given as goal
 -- the digits so far, and their value, capped
 abbrev pub invariant-loop-byte : goal.invariant-loop-byte
 invariant-loop-byte l =
-    (l.value ≡ min (value_of_digits (take l.byte-index l.word)) 100000) × (list_all is_digit (take l.byte-index l.word) ≡ true)
+    (l.value ≡ min (value_of_digits (take l.byte-index l.word)) 100000)
+    × (list_all is_digit (take l.byte-index l.word) ≡ true)

@@ -8,4 +8,5 @@ use Rattle.order_grammar.proofs.class.read_company.Given as goal
 -- none so far has this code
 abbrev pub invariant-loop-company : goal.invariant-loop-company
 invariant-loop-company l =
-    code_reading code_of_company Company (drop l.company-index companies) (raised l.word) ≡ company_reading (raised l.word)
+    code_reading code_of_company Company (drop l.company-index companies) (raised l.word)
+    ≡ company_reading (raised l.word)

@@ -11,9 +11,11 @@ returns-in-None c =
 pub returns-in-Some : goal.returns-in-Some
 returns-in-Some c =
     let word = c.args.word.now in
-    sym (digits_reading-raised Number word ∙ digits_reading-large Number word c.in-Some.value c.in-Some.ensures c.if-value-gt-NUMBER_MOST.true)
+    sym (digits_reading-raised Number word ∙ digits_reading-large Number word c.in-Some.value c.in-Some.ensures
+    c.if-value-gt-NUMBER_MOST.true)
 
 pub returns-in-Some-2 : goal.returns-in-Some-2
 returns-in-Some-2 c =
     let word = c.args.word.now in
-    sym (digits_reading-raised Number word ∙ digits_reading-value Number word c.in-Some.value c.in-Some.ensures c.if-value-gt-NUMBER_MOST.false)
+    sym (digits_reading-raised Number word ∙ digits_reading-value Number word c.in-Some.value c.in-Some.ensures
+    c.if-value-gt-NUMBER_MOST.false)

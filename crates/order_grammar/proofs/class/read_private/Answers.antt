@@ -10,12 +10,16 @@ pub returns-then-is_word : goal.returns-then-is_word
 returns-then-is_word c =
     let word = raised c.args.word.now in
     let i = c.loop-private.private-index in
-    let same = ap (same_word word) (sym (c.as_bytes.ensures.value ∙ c.code.ensures)) ∙ sym c.is_word.ensures ∙ c.if-is_word.true in
-    sym (code_reading-here code_of_private Private privates i SchuylkillValley word c.loop-private-test.true same) ∙ c.loop-private.invariant
+    let same = ap (same_word word) (sym (c.as_bytes.ensures.value ∙ c.code.ensures)) ∙ sym c.is_word.ensures
+    ∙ c.if-is_word.true in
+    sym (code_reading-here code_of_private Private privates i SchuylkillValley word c.loop-private-test.true same)
+    ∙ c.loop-private.invariant
 
 pub loop-private-preserved : goal.loop-private-preserved
 loop-private-preserved c =
     let word = raised c.args.word.now in
     let i = c.loop-private.private-index in
-    let other = ap (same_word word) (sym (c.as_bytes.ensures.value ∙ c.code.ensures)) ∙ sym c.is_word.ensures ∙ c.if-is_word.false in
-    sym (code_reading-next code_of_private Private privates i SchuylkillValley word c.loop-private-test.true other) ∙ c.loop-private.invariant
+    let other = ap (same_word word) (sym (c.as_bytes.ensures.value ∙ c.code.ensures)) ∙ sym c.is_word.ensures
+    ∙ c.if-is_word.false in
+    sym (code_reading-next code_of_private Private privates i SchuylkillValley word c.loop-private-test.true other)
+    ∙ c.loop-private.invariant

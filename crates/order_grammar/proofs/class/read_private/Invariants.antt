@@ -8,4 +8,5 @@ use Rattle.order_grammar.proofs.class.read_private.Given as goal
 -- none so far has this code
 abbrev pub invariant-loop-private : goal.invariant-loop-private
 invariant-loop-private l =
-    code_reading code_of_private Private (drop l.private-index privates) (raised l.word) ≡ private_reading (raised l.word)
+    code_reading code_of_private Private (drop l.private-index privates) (raised l.word)
+    ≡ private_reading (raised l.word)

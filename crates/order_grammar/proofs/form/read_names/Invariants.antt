@@ -8,4 +8,5 @@ use Rattle.order_grammar.proofs.form.read_names.Given as goal
 abbrev pub invariant-loop-word : goal.invariant-loop-word
 invariant-loop-word l =
     (goal.iterator-loop-word).can_next l.rest × (goal.iterator-loop-word).is_finite l.rest
-    × (l.names.items ++ texts_of l.rest ≡ texts_of l.words) × (list_all is_name l.names.items ≡ true) × (length l.names.items ≤ l.most) × (l.most ≤ 6)
+    × (l.names.items ++ texts_of l.rest ≡ texts_of l.words) × (list_all is_name l.names.items ≡ true)
+    × (length l.names.items ≤ l.most) × (l.most ≤ 6)

@@ -19,9 +19,12 @@ returns-in-Ok c =
     let order = c.read.new.order in
     let others = drop (i + 1) (map row_of c.args.forms.now) in
     let next =
-    rows-next first rest (Err c.loop-form.nearest) c.args.forms.now i _ c.loop-form-test.true (put_reading c.read.result order) c.read.ensures in
-    let found : fold (with_row first rest) (nearer (Err c.loop-form.nearest) (put_reading c.read.result order)) others ≡ Ok order =
-    ap (λ (r : Result Unit Fault). fold (with_row first rest) (nearer (Err c.loop-form.nearest) (put_reading r order)) others) c.in-Ok.is
+    rows-next first rest (Err c.loop-form.nearest) c.args.forms.now i _ c.loop-form-test.true
+    (put_reading c.read.result order) c.read.ensures in
+    let found : fold (with_row first rest) (nearer (Err c.loop-form.nearest) (put_reading c.read.result order)) others
+    ≡ Ok order =
+    ap (λ (r : Result Unit Fault). fold (with_row first rest) (nearer (Err c.loop-form.nearest) (put_reading r order))
+    others) c.in-Ok.is
     ∙ ap (λ (r : Result Order Fault). fold (with_row first rest) r others) (nearer-found c.loop-form.nearest order)
     ∙ found_stays first rest order others in
     sym found ∙ sym next ∙ c.loop-form.invariant
@@ -34,9 +37,11 @@ loop-form-preserved c =
     let order = c.read.new.order in
     let others = drop (i + 1) (map row_of c.args.forms.now) in
     let next =
-    rows-next first rest (Err c.loop-form.nearest) c.args.forms.now i _ c.loop-form-test.true (put_reading c.read.result order) c.read.ensures in
+    rows-next first rest (Err c.loop-form.nearest) c.args.forms.now i _ c.loop-form-test.true
+    (put_reading c.read.result order) c.read.ensures in
     ap (λ (r : Result Order Fault). fold (with_row first rest) r others) c.nearer-nearest.ensures
-    ∙ ap (λ (r : Result Unit Fault). fold (with_row first rest) (nearer (Err c.loop-form.nearest) (put_reading r order)) others) (sym c.in-Err.is)
+    ∙ ap (λ (r : Result Unit Fault). fold (with_row first rest)
+    (nearer (Err c.loop-form.nearest) (put_reading r order)) others) (sym c.in-Err.is)
     ∙ sym next
     ∙ c.loop-form.invariant
 
@@ -49,5 +54,7 @@ loop-form-preserved-then-not-is_word c =
     let others = drop (i + 1) (map row_of c.args.forms.now) in
     let different = ap (same_word first) (sym c.text.ensures) ∙ (sym c.is_word.ensures ∙ c.if-not-is_word.true) in
     let next =
-    rows-next first rest (Err c.loop-form.nearest) c.args.forms.now i _ c.loop-form-test.true (Err UnknownWord) (unknown-row _ first rest different) in
-    ap (λ (r : Result Order Fault). fold (with_row first rest) r others) (sym (nearer-unknown c.loop-form.nearest)) ∙ sym next ∙ c.loop-form.invariant
+    rows-next first rest (Err c.loop-form.nearest) c.args.forms.now i _ c.loop-form-test.true (Err UnknownWord)
+    (unknown-row _ first rest different) in
+    ap (λ (r : Result Order Fault). fold (with_row first rest) r others) (sym (nearer-unknown c.loop-form.nearest))
+    ∙ sym next ∙ c.loop-form.invariant

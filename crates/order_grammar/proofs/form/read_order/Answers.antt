@@ -8,6 +8,7 @@ use Rattle.order_grammar.proofs.form.read_order.Goals as goal
 pub returns : goal.returns
 returns c =
     let rows = map row_of c.args.forms.now in
-    table_read c.duplicate-rest.result c.next.new.self c.next.result c.in-Some.first rows (put_reading c.read_nearest.result c.read_nearest.new.order)
+    table_read c.duplicate-rest.result c.next.new.self c.next.result c.in-Some.first rows
+    (put_reading c.read_nearest.result c.read_nearest.new.order)
     c.next.ensures.steps c.in-Some.is c.read_nearest.ensures
     ∙ ap (λ (words : List Placed). words_reading rows (texts_of words)) c.duplicate-rest.ensures

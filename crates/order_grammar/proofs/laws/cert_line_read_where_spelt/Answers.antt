@@ -5,4 +5,8 @@ use Rattle.order_grammar.proofs.PartLemmas.{rows_of_certificates}
 use Rattle.order_grammar.proofs.laws.cert_line_read_where_spelt.Goals as goal
 
 pub returns : goal.returns
-returns c = λ line order. (read_spells certificate cert_forms rows_of_certificates line order, spells_read certificate cert_forms rows_of_certificates line order)
+returns c = λ line order. (
+  read_spells certificate cert_forms rows_of_certificates line order,
+  spells_read certificate
+      cert_forms rows_of_certificates line order,
+)

@@ -11,7 +11,9 @@ returns-then-rest-lt-NAME_MOST-clause-value c =
     let word = c.args.word.now in
     let rest = take (length word - 1) (drop 1 word) in
     let all =
-    all_from_yields_List is_ascii_alphanumeric _ _ c.all.result c.all.ensures.ran (YieldsList-from_slice rest cc) (λ x b q k. search (rules, tests)) in
+    all_from_yields_List is_ascii_alphanumeric _ _ c.all.result c.all.ensures.ran (YieldsList-from_slice rest cc)
+    (λ x b q k. search (rules, tests)) in
     let letter = sym c.is_ascii_alphabetic.ensures.value ∙ c.if-rest-lt-NAME_MOST.true.0 in
-    is_name-raised word c.all.result letter (omega (arith, c.if-rest-lt-NAME_MOST.true.1, length-take (length word - 1) (drop 1 word), length-drop 1 word)) all
+    is_name-raised word c.all.result letter (omega
+    (arith, c.if-rest-lt-NAME_MOST.true.1, length-take (length word - 1) (drop 1 word), length-drop 1 word)) all
     c.in-len1-up.len_at_least

@@ -7,13 +7,25 @@ use Rattle.order_grammar.proofs.print.print_round.Goals as goal
 pub returns-in_ok-extend_from_slice-in-Opening-clause-err : goal.returns-in_ok-extend_from_slice-in-Opening-clause-err
 returns-in_ok-extend_from_slice-in-Opening-clause-err c =
     on_err_weaker c.print_number.result
-    (λ stays. record { front = codes "PR"; rest = decimal c.in-Opening.number; added = stays ∙ c.in_ok-extend_from_slice-in-Opening.ensures.items; whole = ap text_of_round c.in-Opening.is })
+    (λ stays. record {
+      front = codes "PR";
+      rest = decimal c.in-Opening.number;
+      added =
+          stays ∙ c.in_ok-extend_from_slice-in-Opening.ensures.items;
+      whole = ap text_of_round c.in-Opening.is;
+    })
     c.print_number.ensures.err
 
 pub returns-in_ok-extend_from_slice-in-Stock-clause-err : goal.returns-in_ok-extend_from_slice-in-Stock-clause-err
 returns-in_ok-extend_from_slice-in-Stock-clause-err c =
     on_err_weaker c.print_number-in-Stock.result
-    (λ stays. record { front = codes "SR"; rest = decimal c.in-Stock.number; added = stays ∙ c.in_ok-extend_from_slice-in-Stock.ensures.items; whole = ap text_of_round c.in-Stock.is })
+    (λ stays. record {
+      front = codes "SR";
+      rest = decimal c.in-Stock.number;
+      added =
+          stays ∙ c.in_ok-extend_from_slice-in-Stock.ensures.items;
+      whole = ap text_of_round c.in-Stock.is;
+    })
     c.print_number-in-Stock.ensures.err
 
 pub returns-in_err-print_number-in-Operating-clause-err : goal.returns-in_err-print_number-in-Operating-clause-err
@@ -32,8 +44,10 @@ returns-in_err-push-in-Operating-clause-err c =
       rest = codes "." ++ decimal c.in-Operating.number;
       added =
           c.in_err-push-in-Operating.ensures.items ∙ c.in_ok-print_number-in-Operating.ensures.ok
-          ∙ two_added c.args.text.now.items _ (codes "OR") (decimal c.in-Operating.set) c.in_ok-extend_from_slice-in-Operating.ensures.items;
-      whole = ap text_of_round c.in-Operating.is ∙ append_assoc (codes "OR" ++ decimal c.in-Operating.set) (codes ".") (decimal c.in-Operating.number);
+          ∙ two_added c.args.text.now.items _ (codes "OR") (decimal c.in-Operating.set)
+          c.in_ok-extend_from_slice-in-Operating.ensures.items;
+      whole = ap text_of_round c.in-Operating.is ∙ append_assoc (codes "OR" ++ decimal c.in-Operating.set) (codes ".")
+          (decimal c.in-Operating.number);
     })
 
 pub returns-in_ok-push-in-Operating-clause-err : goal.returns-in_ok-push-in-Operating-clause-err
@@ -44,6 +58,7 @@ returns-in_ok-push-in-Operating-clause-err c =
       added =
           stays ∙ c.in_ok-push-in-Operating.ensures.items
           ∙ two_added c.args.text.now.items _ (codes "OR" ++ decimal c.in-Operating.set) (codes ".")
-          (c.in_ok-print_number-in-Operating.ensures.ok ∙ two_added c.args.text.now.items _ (codes "OR") (decimal c.in-Operating.set) c.in_ok-extend_from_slice-in-Operating.ensures.items);
+          (c.in_ok-print_number-in-Operating.ensures.ok ∙ two_added c.args.text.now.items _ (codes "OR")
+          (decimal c.in-Operating.set) c.in_ok-extend_from_slice-in-Operating.ensures.items);
       whole = ap text_of_round c.in-Operating.is;
     }) c.print_number-in-Operating-2.ensures.err

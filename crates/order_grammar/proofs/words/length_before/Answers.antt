@@ -9,7 +9,8 @@ returns-clause-value c =
     let stop = c.args.stop in
     let text = c.args.text.now in
     let p =
-    position_from_yields_List (λ b. b == stop) _ _ c.position.result c.position.ensures.ran (YieldsList-from_slice text cc) (λ x b q k. search (rules, tests)) in
+    position_from_yields_List (λ b. b == stop) _ _ c.position.result c.position.ensures.ran
+    (YieldsList-from_slice text cc) (λ x b q k. search (rules, tests)) in
     c.unwrap_or.ensures ∙ position-end (λ b. b == stop) text c.position.result p ∙ sym (length-before stop text)
 
 pub returns-clause-front : goal.returns-clause-front

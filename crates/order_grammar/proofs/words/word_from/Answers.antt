@@ -13,7 +13,8 @@ returns-in_err-spaces-clause-word c =
     let at = c.args.at in
     let rest = take (length text - at) (drop at text) in
     let p =
-    position_from_yields_List (λ b. not (b == 32)) _ _ c.position.result c.position.ensures.ran (YieldsList-from_slice rest cc)
+    position_from_yields_List (λ b. not (b == 32)) _ _ c.position.result c.position.ensures.ran
+    (YieldsList-from_slice rest cc)
     (λ x b q k. search (rules, tests)) in
     let none : placed_from at [] (drop at text) ≡ [] =
     ap (placed_from at []) (sym (take_rest text at)) ∙ no_word at rest c.position.result p c.in_err-spaces.was in
@@ -25,11 +26,15 @@ returns-clause-word c =
     let at = c.args.at in
     let rest = take (length text - at) (drop at text) in
     let p =
-    position_from_yields_List (λ b. not (b == 32)) _ _ c.position.result c.position.ensures.ran (YieldsList-from_slice rest cc)
+    position_from_yields_List (λ b. not (b == 32)) _ _ c.position.result c.position.ensures.ran
+    (YieldsList-from_slice rest cc)
     (λ x b q k. search (rules, tests)) in
     let found =
     subst
-    (λ (t : List ℕ). c.position.result ≡ cond (ltb (position_or_len (λ b. not (b == 32)) t) (length t)) (Some (position_or_len (λ b. not (b == 32)) t)) None)
+    (λ (t : List ℕ). c.position.result ≡ cond (ltb (position_or_len (λ b. not (b == 32)) t) (length t))
+    (Some (position_or_len (λ b. not (b == 32)) t)) None)
     (take_rest text at) p in
-    let size = c.length_before.ensures.value ∙ ap (λ (t : List ℕ). length (before 32 t)) (take_rest text (at + c.in_ok-spaces.spaces)) in
-    first_placed at text c.in_ok-spaces.spaces c.length_before.result c.position.result c.requires found c.in_ok-spaces.was size
+    let size = c.length_before.ensures.value ∙ ap (λ (t : List ℕ). length (before 32 t))
+    (take_rest text (at + c.in_ok-spaces.spaces)) in
+    first_placed at text c.in_ok-spaces.spaces c.length_before.result c.position.result c.requires found
+    c.in_ok-spaces.was size

@@ -5,4 +5,5 @@ use Rattle.privates.proofs.closing.lower_price.Goals as goal
 
 pub give_away-requires-clause-at_table : goal.give_away-requires-clause-at_table
 give_away-requires-clause-at_table c =
-    subst (λ (seat : Seat). seat.0 < c.args.history.now.seats) (sym c.priority-holder.ensures) (priority_within c.args.history.now.seats c.args.history.now.events c.requires.some)
+    subst (λ (seat : Seat). seat.0 < c.args.history.now.seats) (sym c.priority-holder.ensures)
+    (priority_within c.args.history.now.seats c.args.history.now.events c.requires.some)

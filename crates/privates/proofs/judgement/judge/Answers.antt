@@ -9,14 +9,20 @@ pub returns-in-BuyPrivate : goal.returns-in-BuyPrivate
 returns-in-BuyPrivate c =
     let order = BuyPrivate c.in-BuyPrivate.private in
     c.judge_purchase.ensures
-    ∙ ap (λ (seats : ℕ). judgement_of seats c.now-now.result.events.now c.args.seat c.args.turn_used order) c.now-now.ensures.seats
-    ∙ ap (λ (events : List Event). judgement_of c.args.history.now.seats events c.args.seat c.args.turn_used order) c.now-now.ensures.events
-    ∙ ap (judgement_of c.args.history.now.seats c.args.history.now.events c.args.seat c.args.turn_used) (sym c.in-BuyPrivate.is)
+    ∙ ap (λ (seats : ℕ). judgement_of seats c.now-now.result.events.now c.args.seat c.args.turn_used order)
+    c.now-now.ensures.seats
+    ∙ ap (λ (events : List Event). judgement_of c.args.history.now.seats events c.args.seat c.args.turn_used order)
+    c.now-now.ensures.events
+    ∙ ap (judgement_of c.args.history.now.seats c.args.history.now.events c.args.seat c.args.turn_used)
+    (sym c.in-BuyPrivate.is)
 
 pub returns-in-Bid : goal.returns-in-Bid
 returns-in-Bid c =
     let order = Bid c.in-Bid.private c.in-Bid.amount in
     c.judge_bid.ensures
-    ∙ ap (λ (seats : ℕ). judgement_of seats c.now-now.result.events.now c.args.seat c.args.turn_used order) c.now-now.ensures.seats
-    ∙ ap (λ (events : List Event). judgement_of c.args.history.now.seats events c.args.seat c.args.turn_used order) c.now-now.ensures.events
-    ∙ ap (judgement_of c.args.history.now.seats c.args.history.now.events c.args.seat c.args.turn_used) (sym c.in-Bid.is)
+    ∙ ap (λ (seats : ℕ). judgement_of seats c.now-now.result.events.now c.args.seat c.args.turn_used order)
+    c.now-now.ensures.seats
+    ∙ ap (λ (events : List Event). judgement_of c.args.history.now.seats events c.args.seat c.args.turn_used order)
+    c.now-now.ensures.events
+    ∙ ap (judgement_of c.args.history.now.seats c.args.history.now.events c.args.seat c.args.turn_used)
+    (sym c.in-Bid.is)

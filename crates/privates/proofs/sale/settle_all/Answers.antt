@@ -23,4 +23,5 @@ pub returns-clause-events : goal.returns-clause-events
 unfolding settled
 returns-clause-events c =
     let all : c.loop-private._private-index ≡ 6 = omega arith in
-    c.loop-private.invariant.events ∙ ap (λ (k : ℕ). iterate (settle_auctions c.args.history.now.seats) k c.args.history.now.events) all
+    c.loop-private.invariant.events ∙ ap (λ (k : ℕ). iterate (settle_auctions c.args.history.now.seats) k
+    c.args.history.now.events) all

@@ -8,21 +8,30 @@ use Rattle.privates.proofs.sale.settle_bids.Goals as goal
 pub sell-requires-clause-small : goal.sell-requires-clause-small
 sell-requires-clause-small c =
     let game = c.args.history.now in
-    let bids = c.as_slice.ensures.value ∙ c.bids_on-bids.ensures ∙ ap (λ (n : ℕ). bids_on n c.now.result.events.now c.args.private) c.now.ensures.seats ∙ ap (λ (events : List Event). bids_on game.seats events c.args.private) c.now.ensures.events in
-    let stands = first_stands game c.args.private c.as_slice.result.now (record { seat = record { 0 = 0 }; amount = 0 }) bids c.in-len1.len_at_least in
+    let bids = c.as_slice.ensures.value ∙ c.bids_on-bids.ensures
+    ∙ ap (λ (n : ℕ). bids_on n c.now.result.events.now c.args.private) c.now.ensures.seats
+    ∙ ap (λ (events : List Event). bids_on game.seats events c.args.private) c.now.ensures.events in
+    let stands = first_stands game c.args.private c.as_slice.result.now
+    (record { seat = record { 0 = 0 }; amount = 0 }) bids c.in-len1.len_at_least in
     let small = c.requires.underway.sound.bids_small c.args.private _ _ stands.stands in
     omega arith
 
 pub sell-requires-clause-at_table : goal.sell-requires-clause-at_table
 sell-requires-clause-at_table c =
     let game = c.args.history.now in
-    let bids = c.as_slice.ensures.value ∙ c.bids_on-bids.ensures ∙ ap (λ (n : ℕ). bids_on n c.now.result.events.now c.args.private) c.now.ensures.seats ∙ ap (λ (events : List Event). bids_on game.seats events c.args.private) c.now.ensures.events in
-    let stands = first_stands game c.args.private c.as_slice.result.now (record { seat = record { 0 = 0 }; amount = 0 }) bids c.in-len1.len_at_least in
+    let bids = c.as_slice.ensures.value ∙ c.bids_on-bids.ensures
+    ∙ ap (λ (n : ℕ). bids_on n c.now.result.events.now c.args.private) c.now.ensures.seats
+    ∙ ap (λ (events : List Event). bids_on game.seats events c.args.private) c.now.ensures.events in
+    let stands = first_stands game c.args.private c.as_slice.result.now
+    (record { seat = record { 0 = 0 }; amount = 0 }) bids c.in-len1.len_at_least in
     stands.under
 
 pub sell-requires-clause-may : goal.sell-requires-clause-may
 sell-requires-clause-may c =
     let game = c.args.history.now in
-    let bids = c.as_slice.ensures.value ∙ c.bids_on-bids.ensures ∙ ap (λ (n : ℕ). bids_on n c.now.result.events.now c.args.private) c.now.ensures.seats ∙ ap (λ (events : List Event). bids_on game.seats events c.args.private) c.now.ensures.events in
-    let stands = first_stands game c.args.private c.as_slice.result.now (record { seat = record { 0 = 0 }; amount = 0 }) bids c.in-len1.len_at_least in
+    let bids = c.as_slice.ensures.value ∙ c.bids_on-bids.ensures
+    ∙ ap (λ (n : ℕ). bids_on n c.now.result.events.now c.args.private) c.now.ensures.seats
+    ∙ ap (λ (events : List Event). bids_on game.seats events c.args.private) c.now.ensures.events in
+    let stands = first_stands game c.args.private c.as_slice.result.now
+    (record { seat = record { 0 = 0 }; amount = 0 }) bids c.in-len1.len_at_least in
     may_pay_bid game c.args.private _ c.requires.cheapest stands c.requires.underway.sound

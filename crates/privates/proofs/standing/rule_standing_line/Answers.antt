@@ -6,6 +6,8 @@ use Rattle.privates.proofs.standing.rule_standing_line.Goals as goal
 
 pub returns-clause-underway : goal.returns-clause-underway
 returns-clause-underway c =
-    ruling_underway c.args.history.now c.rule_line.new.history c.args.seat c.args.line.number _ c.in_ok-rule_line.ensures.ruling
-    (small_ruling has_place_before (standing_refusal c.args.history.now.events) c.args.history.now.events (line_unread c.args.line) c.requires.small)
+    ruling_underway c.args.history.now c.rule_line.new.history c.args.seat c.args.line.number _
+    c.in_ok-rule_line.ensures.ruling
+    (small_ruling has_place_before (standing_refusal c.args.history.now.events) c.args.history.now.events
+    (line_unread c.args.line) c.requires.small)
     c.in_ok-rule_line.ensures.sound c.requires.underway

@@ -10,8 +10,10 @@ use Rattle.privates.proofs.turn.rule_line.Goals as goal
 
 pub returns-then-not-branch-clause-underway : goal.returns-then-not-branch-clause-underway
 returns-then-not-branch-clause-underway c =
-    ruling_underway c.args.history.now c.rule_line.new.history c.args.seat c.args.line.number _ c.in_ok-rule_line.ensures.ruling
-    (small_ruling has_place_in_group (refusal_of c.args.history.now.seats c.args.history.now.events c.args.seat c.args.turn_used) c.args.history.now.events (line_unread c.args.line) c.requires.small)
+    ruling_underway c.args.history.now c.rule_line.new.history c.args.seat c.args.line.number _
+    c.in_ok-rule_line.ensures.ruling
+    (small_ruling has_place_in_group (refusal_of c.args.history.now.seats c.args.history.now.events c.args.seat
+    c.args.turn_used) c.args.history.now.events (line_unread c.args.line) c.requires.small)
     c.in_ok-rule_line.ensures.sound c.requires.underway
 
 pub act-requires-clause-may : goal.act-requires-clause-may
@@ -21,13 +23,33 @@ act-requires-clause-may c =
     let line = line_unread c.args.line in
     let order = c.rule_line.new.order in
     let to_do : IsToDo has_place_in_group judgement events line order =
-    subst (IsOrderToDo has_place_in_group judgement events line order) c.if-not-branch.false c.in_ok-rule_line.ensures.order
+    subst (IsOrderToDo has_place_in_group judgement events line order) c.if-not-branch.false
+    c.in_ok-rule_line.ensures.order
     in
-    may_act_after c.args.history.now c.rule_line.new.history _ c.args.seat c.args.turn_used order c.in_ok-rule_line.ensures.ruling (record { payment = refl; ownership = refl; bidding = refl; transfer = refl; par = refl; square = refl; office = refl; float = refl; sv_price = refl; train = refl; tile = refl; token = refl })
-    (none_as_refusal Opening (judgement_of c.args.history.now.seats c.args.history.now.events c.args.seat c.args.turn_used order) to_do.kept)
+    may_act_after c.args.history.now c.rule_line.new.history _ c.args.seat c.args.turn_used order
+    c.in_ok-rule_line.ensures.ruling (record {
+      payment = refl;
+      ownership = refl;
+      bidding = refl;
+      transfer =
+          refl;
+      par = refl;
+      square = refl;
+      office = refl;
+      float = refl;
+      sv_price = refl;
+      train = refl;
+      tile =
+          refl;
+      token = refl;
+    })
+    (none_as_refusal Opening (judgement_of c.args.history.now.seats c.args.history.now.events c.args.seat
+    c.args.turn_used order) to_do.kept)
 
 pub act-requires-clause-underway : goal.act-requires-clause-underway
 act-requires-clause-underway c =
-    ruling_underway c.args.history.now c.rule_line.new.history c.args.seat c.args.line.number _ c.in_ok-rule_line.ensures.ruling
-    (small_ruling has_place_in_group (refusal_of c.args.history.now.seats c.args.history.now.events c.args.seat c.args.turn_used) c.args.history.now.events (line_unread c.args.line) c.requires.small)
+    ruling_underway c.args.history.now c.rule_line.new.history c.args.seat c.args.line.number _
+    c.in_ok-rule_line.ensures.ruling
+    (small_ruling has_place_in_group (refusal_of c.args.history.now.seats c.args.history.now.events c.args.seat
+    c.args.turn_used) c.args.history.now.events (line_unread c.args.line) c.requires.small)
     c.in_ok-rule_line.ensures.sound c.requires.underway

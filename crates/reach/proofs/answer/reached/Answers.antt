@@ -16,7 +16,8 @@ returns g c =
     let position = g.N.Network.position c.args.network.now in
     let marks = c.in_ok-marks.marks.marks in
     let found = c.in_ok-marks.ensures in
-    let copied : c.in_ok-stops.stops.items ≡ c.marked_stops.result = c.in_ok-stops.ensures.items_if_clones_equal (λ x y same. same) ∙ c.stops.ensures.value in
+    let copied : c.in_ok-stops.stops.items ≡ c.marked_stops.result =
+    c.in_ok-stops.ensures.items_if_clones_equal (λ x y same. same) ∙ c.stops.ensures.value in
     marked_reach position c.args.company c.keeps_laws.ensures marks found.arrive found.tokens found.closed
     c.in_ok-stops.stops.items c.search.new.keeper.items
     (subst (λ ls. AreMarkedStops marks ls) (sym copied) c.marked_stops.ensures.marked)

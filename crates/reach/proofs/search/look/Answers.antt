@@ -25,17 +25,21 @@ follow_from-requires-clause-may g c =
     let position = g.N.Network.position c.args.network.now in
     let at = c.in-Some-across.at in
     let crosses : across c.args.from ≡ Some at = sym c.across.ensures ∙ c.in-Some-across.is in
-    enter_joined position c.args.company c.requires.lawful c.args.marks.now.marks c.args.from c.requires.arrived at.hex at.end (inr crosses)
-    (subst (λ o. IfSome o (λ stop. ¬ IsFull position stop c.args.company)) (sym (back position c.requires.lawful c.args.from at crosses).1) tt)
+    enter_joined position c.args.company c.requires.lawful c.args.marks.now.marks c.args.from c.requires.arrived
+    at.hex at.end (inr crosses)
+    (subst (λ o. IfSome o (λ stop. ¬ IsFull position stop c.args.company))
+    (sym (back position c.requires.lawful c.args.from at crosses).1) tt)
 
 pub returns-in-Some-across : goal.returns-in-Some-across
 returns-in-Some-across g c =
     let position = g.N.Network.position c.args.network.now in
     spreads_fewer position c.args.company _ _ _ _ _ _ _ _ c.in_ok-follow_from.ensures
-    (λ step is. goes_across position c.args.company c.args.from c.in-Some-across.at (sym c.stop.ensures ∙ c.in_default.is) (sym c.across.ensures ∙ c.in-Some-across.is) step is.0 is.1)
+    (λ step is. goes_across position c.args.company c.args.from c.in-Some-across.at
+    (sym c.stop.ensures ∙ c.in_default.is) (sym c.across.ensures ∙ c.in-Some-across.is) step is.0 is.1)
 
 pub returns : goal.returns
 returns g c =
     let position = g.N.Network.position c.args.network.now in
     spreads_none position c.args.company _ _ _ _
-    (λ step is. goes_nowhere position c.args.company c.args.from (entered_at step) (sym c.stop.ensures ∙ c.in_default.is) (sym c.across.ensures ∙ c.in_default-across.is) is.1)
+    (λ step is. goes_nowhere position c.args.company c.args.from (entered_at step)
+    (sym c.stop.ensures ∙ c.in_default.is) (sym c.across.ensures ∙ c.in_default-across.is) is.1)

@@ -9,7 +9,8 @@ use Rattle.reach.proofs.search.look_from_stop.Goals as goal
 
 pub follow_from-requires-clause-may : goal.follow_from-requires-clause-may
 follow_from-requires-clause-may g c =
-    stop_enters (g.N.Network.position c.args.network.now) c.args.company c.args.marks.now.marks c.args.stop c.requires.arrived
+    stop_enters (g.N.Network.position c.args.network.now) c.args.company c.args.marks.now.marks c.args.stop
+    c.requires.arrived
     (λ full. let is : true ≡ false = sym (c.full.ensures.1 full) ∙ c.if-full.false in cc)
     c.args.stop.hex (own_hex_named c.args.stop c.requires.arrived.0)
 

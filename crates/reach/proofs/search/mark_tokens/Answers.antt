@@ -23,14 +23,16 @@ loop-index-init g c =
 
 pub loop-index-preserved : goal.loop-index-preserved
 loop-index-preserved g c =
-    tokens_added (g.N.Network.position c.args.network.now) c.args.company _ _ c.at_index-hex.result c.loop-index.index c.at_index-hex.ensures c.loop-index.invariant _ _ c.mark_token.ensures _ _ c.mark_token-in-loop-index.ensures
+    tokens_added (g.N.Network.position c.args.network.now) c.args.company _ _ c.at_index-hex.result c.loop-index.index
+    c.at_index-hex.ensures c.loop-index.invariant _ _ c.mark_token.ensures _ _ c.mark_token-in-loop-index.ensures
 
 pub returns-clause-arrive : goal.returns-clause-arrive
 returns-clause-arrive g c = c.loop-index.invariant.arrive
 
 pub returns-clause-tokens : goal.returns-clause-tokens
 returns-clause-tokens g c =
-    all_tokens (g.N.Network.position c.args.network.now) c.args.company c.loop-index.marks.marks (2 * c.loop-index.index) (omega (arith, c.loop-index-test.false)) c.loop-index.invariant.tokens
+    all_tokens (g.N.Network.position c.args.network.now) c.args.company c.loop-index.marks.marks
+    (2 * c.loop-index.index) (omega (arith, c.loop-index-test.false)) c.loop-index.invariant.tokens
 
 pub returns-clause-wait : goal.returns-clause-wait
 returns-clause-wait g c = c.loop-index.invariant.wait

@@ -15,14 +15,19 @@ loop-spot-init g c =
     record {
       arrive = c.mark_tokens-marks.ensures.arrive;
       tokens = c.mark_tokens-marks.ensures.tokens;
-      looked = record { known = c.mark_tokens-marks.ensures.wait.known; looked = λ spot is. inl (c.mark_tokens-marks.ensures.wait.all spot is) };
+      looked = record {
+        known = c.mark_tokens-marks.ensures.wait.known;
+        looked =
+            λ spot is. inl (c.mark_tokens-marks.ensures.wait.all spot is);
+      };
       taken = λ none link is. absurd (none link is);
     }
 
 pub look-requires-clause-arrived : goal.look-requires-clause-arrived
 look-requires-clause-arrived g c =
     c.loop-spot.invariant.looked.known c.in-Some.spot
-    (subst (λ w. Waits w c.in-Some.spot) (sym c.in-Some.ensures.items) (waits_end c.pop.new.self.items c.in-Some.spot c.in-Some.spot refl))
+    (subst (λ w. Waits w c.in-Some.spot) (sym c.in-Some.ensures.items)
+    (waits_end c.pop.new.self.items c.in-Some.spot c.in-Some.spot refl))
 
 pub loop-spot-preserved : goal.loop-spot-preserved
 loop-spot-preserved g c =
@@ -32,19 +37,23 @@ loop-spot-preserved g c =
       arrive = c.in_ok-look.ensures.arrive c.loop-spot.invariant.arrive;
       tokens = λ spot stop is token. c.in_ok-look.ensures.kept spot (c.loop-spot.invariant.tokens spot stop is token);
       looked = looked_on position c.args.company c.pop.new.self.items c.in-Some.spot old _ _ _ _
-          (subst (λ w. AreLookedAt position c.args.company old w (g.K.Keeper.keeps c.loop-spot.keeper)) c.in-Some.ensures.items c.loop-spot.invariant.looked)
+          (subst (λ w. AreLookedAt position c.args.company old w (g.K.Keeper.keeps c.loop-spot.keeper))
+          c.in-Some.ensures.items c.loop-spot.invariant.looked)
           c.in_ok-look.ensures;
       taken = λ none. c.in_ok-look.ensures.taken (c.loop-spot.invariant.taken none);
     }
 
 -- what is left to do is less: a spot waits no more, and each that waits anew is marked anew
-less : (old new : List Bool) (rest before waiting : List Spot) (spot : Spot) → length new ≡ length old → marked old ≤ marked new → length waiting + marked old ≡ length rest + marked new → before ≡ rest ++ spot ∷ [] → 2 * (length new - marked new) + length waiting < 2 * (length old - marked old) + length before
+less : (old new : List Bool) (rest before waiting : List Spot) (spot : Spot) → length new ≡ length old
+    → marked old ≤ marked new → length waiting + marked old ≡ length rest + marked new → before ≡ rest ++ spot ∷ []
+    → 2 * (length new - marked new) + length waiting < 2 * (length old - marked old) + length before
 less old new rest before waiting spot same grown balance is =
     omega (arith, ap length is, length-append rest (spot ∷ []), count_by-le-length (λ mark. mark) new)
 
 pub loop-spot-smaller : goal.loop-spot-smaller
 loop-spot-smaller g c =
-    less c.loop-spot.marks.marks c.look.new.marks.marks c.pop.new.self.items _ c.look.new.marks.waiting.items c.in-Some.spot
+    less c.loop-spot.marks.marks c.look.new.marks.marks c.pop.new.self.items _ c.look.new.marks.waiting.items
+    c.in-Some.spot
     c.in_ok-look.ensures.length_kept c.in_ok-look.ensures.grown c.in_ok-look.ensures.balance c.in-Some.ensures.items
 
 -- a list of which nothing can be taken is empty
@@ -53,7 +62,9 @@ none_left [] none = refl
 none_left (spot ∷ waiting) none = let wrong : false ≡ true = none (omega arith) in cc
 
 -- where none waits all that is marked was looked at
-none_waits : (position : Position) (company : Company) (marks : List Bool) (kept : Link → Type 0) (waiting : List Spot) → (0 < length waiting → false ≡ true) → AreLookedAt position company marks waiting kept → AreLookedAt position company marks [] kept
+none_waits : (position : Position) (company : Company) (marks : List Bool) (kept : Link → Type 0)
+    (waiting : List Spot) → (0 < length waiting → false ≡ true) → AreLookedAt position company marks waiting kept
+    → AreLookedAt position company marks [] kept
 none_waits position company marks kept waiting none looked =
     subst (λ w. AreLookedAt position company marks w kept) (none_left waiting none) looked
 

@@ -4,4 +4,8 @@ use Rattle.reach.proofs.Collected.{StopsBefore}
 use Rattle.reach.proofs.stops.marked_stops.Given as goal
 
 abbrev pub invariant-loop-index : goal.invariant-loop-index
-invariant-loop-index l = record { stops : StopsBefore l.marks.marks l.stops (2 * l.index); few : length l.stops ≤ 2 * l.index }
+invariant-loop-index l = record {
+  stops : StopsBefore l.marks.marks l.stops (2 * l.index);
+  few : length l.stops
+      ≤ 2 * l.index;
+}

@@ -7,4 +7,5 @@ use Rattle.report.proofs.line.push_line.Given as goal
 abbrev pub invariant-loop-field : goal.invariant-loop-field
 invariant-loop-field l =
     l.out.items
-    ≡ (l.fn.out.items ++ field_text l.sheets l.first) ++ spaced (map (field_text l.sheets) (take l.field-index l.fields))
+    ≡ (l.fn.out.items ++ field_text l.sheets l.first)
+    ++ spaced (map (field_text l.sheets) (take l.field-index l.fields))

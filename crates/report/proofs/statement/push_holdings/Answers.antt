@@ -6,5 +6,6 @@ use Rattle.tables.specs.Roster.{companies}
 
 pub loop-company-preserved : goal.loop-company-preserved
 loop-company-preserved c =
-    elements_step (λ company. tenths_column c.args.standing.now.past.events.now company (OfSeat c.args.seat)) companies c.loop-company.company-index _ _ _ _
+    elements_step (λ company. tenths_column c.args.standing.now.past.events.now company (OfSeat c.args.seat))
+    companies c.loop-company.company-index _ _ _ _
     c.loop-company-test.true c.loop-company.invariant c.in_ok-push_tenths.ensures

@@ -14,9 +14,12 @@ returns-then-is_some-clause-last c =
     let here : Event = c.index-events-begun.result in
     let within : begun < length events = grind (arith, common_steps) in
     let after : c.loop-begun.begun ≡ begun + 1 = grind (arith, common_steps) in
-    let begins : is_some (round_begun_by here) ≡ true = ap is_some (sym c.round.ensures) ∙ sym c.is_some.ensures ∙ c.if-is_some.true in
-    from_here events begun here within (subst (λ (event : Event). is_some (round_begun_by event) ≡ true) c.index-events-begun.is begins)
-    (subst (λ (n : ℕ). list_any (λ event. is_some (round_begun_by event)) (drop n events) ≡ false) after c.loop-begun.invariant.none)
+    let begins : is_some (round_begun_by here) ≡ true =
+    ap is_some (sym c.round.ensures) ∙ sym c.is_some.ensures ∙ c.if-is_some.true in
+    from_here events begun here within (subst (λ (event : Event). is_some (round_begun_by event) ≡ true)
+    c.index-events-begun.is begins)
+    (subst (λ (n : ℕ). list_any (λ event. is_some (round_begun_by event)) (drop n events) ≡ false) after
+    c.loop-begun.invariant.none)
 
 pub returns-clause-last : goal.returns-clause-last
 returns-clause-last c =

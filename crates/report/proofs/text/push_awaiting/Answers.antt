@@ -4,4 +4,5 @@ use Rattle.report.proofs.text.push_awaiting.Goals as goal
 
 pub loop-seat-preserved : goal.loop-seat-preserved
 loop-seat-preserved c =
-    seats_step (λ seat. name_owing c.args.sheets.now c.args.round.now seat) c.loop-seat.seat _ _ _ c.loop-seat.invariant c.in_ok-push_owing.ensures
+    seats_step (λ seat. name_owing c.args.sheets.now c.args.round.now seat) c.loop-seat.seat _ _ _
+    c.loop-seat.invariant c.in_ok-push_owing.ensures

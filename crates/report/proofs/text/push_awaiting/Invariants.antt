@@ -8,4 +8,5 @@ use Rattle.report.proofs.text.push_awaiting.Given as goal
 abbrev pub invariant-loop-seat : goal.invariant-loop-seat
 invariant-loop-seat l =
     l.out.items
-    ≡ (l.fn.out.items ++ codes "AWAITING " ++ text_of_round l.round) ++ flat_map (λ seat. name_owing l.sheets l.round seat) (range_with_len 0 l.seat)
+    ≡ (l.fn.out.items ++ codes "AWAITING " ++ text_of_round l.round)
+    ++ flat_map (λ seat. name_owing l.sheets l.round seat) (range_with_len 0 l.seat)

@@ -7,4 +7,5 @@ use Rattle.report.proofs.text.push_header.Given as goal
 -- the names so far
 abbrev pub invariant-loop-seat : goal.invariant-loop-seat
 invariant-loop-seat l =
-    l.out.items ≡ ((l.fn.out.items ++ game_line (version_of l.sheets)) ++ codes "PLAYERS") ++ spaced (take l.seat (players_of l.sheets))
+    l.out.items ≡ ((l.fn.out.items ++ game_line (version_of l.sheets)) ++ codes "PLAYERS")
+    ++ spaced (take l.seat (players_of l.sheets))

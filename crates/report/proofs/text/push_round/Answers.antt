@@ -5,5 +5,6 @@ use Rattle.report.proofs.text.push_round.Goals as goal
 
 pub returns : goal.returns
 returns c =
-    let whole = up_to_the_end c.args.game.now.game.events c.args.begun c.args.end c.requires.ordered c.requires.within in
+    let whole = up_to_the_end c.args.game.now.game.events c.args.begun c.args.end c.requires.ordered
+    c.requires.within in
     grind (arith, common_steps, whole)

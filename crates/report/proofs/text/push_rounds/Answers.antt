@@ -10,7 +10,8 @@ loop-begun-preserved c =
     let begun = c.loop-begun.begun in
     let count = c.length_of_round.result in
     let within : begun + count ≤ length events = grind (arith, common_steps) in
-    let first : rounds_in (drop begun events) ≡ take count (drop begun events) ∷ rounds_in (drop count (drop begun events)) = grind (arith, common_steps) in
+    let first : rounds_in (drop begun events) ≡ take count (drop begun events)
+    ∷ rounds_in (drop count (drop begun events)) = grind (arith, common_steps) in
     let texts = texts_from c.args.game.now.file c.args.game.now.game.seats events begun count within first in
     record {
       within = within;

@@ -6,7 +6,8 @@ use Rattle.report.proofs.text.push_rounds.Given as goal
 pub record Added (l : goal.Live-loop-begun) : Type 0 where
   pub within : l.begun ≤ length l.game.game.events
   pub along : l.walk.events.now ≡ l.game.game.events
-  pub text : l.out.items ++ texts_of_rounds l.game.file l.game.game.seats (take l.begun l.game.game.events) (rounds_in (drop l.begun l.game.game.events))
+  pub text : l.out.items ++ texts_of_rounds l.game.file l.game.game.seats (take l.begun l.game.game.events)
+      (rounds_in (drop l.begun l.game.game.events))
       ≡ l.fn.out.items ++ rounds_text l.game.file l.game.game.seats l.game.game.events
 
 abbrev pub invariant-loop-begun : goal.invariant-loop-begun

@@ -10,7 +10,8 @@ returns-then-is_round c =
     let begun = c.loop-begun.begun in
     let count = c.length_of_round.result in
     let within : begun + count ≤ length events = grind (arith, common_steps) in
-    let first : rounds_in (drop begun events) ≡ take count (drop begun events) ∷ rounds_in (drop count (drop begun events)) = grind (arith, common_steps) in
+    let first : rounds_in (drop begun events) ≡ take count (drop begun events)
+    ∷ rounds_in (drop count (drop begun events)) = grind (arith, common_steps) in
     let text = one_from c.args.game.now.file c.args.game.now.game.seats c.args.round events begun count within first in
     let here : is_round c.args.round (slice_range events begun (begun + count)) ≡ true = grind (arith, common_steps) in
     grind (arith, common_steps, text, here, c.loop-begun.invariant.later, c.loop-begun.invariant.none)
@@ -21,9 +22,11 @@ loop-begun-preserved c =
     let begun = c.loop-begun.begun in
     let count = c.length_of_round.result in
     let within : begun + count ≤ length events = grind (arith, common_steps) in
-    let first : rounds_in (drop begun events) ≡ take count (drop begun events) ∷ rounds_in (drop count (drop begun events)) = grind (arith, common_steps) in
+    let first : rounds_in (drop begun events) ≡ take count (drop begun events)
+    ∷ rounds_in (drop count (drop begun events)) = grind (arith, common_steps) in
     let text = one_from c.args.game.now.file c.args.game.now.game.seats c.args.round events begun count within first in
-    let elsewhere : is_round c.args.round (slice_range events begun (begun + count)) ≡ false = grind (arith, common_steps) in
+    let elsewhere : is_round c.args.round (slice_range events begun (begun + count)) ≡ false =
+    grind (arith, common_steps) in
     record {
       within = within;
       none = c.loop-begun.invariant.none;

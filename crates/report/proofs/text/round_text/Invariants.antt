@@ -6,7 +6,9 @@ use Rattle.report.proofs.text.round_text.Given as goal
 pub record Sought (l : goal.Live-loop-begun) : Type 0 where
   pub within : l.begun ≤ length l.game.game.events
   pub none : l.out.items ≡ []
-  pub later : text_of_one l.game.file l.game.game.seats l.round (take l.begun l.game.game.events) (rounds_in (drop l.begun l.game.game.events)) ≡ text_of_one l.game.file l.game.game.seats l.round [] (rounds_in l.game.game.events)
+  pub later : text_of_one l.game.file l.game.game.seats l.round (take l.begun l.game.game.events)
+      (rounds_in (drop l.begun l.game.game.events)) ≡ text_of_one l.game.file l.game.game.seats l.round []
+      (rounds_in l.game.game.events)
 
 abbrev pub invariant-loop-begun : goal.invariant-loop-begun
 invariant-loop-begun l = Sought l

@@ -15,7 +15,9 @@ returns c =
     let privates : ℕ = c.privates_worth.result in
     let cash : ℤ = cash_of past.seats past.events.now (party_at c.args.seat) in
     ap (λ (n : ℕ). to_z w128 (of_z w128 (to_z w128 (of_z w128 c.cash.result) +ℤ to_z w128 (tenths + n)))) c.from.ensures
-    ∙ wealth_fits c.cash.result tenths privates c.cash.ensures.within c.tenths_worth.ensures.small c.privates_worth.ensures.small
-    ∙ ap (λ (z : ℤ). z +ℤ pos (tenths + privates)) (c.cash.ensures.sum ∙ ap (cash_of past.seats past.events.now) c.of_seat.ensures)
+    ∙ wealth_fits c.cash.result tenths privates c.cash.ensures.within c.tenths_worth.ensures.small
+    c.privates_worth.ensures.small
+    ∙ ap (λ (z : ℤ). z +ℤ pos (tenths + privates))
+    (c.cash.ensures.sum ∙ ap (cash_of past.seats past.events.now) c.of_seat.ensures)
     ∙ ap (λ (n : ℕ). cash +ℤ pos (n + privates)) c.tenths_worth.ensures.sum
     ∙ ap (λ (n : ℕ). cash +ℤ pos (worth_of_all_tenths past.events.now c.args.seat + n)) c.privates_worth.ensures.sum

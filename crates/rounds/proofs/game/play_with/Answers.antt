@@ -18,21 +18,28 @@ returns-in_err-end-clause-calls g c =
     let fault = c.in_err-end.field-0.0 in
     let told = err_from_is_err_and c.from_residual-in_err-end.result c.from_residual-in_err-end.ensures.1 in
     let is : c.from_residual-in_err-end.result ≡ Err fault = told.1 ∙ ap Err told.2 in
-    let broken = breaks_off file at.here c.loop-play.play c.step.new.self fault at.file at.there c.in_err-end.ensures.step in
-    let course = called_between g.R.Runner.earns file at.here (Err fault) c.loop-play.play c.step.new.self _ _ at.file at.there broken.0 broken.1 c.in_err-end.ensures.calls in
-    subst (λ (met : Result Played PlayFault). Makes g.R.Runner.earns c.args.runner.now (GameCalls file met) c.step.new.runner) (sym is)
-    (at.calls (Err fault) _ (none_after g.R.Runner.earns (RoundCalls file) (Unasked Memory (Stops file)) at.here fault _ _ course))
+    let broken = breaks_off file at.here c.loop-play.play c.step.new.self fault at.file at.there
+    c.in_err-end.ensures.step in
+    let course = called_between g.R.Runner.earns file at.here (Err fault) c.loop-play.play c.step.new.self _ _ at.file
+    at.there broken.0 broken.1 c.in_err-end.ensures.calls in
+    subst (λ (met : Result Played PlayFault). Makes g.R.Runner.earns c.args.runner.now (GameCalls file met)
+    c.step.new.runner) (sym is)
+    (at.calls (Err fault) _ (none_after g.R.Runner.earns (RoundCalls file) (Unasked Memory (Stops file)) at.here fault
+    _ _ course))
 
 pub loop-play-preserved : goal.loop-play-preserved
 loop-play-preserved g c =
     let file = c.args.sheets.now in
     let at = c.loop-play.invariant in
     let step : PlaysNext c.loop-play.play c.in_default.field-0 c.step.new.self =
-    subst (λ (step : Step). StepLeads c.loop-play.play (Ok step) c.step.new.self) c.in_default.is c.in_ok-end.ensures.step
+    subst (λ (step : Step). StepLeads c.loop-play.play (Ok step) c.step.new.self) c.in_default.is
+    c.in_ok-end.ensures.step
     in
-    let on : LeadsOn file at.here c.step.new.self = leads_on file at.here c.loop-play.play c.step.new.self c.in_default.field-0 at.file at.there step in
+    let on : LeadsOn file at.here c.step.new.self =
+    leads_on file at.here c.loop-play.play c.step.new.self c.in_default.field-0 at.file at.there step in
     let goes = was_on file at.here on.to on.played in
-    let course = called_between g.R.Runner.earns file at.here (Ok on.to) c.loop-play.play c.step.new.self _ _ at.file at.there on.there goes c.in_ok-end.ensures.calls in
+    let course = called_between g.R.Runner.earns file at.here (Ok on.to) c.loop-play.play c.step.new.self _ _ at.file
+    at.there on.there goes c.in_ok-end.ensures.calls in
     record {
       file = on.of_file;
       here = on.to;
@@ -42,7 +49,8 @@ loop-play-preserved g c =
       calls =
           λ outcome after made.
           at.calls outcome after
-          (once_more g.R.Runner.earns (RoundCalls file) (Unasked Memory (Stops file)) at.here on.to outcome _ _ after course made);
+          (once_more g.R.Runner.earns (RoundCalls file) (Unasked Memory (Stops file)) at.here on.to outcome _ _ after
+          course made);
     }
 
 pub returns-in-Ended-clause-calls : goal.returns-in-Ended-clause-calls
@@ -52,8 +60,10 @@ returns-in-Ended-clause-calls g c =
     let stays : Stays c.loop-play.play c.in-Ended.end c.step.new.self =
     subst (λ (step : Step). StepLeads c.loop-play.play (Ok step) c.step.new.self) c.in-Ended.is c.in_ok-end.ensures.step
     in
-    let stops = stops_here file at.here c.loop-play.play c.step.new.self c.in-Ended.end c.into_history.result at.file at.there stays c.into_history.ensures.game in
-    let same = silent_stop g.R.Runner.earns file at.here c.loop-play.play c.step.new.self _ _ at.file at.there stops.stopped c.in_ok-end.ensures.calls in
+    let stops = stops_here file at.here c.loop-play.play c.step.new.self c.in-Ended.end c.into_history.result at.file
+    at.there stays c.into_history.ensures.game in
+    let same = silent_stop g.R.Runner.earns file at.here c.loop-play.play c.step.new.self _ _ at.file at.there
+    stops.stopped c.in_ok-end.ensures.calls in
     at.calls (Ok (record { file = file; game = c.into_history.result; end = c.in-Ended.end })) _
     (no_more g.R.Runner.earns (RoundCalls file) (Unasked Memory (Stops file)) at.here _ _ _
     (silent g.R.Runner.earns Memory (Stops file) at.here _ _ _ stops same))

@@ -16,7 +16,8 @@ pub record Playing (g : goal.Over) (l : goal.Live-loop-play g) : Type 0 where
   pub reached : AreRounds l.sheets rounds (before_play l.sheets) here
   pub calls :
       (outcome : Result Played PlayFault) (after : _) →
-      Makes g.R.Runner.earns l.runner (SomeTimesThen (RoundCalls l.sheets) (Unasked Memory (Stops l.sheets)) here outcome) after →
+      Makes g.R.Runner.earns l.runner (SomeTimesThen (RoundCalls l.sheets) (Unasked Memory (Stops l.sheets)) here
+      outcome) after →
       Makes g.R.Runner.earns l.fn.runner (GameCalls l.sheets outcome) after
 
 abbrev pub invariant-loop-play : goal.invariant-loop-play

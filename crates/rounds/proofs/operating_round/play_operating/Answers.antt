@@ -12,30 +12,51 @@ use Rattle.rounds.proofs.operating_round.play_operating.Goals as goal
 
 pub returns-clause-round : goal.returns-clause-round
 returns-clause-round g c =
-    let is = round_opened c.args.sheets.now c.args.round c.args.history c.begin.new.history c.rule_standing_lines.new.history c.record_revenues.new.self c.requires.seats c.in_ok-begin.ensures.event c.in_ok-rule_standing_lines.ensures.seats c.in_ok-rule_standing_lines.ensures.events c.in_ok-record_revenues.ensures.ok in
-    whole_round c.args.sheets.now c.args.round c.args.history c.record_revenues.new.self c.in_ok-history.history c.record_all_left.new.history c.requires.seats is c.in_ok-history.ensures.turns c.in_ok-history.ensures.seats c.in_ok-record_all_left.ensures.seats c.in_ok-record_all_left.ensures.events
+    let is = round_opened c.args.sheets.now c.args.round c.args.history c.begin.new.history
+    c.rule_standing_lines.new.history c.record_revenues.new.self c.requires.seats c.in_ok-begin.ensures.event
+    c.in_ok-rule_standing_lines.ensures.seats c.in_ok-rule_standing_lines.ensures.events
+    c.in_ok-record_revenues.ensures.ok in
+    whole_round c.args.sheets.now c.args.round c.args.history c.record_revenues.new.self c.in_ok-history.history
+    c.record_all_left.new.history c.requires.seats is c.in_ok-history.ensures.turns c.in_ok-history.ensures.seats
+    c.in_ok-record_all_left.ensures.seats c.in_ok-record_all_left.ensures.events
 
 pub returns-in_err-record_revenues-clause-calls : goal.returns-in_err-record_revenues-clause-calls
 returns-in_err-record_revenues-clause-calls g c =
-    let told = err_from_is_err_and c.from_residual-in_err-record_revenues.result c.from_residual-in_err-record_revenues.ensures.1 in
+    let told = err_from_is_err_and c.from_residual-in_err-record_revenues.result
+    c.from_residual-in_err-record_revenues.ensures.1 in
     let is_fault : c.from_residual-in_err-record_revenues.result ≡ Err Memory = told.1 ∙ ap Err told.2 in
-    subst (λ (met : Result Game PlayFault). Makes g.R.Runner.earns c.args.runner.now (OperatingCalls c.args.sheets.now c.args.round c.args.history met) c.args.runner.now) (sym is_fault)
+    subst (λ (met : Result Game PlayFault). Makes g.R.Runner.earns c.args.runner.now
+    (OperatingCalls c.args.sheets.now c.args.round c.args.history met) c.args.runner.now) (sym is_fault)
     ([], inl (refl, refl), refl)
 
 pub returns-in_err-record_all_left-clause-calls : goal.returns-in_err-record_all_left-clause-calls
 returns-in_err-record_all_left-clause-calls g c =
-    let told = err_from_is_err_and c.from_residual-in_err-record_all_left.result c.from_residual-in_err-record_all_left.ensures.1 in
+    let told = err_from_is_err_and c.from_residual-in_err-record_all_left.result
+    c.from_residual-in_err-record_all_left.ensures.1 in
     let is_fault : c.from_residual-in_err-record_all_left.result ≡ Err Memory = told.1 ∙ ap Err told.2 in
-    let is = round_opened c.args.sheets.now c.args.round c.args.history c.begin.new.history c.rule_standing_lines.new.history c.record_revenues.new.self c.requires.seats c.in_ok-begin.ensures.event c.in_ok-rule_standing_lines.ensures.seats c.in_ok-rule_standing_lines.ensures.events c.in_ok-record_revenues.ensures.ok in
-    subst (λ (met : Result Game PlayFault). Makes g.R.Runner.earns c.args.runner.now (OperatingCalls c.args.sheets.now c.args.round c.args.history met) c.take_turns.new.runner) (sym is_fault)
-    (turns_of_round g.R.Runner.earns c.args.sheets.now c.args.round c.args.history c.record_revenues.new.self (Err Memory) _ _ is
-    (turns_followed g.R.Runner.earns c.args.sheets.now c.args.round c.record_revenues.new.self c.in_ok-history.history (Err Memory) _ _ c.in_ok-history.ensures.calls (refl, refl)))
+    let is = round_opened c.args.sheets.now c.args.round c.args.history c.begin.new.history
+    c.rule_standing_lines.new.history c.record_revenues.new.self c.requires.seats c.in_ok-begin.ensures.event
+    c.in_ok-rule_standing_lines.ensures.seats c.in_ok-rule_standing_lines.ensures.events
+    c.in_ok-record_revenues.ensures.ok in
+    subst (λ (met : Result Game PlayFault). Makes g.R.Runner.earns c.args.runner.now
+    (OperatingCalls c.args.sheets.now c.args.round c.args.history met) c.take_turns.new.runner) (sym is_fault)
+    (turns_of_round g.R.Runner.earns c.args.sheets.now c.args.round c.args.history c.record_revenues.new.self
+    (Err Memory) _ _ is
+    (turns_followed g.R.Runner.earns c.args.sheets.now c.args.round c.record_revenues.new.self c.in_ok-history.history
+    (Err Memory) _ _ c.in_ok-history.ensures.calls (refl, refl)))
 
 pub returns-in_err-history-clause-calls : goal.returns-in_err-history-clause-calls
 returns-in_err-history-clause-calls g c =
     let told = err_from_is_err_and c.from_residual-in_err-history.result c.from_residual-in_err-history.ensures.1 in
     let is_fault : c.from_residual-in_err-history.result ≡ Err c.in_err-history.field-0.0 = told.1 ∙ ap Err told.2 in
-    let is = round_opened c.args.sheets.now c.args.round c.args.history c.begin.new.history c.rule_standing_lines.new.history c.record_revenues.new.self c.requires.seats c.in_ok-begin.ensures.event c.in_ok-rule_standing_lines.ensures.seats c.in_ok-rule_standing_lines.ensures.events c.in_ok-record_revenues.ensures.ok in
-    subst (λ (met : Result Game PlayFault). Makes g.R.Runner.earns c.args.runner.now (OperatingCalls c.args.sheets.now c.args.round c.args.history met) c.take_turns.new.runner) (sym is_fault)
-    (turns_of_round g.R.Runner.earns c.args.sheets.now c.args.round c.args.history c.record_revenues.new.self (Err c.in_err-history.field-0.0) _ _ is
-    (broken_off g.R.Runner.earns (TurnsCall c.args.sheets.now c.args.round) (Unasked Memory (IsFinished c.args.sheets.now c.args.round)) c.record_revenues.new.self c.in_err-history.field-0.0 _ _ c.in_err-history.ensures.calls))
+    let is = round_opened c.args.sheets.now c.args.round c.args.history c.begin.new.history
+    c.rule_standing_lines.new.history c.record_revenues.new.self c.requires.seats c.in_ok-begin.ensures.event
+    c.in_ok-rule_standing_lines.ensures.seats c.in_ok-rule_standing_lines.ensures.events
+    c.in_ok-record_revenues.ensures.ok in
+    subst (λ (met : Result Game PlayFault). Makes g.R.Runner.earns c.args.runner.now
+    (OperatingCalls c.args.sheets.now c.args.round c.args.history met) c.take_turns.new.runner) (sym is_fault)
+    (turns_of_round g.R.Runner.earns c.args.sheets.now c.args.round c.args.history c.record_revenues.new.self
+    (Err c.in_err-history.field-0.0) _ _ is
+    (broken_off g.R.Runner.earns (TurnsCall c.args.sheets.now c.args.round)
+    (Unasked Memory (IsFinished c.args.sheets.now c.args.round)) c.record_revenues.new.self
+    c.in_err-history.field-0.0 _ _ c.in_err-history.ensures.calls))

@@ -10,8 +10,12 @@ loop-seat-preserved c =
     record {
       seats = c.in_ok-record_left.ensures.seats ∙ c.loop-seat.invariant.seats;
       events =
-          left_goes_on file c.args.round c.args.history.now.events c.loop-seat.history.events c.record_left.new.history.events c.loop-seat.seat (length (players_of file)) c.at.result within c.at.ensures (c.loop-seat.invariant.ruled c.at.result) c.in_ok-record_left.ensures.events
+          left_goes_on file c.args.round c.args.history.now.events c.loop-seat.history.events
+          c.record_left.new.history.events c.loop-seat.seat (length (players_of file)) c.at.result within
+          c.at.ensures (c.loop-seat.invariant.ruled c.at.result) c.in_ok-record_left.ensures.events
           ∙ c.loop-seat.invariant.events;
-      ruled = λ seat. as_many_ruled c.rulings_are_counted.ensures c.args.history.now.events c.loop-seat.history.events c.record_left.new.history.events c.at.result _ seat (c.loop-seat.invariant.ruled seat) c.in_ok-record_left.ensures.events;
+      ruled = λ seat. as_many_ruled c.rulings_are_counted.ensures c.args.history.now.events c.loop-seat.history.events
+          c.record_left.new.history.events c.at.result _ seat (c.loop-seat.invariant.ruled seat)
+          c.in_ok-record_left.ensures.events;
       sound = c.in_ok-record_left.ensures.sound;
     }

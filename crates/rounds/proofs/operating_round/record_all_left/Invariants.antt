@@ -11,7 +11,10 @@ use Rattle.rounds.proofs.operating_round.record_all_left.Given as goal
 abbrev pub invariant-loop-seat : goal.invariant-loop-seat
 invariant-loop-seat l = record {
   seats : l.history.seats ≡ l.fn.history.seats;
-  events : l.history.events ++ told_left l.sheets l.round l.fn.history.events (range_with_len l.seat (length (players_of l.sheets) - l.seat)) ≡ l.fn.history.events ++ told_left l.sheets l.round l.fn.history.events (range_with_len 0 (length (players_of l.sheets)));
+  events : l.history.events ++ told_left l.sheets l.round l.fn.history.events
+      (range_with_len l.seat (length (players_of l.sheets) - l.seat))
+      ≡ l.fn.history.events ++ told_left l.sheets l.round l.fn.history.events
+      (range_with_len 0 (length (players_of l.sheets)));
   ruled : (seat : Seat) → rulings_in_round l.history.events seat ≡ rulings_in_round l.fn.history.events seat;
   sound : IsSound l.history;
 }

@@ -14,7 +14,8 @@ abbrev pub invariant-loop-company : goal.invariant-loop-company
 invariant-loop-company g l = record {
   companies : List Company;
   turns : TakeTurns l.sheets l.round companies l.fn.history l.table.history;
-  calls : (outcome : Result Game PlayFault) (after : _) → Makes g.R.Runner.earns l.runner (TurnsCall l.sheets l.round l.table.history outcome) after →
+  calls : (outcome : Result Game PlayFault) (after : _)
+      → Makes g.R.Runner.earns l.runner (TurnsCall l.sheets l.round l.table.history outcome) after →
       Makes g.R.Runner.earns l.fn.runner (TurnsCall l.sheets l.round l.fn.history outcome) after;
   seats : l.table.history.seats ≡ l.fn.history.seats;
   laid : IsLaidOut l.table;

@@ -6,5 +6,9 @@ use Rattle.rounds.proofs.steps.play_round.Goals as goal
 
 pub returns-in-Operating-clause-calls : goal.returns-in-Operating-clause-calls
 returns-in-Operating-clause-calls g c =
-    subst (λ (round : Round). Makes g.R.Runner.earns c.args.runner.now (PlayedCalls c.args.sheets.now round c.args.history c.play_operating.result) c.play_operating.new.runner) (sym c.in-Operating.is)
-    (subst (λ (round : Round). Makes g.R.Runner.earns c.args.runner.now (OperatingCalls c.args.sheets.now round c.args.history c.play_operating.result) c.play_operating.new.runner) c.in-Operating.is c.play_operating.ensures.calls)
+    subst (λ (round : Round). Makes g.R.Runner.earns c.args.runner.now
+    (PlayedCalls c.args.sheets.now round c.args.history c.play_operating.result) c.play_operating.new.runner)
+    (sym c.in-Operating.is)
+    (subst (λ (round : Round). Makes g.R.Runner.earns c.args.runner.now
+    (OperatingCalls c.args.sheets.now round c.args.history c.play_operating.result) c.play_operating.new.runner)
+    c.in-Operating.is c.play_operating.ensures.calls)

@@ -15,5 +15,6 @@ pub returns-clause-sheets : goal.returns-clause-sheets
 returns-clause-sheets c = λ sheet_key.
     let done = c.loop-piece.collection in
     c.in_ok-close.ensures.sheets sheet_key
-    ∙ sheets_at_end c.args.version c.args.players.now (written_lines c.args.body.now) (get same_sheet_key done.sheets) done.unread.items done.good c.loop-piece.rest.now
+    ∙ sheets_at_end c.args.version c.args.players.now (written_lines c.args.body.now) (get same_sheet_key done.sheets)
+    done.unread.items done.good c.loop-piece.rest.now
     done.current c.in_default.ensures.lines c.loop-piece.invariant.reaches sheet_key

@@ -9,7 +9,8 @@ use Rattle.sheets.proofs.collecting.collect_body.Given as goal
 abbrev pub invariant-loop-piece : goal.invariant-loop-piece
 invariant-loop-piece l = record {
   short : length l.rest ≤ length l.body;
-  reaches : Reaches l.version l.players (written_lines l.body) l.rest l.collection.current (get same_sheet_key l.collection.sheets) l.collection.unread.items l.collection.good;
+  reaches : Reaches l.version l.players (written_lines l.body) l.rest l.collection.current
+      (get same_sheet_key l.collection.sheets) l.collection.unread.items l.collection.good;
 }
 
 abbrev pub decreases-loop-piece : goal.decreases-loop-piece

@@ -8,6 +8,8 @@ pub returns-else-begins_with_word : goal.returns-else-begins_with_word
 returns-else-begins_with_word c =
     let first = first_of_words (words_of c.args.line.text.now) in
     let differs : same_word first (head_word c.args.round) ≡ false =
-    ap (λ (word : List ℕ). same_word first word) (sym c.head_word.ensures) ∙ sym c.begins_with_word.ensures ∙ c.if-begins_with_word.false in
+    ap (λ (word : List ℕ). same_word first word) (sym c.head_word.ensures) ∙ sym c.begins_with_word.ensures
+    ∙ c.if-begins_with_word.false in
     c.if-begins_with_word.false
-    ∙ sym (no_head c.read_in_version_where_spelt.ensures c.args.round c.args.line.version c.args.line.number c.args.line.text.now differs)
+    ∙ sym (no_head c.read_in_version_where_spelt.ensures c.args.round c.args.line.version c.args.line.number
+    c.args.line.text.now differs)

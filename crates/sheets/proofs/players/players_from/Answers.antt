@@ -15,7 +15,8 @@ returns-then-is_some c =
     let earlier = c.in_ok-earlier.earlier in
     let some : is_some earlier ≡ true = sym c.is_some.ensures ∙ c.if-is_some.true in
     let among : list_any (is_equal name) (take i names) ≡ true =
-    seat_there c.loop-index.seats.entries (take i names) name earlier c.loop-index.invariant.kept c.in_ok-earlier.ensures.old ∙ some in
+    seat_there c.loop-index.seats.entries (take i names) name earlier c.loop-index.invariant.kept
+    c.in_ok-earlier.ensures.old ∙ some in
     no_players names (repeated names (take i names) i name c.loop-index-test.true c.index-names-index.is refl among)
 
 pub loop-index-preserved : goal.loop-index-preserved
@@ -27,11 +28,15 @@ loop-index-preserved c =
     let none : is_some earlier ≡ false = sym c.is_some.ensures ∙ c.if-is_some.false in
     let absent : earlier ≡ None = none_from earlier none in
     let new : list_any (is_equal name) (take i names) ≡ false =
-    seat_there c.loop-index.seats.entries (take i names) name earlier c.loop-index.invariant.kept c.in_ok-earlier.ensures.old ∙ none in
-    let added = c.in_ok-earlier.ensures.entries ∙ insert_entry-new is_equal c.loop-index.seats name (record { 0 = i }) (sym c.in_ok-earlier.ensures.old ∙ absent) in
+    seat_there c.loop-index.seats.entries (take i names) name earlier c.loop-index.invariant.kept
+    c.in_ok-earlier.ensures.old ∙ none in
+    let added = c.in_ok-earlier.ensures.entries ∙ insert_entry-new is_equal c.loop-index.seats name (record { 0 = i })
+    (sym c.in_ok-earlier.ensures.old ∙ absent) in
     record {
-      kept = now_seated names (take i names) i name c.loop-index-test.true c.index-names-index.is refl c.loop-index.seats.entries c.insert.new.self.entries c.loop-index.invariant.kept added;
-      differ = now_differ names (take i names) i name c.loop-index-test.true c.index-names-index.is refl new c.loop-index.invariant.differ;
+      kept = now_seated names (take i names) i name c.loop-index-test.true c.index-names-index.is refl
+          c.loop-index.seats.entries c.insert.new.self.entries c.loop-index.invariant.kept added;
+      differ = now_differ names (take i names) i name c.loop-index-test.true c.index-names-index.is refl new
+          c.loop-index.invariant.differ;
     }
 
 -- at the end all names have come

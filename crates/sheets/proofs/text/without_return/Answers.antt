@@ -4,7 +4,11 @@ use Rattle.sheets.proofs.TextLemmas.{without_return-last}
 use Rattle.sheets.proofs.text.without_return.Goals as goal
 
 pub returns-then-last-eq13 : goal.returns-then-last-eq13
-returns-then-last-eq13 c = rw (c.in-Some.ensures.cases.0, without_return-last c.in-Some.front.now c.in-Some.last.now, c.if-last-eq13.true) refl
+returns-then-last-eq13 c = rw (
+  c.in-Some.ensures.cases.0,
+  without_return-last c.in-Some.front.now c.in-Some.last.now,
+  c.if-last-eq13.true,
+) refl
 
 pub returns-else-last-eq13 : goal.returns-else-last-eq13
 returns-else-last-eq13 c =

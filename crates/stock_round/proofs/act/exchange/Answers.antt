@@ -4,4 +4,6 @@ use Rattle.stock_round.proofs.act.exchange.Goals as goal
 
 pub record_float-requires : goal.record_float-requires
 record_float-requires c =
-    president_sound c.give_up_mohawk.new.history c.record_president.new.history NewYorkCentral c.in_ok-record_president.ensures.seats c.in_ok-record_president.ensures.events c.in_ok-give_up_mohawk.ensures.sound
+    president_sound c.give_up_mohawk.new.history c.record_president.new.history NewYorkCentral
+    c.in_ok-record_president.ensures.seats c.in_ok-record_president.ensures.events
+    c.in_ok-give_up_mohawk.ensures.sound

@@ -7,8 +7,12 @@ use Rattle.stock_round.proofs.act.start.Goals as goal
 
 pub returns-clause-sound : goal.returns-clause-sound
 returns-clause-sound c =
-    start_sound c.args.history.now c.append-3.new.self c.args.seat c.args.company c.args.price (c.from.result * c.args.price) c.requires.may c.requires.at_table (ap (λ (n : ℕ). n * c.args.price) c.from.ensures)
+    start_sound c.args.history.now c.append-3.new.self c.args.seat c.args.company c.args.price
+    (c.from.result * c.args.price) c.requires.may c.requires.at_table
+    (ap (λ (n : ℕ). n * c.args.price) c.from.ensures)
     (c.in_ok-append-3.ensures.ok
     ∙ ap (λ (game : Game). with_event game (event.President c.args.company c.args.seat))
-    (c.in_ok-append-2.ensures.ok ∙ ap (λ (game : Game). with_event game (event.Bought c.args.company c.args.seat 2 InitialOffering (c.from.result * c.args.price))) c.in_ok-append.ensures.ok))
+    (c.in_ok-append-2.ensures.ok ∙ ap (λ (game : Game). with_event game
+    (event.Bought c.args.company c.args.seat 2 InitialOffering (c.from.result * c.args.price)))
+    c.in_ok-append.ensures.ok))
     c.requires.sound

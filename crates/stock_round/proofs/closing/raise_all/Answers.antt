@@ -6,6 +6,8 @@ pub loop-company-preserved : goal.loop-company-preserved
 loop-company-preserved c =
     record {
       seats = c.in_ok-move_up_if_sold_out.ensures.seats ∙ c.loop-company.invariant.seats;
-      events = rises_go_on c.loop-company.history.events c.move_up_if_sold_out.new.history.events c.args.companies.now c.loop-company.company-index _ c.loop-company-test.true c.in_ok-move_up_if_sold_out.ensures.events ∙ c.loop-company.invariant.events;
+      events = rises_go_on c.loop-company.history.events c.move_up_if_sold_out.new.history.events c.args.companies.now
+          c.loop-company.company-index _ c.loop-company-test.true c.in_ok-move_up_if_sold_out.ensures.events
+          ∙ c.loop-company.invariant.events;
       sound = c.in_ok-move_up_if_sold_out.ensures.sound;
     }

@@ -6,4 +6,5 @@ par_value-amount-requires c = float_led c.args.history.now c.args.company c.requ
 
 pub returns-clause-sound : goal.returns-clause-sound
 returns-clause-sound c =
-    c.in_ok-record_broken.ensures.sound (float_sound c.args.history.now c.append.new.self c.args.company _ c.requires.ready c.in_ok-append.ensures.ok c.requires.sound)
+    c.in_ok-record_broken.ensures.sound (float_sound c.args.history.now c.append.new.self c.args.company _
+    c.requires.ready c.in_ok-append.ensures.ok c.requires.sound)

@@ -12,16 +12,20 @@ use Rattle.tables.specs.declared.seat.Seat.{Seat}
 use Rattle.stock_round.proofs.standing.rule_standing_line.Goals as goal
 
 -- the fault of a line where no order has a place is that of a standing line
-fault_is : (reading : Result Order Fault) (fault : Fault) → placed has_no_place reading ≡ Err fault → fault_of_standing reading ≡ fault
+fault_is : (reading : Result Order Fault) (fault : Fault) → placed has_no_place reading ≡ Err fault
+    → fault_of_standing reading ≡ fault
 fault_is (Err own) fault is = cc
 fault_is (Ok order) fault is = cc
 
 -- so its record is that of a standing line
-recorded_is : (seat : Seat) (line : Numbered) (fault : Fault) (old new : Game) → placed has_no_place line.reading ≡ Err fault →
-    new ≡ with_event old (event.Ruled seat line.number (Faulty fault)) → new.events ≡ after_standing_line seat old.events line
+recorded_is : (seat : Seat) (line : Numbered) (fault : Fault) (old new : Game)
+    → placed has_no_place line.reading ≡ Err fault →
+    new ≡ with_event old (event.Ruled seat line.number (Faulty fault))
+    → new.events ≡ after_standing_line seat old.events line
 recorded_is seat line fault old new is told =
     ap (λ (game : Game). game.events) told
-    ∙ ap (λ (fault : Fault). old.events ++ event.Ruled seat line.number (Faulty fault) ∷ []) (sym (fault_is line.reading fault is))
+    ∙ ap (λ (fault : Fault). old.events ++ event.Ruled seat line.number (Faulty fault) ∷ [])
+    (sym (fault_is line.reading fault is))
 
 pub returns-clause-events : goal.returns-clause-events
 returns-clause-events c =

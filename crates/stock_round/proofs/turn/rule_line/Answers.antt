@@ -14,7 +14,25 @@ act-requires-clause-may c =
     let line = line_unread c.args.line in
     let order = c.rule_line.new.order in
     let to_do : IsToDo has_place_in_group judgement events line order =
-    subst (IsOrderToDo has_place_in_group judgement events line order) c.if-not-branch.false c.in_ok-rule_line.ensures.order
+    subst (IsOrderToDo has_place_in_group judgement events line order) c.if-not-branch.false
+    c.in_ok-rule_line.ensures.order
     in
-    may_act_after c.args.history.now c.rule_line.new.history _ c.args.seat c.args.deals.bought order c.in_ok-rule_line.ensures.ruling (record { payment = refl; ownership = refl; bidding = refl; transfer = refl; par = refl; square = refl; office = refl; float = refl; sv_price = refl; train = refl; tile = refl; token = refl })
-    (none_as_refusal Stock (judgement_of c.args.history.now.seats c.args.history.now.events c.args.seat c.args.deals.bought order) to_do.kept)
+    may_act_after c.args.history.now c.rule_line.new.history _ c.args.seat c.args.deals.bought order
+    c.in_ok-rule_line.ensures.ruling (record {
+      payment = refl;
+      ownership = refl;
+      bidding = refl;
+      transfer =
+          refl;
+      par = refl;
+      square = refl;
+      office = refl;
+      float = refl;
+      sv_price = refl;
+      train = refl;
+      tile =
+          refl;
+      token = refl;
+    })
+    (none_as_refusal Stock (judgement_of c.args.history.now.seats c.args.history.now.events c.args.seat
+    c.args.deals.bought order) to_do.kept)

@@ -20,15 +20,21 @@ loop-place-preserved c =
     let of : Party → ℤ = λ party. cash_of c.args.now.now.seats c.args.now.now.events.now party in
     record {
       all_companies = length-set _ _ _ ∙ before.all_companies;
-      cash = filled_more (λ (k : ℕ) (z : ℤ). z ≡ of (party.Holder (holder.Company (get_or companies k company.Pennsylvania)))) c.loop-place.cash c.loop-place.place c.cash.result (omega (arith, before.all_companies, c.loop-place-test.true)) fits (c.cash.ensures.sum ∙ ap of c.of_company.ensures) before.cash;
-      moderate = filled_more (λ (k : ℕ) (z : ℤ). IsModerate z) c.loop-place.cash c.loop-place.place c.cash.result (omega (arith, before.all_companies, c.loop-place-test.true)) fits c.cash.ensures.within before.moderate;
+      cash = filled_more (λ (k : ℕ) (z : ℤ). z ≡ of (party.Holder
+          (holder.Company (get_or companies k company.Pennsylvania)))) c.loop-place.cash c.loop-place.place
+          c.cash.result (omega (arith, before.all_companies, c.loop-place-test.true)) fits
+          (c.cash.ensures.sum ∙ ap of c.of_company.ensures) before.cash;
+      moderate = filled_more (λ (k : ℕ) (z : ℤ). IsModerate z) c.loop-place.cash c.loop-place.place c.cash.result
+          (omega (arith, before.all_companies, c.loop-place-test.true)) fits c.cash.ensures.within before.moderate;
     }
 
 pub returns-clause-cash : goal.returns-clause-cash
 returns-clause-cash c =
-    at_places (λ (its : Company) (z : ℤ). z ≡ cash_of c.args.now.now.seats c.args.now.now.events.now (party.Holder (holder.Company its))) (pos 0) _
+    at_places (λ (its : Company) (z : ℤ). z ≡ cash_of c.args.now.now.seats c.args.now.now.events.now
+    (party.Holder (holder.Company its))) (pos 0) _
     (λ k less. c.loop-place.invariant.cash k (omega (arith, less, c.loop-place-test.false)))
 
 pub returns-clause-moderate : goal.returns-clause-moderate
 returns-clause-moderate c =
-    at_places (λ (its : Company) (z : ℤ). IsModerate z) (pos 0) _ (λ k less. c.loop-place.invariant.moderate k (omega (arith, less, c.loop-place-test.false)))
+    at_places (λ (its : Company) (z : ℤ). IsModerate z) (pos 0) _
+    (λ k less. c.loop-place.invariant.moderate k (omega (arith, less, c.loop-place-test.false)))

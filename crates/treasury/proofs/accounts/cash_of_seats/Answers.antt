@@ -16,6 +16,9 @@ loop-number-preserved c =
     let of : Party → ℤ = λ party. cash_of c.args.now.now.seats c.args.now.now.events.now party in
     record {
       all_seats = length-set _ _ _ ∙ before.all_seats;
-      cash = filled_more (λ (k : ℕ) (z : ℤ). z ≡ of (party_at (seat_at k))) c.loop-number.cash c.loop-number.number c.cash.result (omega (arith, before.all_seats, c.loop-number-test.true)) fits (c.cash.ensures.sum ∙ ap of (c.of_seat.ensures ∙ ap party_at c.at.ensures)) before.cash;
-      moderate = filled_more (λ (k : ℕ) (z : ℤ). IsModerate z) c.loop-number.cash c.loop-number.number c.cash.result (omega (arith, before.all_seats, c.loop-number-test.true)) fits c.cash.ensures.within before.moderate;
+      cash = filled_more (λ (k : ℕ) (z : ℤ). z ≡ of (party_at (seat_at k))) c.loop-number.cash c.loop-number.number
+          c.cash.result (omega (arith, before.all_seats, c.loop-number-test.true)) fits
+          (c.cash.ensures.sum ∙ ap of (c.of_seat.ensures ∙ ap party_at c.at.ensures)) before.cash;
+      moderate = filled_more (λ (k : ℕ) (z : ℤ). IsModerate z) c.loop-number.cash c.loop-number.number c.cash.result
+          (omega (arith, before.all_seats, c.loop-number-test.true)) fits c.cash.ensures.within before.moderate;
     }

@@ -12,9 +12,11 @@ take_turns-requires-clause-first g c =
     c.number.ensures.number ∙ ap (λ (s : Seat). s.0) c.priority-first.ensures
     in
     let each : length c.as_mut_slice-unruled.result.now ≡ c.args.history.seats =
-    ap (λ (unruled : List Parts). length unruled) c.as_mut_slice-unruled.ensures.value ∙ c.in_ok-unruled.ensures.each ∙ sym c.requires.seats
+    ap (λ (unruled : List Parts). length unruled) c.as_mut_slice-unruled.ensures.value ∙ c.in_ok-unruled.ensures.each
+    ∙ sym c.requires.seats
     in
-    let some : 0 < c.args.history.seats = let has = c.in_ok-unruled.ensures.some in let count = c.in_ok-unruled.ensures.each in let players = c.requires.seats in omega arith in
+    let some : 0 < c.args.history.seats = let has = c.in_ok-unruled.ensures.some in let count =
+    c.in_ok-unruled.ensures.each in let players = c.requires.seats in omega arith in
     let within = priority_within c.args.history.seats c.args.history.events some in
     omega arith
 
@@ -23,4 +25,11 @@ returns-clause-round g c =
     let first : c.number.result ≡ (priority_of c.args.history.seats c.args.history.events).0 =
     c.number.ensures.number ∙ ap (λ (s : Seat). s.0) c.priority-first.ensures
     in
-    whole_round g.T.TurnRules.rules c.args.sheets.now c.args.round c.args.history c.begin.new.history c.rule_all_standing.new.history c.take_turns.new.history c.close.new.history c.record_all_left.new.history c.number.result (map groups_of c.as_mut_slice-unruled.result.now) (map groups_of c.take_turns.new.unruled) c.requires.seats c.in_ok-begin.ensures.event c.in_ok-unruled.ensures.seats c.in_ok-unruled.ensures.events (ap (λ (unruled : List Parts). map groups_of unruled) c.as_mut_slice-unruled.ensures.value ∙ c.in_ok-unruled.ensures.left) first c.in_ok-take_turns.ensures.seats c.in_ok-take_turns.ensures.turns c.in_ok-close.ensures.seats c.in_ok-close.ensures.events c.in_ok-record_all_left.ensures.seats c.in_ok-record_all_left.ensures.events
+    whole_round g.T.TurnRules.rules c.args.sheets.now c.args.round c.args.history c.begin.new.history
+    c.rule_all_standing.new.history c.take_turns.new.history c.close.new.history c.record_all_left.new.history
+    c.number.result (map groups_of c.as_mut_slice-unruled.result.now) (map groups_of c.take_turns.new.unruled)
+    c.requires.seats c.in_ok-begin.ensures.event c.in_ok-unruled.ensures.seats c.in_ok-unruled.ensures.events
+    (ap (λ (unruled : List Parts). map groups_of unruled) c.as_mut_slice-unruled.ensures.value
+    ∙ c.in_ok-unruled.ensures.left) first c.in_ok-take_turns.ensures.seats c.in_ok-take_turns.ensures.turns
+    c.in_ok-close.ensures.seats c.in_ok-close.ensures.events c.in_ok-record_all_left.ensures.seats
+    c.in_ok-record_all_left.ensures.events

@@ -27,8 +27,11 @@ loop-seat-preserved g c =
     record {
       seats = ap (λ (game : Game). game.seats) c.in_ok-record_seat_left.ensures.told ∙ c.loop-seat.invariant.seats;
       events =
-          left_goes_on with_left left_first old c.record_seat_left.new.history.events i c.count.result (get_or all i d) (drop (i + 1) all) (told ∙ ap (λ (s : Seat). old ++ with_left s c.count.result []) c.at.ensures) (c.count.ensures ∙ ap lines_in c.index-unruled-seat.is) ready.stands
-          ∙ ap (λ (left : List Parts). old ++ left_from i (map groups_of left)) (sym (next_sheet all i d c.loop-seat-test.true))
+          left_goes_on with_left left_first old c.record_seat_left.new.history.events i c.count.result
+          (get_or all i d) (drop (i + 1) all) (told ∙ ap (λ (s : Seat). old ++ with_left s c.count.result [])
+          c.at.ensures) (c.count.ensures ∙ ap lines_in c.index-unruled-seat.is) ready.stands
+          ∙ ap (λ (left : List Parts). old ++ left_from i (map groups_of left))
+          (sym (next_sheet all i d c.loop-seat-test.true))
           ∙ c.loop-seat.invariant.events;
       underway = c.in_ok-record_seat_left.ensures.underway;
     }

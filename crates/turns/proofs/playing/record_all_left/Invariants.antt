@@ -7,6 +7,7 @@ use Rattle.turns.proofs.playing.record_all_left.Given as goal
 abbrev pub invariant-loop-seat : goal.invariant-loop-seat
 invariant-loop-seat g l = record {
   seats : l.history.seats ≡ l.fn.history.seats;
-  events : l.history.events ++ left_from l.seat (map groups_of (drop l.seat l.unruled)) ≡ l.fn.history.events ++ left_from 0 (map groups_of l.unruled);
+  events : l.history.events ++ left_from l.seat (map groups_of (drop l.seat l.unruled))
+      ≡ l.fn.history.events ++ left_from 0 (map groups_of l.unruled);
   underway : g.T.TurnRules.holds l.history;
 }

@@ -11,7 +11,10 @@ abbrev pub invariant-loop-seat : goal.invariant-loop-seat
 invariant-loop-seat g l = record {
   seats : l.history.seats ≡ l.fn.history.seats;
   events :
-      after_standing g.T.TurnRules.rules l.sheets l.round l.history.events (range_with_len l.seat (length (players_of l.sheets) - l.seat)) ≡ after_standing g.T.TurnRules.rules l.sheets l.round l.fn.history.events (range_with_len 0 (length (players_of l.sheets)));
+      after_standing g.T.TurnRules.rules l.sheets l.round l.history.events
+      (range_with_len l.seat (length (players_of l.sheets) - l.seat))
+      ≡ after_standing g.T.TurnRules.rules l.sheets l.round l.fn.history.events
+      (range_with_len 0 (length (players_of l.sheets)));
   left : map groups_of l.unruled.items ≡ groups_for l.seat l.sheets l.round;
   each : length l.unruled.items ≡ l.seat;
   ready : All IsReady l.unruled.items;

@@ -8,7 +8,8 @@ abbrev pub invariant-loop-line : goal.invariant-loop-line
 invariant-loop-line g l = record {
   seats : l.history.seats ≡ l.fn.history.seats;
   events :
-      after_each (g.T.TurnRules.rules.standing l.seat) l.history.events l.sheet.before ≡ after_each (g.T.TurnRules.rules.standing l.seat) l.fn.history.events l.fn.sheet.before;
+      after_each (g.T.TurnRules.rules.standing l.seat) l.history.events l.sheet.before
+      ≡ after_each (g.T.TurnRules.rules.standing l.seat) l.fn.history.events l.fn.sheet.before;
   opened : l.sheet.opened ≡ l.fn.sheet.opened;
   small : PartsAreSmall l.sheet;
   underway : g.T.TurnRules.holds l.history;

@@ -14,10 +14,14 @@ invariant-loop-passes g l = record {
   seat : l.seat < length l.fn.unruled;
   passes : l.passes ≤ length l.fn.unruled;
   leads :
-      LeadsTo (after_turn (turns_of g.T.TurnRules.rules l.fn.history.seats)) (turns_over (turns_of g.T.TurnRules.rules l.fn.history.seats)) (in_play l.fn.history.events l.first 0 (map groups_of l.fn.unruled)) (in_play l.history.events l.seat l.passes (map groups_of l.unruled));
+      LeadsTo (after_turn (turns_of g.T.TurnRules.rules l.fn.history.seats))
+      (turns_over (turns_of g.T.TurnRules.rules l.fn.history.seats))
+      (in_play l.fn.history.events l.first 0 (map groups_of l.fn.unruled))
+      (in_play l.history.events l.seat l.passes (map groups_of l.unruled));
   ready : All IsReady l.unruled;
   underway : g.T.TurnRules.holds l.history;
 }
 
 abbrev pub decreases-loop-passes : goal.decreases-loop-passes
-decreases-loop-passes g l = turns_most (turns_of g.T.TurnRules.rules l.fn.history.seats) (in_play l.history.events l.seat l.passes (map groups_of l.unruled))
+decreases-loop-passes g l = turns_most (turns_of g.T.TurnRules.rules l.fn.history.seats)
+    (in_play l.history.events l.seat l.passes (map groups_of l.unruled))

@@ -9,7 +9,9 @@ abbrev pub invariant-loop-line : goal.invariant-loop-line
 invariant-loop-line g l = record {
   seats : l.history.seats ≡ l.fn.history.seats;
   turn :
-      after_lines g.T.TurnRules.rules l.fn.history.seats l.seat (in_turn l.history.events l.actions) l.sheet.before ≡ after_lines g.T.TurnRules.rules l.fn.history.seats l.seat (in_turn l.fn.history.events g.T.TurnRules.rules.nothing) l.fn.sheet.before;
+      after_lines g.T.TurnRules.rules l.fn.history.seats l.seat (in_turn l.history.events l.actions) l.sheet.before
+      ≡ after_lines g.T.TurnRules.rules l.fn.history.seats l.seat
+      (in_turn l.fn.history.events g.T.TurnRules.rules.nothing) l.fn.sheet.before;
   groups : groups_of l.sheet ≡ groups_of l.fn.sheet;
   small : PartsAreSmall l.sheet;
   underway : g.T.TurnRules.holds l.history;

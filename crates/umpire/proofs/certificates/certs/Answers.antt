@@ -10,10 +10,12 @@ returns-in_err-file-clause-err g c =
 pub returns-clause-ok : goal.returns-clause-ok
 returns-clause-ok g c =
     let known = rw c.as_slice.ensures.value at c.write_certificates.ensures.ok in
-    on_ok_weaker c.write_certificates.result (certified_of _ _ _ c.in_ok-file.file.items c.in_ok-file.ensures.file) known
+    on_ok_weaker c.write_certificates.result (certified_of _ _ _ c.in_ok-file.file.items c.in_ok-file.ensures.file)
+    known
 
 pub returns-clause-err : goal.returns-clause-err
 returns-clause-err g c =
     let known = rw c.as_slice.ensures.value at c.write_certificates.ensures.err in
     IfErr-weaker c.write_certificates.result _ _
-    (λ fault held. stops_of _ _ _ c.in_ok-file.file.items _ _ fault c.in_ok-file.ensures.file c.in_ok-file.ensures.ok held) known
+    (λ fault held. stops_of _ _ _ c.in_ok-file.file.items _ _ fault c.in_ok-file.ensures.file c.in_ok-file.ensures.ok
+    held) known

@@ -22,18 +22,22 @@ pub loop-keeping-preserved : goal.loop-keeping-preserved
 loop-keeping-preserved g c =
     let at = c.loop-keeping.invariant in
     let step : PlaysNext c.loop-keeping.play c.in_default.field-0 c.step.new.play =
-    subst (λ (step : Step). StepLeads c.loop-keeping.play (Ok step) c.step.new.play) c.in_default.is c.in_ok-step.ensures.step
+    subst (λ (step : Step). StepLeads c.loop-keeping.play (Ok step) c.step.new.play) c.in_default.is
+    c.in_ok-step.ensures.step
     in
     let made = c.in_ok-step.ensures.calls in
-    let kept = kept_of made.0 c.new-keeping.result c.step.new.keeping (c.calls_are_answered.ensures.steps _ _ _ made.0 step made.1) made.2 in
-    let groups : c.kept.result.now ≡ kept.groups = c.kept.ensures ∙ kept.kept ∙ ap (λ (l : List Group). l ++ kept.groups) c.new-keeping.ensures in
+    let kept = kept_of made.0 c.new-keeping.result c.step.new.keeping
+    (c.calls_are_answered.ensures.steps _ _ _ made.0 step made.1) made.2 in
+    let groups : c.kept.result.now ≡ kept.groups =
+    c.kept.ensures ∙ kept.kept ∙ ap (λ (l : List Group). l ++ kept.groups) c.new-keeping.ensures in
     record {
       steps = suc at.steps;
       calls = at.calls ++ made.0;
       groups = at.groups ++ kept.groups;
       called = (c.loop-keeping.play, at.calls, at.called, c.in_default.field-0, step, made.0, made.1, refl);
       certified = certified_more at.calls made.0 at.groups kept.groups at.certified kept.certified;
-      written = text_grows _ _ _ at.groups kept.groups c.kept.result.now groups at.written c.in_ok-write_groups.ensures.ok;
+      written = text_grows _ _ _ at.groups kept.groups c.kept.result.now groups at.written
+          c.in_ok-write_groups.ensures.ok;
       unbroken = subst IsUnbroken (sym step.after) refl;
       unfailed = c.in_ok-write_groups.ensures.unfailed;
     }
@@ -42,9 +46,11 @@ pub returns-in-Ended-clause-ok : goal.returns-in-Ended-clause-ok
 returns-in-Ended-clause-ok g c =
     let at = c.loop-keeping.invariant in
     let stays : Stays c.loop-keeping.play c.in-Ended.field-0 c.step.new.play =
-    subst (λ (step : Step). StepLeads c.loop-keeping.play (Ok step) c.step.new.play) c.in-Ended.is c.in_ok-step.ensures.step
+    subst (λ (step : Step). StepLeads c.loop-keeping.play (Ok step) c.step.new.play) c.in-Ended.is
+    c.in_ok-step.ensures.step
     in
-    let game = c.steps_call_the_game.ensures c.args.sheets.now at.steps c.loop-keeping.play c.step.new.play c.in-Ended.field-0 at.calls at.called stays in
+    let game = c.steps_call_the_game.ensures c.args.sheets.now at.steps c.loop-keeping.play c.step.new.play
+    c.in-Ended.field-0 at.calls at.called stays in
     record {
       file = c.args.sheets.now;
       groups = at.groups;

@@ -16,7 +16,8 @@ pub record Certifying (g : goal.Over) (l : goal.Live-loop-keeping g) : Type 0 wh
   pub groups : List Group
   pub called : StepsCall steps l.fn.sheets l.play calls
   pub certified : AreCertified calls groups
-  pub written : Appends (g.W.Write.contents l.fn.writer.inner) (g.W.Write.contents l.writer.inner) (certificates_text groups)
+  pub written : Appends (g.W.Write.contents l.fn.writer.inner) (g.W.Write.contents l.writer.inner)
+      (certificates_text groups)
   pub unbroken : IsUnbroken l.play
   pub unfailed : l.writer.failed ≡ false
 

@@ -11,7 +11,8 @@ loop-group-init g c =
 pub loop-group-preserved : goal.loop-group-preserved
 loop-group-preserved g c =
     let at = c.loop-group.invariant in
-    let ahead = groups_ahead c.args.groups.now c.loop-group.group-index c.group-item.result c.loop-group-test.true c.group-item.is in
+    let ahead = groups_ahead c.args.groups.now c.loop-group.group-index c.group-item.result c.loop-group-test.true
+    c.group-item.is in
     record {
       left = leaves_less _ _ _ _ _ _ _ at.left ahead c.in_ok-write_group.ensures.ok;
       unfailed = c.in_ok-write_group.ensures.unfailed;

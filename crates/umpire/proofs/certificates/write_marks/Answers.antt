@@ -12,7 +12,12 @@ loop-marks-init g c =
     record {
       count = length bits;
       within = rw c.reader-marks.ensures (omega arith);
-      left = record { done = []; whole = ap (marks_lines_within (length bits)) c.reader-marks.ensures; appended = Appends-nil _ };
+      left = record {
+        done = [];
+        whole = ap (marks_lines_within (length bits)) c.reader-marks.ensures;
+        appended =
+            Appends-nil _;
+      };
       unfailed = c.requires;
     }
 
@@ -25,7 +30,8 @@ pub loop-marks-preserved : goal.loop-marks-preserved
 loop-marks-preserved g c =
     let marks = c.loop-marks.marks in
     let at = c.loop-marks.invariant in
-    let behind = left_behind at.count marks (λ e. not_true c.is_empty.result c.loop-marks-test.true (c.is_empty.ensures.1 e)) at.within in
+    let behind = left_behind at.count marks (λ e. not_true c.is_empty.result c.loop-marks-test.true
+    (c.is_empty.ensures.1 e)) at.within in
     let bytes = rw c.as_slice.ensures.value at c.in_ok-write_text.ensures.ok in
     let line = rw c.in_ok-print_marks.ensures.printed at bytes in
     let written = rw c.clear.ensures.items at line in

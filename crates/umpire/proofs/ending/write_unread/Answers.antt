@@ -9,7 +9,8 @@ loop-rest-init g c = record { left = leaves_all _ _; within = grind arith; unfai
 
 pub loop-rest-preserved : goal.loop-rest-preserved
 loop-rest-preserved g c =
-    let parted = unread_parted c.loop-rest.before c.min.result c.loop-rest.rest.now _ _ c.split_at.ensures.front c.split_at.ensures.back in
+    let parted = unread_parted c.loop-rest.before c.min.result c.loop-rest.rest.now _ _ c.split_at.ensures.front
+    c.split_at.ensures.back in
     let bytes = rw c.as_slice.ensures.value at c.in_ok-write_text.ensures.ok in
     let written = rw c.in_ok-text.ensures at bytes in
     record {
@@ -23,7 +24,8 @@ returns-in_err-text-clause-front g c = on_err c.from_residual.result (front_of_t
 
 pub returns-in_err-write_text-clause-front : goal.returns-in_err-write_text-clause-front
 returns-in_err-write_text-clause-front g c =
-    let parted = unread_parted c.loop-rest.before c.min.result c.loop-rest.rest.now _ _ c.split_at.ensures.front c.split_at.ensures.back in
+    let parted = unread_parted c.loop-rest.before c.min.result c.loop-rest.rest.now _ _ c.split_at.ensures.front
+    c.split_at.ensures.back in
     let bytes = rw c.as_slice.ensures.value at c.in_err-write_text.ensures.front in
     let front = rw c.in_ok-text.ensures at bytes in
     on_err c.from_residual-in_err-write_text.result

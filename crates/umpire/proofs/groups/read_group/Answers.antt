@@ -11,7 +11,8 @@ returns-in_default c = rw (sym c.group_begun.ensures ∙ c.in_default.is) (sym (
 pub returns-then-not-branch : goal.returns-then-not-branch
 returns-then-not-branch c =
     let piece = c.in-Some-first_line.piece in
-    let refused = sym c.in_ok-take_line.ensures ∙ ap (λ taken. group_if taken c.take_line.new.group) c.if-not-branch.true in
+    let refused = sym c.in_ok-take_line.ensures ∙ ap (λ taken. group_if taken c.take_line.new.group)
+    c.if-not-branch.true in
     let next =
     next_line (lines_of c.loop-piece.rest.now) (lines_of piece.rest.now) piece.line.now c.loop-piece.group None
     c.in-Some-first_line.ensures.lines (sym c.begins_group.ensures ∙ c.if-begins_group.false) refused in

@@ -8,4 +8,5 @@ pub returns : goal.returns
 unfolding groups_of
 returns c =
     let items = c.loop-piece.groups.items in
-    sym (append-nil items) ∙ ap (λ rest. items ++ groups_in (lines_of rest)) (sym c.in_default.ensures.lines) ∙ c.loop-piece.invariant
+    sym (append-nil items) ∙ ap (λ rest. items ++ groups_in (lines_of rest)) (sym c.in_default.ensures.lines)
+    ∙ c.loop-piece.invariant

@@ -16,4 +16,5 @@ pub returns-clause-err : goal.returns-clause-err
 returns-clause-err g c =
     let known = rw c.as_slice.ensures.value at c.write_migration.ensures.err in
     IfErr-weaker c.write_migration.result _ _
-    (λ fault held. migration_stops _ _ _ c.in_ok-file.file.items _ _ fault c.in_ok-file.ensures.file c.in_ok-file.ensures.ok held) known
+    (λ fault held. migration_stops _ _ _ c.in_ok-file.file.items _ _ fault c.in_ok-file.ensures.file
+    c.in_ok-file.ensures.ok held) known

@@ -19,7 +19,9 @@ returns-in_err-put-2-clause-front g c =
     let at = c.loop-piece.invariant.putting in
     let h = c.in-Some.ensures in
     on_err c.from_residual-in_err-put-2.result
-    (front_of_x _ _ _ _ _ _ _ _ _ _ _ _ _ at (first_ended _ _ _ h.lines h.rest) (sym c.is_if_line.ensures ∙ c.if-is_if_line.true) (front_by_rest _ at.stretch _ at.is_kept) c.in_ok-put.ensures.ok c.in_err-put-2.ensures.front)
+    (front_of_x _ _ _ _ _ _ _ _ _ _ _ _ _ at (first_ended _ _ _ h.lines h.rest)
+    (sym c.is_if_line.ensures ∙ c.if-is_if_line.true) (front_by_rest _ at.stretch _ at.is_kept)
+    c.in_ok-put.ensures.ok c.in_err-put-2.ensures.front)
 
 pub behind-kept-requires : goal.behind-kept-requires
 behind-kept-requires g c = let h = c.in-Some.ensures in line_within _ _ _ (first_ended _ _ _ h.lines h.rest)
@@ -32,7 +34,9 @@ loop-piece-preserved g c =
     elim c.if-is_if_line.branch [
       | then-is_if_line+in_ok-put+in_ok-put-2 w ↦ rw (w.gathered-is, w.writer-is, w.kept-is)
           (record {
-            putting = putting_x _ _ _ _ _ _ _ _ _ _ _ _ _ _ _ at first (sym c.is_if_line.ensures ∙ w.if-is_if_line.true) (front_by_rest _ at.stretch _ at.is_kept) w.in_ok-put.ensures.ok w.in_ok-put-2.ensures.ok w.behind-kept.ensures;
+            putting = putting_x _ _ _ _ _ _ _ _ _ _ _ _ _ _ _ at first
+                (sym c.is_if_line.ensures ∙ w.if-is_if_line.true) (front_by_rest _ at.stretch _ at.is_kept)
+                w.in_ok-put.ensures.ok w.in_ok-put-2.ensures.ok w.behind-kept.ensures;
             unfailed = w.in_ok-put-2.ensures.unfailed;
           })
       | else-is_if_line w ↦ rw (w.gathered-is, w.writer-is, w.kept-is)
@@ -45,7 +49,8 @@ loop-piece-preserved g c =
 pub returns-in_err-put-3-clause-front : goal.returns-in_err-put-3-clause-front
 returns-in_err-put-3-clause-front g c =
     on_err c.from_residual-in_err-put-3.result
-    (front_of_rest _ _ _ _ _ _ _ _ c.loop-piece.invariant.putting c.in_default.ensures.lines c.in_err-put-3.ensures.front)
+    (front_of_rest _ _ _ _ _ _ _ _ c.loop-piece.invariant.putting c.in_default.ensures.lines
+    c.in_err-put-3.ensures.front)
 
 pub returns-clause-ok : goal.returns-clause-ok
 returns-clause-ok g c =

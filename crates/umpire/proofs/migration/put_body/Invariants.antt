@@ -5,7 +5,8 @@ use Rattle.umpire.proofs.migration.put_body.Given as goal
 -- the lines so far are put, but for those that are kept, and no call failed
 pub record Put (g : goal.Over) (l : goal.Live-loop-piece g) : Type 0 where
   pub putting :
-      Putting (g.W.Write.contents l.fn.writer.inner) (g.W.Write.contents l.writer.inner) l.fn.gathered.items l.gathered.items
+      Putting (g.W.Write.contents l.fn.writer.inner) (g.W.Write.contents l.writer.inner) l.fn.gathered.items
+      l.gathered.items
       l.text l.kept l.rest
   pub unfailed : l.writer.failed ≡ false
 

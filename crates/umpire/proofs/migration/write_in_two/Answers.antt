@@ -5,4 +5,5 @@ use Rattle.umpire.proofs.migration.write_in_two.Goals as goal
 pub returns-in_err-write_gathered-clause-front : goal.returns-in_err-write_gathered-clause-front
 returns-in_err-write_gathered-clause-front g c =
     on_err c.from_residual-in_err-write_gathered.result
-    (front_at_end _ _ _ _ _ _ c.in_ok-put_in_two.ensures.ok c.new-gathered.ensures.items c.in_err-write_gathered.ensures.front)
+    (front_at_end _ _ _ _ _ _ c.in_ok-put_in_two.ensures.ok c.new-gathered.ensures.items
+    c.in_err-write_gathered.ensures.front)

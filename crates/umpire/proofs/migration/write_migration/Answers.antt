@@ -21,20 +21,23 @@ pub returns-in-Ok-One-clause-ok : goal.returns-in-Ok-One-clause-ok
 returns-in-Ok-One-clause-ok g c =
     let known = c.in-Ok-One.ensures in
     let version = sym c.in-Ok-One.field-0-is ∙ known.version in
-    migrated_by c.write_in_two.result c.args.file.now _ _ _ known.accepted (one_goes c.args.file.now known.accepted version) c.write_in_two.ensures.ok
+    migrated_by c.write_in_two.result c.args.file.now _ _ _ known.accepted
+    (one_goes c.args.file.now known.accepted version) c.write_in_two.ensures.ok
 
 pub returns-in-Ok-One-clause-err : goal.returns-in-Ok-One-clause-err
 returns-in-Ok-One-clause-err g c =
     let known = c.in-Ok-One.ensures in
     let version = sym c.in-Ok-One.field-0-is ∙ known.version in
     let file = c.args.file.now in
-    cut_by c.write_in_two.result file _ _ _ _ (accepted_goes file known.accepted ∙ one_goes file known.accepted version) c.write_in_two.ensures.err c.write_in_two.ensures.front
+    cut_by c.write_in_two.result file _ _ _ _ (accepted_goes file known.accepted
+    ∙ one_goes file known.accepted version) c.write_in_two.ensures.err c.write_in_two.ensures.front
 
 pub returns-in-Ok-Two-clause-ok : goal.returns-in-Ok-Two-clause-ok
 returns-in-Ok-Two-clause-ok g c =
     let known = c.in-Ok-Two.ensures in
     let version = sym c.in-Ok-Two.field-0-is ∙ known.version in
-    migrated_by c.write_text.result c.args.file.now _ _ _ known.accepted (two_stays c.args.file.now known.accepted version) c.write_text.ensures.ok
+    migrated_by c.write_text.result c.args.file.now _ _ _ known.accepted
+    (two_stays c.args.file.now known.accepted version) c.write_text.ensures.ok
 
 pub returns-in-Ok-Two-clause-err : goal.returns-in-Ok-Two-clause-err
 returns-in-Ok-Two-clause-err g c =
@@ -42,4 +45,5 @@ returns-in-Ok-Two-clause-err g c =
     let version = sym c.in-Ok-Two.field-0-is ∙ known.version in
     let file = c.args.file.now in
     cut_by c.write_text.result file _ _ _ _ (accepted_goes file known.accepted ∙ two_stays file known.accepted version)
-    (write_failed c.write_text.result _ c.write_text.ensures.fault c.write_text.ensures.failed) c.write_text.ensures.front
+    (write_failed c.write_text.result _ c.write_text.ensures.fault c.write_text.ensures.failed)
+    c.write_text.ensures.front

@@ -17,4 +17,5 @@ pub returns-clause-err : goal.returns-clause-err
 returns-clause-err g c =
     let known = rw c.as_slice.ensures.value at c.write_answer.ensures.err in
     IfErr-weaker c.write_answer.result _ _
-    (λ fault held. stops _ _ _ c.in_ok-file.file.items _ _ fault c.in_ok-file.ensures.file c.in_ok-file.ensures.ok held) known
+    (λ fault held. stops _ _ _ c.in_ok-file.file.items _ _ fault c.in_ok-file.ensures.file c.in_ok-file.ensures.ok
+    held) known

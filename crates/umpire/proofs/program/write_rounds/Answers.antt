@@ -15,7 +15,8 @@ loop-play-init g c =
 pub loop-play-preserved : goal.loop-play-preserved
 loop-play-preserved g c =
     let step : PlaysNext c.loop-play.play c.in-Played.field-0 c.step.new.play =
-    subst (λ (step : Step). StepLeads c.loop-play.play (Ok step) c.step.new.play) c.in-Played.is c.in_ok-step.ensures.step
+    subst (λ (step : Step). StepLeads c.loop-play.play (Ok step) c.step.new.play) c.in-Played.is
+    c.in_ok-step.ensures.step
     in
     let bytes = rw c.as_slice.ensures.value at c.in_ok-write_text.ensures.ok in
     let written = rw c.in_ok-text.ensures at bytes in
@@ -29,12 +30,14 @@ pub returns-in_err-step-clause-front : goal.returns-in_err-step-clause-front
 returns-in_err-step-clause-front g c = on_err c.from_residual.result (told_front _ _ _ _ c.loop-play.invariant.told)
 
 pub returns-in_err-text-clause-front : goal.returns-in_err-text-clause-front
-returns-in_err-text-clause-front g c = on_err c.from_residual-in_err-text.result (told_front _ _ _ _ c.loop-play.invariant.told)
+returns-in_err-text-clause-front g c = on_err c.from_residual-in_err-text.result
+    (told_front _ _ _ _ c.loop-play.invariant.told)
 
 pub returns-in_err-write_text-clause-front : goal.returns-in_err-write_text-clause-front
 returns-in_err-write_text-clause-front g c =
     let step : PlaysNext c.loop-play.play c.in-Played.field-0 c.step.new.play =
-    subst (λ (step : Step). StepLeads c.loop-play.play (Ok step) c.step.new.play) c.in-Played.is c.in_ok-step.ensures.step
+    subst (λ (step : Step). StepLeads c.loop-play.play (Ok step) c.step.new.play) c.in-Played.is
+    c.in_ok-step.ensures.step
     in
     let bytes = rw c.as_slice.ensures.value at c.in_err-write_text.ensures.front in
     let front = rw c.in_ok-text.ensures at bytes in

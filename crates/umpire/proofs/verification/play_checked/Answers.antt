@@ -22,7 +22,8 @@ pub loop-told-preserved : goal.loop-told-preserved
 loop-told-preserved c =
     let at = c.loop-told.invariant in
     let step : PlaysNext c.loop-told.play c.in_default.field-0 c.step.new.self =
-    subst (λ (step : Step). StepLeads c.loop-told.play (Ok step) c.step.new.self) c.in_default.is c.in_ok-step.ensures.step
+    subst (λ (step : Step). StepLeads c.loop-told.play (Ok step) c.step.new.self) c.in_default.is
+    c.in_ok-step.ensures.step
     in
     let made = c.in_ok-step.ensures.calls in
     record {
@@ -31,7 +32,15 @@ loop-told-preserved c =
       called = (c.loop-told.play, at.calls, at.called, c.in_default.field-0, step, made.0, made.1, refl);
       made = made_after _ _ _ at.calls made.0 at.made made.2;
       rounds = suc at.rounds;
-      told = (c.loop-told.play, c.loop-told.told.items, at.told, c.in_default.field-0, step, grind (arith, common_steps));
+      told = (
+        c.loop-told.play,
+        c.loop-told.told.items,
+        at.told,
+        c.in_default.field-0,
+        step,
+        grind
+            (arith, common_steps),
+      );
       unbroken = subst IsUnbroken (sym step.after) refl;
     }
 
@@ -42,9 +51,11 @@ returns-in_err-step-clause-judged c =
     let fault = c.in_err-step.field-0.0 in
     let told = err_from_is_err_and c.from_residual.result c.from_residual.ensures.1 in
     let made = c.in_err-step.ensures.calls in
-    let calls = c.broken_steps_call_a_broken_game.ensures file at.steps c.loop-told.play c.step.new.self fault at.calls made.0 at.called c.in_err-step.ensures.step made.1 in
+    let calls = c.broken_steps_call_a_broken_game.ensures file at.steps c.loop-told.play c.step.new.self fault
+    at.calls made.0 at.called c.in_err-step.ensures.step made.1 in
     rw (told.1, told.2)
-    (broken_judged c.calls_are_answered.ensures.games c.some_calls.ensures.accepted c.refused_calls_are_a_front.ensures file c.requires.accepted
+    (broken_judged c.calls_are_answered.ensures.games c.some_calls.ensures.accepted
+    c.refused_calls_are_a_front.ensures file c.requires.accepted
     _ _ fault (at.calls ++ made.0) calls (made_after _ _ _ at.calls made.0 at.made made.2))
 
 pub returns-in-Ended-clause-judged : goal.returns-in-Ended-clause-judged
@@ -52,16 +63,20 @@ returns-in-Ended-clause-judged c =
     let at = c.loop-told.invariant in
     let file = c.args.play.now.file in
     let stays : Stays c.loop-told.play c.in-Ended.field-0 c.step.new.self =
-    subst (λ (step : Step). StepLeads c.loop-told.play (Ok step) c.step.new.self) c.in-Ended.is c.in_ok-step.ensures.step
+    subst (λ (step : Step). StepLeads c.loop-told.play (Ok step) c.step.new.self) c.in-Ended.is
+    c.in_ok-step.ensures.step
     in
-    let game = c.steps_call_the_game.ensures file at.steps c.loop-told.play c.step.new.self c.in-Ended.field-0 at.calls at.called stays in
-    answered_have c.calls_are_answered.ensures.games c.some_calls.ensures.accepted c.refused_calls_are_a_front.ensures file c.requires.accepted
+    let game = c.steps_call_the_game.ensures file at.steps c.loop-told.play c.step.new.self c.in-Ended.field-0
+    at.calls at.called stays in
+    answered_have c.calls_are_answered.ensures.games c.some_calls.ensures.accepted c.refused_calls_are_a_front.ensures
+    file c.requires.accepted
     _ _ game.0 at.calls game.1 at.made
 
 pub returns-in-Ended-clause-told : goal.returns-in-Ended-clause-told
 returns-in-Ended-clause-told c =
     let at = c.loop-told.invariant in
     let stays : Stays c.loop-told.play c.in-Ended.field-0 c.step.new.self =
-    subst (λ (step : Step). StepLeads c.loop-told.play (Ok step) c.step.new.self) c.in-Ended.is c.in_ok-step.ensures.step
+    subst (λ (step : Step). StepLeads c.loop-told.play (Ok step) c.step.new.self) c.in-Ended.is
+    c.in_ok-step.ensures.step
     in
     record { steps = at.rounds; last = c.loop-told.play; told = at.told; end = c.in-Ended.field-0; stays = stays }

@@ -11,10 +11,12 @@ returns-in_err-input-clause-err g c =
 pub returns-clause-ok : goal.returns-clause-ok
 returns-clause-ok g c =
     let known = rw c.as_slice.ensures.value at c.write_answer.ensures.ok in
-    on_ok_weaker c.write_answer.result (answered_whole _ _ _ c.in_ok-input.input.items (Ok tt) c.in_ok-input.ensures.bytes) known
+    on_ok_weaker c.write_answer.result (answered_whole _ _ _ c.in_ok-input.input.items (Ok tt)
+    c.in_ok-input.ensures.bytes) known
 
 pub returns-clause-err : goal.returns-clause-err
 returns-clause-err g c =
     let known = rw c.as_slice.ensures.value at c.write_answer.ensures.err in
     IfErr-weaker c.write_answer.result _ _
-    (λ fault held. stops_whole _ _ _ c.in_ok-input.input.items _ _ fault c.in_ok-input.ensures.bytes c.in_ok-input.ensures.ok held) known
+    (λ fault held. stops_whole _ _ _ c.in_ok-input.input.items _ _ fault c.in_ok-input.ensures.bytes
+    c.in_ok-input.ensures.ok held) known

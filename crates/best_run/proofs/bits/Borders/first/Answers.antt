@@ -13,7 +13,12 @@ returns-then-self-word-ne0-clause-low c border is =
     let here : ℕ = lowest_of c.loop-word.word (get_or c.self.inside.words c.loop-word.word 0) in
     let told : Some here ≡ Some border = is in
     let same : here ≡ border = cc in
-    omega (arith, same, first_low 279 c.self.inside.words c.loop-word.word c.self.invariant (omega arith) c.if-self-word-ne0.true)
+    omega (
+      arith,
+      same,
+      first_low 279 c.self.inside.words c.loop-word.word c.self.invariant (omega arith)
+          c.if-self-word-ne0.true,
+    )
 
 pub returns-clause-marked : goal.returns-clause-marked
 returns-clause-marked c =

@@ -6,4 +6,5 @@ use Rattle.best_run.proofs.bits.Borders.has.Goals as goal
 pub returns : goal.returns
 returns c =
     test_is c.self.inside.words c.args.border
-    ∙ (sym (mark_is 279 c.self.inside.words c.args.border c.requires) ∙ ap (λ (marks : List Bool). get_or marks c.args.border false) c.self.view_is)
+    ∙ (sym (mark_is 279 c.self.inside.words c.args.border c.requires)
+    ∙ ap (λ (marks : List Bool). get_or marks c.args.border false) c.self.view_is)

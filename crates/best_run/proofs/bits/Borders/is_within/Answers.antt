@@ -14,10 +14,13 @@ loop-word-preserved c j bit low small =
       | inl less ↦ c.loop-word.invariant j bit less small
       | inr same ↦
           subst (λ (i : ℕ). bit_at (get_or a i 0) bit ≤ bit_at (get_or b i 0) bit) (sym same)
-          (none_without (get_or a k 0) (get_or b k 0) (subst (λ (left : ℕ). IsWithout (get_or a k 0) (get_or b k 0) left) c.if-without-ne0.false c.without.ensures) bit small)
+          (none_without (get_or a k 0) (get_or b k 0) (subst
+          (λ (left : ℕ). IsWithout (get_or a k 0) (get_or b k 0) left) c.if-without-ne0.false c.without.ensures)
+          bit small)
     ]
 
 pub returns : goal.returns
 returns c told =
     rw (← c.self.view_is, ← c.other.view_is)
-    (within_words 279 5 c.self.inside.words c.other.inside.words (omega arith) (λ j bit low small. c.loop-word.invariant j bit (omega arith) small))
+    (within_words 279 5 c.self.inside.words c.other.inside.words (omega arith)
+    (λ j bit low small. c.loop-word.invariant j bit (omega arith) small))

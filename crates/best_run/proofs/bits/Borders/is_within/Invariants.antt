@@ -5,4 +5,5 @@ use Rattle.best_run.proofs.bits.Borders.is_within.Given as goal
 
 abbrev pub invariant-loop-word : goal.invariant-loop-word
 invariant-loop-word l =
-    (j bit : ℕ) → j < l.word → bit < 64 → bit_at (get_or l.self-inside.words j 0) bit ≤ bit_at (get_or l.other-inside.words j 0) bit
+    (j bit : ℕ) → j < l.word → bit < 64 → bit_at (get_or l.self-inside.words j 0) bit
+    ≤ bit_at (get_or l.other-inside.words j 0) bit

@@ -5,5 +5,6 @@ use Rattle.best_run.proofs.bits.Borders.with.Given as goal
 abbrev pub invariant-loop-word : goal.invariant-loop-word
 invariant-loop-word l =
     (length l.words ≡ 5)
-    × ((j : ℕ) → j < l.word → get_or l.words j 0 ≡ bit_or (get_or l.initial.words j 0) (get_or l.other-inside.words j 0))
+    × ((j : ℕ) → j < l.word → get_or l.words j 0 ≡ bit_or (get_or l.initial.words j 0)
+    (get_or l.other-inside.words j 0))
     × ((j : ℕ) → l.word ≤ j → get_or l.words j 0 ≡ get_or l.initial.words j 0)

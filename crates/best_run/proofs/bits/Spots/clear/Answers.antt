@@ -12,11 +12,14 @@ loop-word-preserved c =
     let k = c.loop-word.word in
     let value = c.without.result in (
       length-set words k value ∙ c.loop-word.invariant.0,
-      without_more c.self.inside.words c.other.inside.words words k value (omega (arith, c.loop-word.invariant.0)) c.without.ensures c.loop-word.invariant.1 c.loop-word.invariant.2,
-      λ j high. get_or-set_other words k j value 0 (λ same. absurd (omega arith)) ∙ c.loop-word.invariant.2 j (omega arith),
+      without_more c.self.inside.words c.other.inside.words words k value (omega (arith, c.loop-word.invariant.0))
+          c.without.ensures c.loop-word.invariant.1 c.loop-word.invariant.2,
+      λ j high. get_or-set_other words k j value 0 (λ same. absurd (omega arith))
+          ∙ c.loop-word.invariant.2 j (omega arith),
     )
 
 pub returns : goal.returns
 returns c =
     rw (← c.self.view_is, ← c.other.view_is)
-    (taken_away 744 12 c.self.inside.words c.other.inside.words c.loop-word.self-inside.words (omega arith) (λ j low. c.loop-word.invariant.1 j (omega arith)))
+    (taken_away 744 12 c.self.inside.words c.other.inside.words c.loop-word.self-inside.words (omega arith)
+    (λ j low. c.loop-word.invariant.1 j (omega arith)))

@@ -6,5 +6,6 @@ use Rattle.best_run.proofs.bits.Spots.clear.Given as goal
 abbrev pub invariant-loop-word : goal.invariant-loop-word
 invariant-loop-word l =
     (length l.self-inside.words ≡ 12)
-    × ((j : ℕ) → j < l.word → IsWithout (get_or l.initial.self-inside.words j 0) (get_or l.other-inside.words j 0) (get_or l.self-inside.words j 0))
+    × ((j : ℕ) → j < l.word → IsWithout (get_or l.initial.self-inside.words j 0) (get_or l.other-inside.words j 0)
+    (get_or l.self-inside.words j 0))
     × ((j : ℕ) → l.word ≤ j → get_or l.self-inside.words j 0 ≡ get_or l.initial.self-inside.words j 0)

@@ -8,4 +8,5 @@ pub returns : goal.returns
 returns c =
     barred_out c.args.self.now c.args.reach.now c.clear.new.self c.clear-2.new.self c.is_whole.ensures
     (subst (λ (marks : List Bool). AreOnly marks c.args.self.now c.clear.new.self) c.copy-open.ensures c.clear.ensures)
-    (subst (λ (marks : List Bool). AreOnly marks c.clear.new.self c.clear-2.new.self) c.all-barred.ensures c.clear-2.ensures)
+    (subst (λ (marks : List Bool). AreOnly marks c.clear.new.self c.clear-2.new.self) c.all-barred.ensures
+    c.clear-2.ensures)

@@ -13,6 +13,8 @@ pub returns-clause-shared : goal.returns-clause-shared
 returns-clause-shared c =
     rw (← c.self.view_is, ← c.other.view_is)
     (set_shared c.self.inside.set c.other.inside.set c.clear.new.self c.clear-2.new.self c.first.result
-    (subst (λ (marks : List Bool). AreOnly marks c.other.inside.set c.clear.new.self) c.copy-rest.ensures c.clear.ensures)
-    (subst (λ (marks : List Bool). AreOnly marks c.clear.new.self c.clear-2.new.self) c.copy-shared.ensures c.clear-2.ensures)
+    (subst (λ (marks : List Bool). AreOnly marks c.other.inside.set c.clear.new.self) c.copy-rest.ensures
+    c.clear.ensures)
+    (subst (λ (marks : List Bool). AreOnly marks c.clear.new.self c.clear-2.new.self) c.copy-shared.ensures
+    c.clear-2.ensures)
     c.first.ensures.marked)

@@ -9,5 +9,6 @@ returns-then-places-gt0-clause-held c some =
     let items = c.args.self.now.memo.items in
     let place = c.place.result % c.len-places.result in (
       place,
-      subst (λ (s : SearchState). slice_get (set items place c.copy.result) place ≡ Some s) c.copy.ensures (set_held items place c.copy.result (omega arith)),
+      subst (λ (s : SearchState). slice_get (set items place c.copy.result) place ≡ Some s) c.copy.ensures
+          (set_held items place c.copy.result (omega arith)),
     )

@@ -11,7 +11,8 @@ use Rattle.best_run.proofs.move_path.MovePath.write_steps.Goals as goal
 
 -- the mark of the last step stands behind those of the others
 go_last :
-    (left rest : List Step) (step : Step) (marks : List Mark) → left ≡ rest ++ (step ∷ []) → go_along rest ++ (Go step ∷ marks) ≡ go_along left ++ marks
+    (left rest : List Step) (step : Step) (marks : List Mark) → left ≡ rest ++ (step ∷ [])
+    → go_along rest ++ (Go step ∷ marks) ≡ go_along left ++ marks
 go_last left rest step marks is = by_rest rest ∙ ap (λ (steps : List Step). go_along steps ++ marks) (sym is)
   where
     by_rest : (steps : List Step) → go_along steps ++ (Go step ∷ marks) ≡ go_along (steps ++ (step ∷ [])) ++ marks
@@ -33,7 +34,8 @@ loop-step-preserved c =
       tt,
       tt,
       λ none. c.loop-step.invariant.2 (written.refused none),
-      λ none. ap (λ (marks : List Mark). go_along (iter_rest (rev_source c.next.new.self)) ++ marks) (written.marks_are none)
+      λ none. ap (λ (marks : List Mark). go_along (iter_rest (rev_source c.next.new.self)) ++ marks)
+          (written.marks_are none)
           ∙ go_last _ _ _ (marks_in move_path) c.in-Some.ensures.steps
           ∙ c.loop-step.invariant.3 (written.refused none),
     )

@@ -10,4 +10,5 @@ invariant-loop-step l =
     goal.iterator-loop-step.can_next l.step-iterator ×
     goal.iterator-loop-step.is_finite l.step-iterator ×
     (l.self.refused ≡ None → l.initial.self.refused ≡ None) ×
-    (l.self.refused ≡ None → go_along (iter_rest (rev_source l.step-iterator)) ++ marks_in l.self ≡ go_along l.steps ++ marks_in l.initial.self)
+    (l.self.refused ≡ None → go_along (iter_rest (rev_source l.step-iterator)) ++ marks_in l.self
+    ≡ go_along l.steps ++ marks_in l.initial.self)

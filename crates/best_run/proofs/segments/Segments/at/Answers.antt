@@ -9,7 +9,9 @@ use Rattle.best_run.proofs.segments.Segments.at.Goals as goal
 pub overflow_step-next : goal.overflow_step-next
 overflow_step-next c =
     let entries = c.self.inside.entries.items in
-    let low : c.args.place < length (segments_from c.args.spot entries) = subst (λ (es : List Entry). c.args.place < length (segments_from c.args.spot es)) (sym c.self.view_is) c.requires.place in
+    let low : c.args.place < length (segments_from c.args.spot entries) =
+    subst (λ (es : List Entry). c.args.place < length (segments_from c.args.spot es)) (sym c.self.view_is)
+    c.requires.place in
     omega (arith, low, from_few c.args.spot entries, c.self.inside.entries.small)
 
 pub loop-next-init : goal.loop-next-init
@@ -17,8 +19,11 @@ loop-next-init c =
     let tails = c.self.inside.tails.items in
     let entries = c.self.inside.entries.items in
     let tail = c.index-tail.result.now in
-    let at : slice_get tails c.args.spot ≡ Some tail = slice_get_read tails 744 c.args.spot tail (sym c.self.invariant.long) c.requires.spot c.index-tail.ensures in
-    let low : c.args.place < length (segments_from c.args.spot entries) = subst (λ (es : List Entry). c.args.place < length (segments_from c.args.spot es)) (sym c.self.view_is) c.requires.place in
+    let at : slice_get tails c.args.spot ≡ Some tail =
+    slice_get_read tails 744 c.args.spot tail (sym c.self.invariant.long) c.requires.spot c.index-tail.ensures in
+    let low : c.args.place < length (segments_from c.args.spot entries) =
+    subst (λ (es : List Entry). c.args.place < length (segments_from c.args.spot es)) (sym c.self.view_is)
+    c.requires.place in
     above_last entries tails c.self.invariant c.args.spot tail at c.args.place low
 
 pub index-requires : goal.index-requires
@@ -31,11 +36,13 @@ loop-next-preserved c =
     let left : ℕ = c.index-tail.result.now.count - c.loop-next.next in
     let entry = c.index.result.now in
     let low : there < length entries = above_low entries there c.args.spot c.args.place left c.loop-next.invariant in
-    let at : slice_get entries there ≡ Some entry = slice_get_read entries (length entries) there entry refl low c.index.ensures in
+    let at : slice_get entries there ≡ Some entry =
+    slice_get_read entries (length entries) there entry refl low c.index.ensures in
     let one : left - 1 ≡ c.index-tail.result.now.count - (c.loop-next.next + 1) = omega arith in
     let less : 0 < left = omega (arith, c.loop-next-test.true) in
     subst (λ (n : ℕ). IsAbove entries entry.before c.args.spot c.args.place n) one
-    (above_before entries c.self.inside.tails.items c.self.invariant there c.args.spot c.args.place left entry at less c.loop-next.invariant)
+    (above_before entries c.self.inside.tails.items c.self.invariant there c.args.spot c.args.place left entry at less
+    c.loop-next.invariant)
 
 pub index-requires-2 : goal.index-requires-2
 index-requires-2 c = omega (arith, above_low c.self.inside.entries.items _ _ _ _ c.loop-next.invariant)
@@ -47,7 +54,10 @@ returns c =
     let left : ℕ = c.index-tail.result.now.count - c.loop-next.next in
     let entry = c.index-2.result.now in
     let low : there < length entries = above_low entries there c.args.spot c.args.place left c.loop-next.invariant in
-    let at : slice_get entries there ≡ Some entry = slice_get_read entries (length entries) there entry refl low c.index-2.ensures in
+    let at : slice_get entries there ≡ Some entry =
+    slice_get_read entries (length entries) there entry refl low c.index-2.ensures in
     let none : left ≡ 0 = omega (arith, c.loop-next-test.false) in
-    subst (λ (es : List Entry). slice_get (segments_from c.args.spot es) c.args.place ≡ Some entry.segment) c.self.view_is
-    (above_it entries c.self.inside.tails.items c.self.invariant there c.args.spot c.args.place left entry at none c.loop-next.invariant)
+    subst (λ (es : List Entry). slice_get (segments_from c.args.spot es) c.args.place ≡ Some entry.segment)
+    c.self.view_is
+    (above_it entries c.self.inside.tails.items c.self.invariant there c.args.spot c.args.place left entry at none
+    c.loop-next.invariant)

@@ -10,5 +10,7 @@ loop-place-preserved c =
 
 pub returns-then-first-lt-FEW : goal.returns-then-first-lt-FEW
 returns-then-first-lt-FEW c =
-    copy_all c.args.first.now c.loop-place.few c.new-others.result.items c.loop-place.place _ c.args.last c.loop-place-test.false c.loop-place.auto.place-end
-    (omega (arith, c.loop-place.auto.place-end, c.if-first-lt-FEW.true)) refl c.new-others.ensures.items c.loop-place.invariant
+    copy_all c.args.first.now c.loop-place.few c.new-others.result.items c.loop-place.place _ c.args.last
+    c.loop-place-test.false c.loop-place.auto.place-end
+    (omega (arith, c.loop-place.auto.place-end, c.if-first-lt-FEW.true)) refl c.new-others.ensures.items
+    c.loop-place.invariant

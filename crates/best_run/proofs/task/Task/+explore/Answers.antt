@@ -28,8 +28,12 @@ use Rattle.best_run.proofs.task.Task.+explore.Goals.{begin_runs-then-node, begin
 pub begin_at-loop-index-init : goal.begin_at-loop-index-init
 begin_at-loop-index-init t c =
     let from = c.index-from.result.now in
-    let are : AreLegsOf c.args.self.now c.args.stop from.legs.items = departs_from c.args.self.now c.requires.ready c.args.stop from c.requires.stop c.index-from.ensures c.requires.begins in
-    legs_none c.args.self.now c.requires.fit c.args.stop c.requires.begins from.legs.items are (between c.args.settled.now) c.args.settled.now (λ leg. begun c.args.self.now c.args.settled.now c.args.stop leg.first) AnyLeg c.args.best.now
+    let are : AreLegsOf c.args.self.now c.args.stop from.legs.items =
+    departs_from c.args.self.now c.requires.ready c.args.stop from c.requires.stop c.index-from.ensures
+    c.requires.begins in
+    legs_none c.args.self.now c.requires.fit c.args.stop c.requires.begins from.legs.items are
+    (between c.args.settled.now) c.args.settled.now
+    (λ leg. begun c.args.self.now c.args.settled.now c.args.stop leg.first) AnyLeg c.args.best.now
 
 pub begin_at-loop-index-preserved : goal.begin_at-loop-index-preserved
 begin_at-loop-index-preserved t c =
@@ -40,28 +44,39 @@ begin_at-loop-index-preserved t c =
     let from = c.index-from.result.now in
     let leg = c.index-leg.result.now in
     let legs = from.legs.items in
-    let are : AreLegsOf task stop legs = departs_from task c.requires.ready stop from c.requires.stop c.index-from.ensures c.requires.begins in
-    let at : slice_get legs index ≡ Some leg = slice_get_read legs (length legs) index leg refl (omega arith) c.index-leg.ensures in
+    let are : AreLegsOf task stop legs = departs_from task c.requires.ready stop from c.requires.stop
+    c.index-from.ensures c.requires.begins in
+    let at : slice_get legs index ≡ Some leg = slice_get_read legs (length legs) index leg refl (omega arith)
+    c.index-leg.ensures in
     let run = begun task settled stop leg.first in
-    legs_more task c.requires.fit stop c.requires.begins legs are (between settled) settled (λ w. begun task settled stop w.first) AnyLeg index leg _ _ _ at c.loop-index.invariant
-    (takes_from task (between settled) settled run leg (go_along leg.steps.items) c.loop-index.best c.take.new.best c.trace_steps.new.self
-    (leads_begin task c.requires.fit settled c.marks_all_borders.ensures stop c.requires.begins c.requires.token c.requires.next legs are index leg at)
-    (subst (λ (r : PartialRun). Takes task settled r leg.segment c.loop-index.best c.take.new.best) (c.by-run.ensures ∙ ap (λ (r : PartialRun). begun_by r leg.first) c.begun-begun.ensures) c.take.ensures)
+    legs_more task c.requires.fit stop c.requires.begins legs are (between settled) settled
+    (λ w. begun task settled stop w.first) AnyLeg index leg _ _ _ at c.loop-index.invariant
+    (takes_from task (between settled) settled run leg (go_along leg.steps.items) c.loop-index.best c.take.new.best
+    c.trace_steps.new.self
+    (leads_begin task c.requires.fit settled c.marks_all_borders.ensures stop c.requires.begins c.requires.token
+    c.requires.next legs are index leg at)
+    (subst (λ (r : PartialRun). Takes task settled r leg.segment c.loop-index.best c.take.new.best)
+    (c.by-run.ensures ∙ ap (λ (r : PartialRun). begun_by r leg.first) c.begun-begun.ensures) c.take.ensures)
     c.trace_steps.ensures)
 
 pub begin_at-returns : goal.begin_at-returns
 begin_at-returns t c =
     let task = c.args.self.now in
     let from = c.index-from.result.now in
-    let are : AreLegsOf task c.args.stop from.legs.items = departs_from task c.requires.ready c.args.stop from c.requires.stop c.index-from.ensures c.requires.begins in
-    begin_by_legs task c.requires.fit c.args.settled.now c.marks_all_borders.ensures c.args.stop c.requires.begins from.legs.items are c.loop-index.index _ _ (omega arith) c.loop-index.invariant
+    let are : AreLegsOf task c.args.stop from.legs.items =
+    departs_from task c.requires.ready c.args.stop from c.requires.stop c.index-from.ensures c.requires.begins in
+    begin_by_legs task c.requires.fit c.args.settled.now c.marks_all_borders.ensures c.args.stop c.requires.begins
+    from.legs.items are c.loop-index.index _ _ (omega arith) c.loop-index.invariant
 
 pub go_on-loop-index-init : goal.go_on-loop-index-init
 go_on-loop-index-init t c =
     let run = c.args.run.now in
     let from = c.index-from.result.now in
-    let are : AreLegsOf c.args.self.now run.head from.legs.items = departs_from c.args.self.now c.requires.ready run.head from c.requires.head c.index-from.ensures c.requires.stands in
-    legs_none c.args.self.now c.requires.fit run.head c.requires.stands from.legs.items are (partial c.args.settled.now run) c.args.settled.now (λ leg. run) AnyLeg c.args.best.now
+    let are : AreLegsOf c.args.self.now run.head from.legs.items =
+    departs_from c.args.self.now c.requires.ready run.head from c.requires.head c.index-from.ensures
+    c.requires.stands in
+    legs_none c.args.self.now c.requires.fit run.head c.requires.stands from.legs.items are
+    (partial c.args.settled.now run) c.args.settled.now (λ leg. run) AnyLeg c.args.best.now
 
 pub go_on-loop-index-preserved : goal.go_on-loop-index-preserved
 go_on-loop-index-preserved t c =
@@ -73,12 +88,18 @@ go_on-loop-index-preserved t c =
     let from = c.index-from.result.now in
     let leg = c.index-leg.result.now in
     let legs = from.legs.items in
-    let there : node_at task run.head ≡ Some node = node_is task c.requires.fit run.head node c.requires.head c.index-head.ensures in
-    let are : AreLegsOf task run.head legs = departs_from task c.requires.ready run.head from c.requires.head c.index-from.ensures c.requires.stands in
-    let at : slice_get legs index ≡ Some leg = slice_get_read legs (length legs) index leg refl (omega arith) c.index-leg.ensures in
-    legs_more task c.requires.fit run.head c.requires.stands legs are (partial settled run) settled (λ w. run) AnyLeg index leg _ _ _ at c.loop-index.invariant
-    (takes_from task (partial settled run) settled run leg (go_along leg.steps.items) c.loop-index.best c.take.new.best c.trace_steps.new.self
-    (leads_go task c.requires.fit settled c.marks_all_borders.ensures run c.requires.stands (ap ends_in there ∙ c.if-head.false) legs are index leg at)
+    let there : node_at task run.head ≡ Some node =
+    node_is task c.requires.fit run.head node c.requires.head c.index-head.ensures in
+    let are : AreLegsOf task run.head legs = departs_from task c.requires.ready run.head from c.requires.head
+    c.index-from.ensures c.requires.stands in
+    let at : slice_get legs index ≡ Some leg = slice_get_read legs (length legs) index leg refl (omega arith)
+    c.index-leg.ensures in
+    legs_more task c.requires.fit run.head c.requires.stands legs are (partial settled run) settled (λ w. run) AnyLeg
+    index leg _ _ _ at c.loop-index.invariant
+    (takes_from task (partial settled run) settled run leg (go_along leg.steps.items) c.loop-index.best
+    c.take.new.best c.trace_steps.new.self
+    (leads_go task c.requires.fit settled c.marks_all_borders.ensures run c.requires.stands
+    (ap ends_in there ∙ c.if-head.false) legs are index leg at)
     c.take.ensures
     c.trace_steps.ensures)
 
@@ -87,12 +108,15 @@ go_on-returns t c =
     let task = c.args.self.now in
     let run = c.args.run.now in
     let from = c.index-from.result.now in
-    let are : AreLegsOf task run.head from.legs.items = departs_from task c.requires.ready run.head from c.requires.head c.index-from.ensures c.requires.stands in
-    go_by_legs task c.requires.fit c.args.settled.now c.marks_all_borders.ensures run c.requires.stands from.legs.items are c.loop-index.index _ _ (omega arith) c.loop-index.invariant
+    let are : AreLegsOf task run.head from.legs.items =
+    departs_from task c.requires.ready run.head from c.requires.head c.index-from.ensures c.requires.stands in
+    go_by_legs task c.requires.fit c.args.settled.now c.marks_all_borders.ensures run c.requires.stands
+    from.legs.items are c.loop-index.index _ _ (omega arith) c.loop-index.invariant
 
 pub settle_next-returns-then-best-settled : goal.settle_next-returns-then-best-settled
 settle_next-returns-then-best-settled t c =
-    over_better c.args.self.now c.args.settled.now c.args.best.now c.clear.new.self (omega arith) (omega arith) c.clear.ensures.marks c.clear.ensures.refused
+    over_better c.args.self.now c.args.settled.now c.args.best.now c.clear.new.self (omega arith) (omega arith)
+    c.clear.ensures.marks c.clear.ensures.refused
 
 pub settle_next-returns-else-best-settled : goal.settle_next-returns-else-best-settled
 settle_next-returns-else-best-settled t c =
@@ -100,44 +124,64 @@ settle_next-returns-else-best-settled t c =
 
 pub settle_next-returns-then-is_pruned_by_suffix : goal.settle_next-returns-then-is_pruned_by_suffix
 settle_next-returns-then-is_pruned_by_suffix t c =
-    is_pruned_by_suffix c.args.self.now c.args.bounds.now c.args.settled.now c.args.best.now c.requires.bounds c.is_pruned_by_suffix.ensures.whole c.requires.next
+    is_pruned_by_suffix c.args.self.now c.args.bounds.now c.args.settled.now c.args.best.now c.requires.bounds
+    c.is_pruned_by_suffix.ensures.whole c.requires.next
     (c.is_pruned_by_suffix.ensures.short c.if-is_pruned_by_suffix.true)
 
 pub settle_next-returns-then-are_pruned_by_cap : goal.settle_next-returns-then-are_pruned_by_cap
 settle_next-returns-then-are_pruned_by_cap t c =
-    explores_capped c.args.self.now c.args.settled.now c.args.best.now c.is_pruned_by_suffix.ensures.whole (c.are_pruned_by_cap.ensures c.if-are_pruned_by_cap.true)
+    explores_capped c.args.self.now c.args.settled.now c.args.best.now c.is_pruned_by_suffix.ensures.whole
+    (c.are_pruned_by_cap.ensures c.if-are_pruned_by_cap.true)
 
 pub settle_next-returns-then-is_pruned_by_reach : goal.settle_next-returns-then-is_pruned_by_reach
 settle_next-returns-then-is_pruned_by_reach t c =
-    explores_reached c.args.self.now c.args.settled.now c.args.best.now (c.is_pruned_by_reach.ensures c.if-is_pruned_by_reach.true)
+    explores_reached c.args.self.now c.args.settled.now c.args.best.now
+    (c.is_pruned_by_reach.ensures c.if-is_pruned_by_reach.true)
 
 pub settle_next-returns : goal.settle_next-returns
 settle_next-returns t c =
     let task = c.args.self.now in
     let settled = c.args.settled.now in
-    explores_kept task (between settled) c.canonical-canonical.result c.args.best.now c.trace.new.self c.keep.new.self (low_back task c.requires.fit settled None c.canonical-canonical.result c.is_pruned_by_suffix.ensures.whole c.canonical-canonical.ensures)
+    explores_kept task (between settled) c.canonical-canonical.result c.args.best.now c.trace.new.self c.keep.new.self
+    (low_back task c.requires.fit settled None c.canonical-canonical.result c.is_pruned_by_suffix.ensures.whole
+    c.canonical-canonical.ensures)
     (explores_between task settled c.args.best.now c.begin_runs.new.best c.trace.new.self c.begin_runs.ensures
-    (explores_from task (between settled) (between (passed settled)) (Pass ∷ []) c.begin_runs.new.best c.settle_next.new.best c.trace.new.self (leads_pass task settled (omega arith))
-    (subst (λ (s : Settled). Explores task (between s) c.begin_runs.new.best c.settle_next.new.best) c.passed-passed.ensures c.settle_next.ensures)
+    (explores_from task (between settled) (between (passed settled)) (Pass ∷ []) c.begin_runs.new.best
+    c.settle_next.new.best c.trace.new.self (leads_pass task settled (omega arith))
+    (subst (λ (s : Settled). Explores task (between s) c.begin_runs.new.best c.settle_next.new.best)
+    c.passed-passed.ensures c.settle_next.ensures)
     c.trace.ensures)
     (omega arith))
     c.keep.ensures.kept
 
 pub settle_next-returns-then-dominates : goal.settle_next-returns-then-dominates
 settle_next-returns-then-dominates t c =
-    explores_covered c.args.self.now c.requires.fit (between c.args.settled.now) c.canonical-canonical.result c.args.best.now (canonical_whole c.args.self.now c.args.settled.now None c.canonical-canonical.result c.is_pruned_by_suffix.ensures.whole c.canonical-canonical.ensures) (low_canonical c.args.self.now c.requires.fit c.requires.ready c.args.settled.now None c.canonical-canonical.result c.is_pruned_by_suffix.ensures.whole c.canonical-canonical.ensures) (c.dominates.ensures c.if-dominates.true)
+    explores_covered c.args.self.now c.requires.fit (between c.args.settled.now) c.canonical-canonical.result
+    c.args.best.now (canonical_whole c.args.self.now c.args.settled.now None c.canonical-canonical.result
+    c.is_pruned_by_suffix.ensures.whole c.canonical-canonical.ensures)
+    (low_canonical c.args.self.now c.requires.fit c.requires.ready c.args.settled.now None
+    c.canonical-canonical.result c.is_pruned_by_suffix.ensures.whole c.canonical-canonical.ensures)
+    (c.dominates.ensures c.if-dominates.true)
 
 pub stand_once-returns-then-dominates : goal.stand_once-returns-then-dominates
 stand_once-returns-then-dominates t c =
     let settled = c.args.settled.now in
     let run = c.args.run.now in
-    explores_covered c.args.self.now c.requires.fit (partial settled run) c.canonical_begun-canonical.result c.args.best.now (canonical_whole c.args.self.now settled (Some run) c.canonical_begun-canonical.result c.marks_all_borders.ensures c.canonical_begun-canonical.ensures) (low_canonical c.args.self.now c.requires.fit c.requires.ready settled (Some run) c.canonical_begun-canonical.result c.marks_all_borders.ensures c.canonical_begun-canonical.ensures) (c.dominates.ensures c.if-dominates.true)
+    explores_covered c.args.self.now c.requires.fit (partial settled run) c.canonical_begun-canonical.result
+    c.args.best.now (canonical_whole c.args.self.now settled (Some run) c.canonical_begun-canonical.result
+    c.marks_all_borders.ensures c.canonical_begun-canonical.ensures)
+    (low_canonical c.args.self.now c.requires.fit c.requires.ready settled (Some run)
+    c.canonical_begun-canonical.result c.marks_all_borders.ensures c.canonical_begun-canonical.ensures)
+    (c.dominates.ensures c.if-dominates.true)
 
 pub stand_once-returns : goal.stand_once-returns
 stand_once-returns t c =
     let settled = c.args.settled.now in
     let run = c.args.run.now in
-    explores_kept c.args.self.now (partial settled run) c.canonical_begun-canonical.result c.args.best.now c.stand_again.new.best c.keep.new.self (low_back c.args.self.now c.requires.fit settled (Some run) c.canonical_begun-canonical.result c.marks_all_borders.ensures c.canonical_begun-canonical.ensures) c.stand_again.ensures c.keep.ensures.kept
+    explores_kept c.args.self.now (partial settled run) c.canonical_begun-canonical.result c.args.best.now
+    c.stand_again.new.best c.keep.new.self (low_back c.args.self.now c.requires.fit settled (Some run)
+    c.canonical_begun-canonical.result c.marks_all_borders.ensures c.canonical_begun-canonical.ensures)
+    c.stand_again.ensures c.keep.ensures.kept
 
 pub stand_again-returns-then-may_settle : goal.stand_again-returns-then-may_settle
 stand_again-returns-then-may_settle t c =
@@ -145,10 +189,13 @@ stand_again-returns-then-may_settle t c =
     let settled = c.args.settled.now in
     let run = c.args.run.now in
     explores_partial task settled run c.args.best.now c.turn_back.new.best c.trace.new.self
-    (tries_on task settled run c.args.best.now c.go_on.new.best c.turn_back.new.best c.go_on.ensures c.turn_back.ensures)
-    (explores_from task (partial settled run) (between (with_run_settled settled run)) (Settle ∷ []) c.turn_back.new.best c.settle_next.new.best c.trace.new.self
+    (tries_on task settled run c.args.best.now c.go_on.new.best c.turn_back.new.best c.go_on.ensures
+    c.turn_back.ensures)
+    (explores_from task (partial settled run) (between (with_run_settled settled run)) (Settle ∷ [])
+    c.turn_back.new.best c.settle_next.new.best c.trace.new.self
     (leads_settle task settled run (sym c.may_settle.ensures ∙ c.if-may_settle.true))
-    (subst (λ (s : Settled). Explores task (between s) c.turn_back.new.best c.settle_next.new.best) c.with_run_settled-with_run_settled.ensures c.settle_next.ensures)
+    (subst (λ (s : Settled). Explores task (between s) c.turn_back.new.best c.settle_next.new.best)
+    c.with_run_settled-with_run_settled.ensures c.settle_next.ensures)
     c.trace.ensures)
 
 pub stand_again-returns-else-may_settle : goal.stand_again-returns-else-may_settle
@@ -157,7 +204,8 @@ stand_again-returns-else-may_settle t c =
     let settled = c.args.settled.now in
     let run = c.args.run.now in
     explores_on task settled run c.args.best.now c.turn_back.new.best (sym c.may_settle.ensures ∙ c.if-may_settle.false)
-    (tries_on task settled run c.args.best.now c.go_on.new.best c.turn_back.new.best c.go_on.ensures c.turn_back.ensures)
+    (tries_on task settled run c.args.best.now c.go_on.new.best c.turn_back.new.best c.go_on.ensures
+    c.turn_back.ensures)
 
 pub take-stand-requires : goal.take-stand-requires
 take-stand-requires t c =
@@ -187,7 +235,11 @@ take-stand-requires t c =
                   c.requires.to,
                   (
                     c.requires.home,
-                    (c.requires.begun, room_by task settled run segment c.requires.fit whole free false to refl c.requires.segment c.requires.room),
+                    (
+                      c.requires.begun,
+                      room_by task settled run segment c.requires.fit whole free false to refl
+                          c.requires.segment c.requires.room,
+                    ),
                   ),
                 ),
               ),
@@ -205,13 +257,32 @@ begin_at-take-requires t c =
     let from = c.index-from.result.now in
     let leg = c.index-leg.result.now in
     let legs = from.legs.items in
-    let are : AreLegsOf task stop legs = departs_from task c.requires.ready stop from c.requires.stop c.index-from.ensures c.requires.begins in
-    let at : slice_get legs index ≡ Some leg = slice_get_read legs (length legs) index leg refl (omega arith) c.index-leg.ensures in
+    let are : AreLegsOf task stop legs = departs_from task c.requires.ready stop from c.requires.stop
+    c.index-from.ensures c.requires.begins in
+    let at : slice_get legs index ≡ Some leg = slice_get_read legs (length legs) index leg refl (omega arith)
+    c.index-leg.ensures in
     let fits = leg_fits task c.requires.fit stop legs are c.requires.begins leg (among_place legs index leg at) in
     let one = one_low (stop_in (node_at task stop)) in
     let value = value_low task c.requires.fit stop in
-    rw (c.by-run.ensures, c.begun-begun.ensures)
-    (omega arith, (c.requires.fit, (c.requires.ready, (c.requires.bounds, (c.requires.next, (fits.0, (fits.1, (c.requires.stop, (c.requires.begins, omega arith)))))))))
+    rw (c.by-run.ensures, c.begun-begun.ensures) (
+      omega arith,
+      (
+        c.requires.fit,
+        (
+          c.requires.ready,
+          (
+            c.requires.bounds,
+            (
+              c.requires.next,
+              (
+                fits.0,
+                (fits.1, (c.requires.stop, (c.requires.begins, omega arith))),
+              ),
+            ),
+          ),
+        ),
+      ),
+    )
 
 pub go_on-take-requires : goal.go_on-take-requires
 go_on-take-requires t c =
@@ -221,24 +292,47 @@ go_on-take-requires t c =
     let from = c.index-from.result.now in
     let leg = c.index-leg.result.now in
     let legs = from.legs.items in
-    let are : AreLegsOf task run.head legs = departs_from task c.requires.ready run.head from c.requires.head c.index-from.ensures c.requires.stands in
-    let at : slice_get legs index ≡ Some leg = slice_get_read legs (length legs) index leg refl (omega arith) c.index-leg.ensures in
-    let fits = leg_fits task c.requires.fit run.head legs are c.requires.stands leg (among_place legs index leg at) in
-    (omega arith, (c.requires.fit, (c.requires.ready, (c.requires.bounds, (c.requires.next, (fits.0, (fits.1, (c.requires.home, (c.requires.begun, omega arith)))))))))
+    let are : AreLegsOf task run.head legs = departs_from task c.requires.ready run.head from c.requires.head
+    c.index-from.ensures c.requires.stands in
+    let at : slice_get legs index ≡ Some leg = slice_get_read legs (length legs) index leg refl (omega arith)
+    c.index-leg.ensures in
+    let fits = leg_fits task c.requires.fit run.head legs are c.requires.stands leg (among_place legs index leg at) in (
+      omega arith,
+      (
+        c.requires.fit,
+        (
+          c.requires.ready,
+          (
+            c.requires.bounds,
+            (
+              c.requires.next,
+              (
+                fits.0,
+                (fits.1, (c.requires.home, (c.requires.begun, omega arith))),
+              ),
+            ),
+          ),
+        ),
+      ),
+    )
 
 pub begin_runs-loop-place-init : goal.begin_runs-loop-place-init
-begin_runs-loop-place-init t c = home_first c.args.self.now c.args.settled.now c.args.self.now.homes.items c.none-before.result c.args.best.now c.none-before.ensures c.requires.ready.homes
+begin_runs-loop-place-init t c = home_first c.args.self.now c.args.settled.now c.args.self.now.homes.items
+    c.none-before.result c.args.best.now c.none-before.ensures c.requires.ready.homes
 
 next_home :
-    (task : Task) (settled : Settled) (place home : ℕ) (before : List Bool) (old new : Found) → place < length task.homes.items → home ≡ get_or task.homes.items place home →
-    TriesHomes task settled (drop place task.homes.items) before old new → TriesHomes task settled (home ∷ drop (place + 1) task.homes.items) before old new
+    (task : Task) (settled : Settled) (place home : ℕ) (before : List Bool) (old new : Found)
+    → place < length task.homes.items → home ≡ get_or task.homes.items place home →
+    TriesHomes task settled (drop place task.homes.items) before old new
+    → TriesHomes task settled (home ∷ drop (place + 1) task.homes.items) before old new
 next_home task settled place home before old new low is tries =
     subst (λ (homes : List ℕ). TriesHomes task settled homes before old new)
     (drop_more task.homes.items place home low ∙ ap (λ (h : ℕ). h ∷ drop (place + 1) task.homes.items) (sym is)) tries
 
 pub begin_runs-index-node-requires : goal.begin_runs-index-node-requires
 begin_runs-index-node-requires t c =
-    let next = next_home c.args.self.now c.args.settled.now c.loop-place.place c.index-stop.result.now _ _ _ (omega arith) c.index-stop.ensures c.loop-place.invariant in
+    let next = next_home c.args.self.now c.args.settled.now c.loop-place.place c.index-stop.result.now _ _ _
+    (omega arith) c.index-stop.ensures c.loop-place.invariant in
     let low = next.rest.1 in
     omega (arith, low, c.requires.fit.all)
 
@@ -246,16 +340,47 @@ pub begin_runs-begin_at-requires : goal.begin_runs-begin_at-requires
 begin_runs-begin_at-requires t c =
     let task = c.args.self.now in
     let stop = c.index-stop.result.now in
-    let next = next_home task c.args.settled.now c.loop-place.place stop _ _ _ (omega arith) c.index-stop.ensures c.loop-place.invariant in
-    let there : node_at task stop ≡ Some c.index-node.result.now = node_is task c.requires.fit stop c.index-node.result.now next.rest.1 c.index-node.ensures in
-    (omega arith, (c.requires.fit, (c.requires.ready, (c.requires.bounds, (c.requires.next, (c.requires.room, (next.rest.1, (ap stop_in there ∙ c.if-node.true, (next.rest.2, home_before task c.args.settled.now stop _ _ _ _ next)))))))))
+    let next = next_home task c.args.settled.now c.loop-place.place stop _ _ _ (omega arith) c.index-stop.ensures
+    c.loop-place.invariant in
+    let there : node_at task stop ≡ Some c.index-node.result.now =
+    node_is task c.requires.fit stop c.index-node.result.now next.rest.1 c.index-node.ensures in (
+      omega arith,
+      (
+        c.requires.fit,
+        (
+          c.requires.ready,
+          (
+            c.requires.bounds,
+            (
+              c.requires.next,
+              (
+                c.requires.room,
+                (
+                  next.rest.1,
+                  (
+                    ap stop_in there ∙ c.if-node.true,
+                    (next.rest.2, home_before task c.args.settled.now stop _ _ _ _ next),
+                  ),
+                ),
+              ),
+            ),
+          ),
+        ),
+      ),
+    )
 
 pub begin_runs-mark_own-requires : goal.begin_runs-mark_own-requires
 begin_runs-mark_own-requires t c =
     let task = c.args.self.now in
     let stop = c.index-stop.result.now in
-    let next = next_home task c.args.settled.now c.loop-place.place stop _ _ _ (omega arith) c.index-stop.ensures c.loop-place.invariant in
-    record { fit = c.requires.fit; number = next.rest.1; before = home_before task c.args.settled.now stop _ _ _ _ next }
+    let next = next_home task c.args.settled.now c.loop-place.place stop _ _ _ (omega arith) c.index-stop.ensures
+    c.loop-place.invariant in
+    record {
+      fit = c.requires.fit;
+      number = next.rest.1;
+      before =
+          home_before task c.args.settled.now stop _ _ _ _ next;
+    }
 
 pub begin_runs-loop-place-preserved : goal.begin_runs-loop-place-preserved
 begin_runs-loop-place-preserved t c =
@@ -263,13 +388,16 @@ begin_runs-loop-place-preserved t c =
     let settled = c.args.settled.now in
     let stop = c.index-stop.result.now in
     let before = c.loop-place.before in
-    let next = next_home task settled c.loop-place.place stop before c.args.best.now c.loop-place.best (omega arith) c.index-stop.ensures c.loop-place.invariant in
-    let there : node_at task stop ≡ Some c.index-node.result.now = node_is task c.requires.fit stop c.index-node.result.now next.rest.1 c.index-node.ensures in
+    let next = next_home task settled c.loop-place.place stop before c.args.best.now c.loop-place.best (omega arith)
+    c.index-stop.ensures c.loop-place.invariant in
+    let there : node_at task stop ≡ Some c.index-node.result.now =
+    node_is task c.requires.fit stop c.index-node.result.now next.rest.1 c.index-node.ensures in
     let homes = drop (c.loop-place.place + 1) task.homes.items in
     elim c.if-node.branch [
       | begin_runs-then-node w ↦
           subst (λ (b : Found). TriesHomes task settled homes c.mark_own.new.marks c.args.best.now b) (sym w.best-is)
-          (home_more task settled stop homes before c.mark_own.new.marks c.args.best.now c.loop-place.best _ next w.begin_at.ensures c.mark_own.ensures)
+          (home_more task settled stop homes before c.mark_own.new.marks c.args.best.now c.loop-place.best _ next
+          w.begin_at.ensures c.mark_own.ensures)
       | begin_runs-else-node w ↦
           subst (λ (b : Found). TriesHomes task settled homes c.mark_own.new.marks c.args.best.now b) (sym w.best-is)
           (home_more task settled stop homes before c.mark_own.new.marks c.args.best.now c.loop-place.best _ next
@@ -278,8 +406,10 @@ begin_runs-loop-place-preserved t c =
 
 pub begin_runs-returns : goal.begin_runs-returns
 begin_runs-returns t c =
-    home_last c.args.self.now c.args.settled.now c.loop-place.before c.args.best.now c.loop-place.best (omega (arith, c.requires.fit.all))
-    (subst (λ (homes : List ℕ). TriesHomes c.args.self.now c.args.settled.now homes c.loop-place.before c.args.best.now c.loop-place.best)
+    home_last c.args.self.now c.args.settled.now c.loop-place.before c.args.best.now c.loop-place.best
+    (omega (arith, c.requires.fit.all))
+    (subst (λ (homes : List ℕ). TriesHomes c.args.self.now c.args.settled.now homes c.loop-place.before
+    c.args.best.now c.loop-place.best)
     (drop_all c.loop-place.place c.args.self.now.homes.items (omega arith)) c.loop-place.invariant)
 
 pub turn_back-take-requires : goal.turn_back-take-requires
@@ -290,20 +420,42 @@ turn_back-take-requires t c =
     let from = c.index-from.result.now in
     let leg = c.index-leg.result.now in
     let legs = from.legs.items in
-    let are : AreLegsOf task run.home legs = departs_from task c.requires.ready run.home from c.requires.home c.index-from.ensures c.requires.begun in
-    let at : slice_get legs index ≡ Some leg = slice_get_read legs (length legs) index leg refl (omega arith) c.index-leg.ensures in
+    let are : AreLegsOf task run.home legs = departs_from task c.requires.ready run.home from c.requires.home
+    c.index-from.ensures c.requires.begun in
+    let at : slice_get legs index ≡ Some leg = slice_get_read legs (length legs) index leg refl (omega arith)
+    c.index-leg.ensures in
     let fits = leg_fits task c.requires.fit run.home legs are c.requires.begun leg (among_place legs index leg at) in
     let one = one_of (stop_in (node_at task run.head)) c.requires.stands in
     let home = one_of (stop_in (node_at task run.home)) c.requires.begun in
-    rw c.turned_back-back.ensures
-    (omega arith, (c.requires.fit, (c.requires.ready, (c.requires.bounds, (c.requires.next, (fits.0, (fits.1, (c.requires.home, (c.requires.begun, omega arith)))))))))
+    rw c.turned_back-back.ensures (
+      omega arith,
+      (
+        c.requires.fit,
+        (
+          c.requires.ready,
+          (
+            c.requires.bounds,
+            (
+              c.requires.next,
+              (
+                fits.0,
+                (fits.1, (c.requires.home, (c.requires.begun, omega arith))),
+              ),
+            ),
+          ),
+        ),
+      ),
+    )
 
 pub turn_back-loop-index-init : goal.turn_back-loop-index-init
 turn_back-loop-index-init t c =
     let run = c.args.run.now in
     let from = c.index-from.result.now in
-    let are : AreLegsOf c.args.self.now run.home from.legs.items = departs_from c.args.self.now c.requires.ready run.home from c.requires.home c.index-from.ensures c.requires.begun in
-    legs_none c.args.self.now c.requires.fit run.home c.requires.begun from.legs.items are (partial c.args.settled.now run) c.args.settled.now (λ leg. turned_back run) (IsLater run) c.args.best.now
+    let are : AreLegsOf c.args.self.now run.home from.legs.items =
+    departs_from c.args.self.now c.requires.ready run.home from c.requires.home c.index-from.ensures
+    c.requires.begun in
+    legs_none c.args.self.now c.requires.fit run.home c.requires.begun from.legs.items are
+    (partial c.args.settled.now run) c.args.settled.now (λ leg. turned_back run) (IsLater run) c.args.best.now
 
 pub turn_back-loop-index-preserved : goal.turn_back-loop-index-preserved
 turn_back-loop-index-preserved t c =
@@ -315,23 +467,34 @@ turn_back-loop-index-preserved t c =
     let from = c.index-from.result.now in
     let leg = c.index-leg.result.now in
     let legs = from.legs.items in
-    let there : node_at task run.home ≡ Some node = node_is task c.requires.fit run.home node c.requires.home c.index.ensures in
-    let are : AreLegsOf task run.home legs = departs_from task c.requires.ready run.home from c.requires.home c.index-from.ensures c.requires.begun in
-    let at : slice_get legs index ≡ Some leg = slice_get_read legs (length legs) index leg refl (omega arith) c.index-leg.ensures in
-    let Tried : Found → Type 0 = λ b. TriesLegs task (partial settled run) settled (λ w. turned_back run) (λ w. StandsBefore legs (index + 1) w × IsLater run w) c.args.best.now b in
+    let there : node_at task run.home ≡ Some node =
+    node_is task c.requires.fit run.home node c.requires.home c.index.ensures in
+    let are : AreLegsOf task run.home legs = departs_from task c.requires.ready run.home from c.requires.home
+    c.index-from.ensures c.requires.begun in
+    let at : slice_get legs index ≡ Some leg = slice_get_read legs (length legs) index leg refl (omega arith)
+    c.index-leg.ensures in
+    let Tried : Found → Type 0 = λ b. TriesLegs task (partial settled run) settled (λ w. turned_back run)
+    (λ w. StandsBefore legs (index + 1) w × IsLater run w) c.args.best.now b in
     elim c.if-run-leg.branch [
       | turn_back-then-run-leg w ↦
           subst Tried (sym w.best-is)
-          (legs_more task c.requires.fit run.home c.requires.begun legs are (partial settled run) settled (λ v. turned_back run) (IsLater run) index leg _ _ _ at c.loop-index.invariant
-          (takes_from task (partial settled run) settled (turned_back run) leg (Turn ∷ go_along leg.steps.items) c.loop-index.best w.take.new.best w.trace.new.self
-          (leads_turn task c.requires.fit settled c.marks_all_borders.ensures run c.requires.begun c.if-run.false c.requires.stands (ap ends_in there ∙ c.if-index.false) legs are index leg at (omega arith))
-          (subst (λ (r : PartialRun). Takes task settled r leg.segment c.loop-index.best w.take.new.best) c.turned_back-back.ensures w.take.ensures)
-          (traces_both c.loop-index.best.amount (go_along leg.steps.items) (Turn ∷ []) w.take.new.best w.trace_steps.new.self w.trace.new.self
+          (legs_more task c.requires.fit run.home c.requires.begun legs are (partial settled run) settled
+          (λ v. turned_back run) (IsLater run) index leg _ _ _ at c.loop-index.invariant
+          (takes_from task (partial settled run) settled (turned_back run) leg (Turn ∷ go_along leg.steps.items)
+          c.loop-index.best w.take.new.best w.trace.new.self
+          (leads_turn task c.requires.fit settled c.marks_all_borders.ensures run c.requires.begun c.if-run.false
+          c.requires.stands (ap ends_in there ∙ c.if-index.false) legs are index leg at (omega arith))
+          (subst (λ (r : PartialRun). Takes task settled r leg.segment c.loop-index.best w.take.new.best)
+          c.turned_back-back.ensures w.take.ensures)
+          (traces_both c.loop-index.best.amount (go_along leg.steps.items) (Turn ∷ []) w.take.new.best
+          w.trace_steps.new.self w.trace.new.self
           w.trace_steps.ensures
           w.trace.ensures)))
       | turn_back-else-run-leg w ↦
           subst Tried (sym w.best-is)
-          (legs_skip task c.requires.fit run.home c.requires.begun legs are (partial settled run) settled (λ v. turned_back run) (IsLater run) index leg _ _ at (λ later. omega (arith, w.if-run-leg.false, later)) c.loop-index.invariant)
+          (legs_skip task c.requires.fit run.home c.requires.begun legs are (partial settled run) settled
+          (λ v. turned_back run) (IsLater run) index leg _ _ at
+          (λ later. omega (arith, w.if-run-leg.false, later)) c.loop-index.invariant)
     ]
 
 pub turn_back-returns : goal.turn_back-returns
@@ -339,5 +502,7 @@ turn_back-returns t c =
     let task = c.args.self.now in
     let run = c.args.run.now in
     let from = c.index-from.result.now in
-    let are : AreLegsOf task run.home from.legs.items = departs_from task c.requires.ready run.home from c.requires.home c.index-from.ensures c.requires.begun in
-    turn_by_legs task c.requires.fit c.args.settled.now c.marks_all_borders.ensures run c.requires.begun from.legs.items are c.loop-index.index _ _ (omega arith) c.loop-index.invariant
+    let are : AreLegsOf task run.home from.legs.items =
+    departs_from task c.requires.ready run.home from c.requires.home c.index-from.ensures c.requires.begun in
+    turn_by_legs task c.requires.fit c.args.settled.now c.marks_all_borders.ensures run c.requires.begun
+    from.legs.items are c.loop-index.index _ _ (omega arith) c.loop-index.invariant

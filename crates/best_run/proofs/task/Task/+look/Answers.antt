@@ -21,8 +21,16 @@ look_past-look_from-requires t c =
     let ahead = c.args.outlook.now.ahead in
     let low : c.args.spot < length ahead = omega (arith, c.is_whole.ensures, c.requires.spot) in
     let fewer = set_fewer ahead c.args.spot low c.requires.free in
-    let less = ap unused c.count.ensures.marked in
-    (omega (arith, less), (c.requires.fit, (c.requires.ready, (c.requires.spot, (c.requires.stop, c.count.ensures.known)))))
+    let less = ap unused c.count.ensures.marked in (
+      omega (arith, less),
+      (
+        c.requires.fit,
+        (
+          c.requires.ready,
+          (c.requires.spot, (c.requires.stop, c.count.ensures.known)),
+        ),
+      ),
+    )
 
 pub look_past-returns-then-index-clause-widens : goal.look_past-returns-then-index-clause-widens
 look_past-returns-then-index-clause-widens t c =
@@ -40,7 +48,8 @@ pub look_past-end_at-requires-clause-passed : goal.look_past-end_at-requires-cla
 look_past-end_at-requires-clause-passed t c =
     let task = c.args.self.now in
     let node = node_is task c.requires.fit c.args.spot c.index.result.now c.requires.spot c.index.ensures in
-    subst (λ (o : Outlook). CountsAsPassed task c.args.settled.now c.args.run.now c.args.spot o.ahead o.worth) (sym (c.look_from.ensures.same c.if-not-look_from.true))
+    subst (λ (o : Outlook). CountsAsPassed task c.args.settled.now c.args.run.now c.args.spot o.ahead o.worth)
+    (sym (c.look_from.ensures.same c.if-not-look_from.true))
     (c.count.ensures.passed (ap ends_in node ∙ c.if-index.false))
 
 pub look_past-returns-then-not-look_from-clause-widens : goal.look_past-returns-then-not-look_from-clause-widens
@@ -49,9 +58,12 @@ look_past-returns-then-not-look_from-clause-widens t c =
     let settled = c.args.settled.now in
     let run = c.args.run.now in
     let spot = c.args.spot in
-    past_from task settled run spot c.args.outlook.now.ahead _ c.requires.free (omega (arith, c.is_whole.ensures, c.requires.spot))
-    (subst (λ (ms : List Bool). WidensFrom task settled run spot (set c.args.outlook.now.ahead spot true) ms) (sym c.end_at.ensures.same)
-    (subst (λ (ms : List Bool). WidensFrom task settled run spot ms c.look_from.new.outlook.ahead) c.count.ensures.marked c.look_from.ensures.widens))
+    past_from task settled run spot c.args.outlook.now.ahead _ c.requires.free
+    (omega (arith, c.is_whole.ensures, c.requires.spot))
+    (subst (λ (ms : List Bool). WidensFrom task settled run spot (set c.args.outlook.now.ahead spot true) ms)
+    (sym c.end_at.ensures.same)
+    (subst (λ (ms : List Bool). WidensFrom task settled run spot ms c.look_from.new.outlook.ahead)
+    c.count.ensures.marked c.look_from.ensures.widens))
 
 pub look_past-returns-else-not-look_from-clause-widens : goal.look_past-returns-else-not-look_from-clause-widens
 look_past-returns-else-not-look_from-clause-widens t c =
@@ -59,12 +71,16 @@ look_past-returns-else-not-look_from-clause-widens t c =
     let settled = c.args.settled.now in
     let run = c.args.run.now in
     let spot = c.args.spot in
-    past_from task settled run spot c.args.outlook.now.ahead _ c.requires.free (omega (arith, c.is_whole.ensures, c.requires.spot))
-    (subst (λ (ms : List Bool). WidensFrom task settled run spot ms c.look_from.new.outlook.ahead) c.count.ensures.marked c.look_from.ensures.widens)
+    past_from task settled run spot c.args.outlook.now.ahead _ c.requires.free
+    (omega (arith, c.is_whole.ensures, c.requires.spot))
+    (subst (λ (ms : List Bool). WidensFrom task settled run spot ms c.look_from.new.outlook.ahead)
+    c.count.ensures.marked c.look_from.ensures.widens)
 
 pub look_from-loop-index-init : goal.look_from-loop-index-init
-look_from-loop-index-init t c =
-    (below_none c.args.self.now c.args.settled.now c.args.run.now c.args.spot c.args.outlook.now.ahead, (c.requires.known, λ none. refl))
+look_from-loop-index-init t c = (
+  below_none c.args.self.now c.args.settled.now c.args.run.now c.args.spot c.args.outlook.now.ahead,
+  (c.requires.known, λ none. refl),
+)
 
 pub look_from-leads_on-requires : goal.look_from-leads_on-requires
 look_from-leads_on-requires t c =
@@ -72,9 +88,12 @@ look_from-leads_on-requires t c =
     let from = c.index-from.result.now in
     let legs = from.legs.items in
     let leg = c.index-leg.result.now in
-    let are : AreLegsOf task c.args.spot legs = departs_from task c.requires.ready c.args.spot from c.requires.spot c.index-from.ensures c.requires.stop in
-    let at : slice_get legs c.loop-index.index ≡ Some leg = slice_get_read legs (length legs) c.loop-index.index leg refl (omega arith) c.index-leg.ensures in
-    let fits = leg_fits task c.requires.fit c.args.spot legs are c.requires.stop leg (among_place legs c.loop-index.index leg at) in
+    let are : AreLegsOf task c.args.spot legs = departs_from task c.requires.ready c.args.spot from c.requires.spot
+    c.index-from.ensures c.requires.stop in
+    let at : slice_get legs c.loop-index.index ≡ Some leg =
+    slice_get_read legs (length legs) c.loop-index.index leg refl (omega arith) c.index-leg.ensures in
+    let fits = leg_fits task c.requires.fit c.args.spot legs are c.requires.stop leg
+    (among_place legs c.loop-index.index leg at) in
     record { fit = c.requires.fit; to = fits.0.to; stop = fits.1 }
 
 pub look_from-look_past-requires : goal.look_from-look_past-requires
@@ -83,9 +102,12 @@ look_from-look_past-requires t c =
     let from = c.index-from.result.now in
     let legs = from.legs.items in
     let leg = c.index-leg.result.now in
-    let are : AreLegsOf task c.args.spot legs = departs_from task c.requires.ready c.args.spot from c.requires.spot c.index-from.ensures c.requires.stop in
-    let at : slice_get legs c.loop-index.index ≡ Some leg = slice_get_read legs (length legs) c.loop-index.index leg refl (omega arith) c.index-leg.ensures in
-    let fits = leg_fits task c.requires.fit c.args.spot legs are c.requires.stop leg (among_place legs c.loop-index.index leg at) in
+    let are : AreLegsOf task c.args.spot legs = departs_from task c.requires.ready c.args.spot from c.requires.spot
+    c.index-from.ensures c.requires.stop in
+    let at : slice_get legs c.loop-index.index ≡ Some leg =
+    slice_get_read legs (length legs) c.loop-index.index leg refl (omega arith) c.index-leg.ensures in
+    let fits = leg_fits task c.requires.fit c.args.spot legs are c.requires.stop leg
+    (among_place legs c.loop-index.index leg at) in
     let fewer = c.loop-index.invariant.0.widens.fewer in
     let free = leads_free _ _ (sym c.leads_on.ensures ∙ c.if-leads_on.true) in
     (omega arith, (c.requires.fit, (c.requires.ready, (fits.0.to, (fits.1, (free, c.loop-index.invariant.1.0))))))
@@ -99,10 +121,13 @@ look_from-loop-index-preserved t c =
     let legs = from.legs.items in
     let leg = c.index-leg.result.now in
     let index = c.loop-index.index in
-    let at : slice_get legs index ≡ Some leg = slice_get_read legs (length legs) index leg refl (omega arith) c.index-leg.ensures in
-    let there : legs_at task c.args.spot ≡ legs = ap legs_in (departs_at task c.requires.ready c.args.spot from c.requires.spot c.index-from.ensures) in
+    let at : slice_get legs index ≡ Some leg = slice_get_read legs (length legs) index leg refl (omega arith)
+    c.index-leg.ensures in
+    let there : legs_at task c.args.spot ≡ legs = ap legs_in
+    (departs_at task c.requires.ready c.args.spot from c.requires.spot c.index-from.ensures) in
     let here = ap (λ ws. slice_get ws index) there ∙ at in
-    let Looked : Outlook → Type 0 = λ o. WidensBelow task settled run c.args.spot (index + 1) c.args.outlook.now.ahead o.ahead × HasWorth task settled run o.ahead o.worth in
+    let Looked : Outlook → Type 0 = λ o. WidensBelow task settled run c.args.spot (index + 1) c.args.outlook.now.ahead
+    o.ahead × HasWorth task settled run o.ahead o.worth in
     elim c.if-leads_on.branch [
       | look_from-then-leads_on w ↦
           let both = subst Looked (sym w.outlook-is) (
@@ -113,7 +138,8 @@ look_from-loop-index-preserved t c =
       | look_from-else-leads_on w ↦
           let both = subst Looked (sym w.outlook-is) (
             below_more task settled run c.args.spot index leg _ _ _ here c.loop-index.invariant.0
-                (along_not task settled run leg.segment c.loop-index.outlook.ahead (sym c.leads_on.ensures ∙ w.if-leads_on.false)),
+                (along_not task settled run leg.segment c.loop-index.outlook.ahead
+                (sym c.leads_on.ensures ∙ w.if-leads_on.false)),
             c.loop-index.invariant.1.0,
           ) in (both.0, (both.1, λ none. w.outlook-is ∙ c.loop-index.invariant.1.1 (sym w.leads-is ∙ none)))
     ]
@@ -123,4 +149,5 @@ look_from-returns-clause-widens t c =
     let task = c.args.self.now in
     let from = c.index-from.result.now in
     from_all task c.args.settled.now c.args.run.now c.args.spot from.legs.items c.loop-index.index _ _
-    (ap legs_in (departs_at task c.requires.ready c.args.spot from c.requires.spot c.index-from.ensures)) (omega arith) c.loop-index.invariant.0
+    (ap legs_in (departs_at task c.requires.ready c.args.spot from c.requires.spot c.index-from.ensures))
+    (omega arith) c.loop-index.invariant.0

@@ -13,4 +13,6 @@ decreases-look_from l = 2 * unused l.outlook.now.ahead + 1
 
 abbrev pub invariant-look_from-loop-index : goal.invariant-look_from-loop-index
 invariant-look_from-loop-index l =
-    WidensBelow l.self l.settled l.run l.spot l.index l.initial.outlook.ahead l.outlook.ahead × (HasWorth l.self l.settled l.run l.outlook.ahead l.outlook.worth × (l.leads ≡ false → l.outlook ≡ l.initial.outlook))
+    WidensBelow l.self l.settled l.run l.spot l.index l.initial.outlook.ahead l.outlook.ahead
+    × (HasWorth l.self l.settled l.run l.outlook.ahead l.outlook.worth
+    × (l.leads ≡ false → l.outlook ≡ l.initial.outlook))

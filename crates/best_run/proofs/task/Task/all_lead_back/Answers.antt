@@ -9,10 +9,12 @@ loop-index-init c = back_none c.args.self.now c.args.spot
 pub loop-index-preserved : goal.loop-index-preserved
 loop-index-preserved c =
     back_more c.args.self.now c.args.spot c.loop-index.index c.index-leg.result.now
-    (leg_at c.args.self.now c.args.spot c.index-from.result.now c.loop-index.index c.index-leg.result.now c.requires c.index-from.ensures (omega arith) c.index-leg.ensures)
+    (leg_at c.args.self.now c.args.spot c.index-from.result.now c.loop-index.index c.index-leg.result.now c.requires
+    c.index-from.ensures (omega arith) c.index-leg.ensures)
     (c.leads_back.ensures c.if-not-leads_back.false) c.loop-index.invariant
 
 pub returns : goal.returns
 returns c told =
     back_all c.args.self.now c.args.spot c.loop-index.index c.index-from.result.now.legs.items
-    (read_at c.args.self.now c.args.spot c.index-from.result.now c.requires c.index-from.ensures) (omega arith) c.loop-index.invariant
+    (read_at c.args.self.now c.args.spot c.index-from.result.now c.requires c.index-from.ensures) (omega arith)
+    c.loop-index.invariant

@@ -12,6 +12,8 @@ returns c told =
       equal = c.equals-equal.result;
       bound = slice_index_or c.args.bounds.now left 0;
       are_equal = c.equals-equal.ensures.equal;
-      rest = c.requires.bounds left (slice_index_or c.args.bounds.now left 0) (c.args.next + c.equals-equal.result) (slice_get-get_or c.args.bounds.now left 0 c.if-left-bounds.false) (omega (arith, c.len.ensures, c.equals-equal.ensures.within));
+      rest = c.requires.bounds left (slice_index_or c.args.bounds.now left 0) (c.args.next + c.equals-equal.result)
+          (slice_get-get_or c.args.bounds.now left 0 c.if-left-bounds.false)
+          (omega (arith, c.len.ensures, c.equals-equal.ensures.within));
       short = omega (arith, leb-true _ _ told);
     }

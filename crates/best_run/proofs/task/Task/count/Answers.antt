@@ -9,7 +9,8 @@ use Rattle.best_run.proofs.task.Task.count.Goals as goal
 
 pub pass-requires-clause-room : goal.pass-requires-clause-room
 pass-requires-clause-room c =
-    has_most c.args.self.now c.requires.fit c.args.settled.now c.args.run.now c.args.outlook.now.ahead c.args.outlook.now.worth c.requires.known
+    has_most c.args.self.now c.requires.fit c.args.settled.now c.args.run.now c.args.outlook.now.ahead
+    c.args.outlook.now.worth c.requires.known
 
 pub end-requires : goal.end-requires
 end-requires c = c.requires.known.known.order
@@ -18,28 +19,39 @@ pub returns-then-node-clause-known : goal.returns-then-node-clause-known
 returns-then-node-clause-known c =
     let task = c.args.self.now in
     let node = c.index-node.result.now in
-    let at : node_at task c.args.spot ≡ Some node = node_is task c.requires.fit c.args.spot node c.requires.spot c.index-node.ensures in
+    let at : node_at task c.args.spot ≡ Some node =
+    node_is task c.requires.fit c.args.spot node c.requires.spot c.index-node.ensures in
     subst (λ (ms : List Bool). HasWorth task c.args.settled.now c.args.run.now ms c.end.new.self) (sym c.mark.ensures)
-    (has_ended task c.args.settled.now c.args.run.now c.args.outlook.now.ahead c.args.spot node at (omega (arith, c.requires.spot, c.requires.fit.all))
-    (worth_low task c.requires.fit c.args.spot node c.requires.spot c.index-node.ensures) c.requires.free (omega (arith, c.is_whole.ensures, c.requires.spot)) c.args.outlook.now.worth c.end.new.self c.requires.known
+    (has_ended task c.args.settled.now c.args.run.now c.args.outlook.now.ahead c.args.spot node at
+    (omega (arith, c.requires.spot, c.requires.fit.all))
+    (worth_low task c.requires.fit c.args.spot node c.requires.spot c.index-node.ensures) c.requires.free
+    (omega (arith, c.is_whole.ensures, c.requires.spot)) c.args.outlook.now.worth c.end.new.self c.requires.known
     (ap ends_in at ∙ c.if-node.true) c.end.ensures)
 
 pub returns-then-node-clause-passed : goal.returns-then-node-clause-passed
 returns-then-node-clause-passed c passes =
-    let at : node_at c.args.self.now c.args.spot ≡ Some c.index-node.result.now = node_is c.args.self.now c.requires.fit c.args.spot c.index-node.result.now c.requires.spot c.index-node.ensures in
+    let at : node_at c.args.self.now c.args.spot ≡ Some c.index-node.result.now =
+    node_is c.args.self.now c.requires.fit c.args.spot c.index-node.result.now c.requires.spot
+    c.index-node.ensures in
     absurd (not_free c.index-node.result.now.ends c.if-node.true (sym (ap ends_in at) ∙ passes))
 
 pub returns-else-node-clause-passed : goal.returns-else-node-clause-passed
 returns-else-node-clause-passed c passes =
     let task = c.args.self.now in
     let node = c.index-node.result.now in
-    let at : node_at task c.args.spot ≡ Some node = node_is task c.requires.fit c.args.spot node c.requires.spot c.index-node.ensures in
-    subst (λ (ms : List Bool). CountsAsPassed task c.args.settled.now c.args.run.now c.args.spot ms c.pass.new.self) (sym c.mark.ensures)
-    (has_passing task c.args.settled.now c.args.run.now c.args.outlook.now.ahead c.args.spot node at (omega (arith, c.requires.spot, c.requires.fit.all))
-    (worth_low task c.requires.fit c.args.spot node c.requires.spot c.index-node.ensures) c.requires.free (omega (arith, c.is_whole.ensures, c.requires.spot)) c.args.outlook.now.worth c.pass.new.self c.requires.known
+    let at : node_at task c.args.spot ≡ Some node =
+    node_is task c.requires.fit c.args.spot node c.requires.spot c.index-node.ensures in
+    subst (λ (ms : List Bool). CountsAsPassed task c.args.settled.now c.args.run.now c.args.spot ms c.pass.new.self)
+    (sym c.mark.ensures)
+    (has_passing task c.args.settled.now c.args.run.now c.args.outlook.now.ahead c.args.spot node at
+    (omega (arith, c.requires.spot, c.requires.fit.all))
+    (worth_low task c.requires.fit c.args.spot node c.requires.spot c.index-node.ensures) c.requires.free
+    (omega (arith, c.is_whole.ensures, c.requires.spot)) c.args.outlook.now.worth c.pass.new.self c.requires.known
     passes c.pass.ensures)
 
 pub returns-else-node-clause-known : goal.returns-else-node-clause-known
 returns-else-node-clause-known c =
-    let at : node_at c.args.self.now c.args.spot ≡ Some c.index-node.result.now = node_is c.args.self.now c.requires.fit c.args.spot c.index-node.result.now c.requires.spot c.index-node.ensures in
+    let at : node_at c.args.self.now c.args.spot ≡ Some c.index-node.result.now =
+    node_is c.args.self.now c.requires.fit c.args.spot c.index-node.result.now c.requires.spot
+    c.index-node.ensures in
     (returns-else-node-clause-passed c (ap ends_in at ∙ c.if-node.false)).has

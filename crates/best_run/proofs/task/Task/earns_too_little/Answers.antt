@@ -11,11 +11,19 @@ returns-then-bounds-later c told =
     let settled = c.args.settled.now in
     let later = c.len.result - settled.next - 1 in
     let bound = slice_index_or c.args.bounds.now later 0 in
-    let most : EarnAtMost task (settled.next + 1) bound = c.requires.bounds later bound (settled.next + 1) (slice_get-get_or c.args.bounds.now later 0 c.if-later-bounds.false) (omega (arith, c.len.ensures, c.requires.next)) in
-    ends_low task c.requires.fit c.requires.ready settled c.args.run.now c.args.outlook.now.ahead c.requires.ahead c.most_ahead.ensures.most.nodes c.most_ahead.ensures.most.counts c.requires.stands c.requires.begun c.most_ahead.ensures.most.level bound c.args.best most c.requires.borders c.requires.spots
+    let most : EarnAtMost task (settled.next + 1) bound =
+    c.requires.bounds later bound (settled.next + 1)
+    (slice_get-get_or c.args.bounds.now later 0 c.if-later-bounds.false)
+    (omega (arith, c.len.ensures, c.requires.next)) in
+    ends_low task c.requires.fit c.requires.ready settled c.args.run.now c.args.outlook.now.ahead c.requires.ahead
+    c.most_ahead.ensures.most.nodes c.most_ahead.ensures.most.counts c.requires.stands c.requires.begun
+    c.most_ahead.ensures.most.level bound c.args.best most c.requires.borders c.requires.spots
     (omega (arith, c.most_ahead.ensures.most.low, c.if-total-best.false, c.if-bounds-later.true))
 
 pub returns : goal.returns
 returns c told =
-    ends_canonical c.args.self.now c.requires.fit c.requires.ready c.args.settled.now c.args.run.now c.args.outlook.now.ahead c.requires.ahead c.most_ahead.ensures.most.nodes c.most_ahead.ensures.most.counts c.requires.stands c.requires.begun c.most_ahead.ensures.most.level _ c.args.best (c.are_pruned_by_cap.ensures told) c.requires.borders c.requires.spots
+    ends_canonical c.args.self.now c.requires.fit c.requires.ready c.args.settled.now c.args.run.now
+    c.args.outlook.now.ahead c.requires.ahead c.most_ahead.ensures.most.nodes c.most_ahead.ensures.most.counts
+    c.requires.stands c.requires.begun c.most_ahead.ensures.most.level _ c.args.best
+    (c.are_pruned_by_cap.ensures told) c.requires.borders c.requires.spots
     (omega (arith, c.most_ahead.ensures.most.low))

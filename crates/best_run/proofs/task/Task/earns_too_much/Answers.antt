@@ -6,4 +6,5 @@ use Rattle.best_run.proofs.task.Task.earns_too_much.Goals as goal
 
 pub returns : goal.returns
 returns c told best moves completes =
-    absurd (no_dearer c.args.self.now moves c.args.settled.now c.args.run.now (omega arith) (omega arith) (ltb-true _ _ told) completes)
+    absurd (no_dearer c.args.self.now moves c.args.settled.now c.args.run.now (omega arith) (omega arith)
+    (ltb-true _ _ told) completes)

@@ -16,9 +16,12 @@ pub returns-then-is_last-clause-known : goal.returns-then-is_last-clause-known
 returns-then-is_last-clause-known c =
     let task = c.args.self.now in
     let node = c.index-node.result.now in
-    let at : node_at task c.args.spot ≡ Some node = node_is task c.requires.fit c.args.spot node c.requires.spot c.index-node.ensures in
-    turned_ends task c.args.settled.now c.args.run.now c.args.outlook.now.ahead c.args.spot node at (omega (arith, c.requires.spot, c.requires.fit.all))
-    (worth_low task c.requires.fit c.args.spot node c.requires.spot c.index-node.ensures) c.requires.lies c.args.outlook.now.worth c.take_back.new.self c.end.new.self c.requires.passed
+    let at : node_at task c.args.spot ≡ Some node =
+    node_is task c.requires.fit c.args.spot node c.requires.spot c.index-node.ensures in
+    turned_ends task c.args.settled.now c.args.run.now c.args.outlook.now.ahead c.args.spot node at
+    (omega (arith, c.requires.spot, c.requires.fit.all))
+    (worth_low task c.requires.fit c.args.spot node c.requires.spot c.index-node.ensures) c.requires.lies
+    c.args.outlook.now.worth c.take_back.new.self c.end.new.self c.requires.passed
     (c.is_last.ensures c.if-is_last.true) c.take_back.ensures c.end.ensures
 
 pub returns-else-is_last-clause-known : goal.returns-else-is_last-clause-known

@@ -7,7 +7,8 @@ use Rattle.best_run.proofs.task.Task.equals.Goals as goal
 -- an element is the same whatever stands for those that are not there
 same_there : (xs : List ℕ) (i a b : ℕ) → i < length xs → get_or xs i a ≡ get_or xs i b
 same_there xs i a b low =
-    let both : Some (get_or xs i a) ≡ Some (get_or xs i b) = sym (slice_get-get_or xs i a low) ∙ slice_get-get_or xs i b low in
+    let both : Some (get_or xs i a) ≡ Some (get_or xs i b) =
+    sym (slice_get-get_or xs i a low) ∙ slice_get-get_or xs i b low in
     cc
 
 pub loop-count-init : goal.loop-count-init

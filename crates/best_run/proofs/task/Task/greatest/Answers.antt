@@ -7,7 +7,8 @@ use Rattle.best_run.proofs.Kept.{granted}
 use Rattle.best_run.proofs.task.Task.greatest.Goals as goal
 
 pub settle_last-requires-clause-bounds : goal.settle_last-requires-clause-bounds
-settle_last-requires-clause-bounds c = subst (AreBounds c.args.self.now) (sym c.deref.ensures.value) c.in_ok-bounds.ensures.true_bounds
+settle_last-requires-clause-bounds c = subst (AreBounds c.args.self.now) (sym c.deref.ensures.value)
+    c.in_ok-bounds.ensures.true_bounds
 
 pub returns : goal.returns
 returns c =

@@ -10,15 +10,19 @@ pub returns-then-not-has-clause-holds : goal.returns-then-not-has-clause-holds
 returns-then-not-has-clause-holds c =
     let ahead = c.args.reach.now.ahead in
     let low : c.args.stop < length ahead = omega (arith, c.is_whole.ensures, c.requires.spot) in
-    subst (λ (ms : List Bool). Holds c.args.stop ahead ms) (sym c.count.ensures.marked) (holds_more c.args.stop ahead low)
+    subst (λ (ms : List Bool). Holds c.args.stop ahead ms) (sym c.count.ensures.marked)
+    (holds_more c.args.stop ahead low)
 
 pub returns-else-not-has-clause-holds : goal.returns-else-not-has-clause-holds
-returns-else-not-has-clause-holds c = holds_known c.args.stop c.args.reach.now.ahead (sym c.has.ensures ∙ c.if-not-has.false)
+returns-else-not-has-clause-holds c = holds_known c.args.stop c.args.reach.now.ahead
+    (sym c.has.ensures ∙ c.if-not-has.false)
 
 pub count-requires-clause-known : goal.count-requires-clause-known
 count-requires-clause-known c =
-    has_plain c.args.self.now c.args.settled.now c.anywhere.result c.args.reach.now.ahead c.args.reach.now.worth c.requires.known
+    has_plain c.args.self.now c.args.settled.now c.anywhere.result c.args.reach.now.ahead c.args.reach.now.worth
+    c.requires.known
 
 pub returns-then-not-has-clause-known : goal.returns-then-not-has-clause-known
 returns-then-not-has-clause-known c =
-    plain_has c.args.self.now c.args.settled.now c.anywhere.result _ _ (ap (λ (r : PartialRun). r.most) c.anywhere.ensures) c.count.ensures.known
+    plain_has c.args.self.now c.args.settled.now c.anywhere.result _ _
+    (ap (λ (r : PartialRun). r.most) c.anywhere.ensures) c.count.ensures.known

@@ -8,7 +8,8 @@ loop-spot-init c = spots_none c.args.self.now
 
 pub loop-spot-preserved : goal.loop-spot-preserved
 loop-spot-preserved c =
-    spots_more c.args.self.now c.loop-spot.spot (c.all_lead_back.ensures c.if-not-all_lead_back.false) c.loop-spot.invariant
+    spots_more c.args.self.now c.loop-spot.spot (c.all_lead_back.ensures c.if-not-all_lead_back.false)
+    c.loop-spot.invariant
 
 pub returns : goal.returns
 returns c told = spots_all c.args.self.now c.loop-spot.spot (omega arith) c.loop-spot.invariant

@@ -9,4 +9,7 @@ least-cap-requires-clause-room c =
 
 pub returns : goal.returns
 returns c told =
-    reach_earns c.args.self.now c.requires.fit c.requires.ready c.args.settled.now c.args.reach.now.ahead c.args.reach.now.worth c.index-most.result.now c.least-cap.result c.args.best c.requires.reaches c.requires.held c.requires.known c.marks_all_borders.ensures c.least-cap.ensures.least (c.are_pruned_by_cap.ensures told)
+    reach_earns c.args.self.now c.requires.fit c.requires.ready c.args.settled.now c.args.reach.now.ahead
+    c.args.reach.now.worth c.index-most.result.now c.least-cap.result c.args.best c.requires.reaches
+    c.requires.held c.requires.known c.marks_all_borders.ensures c.least-cap.ensures.least
+    (c.are_pruned_by_cap.ensures told)

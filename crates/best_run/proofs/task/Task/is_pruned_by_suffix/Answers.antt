@@ -13,8 +13,13 @@ returns-then-settled-best-clause-short c told =
     elim c.if-left-bounds.branch [
       | then-left-bounds w ↦ (
         slice_index_or bounds left 0,
-        subst (λ (n : ℕ). slice_get bounds n ≡ Some (slice_index_or bounds left 0)) same (slice_get-get_or bounds left 0 w.if-left-bounds.true),
+        subst (λ (n : ℕ). slice_get bounds n ≡ Some (slice_index_or bounds left 0)) same
+            (slice_get-get_or bounds left 0 w.if-left-bounds.true),
         omega (arith, leb-true _ _ told, leb-true _ _ (sym w.value-is ∙ c.if-settled-best.true)),
       )
-      | else-left-bounds w ↦ absurd (omega (arith, ltb-true _ _ (sym w.value-is ∙ c.if-settled-best.true), w.if-left-bounds.false))
+      | else-left-bounds w ↦ absurd (omega (
+        arith,
+        ltb-true _ _ (sym w.value-is ∙ c.if-settled-best.true),
+        w.if-left-bounds.false,
+      ))
     ]

@@ -8,6 +8,7 @@ returns-then-is_within c told =
     record {
       place = c.loop-index.index;
       back = c.index-back.result.now;
-      stands = leg_at c.args.self.now c.args.leg.now.segment.to c.index-from.result.now c.loop-index.index c.index-back.result.now (omega arith) c.index-from.ensures (omega arith) c.index-back.ensures;
+      stands = leg_at c.args.self.now c.args.leg.now.segment.to c.index-from.result.now c.loop-index.index
+          c.index-back.result.now (omega arith) c.index-from.ensures (omega arith) c.index-back.ensures;
       within = c.is_within.ensures c.if-is_within.true;
     }

@@ -12,4 +12,5 @@ returns-then-leads_on-clause-widens c =
 
 pub returns-else-leads_on-clause-widens : goal.returns-else-leads_on-clause-widens
 returns-else-leads_on-clause-widens c =
-    along_not c.args.self.now c.args.settled.now c.args.run.now c.args.segment.now _ (sym c.leads_on.ensures ∙ c.if-leads_on.false)
+    along_not c.args.self.now c.args.settled.now c.args.run.now c.args.segment.now _
+    (sym c.leads_on.ensures ∙ c.if-leads_on.false)

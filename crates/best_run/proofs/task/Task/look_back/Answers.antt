@@ -15,7 +15,10 @@ use Rattle.best_run.proofs.task.Task.look_back.Goals as goal
 use Rattle.best_run.proofs.task.Task.look_back.Goals.{then-run-leg, else-run-leg}
 
 pub loop-index-init : goal.loop-index-init
-loop-index-init c = (back_none c.args.self.now c.args.settled.now c.args.run.now c.args.outlook.now.ahead, c.requires.known)
+loop-index-init c = (
+  back_none c.args.self.now c.args.settled.now c.args.run.now c.args.outlook.now.ahead,
+  c.requires.known,
+)
 
 pub look_along-requires-clause-to : goal.look_along-requires-clause-to
 look_along-requires-clause-to c =
@@ -24,9 +27,12 @@ look_along-requires-clause-to c =
     let from = c.index-from.result.now in
     let legs = from.legs.items in
     let leg = c.index-leg.result.now in
-    let are : AreLegsOf task home legs = departs_from task c.requires.ready home from c.requires.home c.index-from.ensures c.requires.begun in
-    let at : slice_get legs c.loop-index.index ≡ Some leg = slice_get_read legs (length legs) c.loop-index.index leg refl (omega arith) c.index-leg.ensures in
-    let fits = leg_fits task c.requires.fit home legs are c.requires.begun leg (among_place legs c.loop-index.index leg at) in
+    let are : AreLegsOf task home legs = departs_from task c.requires.ready home from c.requires.home
+    c.index-from.ensures c.requires.begun in
+    let at : slice_get legs c.loop-index.index ≡ Some leg =
+    slice_get_read legs (length legs) c.loop-index.index leg refl (omega arith) c.index-leg.ensures in
+    let fits = leg_fits task c.requires.fit home legs are c.requires.begun leg
+    (among_place legs c.loop-index.index leg at) in
     fits.0.to
 
 pub look_along-requires-clause-stop : goal.look_along-requires-clause-stop
@@ -36,9 +42,12 @@ look_along-requires-clause-stop c =
     let from = c.index-from.result.now in
     let legs = from.legs.items in
     let leg = c.index-leg.result.now in
-    let are : AreLegsOf task home legs = departs_from task c.requires.ready home from c.requires.home c.index-from.ensures c.requires.begun in
-    let at : slice_get legs c.loop-index.index ≡ Some leg = slice_get_read legs (length legs) c.loop-index.index leg refl (omega arith) c.index-leg.ensures in
-    let fits = leg_fits task c.requires.fit home legs are c.requires.begun leg (among_place legs c.loop-index.index leg at) in
+    let are : AreLegsOf task home legs = departs_from task c.requires.ready home from c.requires.home
+    c.index-from.ensures c.requires.begun in
+    let at : slice_get legs c.loop-index.index ≡ Some leg =
+    slice_get_read legs (length legs) c.loop-index.index leg refl (omega arith) c.index-leg.ensures in
+    let fits = leg_fits task c.requires.fit home legs are c.requires.begun leg
+    (among_place legs c.loop-index.index leg at) in
     fits.1
 
 pub loop-index-preserved : goal.loop-index-preserved
@@ -50,15 +59,26 @@ loop-index-preserved c =
     let legs = from.legs.items in
     let leg = c.index-leg.result.now in
     let index = c.loop-index.index in
-    let at : slice_get legs index ≡ Some leg = slice_get_read legs (length legs) index leg refl (omega arith) c.index-leg.ensures in
-    let there : legs_at task run.home ≡ legs = ap legs_in (departs_at task c.requires.ready run.home from c.requires.home c.index-from.ensures) in
+    let at : slice_get legs index ≡ Some leg = slice_get_read legs (length legs) index leg refl (omega arith)
+    c.index-leg.ensures in
+    let there : legs_at task run.home ≡ legs = ap legs_in
+    (departs_at task c.requires.ready run.home from c.requires.home c.index-from.ensures) in
     let here = ap (λ ws. slice_get ws index) there ∙ at in
-    let Looked : Outlook → Type 0 = λ o. WidensBackBelow task settled run (index + 1) c.args.outlook.now.ahead o.ahead × HasWorth task settled run o.ahead o.worth in
+    let Looked : Outlook → Type 0 = λ o. WidensBackBelow task settled run (index + 1) c.args.outlook.now.ahead o.ahead
+    × HasWorth task settled run o.ahead o.worth in
     elim c.if-run-leg.branch [
       | then-run-leg w ↦
-          subst Looked (sym w.outlook-is) (back_more task settled run index leg _ _ _ here c.loop-index.invariant.0 w.look_along.ensures.widens, w.look_along.ensures.known)
+          subst Looked (sym w.outlook-is) (
+            back_more task settled run index leg _ _ _ here c.loop-index.invariant.0
+                w.look_along.ensures.widens,
+            w.look_along.ensures.known,
+          )
       | else-run-leg w ↦
-          subst Looked (sym w.outlook-is) (back_skip task settled run index leg _ _ here (λ later. omega (arith, w.if-run-leg.false, later)) c.loop-index.invariant.0, c.loop-index.invariant.1)
+          subst Looked (sym w.outlook-is) (
+            back_skip task settled run index leg _ _ here
+                (λ later. omega (arith, w.if-run-leg.false, later)) c.loop-index.invariant.0,
+            c.loop-index.invariant.1,
+          )
     ]
 
 pub returns-clause-widens : goal.returns-clause-widens
@@ -67,7 +87,8 @@ returns-clause-widens c =
     let run = c.args.run.now in
     let from = c.index-from.result.now in
     back_all task c.args.settled.now run from.legs.items c.loop-index.index _ _
-    (ap legs_in (departs_at task c.requires.ready run.home from c.requires.home c.index-from.ensures)) (omega arith) c.loop-index.invariant.0
+    (ap legs_in (departs_at task c.requires.ready run.home from c.requires.home c.index-from.ensures)) (omega arith)
+    c.loop-index.invariant.0
 
 pub returns-then-index-clause-widens : goal.returns-then-index-clause-widens
 returns-then-index-clause-widens c =

@@ -5,4 +5,5 @@ use Rattle.best_run.proofs.task.Task.look_back.Given as goal
 
 abbrev pub invariant-loop-index : goal.invariant-loop-index
 invariant-loop-index l =
-    WidensBackBelow l.self l.settled l.run l.index l.initial.outlook.ahead l.outlook.ahead × HasWorth l.self l.settled l.run l.outlook.ahead l.outlook.worth
+    WidensBackBelow l.self l.settled l.run l.index l.initial.outlook.ahead l.outlook.ahead
+    × HasWorth l.self l.settled l.run l.outlook.ahead l.outlook.worth

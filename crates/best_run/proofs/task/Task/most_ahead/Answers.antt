@@ -5,7 +5,8 @@ use Rattle.best_run.proofs.task.Task.most_ahead.Goals as goal
 
 pub least-requires-clause-room : goal.least-requires-clause-room
 least-requires-clause-room c =
-    has_most c.args.self.now c.requires.fit c.args.settled.now c.args.run.now c.args.outlook.now.ahead c.args.outlook.now.worth c.requires.known
+    has_most c.args.self.now c.requires.fit c.args.settled.now c.args.run.now c.args.outlook.now.ahead
+    c.args.outlook.now.worth c.requires.known
 
 pub least-requires-clause-first : goal.least-requires-clause-first
 least-requires-clause-first c = c.requires.known.known.low
@@ -15,5 +16,6 @@ least-requires-clause-second c = c.requires.known.known.order
 
 pub returns-clause-most : goal.returns-clause-most
 returns-clause-most c =
-    earns_ahead c.args.self.now c.args.settled.now c.args.run.now c.args.outlook.now.ahead c.args.outlook.now.worth c.goes_on-on.result c.goes_back-back.result c.least.result c.requires.known
+    earns_ahead c.args.self.now c.args.settled.now c.args.run.now c.args.outlook.now.ahead c.args.outlook.now.worth
+    c.goes_on-on.result c.goes_back-back.result c.least.result c.requires.known
     (sym c.goes_on-on.ensures) (sym c.goes_back-back.ensures) c.least.ensures.least

@@ -19,9 +19,12 @@ look_along-requires-clause-to c =
     let from = c.index-from.result.now in
     let legs = from.legs.items in
     let leg = c.index-leg.result.now in
-    let are : AreLegsOf task c.args.stop legs = departs_from task c.requires.ready c.args.stop from c.requires.spot c.index-from.ensures c.requires.stops in
-    let at : slice_get legs c.loop-index.index ≡ Some leg = slice_get_read legs (length legs) c.loop-index.index leg refl (omega arith) c.index-leg.ensures in
-    let fits = leg_fits task c.requires.fit c.args.stop legs are c.requires.stops leg (among_place legs c.loop-index.index leg at) in
+    let are : AreLegsOf task c.args.stop legs = departs_from task c.requires.ready c.args.stop from c.requires.spot
+    c.index-from.ensures c.requires.stops in
+    let at : slice_get legs c.loop-index.index ≡ Some leg =
+    slice_get_read legs (length legs) c.loop-index.index leg refl (omega arith) c.index-leg.ensures in
+    let fits = leg_fits task c.requires.fit c.args.stop legs are c.requires.stops leg
+    (among_place legs c.loop-index.index leg at) in
     fits.0.to
 
 pub look_along-requires-clause-stop : goal.look_along-requires-clause-stop
@@ -30,14 +33,18 @@ look_along-requires-clause-stop c =
     let from = c.index-from.result.now in
     let legs = from.legs.items in
     let leg = c.index-leg.result.now in
-    let are : AreLegsOf task c.args.stop legs = departs_from task c.requires.ready c.args.stop from c.requires.spot c.index-from.ensures c.requires.stops in
-    let at : slice_get legs c.loop-index.index ≡ Some leg = slice_get_read legs (length legs) c.loop-index.index leg refl (omega arith) c.index-leg.ensures in
-    let fits = leg_fits task c.requires.fit c.args.stop legs are c.requires.stops leg (among_place legs c.loop-index.index leg at) in
+    let are : AreLegsOf task c.args.stop legs = departs_from task c.requires.ready c.args.stop from c.requires.spot
+    c.index-from.ensures c.requires.stops in
+    let at : slice_get legs c.loop-index.index ≡ Some leg =
+    slice_get_read legs (length legs) c.loop-index.index leg refl (omega arith) c.index-leg.ensures in
+    let fits = leg_fits task c.requires.fit c.args.stop legs are c.requires.stops leg
+    (among_place legs c.loop-index.index leg at) in
     fits.1
 
 pub look_along-requires-clause-known : goal.look_along-requires-clause-known
 look_along-requires-clause-known c =
-    has_plain c.args.self.now c.args.settled.now c.anywhere-run.result c.loop-index.reach.ahead c.loop-index.reach.worth c.loop-index.invariant.1
+    has_plain c.args.self.now c.args.settled.now c.anywhere-run.result c.loop-index.reach.ahead
+    c.loop-index.reach.worth c.loop-index.invariant.1
 
 pub loop-index-preserved : goal.loop-index-preserved
 loop-index-preserved c =
@@ -45,15 +52,27 @@ loop-index-preserved c =
     let from = c.index-from.result.now in
     let legs = from.legs.items in
     let leg = c.index-leg.result.now in
-    let at : slice_get legs c.loop-index.index ≡ Some leg = slice_get_read legs (length legs) c.loop-index.index leg refl (omega arith) c.index-leg.ensures in
-    let there : legs_at task c.args.stop ≡ legs = ap legs_in (departs_at task c.requires.ready c.args.stop from c.requires.spot c.index-from.ensures) in
-    let here : slice_get (legs_at task c.args.stop) c.loop-index.index ≡ Some leg = ap (λ ws. slice_get ws c.loop-index.index) there ∙ at in
-    let by : WidensBy task c.args.settled.now anywhere leg.segment c.loop-index.reach.ahead c.look_along.new.outlook.ahead = subst (λ (r : PartialRun). WidensBy task c.args.settled.now r leg.segment c.loop-index.reach.ahead c.look_along.new.outlook.ahead) c.anywhere-run.ensures c.look_along.ensures.widens in
-    (below_more task c.args.settled.now anywhere c.args.stop c.loop-index.index leg _ _ _ here c.loop-index.invariant.0 by, plain_has task c.args.settled.now c.anywhere-run.result c.look_along.new.outlook.ahead c.look_along.new.outlook.worth (ap (λ (r : PartialRun). r.most) c.anywhere-run.ensures) c.look_along.ensures.known)
+    let at : slice_get legs c.loop-index.index ≡ Some leg =
+    slice_get_read legs (length legs) c.loop-index.index leg refl (omega arith) c.index-leg.ensures in
+    let there : legs_at task c.args.stop ≡ legs = ap legs_in
+    (departs_at task c.requires.ready c.args.stop from c.requires.spot c.index-from.ensures) in
+    let here : slice_get (legs_at task c.args.stop) c.loop-index.index ≡ Some leg =
+    ap (λ ws. slice_get ws c.loop-index.index) there ∙ at in
+    let by : WidensBy task c.args.settled.now anywhere leg.segment c.loop-index.reach.ahead
+    c.look_along.new.outlook.ahead = subst (λ (r : PartialRun). WidensBy task c.args.settled.now r leg.segment
+    c.loop-index.reach.ahead c.look_along.new.outlook.ahead) c.anywhere-run.ensures c.look_along.ensures.widens in (
+      below_more task c.args.settled.now anywhere c.args.stop c.loop-index.index leg _ _ _ here
+          c.loop-index.invariant.0 by,
+      plain_has task c.args.settled.now c.anywhere-run.result
+          c.look_along.new.outlook.ahead c.look_along.new.outlook.worth
+          (ap (λ (r : PartialRun). r.most) c.anywhere-run.ensures) c.look_along.ensures.known,
+    )
 
 pub returns-clause-reaches : goal.returns-clause-reaches
 returns-clause-reaches c =
     let task = c.args.self.now in
     let from = c.index-from.result.now in
-    let there : legs_at task c.args.stop ≡ from.legs.items = ap legs_in (departs_at task c.requires.ready c.args.stop from c.requires.spot c.index-from.ensures) in
-    widens_all task c.args.settled.now c.args.stop from.legs.items c.loop-index.index _ _ there (omega arith) c.loop-index.invariant.0
+    let there : legs_at task c.args.stop ≡ from.legs.items =
+    ap legs_in (departs_at task c.requires.ready c.args.stop from c.requires.spot c.index-from.ensures) in
+    widens_all task c.args.settled.now c.args.stop from.legs.items c.loop-index.index _ _ there (omega arith)
+    c.loop-index.invariant.0

@@ -4,4 +4,5 @@ use Rattle.best_run.proofs.task.Task.reach_past.Goals as goal
 
 pub returns-clause-reaches : goal.returns-clause-reaches
 returns-clause-reaches c =
-    reach_past c.args.self.now c.args.settled.now c.args.stop c.args.reach.now.ahead c.hold.new.reach.ahead c.reach_from.new.reach.ahead c.hold.ensures.holds c.reach_from.ensures.reaches
+    reach_past c.args.self.now c.args.settled.now c.args.stop c.args.reach.now.ahead c.hold.new.reach.ahead
+    c.reach_from.new.reach.ahead c.hold.ensures.holds c.reach_from.ensures.reaches

@@ -12,4 +12,6 @@ pub returns : goal.returns
 returns c =
     let same : c.len.result - c.args.count ≡ length c.args.self.now.trains.items - c.args.count = omega arith in
     subst (λ (n : ℕ). Explores c.args.self.now (between (nothing_before n)) c.args.best.now c.settle_next.new.best) same
-    (subst (λ (used : List Bool). Explores c.args.self.now (between (record { next = c.len.result - c.args.count; total = 0; kind = 0; cap = 0; used = used })) c.args.best.now c.settle_next.new.best) c.none.ensures c.settle_next.ensures)
+    (subst (λ (used : List Bool). Explores c.args.self.now
+    (between (record { next = c.len.result - c.args.count; total = 0; kind = 0; cap = 0; used = used }))
+    c.args.best.now c.settle_next.new.best) c.none.ensures c.settle_next.ensures)

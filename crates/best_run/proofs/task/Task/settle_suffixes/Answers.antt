@@ -8,12 +8,15 @@ use Rattle.best_run.proofs.task.Task.settle_suffixes.Goals as goal
 pub loop-count-init : goal.loop-count-init
 loop-count-init c =
     rw c.in_ok-bounds.ensures.items
-    (solved_none c.args.self.now c.args.best.now c.requires.nothing.amount c.requires.nothing.marks (empty_memo c.args.self.now c.args.best.now c.requires.nothing))
+    (solved_none c.args.self.now c.args.best.now c.requires.nothing.amount c.requires.nothing.marks
+    (empty_memo c.args.self.now c.args.best.now c.requires.nothing))
 
 pub settle_last-requires-clause-bounds : goal.settle_last-requires-clause-bounds
-settle_last-requires-clause-bounds c = subst (AreBounds c.args.self.now) (sym c.deref.ensures.value) c.loop-count.invariant.true_bounds
+settle_last-requires-clause-bounds c = subst (AreBounds c.args.self.now) (sym c.deref.ensures.value)
+    c.loop-count.invariant.true_bounds
 
 pub loop-count-preserved : goal.loop-count-preserved
 loop-count-preserved c =
     rw c.in_ok-push.ensures.items
-    (solved_more c.args.self.now c.loop-count.count c.loop-count.bounds.items c.loop-count.best c.settle_last.new.best c.write.new.self (omega arith) c.loop-count.invariant c.settle_last.ensures c.write.ensures)
+    (solved_more c.args.self.now c.loop-count.count c.loop-count.bounds.items c.loop-count.best c.settle_last.new.best
+    c.write.new.self (omega arith) c.loop-count.invariant c.settle_last.ensures c.write.ensures)

@@ -6,7 +6,8 @@ abbrev pub invariant-loop-place : goal.invariant-loop-place
 invariant-loop-place l =
     (length l.self.beyond ≡ 9)
     × (l.self.levels ≡ l.initial.self.levels)
-    × ((place : ℕ) → place < l.place → get_or l.self.beyond place 0 ≡ get_or l.initial.self.beyond place 0 - (l.value - 10 * place))
+    × ((place : ℕ) → place < l.place → get_or l.self.beyond place 0
+    ≡ get_or l.initial.self.beyond place 0 - (l.value - 10 * place))
     × ((place : ℕ) → l.place ≤ place → get_or l.self.beyond place 0 ≡ get_or l.initial.self.beyond place 0)
     × (l.self.first ≡ l.initial.self.first)
     × (l.self.second ≡ l.initial.self.second)

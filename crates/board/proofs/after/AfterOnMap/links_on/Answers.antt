@@ -12,7 +12,8 @@ returns-then-same_hex c =
     let lay = c.args.self.now.lay in
     let hex = c.args.hex in
     c.laid_links.ensures ∙ ap (by_tile (printed_links_of hex) laid_links_of)
-    (sym (last_lies lays lay hex ∙ ap (λ b. cond b (Some lay) (tile_on lays hex)) (sym c.same_hex.ensures ∙ c.if-same_hex.true)))
+    (sym (last_lies lays lay hex ∙ ap (λ b. cond b (Some lay) (tile_on lays hex))
+    (sym c.same_hex.ensures ∙ c.if-same_hex.true)))
 
 pub returns : goal.returns
 returns c =
@@ -20,4 +21,5 @@ returns c =
     let lay = c.args.self.now.lay in
     let hex = c.args.hex in
     c.links_on.ensures ∙ ap (by_tile (printed_links_of hex) laid_links_of)
-    (sym (last_lies lays lay hex ∙ ap (λ b. cond b (Some lay) (tile_on lays hex)) (sym c.same_hex.ensures ∙ c.if-same_hex.false)))
+    (sym (last_lies lays lay hex ∙ ap (λ b. cond b (Some lay) (tile_on lays hex))
+    (sym c.same_hex.ensures ∙ c.if-same_hex.false)))

@@ -8,10 +8,12 @@ pub returns-then-same_hex : goal.returns-then-same_hex
 returns-then-same_hex c =
     let lays = c.args.self.now.board.now.lays in
     let lay = c.args.self.now.lay in
-    sym (last_lies lays lay c.args.hex ∙ ap (λ b. cond b (Some lay) (tile_on lays c.args.hex)) (sym c.same_hex.ensures ∙ c.if-same_hex.true))
+    sym (last_lies lays lay c.args.hex ∙ ap (λ b. cond b (Some lay) (tile_on lays c.args.hex))
+    (sym c.same_hex.ensures ∙ c.if-same_hex.true))
 
 pub returns : goal.returns
 returns c =
     let lays = c.args.self.now.board.now.lays in
     let lay = c.args.self.now.lay in
-    c.tile_on.ensures ∙ sym (last_lies lays lay c.args.hex ∙ ap (λ b. cond b (Some lay) (tile_on lays c.args.hex)) (sym c.same_hex.ensures ∙ c.if-same_hex.false))
+    c.tile_on.ensures ∙ sym (last_lies lays lay c.args.hex
+    ∙ ap (λ b. cond b (Some lay) (tile_on lays c.args.hex)) (sym c.same_hex.ensures ∙ c.if-same_hex.false))

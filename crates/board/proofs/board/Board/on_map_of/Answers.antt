@@ -8,4 +8,5 @@ use Rattle.board.proofs.board.Board.on_map_of.Goals as goal
 pub returns : goal.returns
 unfolding on_map_of
 returns c =
-    c.count_of.ensures ∙ ap (count_by (λ hex. is_tile c.args.number (tile_on c.args.self.now.lays hex))) c.hexes_stand_once.ensures.all
+    c.count_of.ensures ∙ ap (count_by (λ hex. is_tile c.args.number (tile_on c.args.self.now.lays hex)))
+    c.hexes_stand_once.ensures.all

@@ -12,7 +12,8 @@ returns-then-self-gt0 c =
       λ is. absurd (elim c.then-self-gt0.branch [
         | then-self-gt0-via-then-self-gt0 w ↦
             let some : 0 < i.left = omega arith in
-            some_in_hand i.left i.«open» (bits_of_bytes i.bytes.now ++ bits_of i.count i.last) some (c.self.view_is ∙ is)
+            some_in_hand i.left i.«open» (bits_of_bytes i.bytes.now ++ bits_of i.count i.last) some
+            (c.self.view_is ∙ is)
         | then-self-gt0-via-else-self-gt0+then-self-gt0-2 w ↦
             let some : 0 < i.count = omega arith in
             some_behind (bits_of i.left i.«open») i.bytes.now i.count i.last some (c.self.view_is ∙ is)
@@ -27,5 +28,6 @@ returns c =
       λ is.
           let bytes : length i.bytes.now ≡ 0 = eqb-true (length i.bytes.now) 0 (sym c.is_empty.ensures ∙ is) in
           sym c.self.view_is ∙ none_there i.left i.«open» i.bytes.now i.count i.last none behind bytes,
-      λ is. c.is_empty.ensures ∙ eq-eqb (length i.bytes.now) 0 (some_bytes i.left i.«open» i.bytes.now (bits_of i.count i.last) none (c.self.view_is ∙ is)),
+      λ is. c.is_empty.ensures ∙ eq-eqb (length i.bytes.now) 0
+          (some_bytes i.left i.«open» i.bytes.now (bits_of i.count i.last) none (c.self.view_is ∙ is)),
     )

@@ -3,4 +3,5 @@ use Rattle.certificate.specs.Walking.{reached_in}
 use Rattle.certificate.proofs.tree.Tree.may_earn.Goals as goal
 
 pub returns : goal.returns
-returns c = λ position stops tree seen. c.most_left.ensures.exact position (reached_in c.args.self.now) stops tree.ranking seen.1
+returns c = λ position stops tree seen. c.most_left.ensures.exact position (reached_in c.args.self.now) stops
+    tree.ranking seen.1

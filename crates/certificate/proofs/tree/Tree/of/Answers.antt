@@ -17,10 +17,12 @@ returns-clause-tree g c =
     let reached : List Stop = c.reached_stops-reached.result in
     let reach = c.reached_stops-reached.ensures in
     let ranked = c.of-ranking.ensures in
-    let told : (group : Group) (kind : Kind) → group.kind ≡ kind → group.may_earn ≡ may_earn position reached kind [] → group.may_earn ≡ may_earn position reached group.kind [] =
+    let told : (group : Group) (kind : Kind) → group.kind ≡ kind → group.may_earn ≡ may_earn position reached kind []
+    → group.may_earn ≡ may_earn position reached group.kind [] =
     λ group kind is amount. amount ∙ ap (λ (k : Kind). may_earn position reached k []) (sym is) in
     let size =
-    groups_size trains c.group_of.result c.group_of-2.result c.group_of-3.result c.group_of-4.result c.group_of-5.result c.group_of-6.result
+    groups_size trains c.group_of.result c.group_of-2.result c.group_of-3.result c.group_of-4.result
+    c.group_of-5.result c.group_of-6.result
     (record { its_kind = c.group_of.ensures.kind; its_count = c.group_of.ensures.count })
     (record { its_kind = c.group_of-2.ensures.kind; its_count = c.group_of-2.ensures.count })
     (record { its_kind = c.group_of-3.ensures.kind; its_count = c.group_of-3.ensures.count })
@@ -29,8 +31,33 @@ returns-clause-tree g c =
     (record { its_kind = c.group_of-6.ensures.kind; its_count = c.group_of-6.ensures.count }) in
     record {
       lawful = c.keeps_laws.ensures;
-      named = λ stop among. all_named position c.args.company reach.0 reach.1 stop (subst (λ (l : List Stop). IsAmong stop l) (sym reach.2) among);
-      earnings = (told c.group_of.result Diesel c.group_of.ensures.kind (c.group_of.ensures.may_earn position reached ranked), (told c.group_of-2.result Six c.group_of-2.ensures.kind (c.group_of-2.ensures.may_earn position reached ranked), (told c.group_of-3.result Five c.group_of-3.ensures.kind (c.group_of-3.ensures.may_earn position reached ranked), (told c.group_of-4.result Four c.group_of-4.ensures.kind (c.group_of-4.ensures.may_earn position reached ranked), (told c.group_of-5.result Three c.group_of-5.ensures.kind (c.group_of-5.ensures.may_earn position reached ranked), (told c.group_of-6.result Two c.group_of-6.ensures.kind (c.group_of-6.ensures.may_earn position reached ranked), tt))))));
+      named = λ stop among. all_named position c.args.company reach.0 reach.1 stop
+          (subst (λ (l : List Stop). IsAmong stop l) (sym reach.2) among);
+      earnings = (
+        told c.group_of.result Diesel c.group_of.ensures.kind
+            (c.group_of.ensures.may_earn position reached ranked),
+        (
+          told c.group_of-2.result Six c.group_of-2.ensures.kind
+              (c.group_of-2.ensures.may_earn position reached ranked),
+          (
+            told c.group_of-3.result Five c.group_of-3.ensures.kind
+                (c.group_of-3.ensures.may_earn position reached ranked),
+            (
+              told c.group_of-4.result Four c.group_of-4.ensures.kind
+                  (c.group_of-4.ensures.may_earn position reached ranked),
+              (
+                told c.group_of-5.result Three c.group_of-5.ensures.kind
+                    (c.group_of-5.ensures.may_earn position reached ranked),
+                (
+                  told c.group_of-6.result Two c.group_of-6.ensures.kind
+                      (c.group_of-6.ensures.may_earn position reached ranked),
+                  tt,
+                ),
+              ),
+            ),
+          ),
+        ),
+      );
       count = c.number_of.ensures ∙ sym size;
       fits = omega (arith, size, c.number_of.ensures, c.number_of.type_inv);
       ranking = ranked;
@@ -39,7 +66,8 @@ returns-clause-tree g c =
 pub returns-clause-trains : goal.returns-clause-trains
 returns-clause-trains g c =
     let trains : List Kind = c.args.trains.now in
-    groups_in_order trains c.group_of.result c.group_of-2.result c.group_of-3.result c.group_of-4.result c.group_of-5.result c.group_of-6.result
+    groups_in_order trains c.group_of.result c.group_of-2.result c.group_of-3.result c.group_of-4.result
+    c.group_of-5.result c.group_of-6.result
     (record { its_kind = c.group_of.ensures.kind; its_count = c.group_of.ensures.count })
     (record { its_kind = c.group_of-2.ensures.kind; its_count = c.group_of-2.ensures.count })
     (record { its_kind = c.group_of-3.ensures.kind; its_count = c.group_of-3.ensures.count })

@@ -13,4 +13,5 @@ same_test false false there back = refl
 pub returns : goal.returns
 returns c =
     let found = has_stop_is c.args.stop (reached_in c.args.self.now) in
-    same_test c.has.result (has_stop c.args.stop (reached_in c.args.self.now)) (λ yes. found.1 (c.has.ensures.0 yes)) (λ yes. c.has.ensures.1 (found.0 yes))
+    same_test c.has.result (has_stop c.args.stop (reached_in c.args.self.now)) (λ yes. found.1 (c.has.ensures.0 yes))
+    (λ yes. c.has.ensures.1 (found.0 yes))

@@ -4,7 +4,8 @@ use Rattle.desk_check.proofs.RoundLemmas.{none_noted, one_noted}
 use Rattle.desk_check.proofs.check_late.Rounds.note.Goals as goal
 
 pub returns-in-None : goal.returns-in-None
-returns-in-None c = λ events are. none_noted c.args.heads.now c.args.self.now events c.args.event.now (sym c.in-None.ensures) are
+returns-in-None c = λ events are. none_noted c.args.heads.now c.args.self.now events c.args.event.now
+    (sym c.in-None.ensures) are
 
 pub returns : goal.returns
 returns c = λ events are.

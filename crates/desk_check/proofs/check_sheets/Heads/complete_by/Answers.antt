@@ -11,7 +11,8 @@ loop-number-preserved c =
     let heads = came c.args.self.now in
     let number = c.loop-number.number in
     let first : c.first_of.result ≡ first_line (sheet_key_at number c.args.round) heads =
-    c.first_of.ensures ∙ ap (λ (seat : Seat). first_line (record { seat = seat; round = c.args.round }) heads) c.at.ensures in
+    c.first_of.ensures ∙ ap (λ (seat : Seat). first_line (record { seat = seat; round = c.args.round }) heads)
+    c.at.ensures in
     c.later_of-by.ensures
     ∙ ap (λ by. later_of by c.first_of.result) c.loop-number.invariant
     ∙ ap (later_of (complete_by number c.args.round heads)) first

@@ -21,12 +21,14 @@ returns-clause-kept c =
           c.in_ok-note_first.ensures.first (map head_at old.heads.items) c.requires.firsts sent
           ∙ sym (ap (first_line (sheet_key_of sent)) all);
       lasts = λ sent.
-          last_after_insert c.args.sent sent c.args.line.number old.last.entries c.insert.new.self.entries (map head_at old.heads.items)
+          last_after_insert c.args.sent sent c.args.line.number old.last.entries c.insert.new.self.entries
+          (map head_at old.heads.items)
           (found_after_insert c.args.sent sent c.args.line.number old.last.entries c.insert.new.self.entries
           (rw c.note_first.ensures.last at (c.in_ok-replaces.ensures.updates.0 sent)))
           (c.requires.lasts sent)
           ∙ sym (ap (last_line (sheet_key_of sent)) all);
       replaced =
           rw items (replaces_with_one [] old.heads.items _ c.requires.replaced
-          ((rw c.note_first.ensures.last at c.in_ok-replaces.ensures.old) ∙ found_by_sent c.args.sent old.last.entries ∙ c.requires.lasts c.args.sent));
+          ((rw c.note_first.ensures.last at c.in_ok-replaces.ensures.old) ∙ found_by_sent c.args.sent old.last.entries
+          ∙ c.requires.lasts c.args.sent));
     }

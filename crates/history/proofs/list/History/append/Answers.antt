@@ -13,8 +13,12 @@ invariant_of-self-2 c =
     let sums = All-push (λ (e : Event). sum_of e ≤ 1000000) _ _ c.self.invariant.0 c.requires in
     rw (c.in_ok-push.ensures.items, c.reserve.ensures.items) (
       sums,
-      c.apply.ensures _ (omega (arith, c.push.ensures, c.reserve.ensures)) (c.reserve-4.ensures.kept _ c.self.invariant.1),
-      all_kept tile_laid events c.args.event _ _ _ (c.reserve-2.ensures.items ∙ c.self.invariant.2) c.lay.ensures c.push_any.ensures.kept,
-      all_kept token_placed events c.args.event _ _ _ (c.reserve-5.ensures.items ∙ c.self.invariant.3) c.token.ensures c.push_any-2.ensures.kept,
-      offers_applied events c.args.event _ _ c.apply_offer.ensures.noted (subst (λ offers. AreOffersOf offers events) (sym c.reserve-3.ensures.items) c.self.invariant.4),
+      c.apply.ensures _ (omega (arith, c.push.ensures, c.reserve.ensures))
+          (c.reserve-4.ensures.kept _ c.self.invariant.1),
+      all_kept tile_laid events c.args.event _ _ _ (c.reserve-2.ensures.items ∙ c.self.invariant.2) c.lay.ensures
+          c.push_any.ensures.kept,
+      all_kept token_placed events c.args.event _ _ _ (c.reserve-5.ensures.items ∙ c.self.invariant.3) c.token.ensures
+          c.push_any-2.ensures.kept,
+      offers_applied events c.args.event _ _ c.apply_offer.ensures.noted
+          (subst (λ offers. AreOffersOf offers events) (sym c.reserve-3.ensures.items) c.self.invariant.4),
     )

@@ -5,4 +5,5 @@ use Rattle.history.proofs.list.History.record_revenue.Goals as goal
 
 pub returns-clause-sound : goal.returns-clause-sound
 returns-clause-sound c =
-    c.record_broken.ensures.sound (subst IsSound (sym c.in_ok-append.ensures.ok) (revenue_sound _ _ _ _ (sym c.owner.ensures ∙ c.in-Some.is) c.requires))
+    c.record_broken.ensures.sound (subst IsSound (sym c.in_ok-append.ensures.ok)
+    (revenue_sound _ _ _ _ (sym c.owner.ensures ∙ c.in-Some.is) c.requires))

@@ -8,6 +8,7 @@ use Rattle.history.proofs.list.History.record_revenues.Given as goal
 abbrev pub invariant-loop-private : goal.invariant-loop-private
 invariant-loop-private l = record {
   seats : l.self.seats ≡ l.fn.self.seats;
-  events : after_revenues l.fn.self.seats l.self.events (drop l.private-index l.private-items) ≡ after_revenues l.fn.self.seats l.fn.self.events privates;
+  events : after_revenues l.fn.self.seats l.self.events (drop l.private-index l.private-items)
+      ≡ after_revenues l.fn.self.seats l.fn.self.events privates;
   sound : IsSound l.self;
 }

@@ -12,7 +12,8 @@ returns-in-Some-clause-sum c =
     let brings = λ (e : Event). paid_to c.args.party (payment_of e) in
     let takes = λ (e : Event). paid_by c.args.party (payment_of e) in
     let has : party_entry c.args.party < 15 = omega (arith, c.entry_of_party-entry.ensures, c.if-entry-lt15.true) in
-    let net_of = λ (entry : ℕ). IsNet brings takes c.args.self.now.events.now (net_at c.in-Some.totals.now.cash entry) in
+    let net_of = λ (entry : ℕ). IsNet brings takes c.args.self.now.events.now
+    (net_at c.in-Some.totals.now.cash entry) in
     let kept = subst net_of (sym c.entry_of_party-entry.ensures) (all.cash c.args.party has) in
     account_kept c.start_of-start.result brings takes c.args.self.now.events.now c.from.result _ c.args.self.now.short
     (omega (arith, c.start_of-start.type_inv)) c.from.ensures kept
@@ -24,7 +25,9 @@ returns-in-Some-clause-within c =
     let brings = λ (e : Event). paid_to c.args.party (payment_of e) in
     let takes = λ (e : Event). paid_by c.args.party (payment_of e) in
     let has : party_entry c.args.party < 15 = omega (arith, c.entry_of_party-entry.ensures, c.if-entry-lt15.true) in
-    let net_of = λ (entry : ℕ). IsNet brings takes c.args.self.now.events.now (net_at c.in-Some.totals.now.cash entry) in
+    let net_of = λ (entry : ℕ). IsNet brings takes c.args.self.now.events.now
+    (net_at c.in-Some.totals.now.cash entry) in
     let kept = subst net_of (sym c.entry_of_party-entry.ensures) (all.cash c.args.party has) in
-    account_moderate c.start_of-start.result brings takes c.args.self.now.events.now c.from.result _ c.args.self.now.short
+    account_moderate c.start_of-start.result brings takes c.args.self.now.events.now c.from.result _
+    c.args.self.now.short
     (omega (arith, c.start_of-start.type_inv)) c.from.ensures kept

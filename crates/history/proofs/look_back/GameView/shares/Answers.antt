@@ -12,10 +12,17 @@ returns-in-Some-clause-sum c =
     let all : AreTotalsOf c.in-Some.totals.now c.args.self.now.events.now = c.in-Some.ensures in
     let brings = λ (e : Event). brought_to c.args.company c.args.place (transfer_of e) in
     let takes = λ (e : Event). taken_from c.args.company c.args.place (transfer_of e) in
-    let has : row_of c.args.place < 8 = omega (arith, c.entry_of_tenths-entry.ensures, c.if-entry-lt64.true, company_low c.args.company) in
-    let net_of = λ (entry : ℕ). IsNet brings takes c.args.self.now.events.now (net_at c.in-Some.totals.now.tenths entry) in
+    let has : row_of c.args.place < 8 = omega (
+      arith,
+      c.entry_of_tenths-entry.ensures,
+      c.if-entry-lt64.true,
+      company_low c.args.company,
+    ) in
+    let net_of = λ (entry : ℕ). IsNet brings takes c.args.self.now.events.now
+    (net_at c.in-Some.totals.now.tenths entry) in
     let kept = subst net_of (sym c.entry_of_tenths-entry.ensures) (all.tenths c.args.company c.args.place has) in
-    account_kept c.start_tenths-start.result brings takes c.args.self.now.events.now c.from.result _ c.args.self.now.short
+    account_kept c.start_tenths-start.result brings takes c.args.self.now.events.now c.from.result _
+    c.args.self.now.short
     (omega (arith, c.start_tenths-start.type_inv)) c.from.ensures kept
     ∙ ap (λ (start : ℕ). balance start brings takes c.args.self.now.events.now) c.start_tenths-start.ensures
 
@@ -24,8 +31,15 @@ returns-in-Some-clause-within c =
     let all : AreTotalsOf c.in-Some.totals.now c.args.self.now.events.now = c.in-Some.ensures in
     let brings = λ (e : Event). brought_to c.args.company c.args.place (transfer_of e) in
     let takes = λ (e : Event). taken_from c.args.company c.args.place (transfer_of e) in
-    let has : row_of c.args.place < 8 = omega (arith, c.entry_of_tenths-entry.ensures, c.if-entry-lt64.true, company_low c.args.company) in
-    let net_of = λ (entry : ℕ). IsNet brings takes c.args.self.now.events.now (net_at c.in-Some.totals.now.tenths entry) in
+    let has : row_of c.args.place < 8 = omega (
+      arith,
+      c.entry_of_tenths-entry.ensures,
+      c.if-entry-lt64.true,
+      company_low c.args.company,
+    ) in
+    let net_of = λ (entry : ℕ). IsNet brings takes c.args.self.now.events.now
+    (net_at c.in-Some.totals.now.tenths entry) in
     let kept = subst net_of (sym c.entry_of_tenths-entry.ensures) (all.tenths c.args.company c.args.place has) in
-    account_moderate c.start_tenths-start.result brings takes c.args.self.now.events.now c.from.result _ c.args.self.now.short
+    account_moderate c.start_tenths-start.result brings takes c.args.self.now.events.now c.from.result _
+    c.args.self.now.short
     (omega (arith, c.start_tenths-start.type_inv)) c.from.ensures kept

@@ -12,8 +12,10 @@ overflow_cast-result c =
     let comes = λ (e : Event). any_comes c.args.owner (train_moved e) in
     let goes = λ (e : Event). any_goes c.args.owner (train_moved e) in
     let net_of = λ (entry : ℕ).
-    IsNet (λ e. one_if (comes e)) (λ e. one_if (goes e)) c.args.self.now.events.now (net_at c.in-Some.totals.now.train_owners entry) in
-    let kept = subst net_of (sym (c.row_of_trains.ensures.row ∙ ap train_row c.of_owner.ensures)) (all.train_owners c.args.owner) in
+    IsNet (λ e. one_if (comes e)) (λ e. one_if (goes e)) c.args.self.now.events.now
+    (net_at c.in-Some.totals.now.train_owners entry) in
+    let kept = subst net_of (sym (c.row_of_trains.ensures.row ∙ ap train_row c.of_owner.ensures))
+    (all.train_owners c.args.owner) in
     train_count_fits comes goes c.args.self.now.events.now _ c.args.self.now.short kept
 
 pub returns-in-Some-clause-sum : goal.returns-in-Some-clause-sum
@@ -22,6 +24,9 @@ returns-in-Some-clause-sum c =
     let comes = λ (e : Event). any_comes c.args.owner (train_moved e) in
     let goes = λ (e : Event). any_goes c.args.owner (train_moved e) in
     let net_of = λ (entry : ℕ).
-    IsNet (λ e. one_if (comes e)) (λ e. one_if (goes e)) c.args.self.now.events.now (net_at c.in-Some.totals.now.train_owners entry) in
-    let kept = subst net_of (sym (c.row_of_trains.ensures.row ∙ ap train_row c.of_owner.ensures)) (all.train_owners c.args.owner) in
-    train_count_kept comes goes c.args.self.now.events.now _ c.args.self.now.short kept ∙ size_is c.args.self.now.events.now c.args.owner
+    IsNet (λ e. one_if (comes e)) (λ e. one_if (goes e)) c.args.self.now.events.now
+    (net_at c.in-Some.totals.now.train_owners entry) in
+    let kept = subst net_of (sym (c.row_of_trains.ensures.row ∙ ap train_row c.of_owner.ensures))
+    (all.train_owners c.args.owner) in
+    train_count_kept comes goes c.args.self.now.events.now _ c.args.self.now.short kept
+    ∙ size_is c.args.self.now.events.now c.args.owner

@@ -12,7 +12,8 @@ overflow_cast-result c =
     let comes = λ (e : Event). train_comes c.args.place c.args.kind (train_moved e) in
     let goes = λ (e : Event). train_goes c.args.place c.args.kind (train_moved e) in
     let net_of = λ (entry : ℕ).
-    IsNet (λ e. one_if (comes e)) (λ e. one_if (goes e)) c.args.self.now.events.now (net_at c.in-Some.totals.now.trains entry) in
+    IsNet (λ e. one_if (comes e)) (λ e. one_if (goes e)) c.args.self.now.events.now
+    (net_at c.in-Some.totals.now.trains entry) in
     let kept = subst net_of (sym c.entry_of_train.ensures.entry) (all.trains c.args.place c.args.kind) in
     train_count_fits comes goes c.args.self.now.events.now _ c.args.self.now.short kept
 
@@ -22,6 +23,7 @@ returns-in-Some-clause-sum c =
     let comes = λ (e : Event). train_comes c.args.place c.args.kind (train_moved e) in
     let goes = λ (e : Event). train_goes c.args.place c.args.kind (train_moved e) in
     let net_of = λ (entry : ℕ).
-    IsNet (λ e. one_if (comes e)) (λ e. one_if (goes e)) c.args.self.now.events.now (net_at c.in-Some.totals.now.trains entry) in
+    IsNet (λ e. one_if (comes e)) (λ e. one_if (goes e)) c.args.self.now.events.now
+    (net_at c.in-Some.totals.now.trains entry) in
     let kept = subst net_of (sym c.entry_of_train.ensures.entry) (all.trains c.args.place c.args.kind) in
     train_count_kept comes goes c.args.self.now.events.now _ c.args.self.now.short kept

@@ -24,13 +24,17 @@ returns c = record {
   presidents = nothing_said;
   arrivals = nothing_said;
   floats = nothing_said;
-  cash = λ party has. no_net (λ e. paid_to party (payment_of e)) (λ e. paid_by party (payment_of e)) 15 (party_entry party);
+  cash = λ party has. no_net (λ e. paid_to party (payment_of e)) (λ e. paid_by party (payment_of e)) 15
+      (party_entry party);
   tenths = λ company place has.
-      no_net (λ e. brought_to company place (transfer_of e)) (λ e. taken_from company place (transfer_of e)) 64 (tenths_entry company place);
+      no_net (λ e. brought_to company place (transfer_of e)) (λ e. taken_from company place (transfer_of e)) 64
+      (tenths_entry company place);
   trains = λ place kind.
-      no_net (λ e. one_if (train_comes place kind (train_moved e))) (λ e. one_if (train_goes place kind (train_moved e))) 88 (train_entry place kind);
+      no_net (λ e. one_if (train_comes place kind (train_moved e)))
+      (λ e. one_if (train_goes place kind (train_moved e))) 88 (train_entry place kind);
   train_owners = λ owner.
-      no_net (λ e. one_if (any_comes owner (train_moved e))) (λ e. one_if (any_goes owner (train_moved e))) 11 (train_row (train_owner_place owner));
+      no_net (λ e. one_if (any_comes owner (train_moved e))) (λ e. one_if (any_goes owner (train_moved e))) 11
+      (train_row (train_owner_place owner));
   tokens = λ company. no_count 8 (place_of_company company);
   operated = λ company. same_throughout false 8 (place_of_company company);
   sales = λ company seat low. no_sale company seat;

@@ -5,11 +5,13 @@ use Rattle.map_tables.proofs.hex.Hex.at.Goals.{else-row-via-then-row+else-column
 
 pub returns-in_err-hex : goal.returns-in_err-hex
 returns-in_err-hex c =
-    c.from_residual.ensures ∙ sym (hex_at-none c.args.row c.args.column (λ hex guessed r k. cc (c.in_err-hex.was, c.guess.ensures)))
+    c.from_residual.ensures ∙ sym (hex_at-none c.args.row c.args.column
+    (λ hex guessed r k. cc (c.in_err-hex.was, c.guess.ensures)))
 
 pub returns-then-column : goal.returns-then-column
 returns-then-column c =
-    sym (hex_at-some c.args.row c.args.column c.in_ok-hex.hex (sym c.row.ensures.value ∙ c.if-row.true) (sym c.column.ensures.value ∙ c.if-column.true))
+    sym (hex_at-some c.args.row c.args.column c.in_ok-hex.hex (sym c.row.ensures.value ∙ c.if-row.true)
+    (sym c.column.ensures.value ∙ c.if-column.true))
 
 pub returns-else-row : goal.returns-else-row
 returns-else-row c =

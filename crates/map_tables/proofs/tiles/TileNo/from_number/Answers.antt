@@ -8,4 +8,5 @@ pub returns : goal.returns
 unfolding tiles tile_numbered
 returns c =
     let number = c.args.number in
-    c.copied.ensures ∙ find_from_yields_List (λ tile. number_of_tile tile == number) _ _ c.find.result c.find.ensures.ran (YieldsList-from_slice tiles cc) (λ x b q k. search (rules, tests))
+    c.copied.ensures ∙ find_from_yields_List (λ tile. number_of_tile tile == number) _ _ c.find.result
+    c.find.ensures.ran (YieldsList-from_slice tiles cc) (λ x b q k. search (rules, tests))

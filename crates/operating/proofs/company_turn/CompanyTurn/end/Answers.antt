@@ -10,4 +10,7 @@ returns-then-due-clause-turn c = inl (c.in_ok-due.ensures.due.0 c.if-due.true, c
 
 pub returns-clause-turn : goal.returns-clause-turn
 returns-clause-turn c =
-    inr (λ due. (let wrong : true ≡ false = sym (c.in_ok-due.ensures.due.1 due) ∙ c.if-due.false in cc), c.in_ok-rule_raises.ensures.after)
+    inr (
+      λ due. (let wrong : true ≡ false = sym (c.in_ok-due.ensures.due.1 due) ∙ c.if-due.false in cc),
+      c.in_ok-rule_raises.ensures.after,
+    )

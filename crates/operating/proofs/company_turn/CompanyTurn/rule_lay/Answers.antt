@@ -13,41 +13,61 @@ pub amount_of-cost-requires : goal.amount_of-cost-requires
 amount_of-cost-requires c =
     let game = c.args.self.now.history in
     let cost = c.in-Ok.cost in
-    let answered = lay_by _ (map_state_now game.events) _ (asker_of game c.args.self.now.by.company c.args.self.now.progress) c.args.lay (Ok cost) c.in_ok-update_map_state.ensures.map_state c.asker-asker.ensures c.in-Ok.ensures in
-    let kept = cost_kept _ cost _ _ (lay_allowed (map_state_now game.events) (asker_of game c.args.self.now.by.company c.args.self.now.progress) c.args.lay cost answered) in
+    let answered = lay_by _ (map_state_now game.events) _
+    (asker_of game c.args.self.now.by.company c.args.self.now.progress) c.args.lay (Ok cost)
+    c.in_ok-update_map_state.ensures.map_state c.asker-asker.ensures c.in-Ok.ensures in
+    let kept = cost_kept _ cost _ _ (lay_allowed (map_state_now game.events)
+    (asker_of game c.args.self.now.by.company c.args.self.now.progress) c.args.lay cost answered) in
     record { whole = kept.whole; small = kept.small }
 
 pub append-requires : goal.append-requires
 append-requires c =
     let game = c.args.self.now.history in
     let cost = c.in-Ok.cost in
-    let answered = lay_by _ (map_state_now game.events) _ (asker_of game c.args.self.now.by.company c.args.self.now.progress) c.args.lay (Ok cost) c.in_ok-update_map_state.ensures.map_state c.asker-asker.ensures c.in-Ok.ensures in
-    let may = lay_allowed (map_state_now game.events) (asker_of game c.args.self.now.by.company c.args.self.now.progress) c.args.lay cost answered in
+    let answered = lay_by _ (map_state_now game.events) _
+    (asker_of game c.args.self.now.by.company c.args.self.now.progress) c.args.lay (Ok cost)
+    c.in_ok-update_map_state.ensures.map_state c.asker-asker.ensures c.in-Ok.ensures in
+    let may = lay_allowed (map_state_now game.events)
+    (asker_of game c.args.self.now.by.company c.args.self.now.progress) c.args.lay cost answered in
     amount_small cost c.amount_of-cost.result (c.amount_of-cost.ensures ∙ ap unsigned_abs may.kept) may.small
 
 pub returns-in_ok-append-in-Ok-clause-turn : goal.returns-in_ok-append-in-Ok-clause-turn
 returns-in_ok-append-in-Ok-clause-turn c =
     let game = c.args.self.now.history in
     let cost = c.in-Ok.cost in
-    let answered = lay_by _ (map_state_now game.events) _ (asker_of game c.args.self.now.by.company c.args.self.now.progress) c.args.lay (Ok cost) c.in_ok-update_map_state.ensures.map_state c.asker-asker.ensures c.in-Ok.ensures in
-    let may = lay_allowed (map_state_now game.events) (asker_of game c.args.self.now.by.company c.args.self.now.progress) c.args.lay cost answered in
+    let answered = lay_by _ (map_state_now game.events) _
+    (asker_of game c.args.self.now.by.company c.args.self.now.progress) c.args.lay (Ok cost)
+    c.in_ok-update_map_state.ensures.map_state c.asker-asker.ensures c.in-Ok.ensures in
+    let may = lay_allowed (map_state_now game.events)
+    (asker_of game c.args.self.now.by.company c.args.self.now.progress) c.args.lay cost answered in
     record {
       answer = Ok cost;
       answered = answered;
-      after = laid_steps c.args.self.now.by (in_turn game c.args.self.now.progress) (line_with c.args.line (Lay c.args.lay)) c.args.lay cost c.record.new.history c.append.new.self _ c.amount_of-cost.result c.with_lay-self.result c.in_ok-record-in-Ok.ensures.ruling refl c.in_ok-append-in-Ok.ensures.ok (c.amount_of-cost.ensures ∙ ap unsigned_abs may.kept)
-          (lay_done_by _ (map_state_now game.events) _ (asker_of game c.args.self.now.by.company c.args.self.now.progress) c.args.lay c.args.self.now.progress c.with_lay-self.result c.in_ok-update_map_state.ensures.map_state c.asker-asker.ensures c.with_lay-self.ensures);
+      after = laid_steps c.args.self.now.by (in_turn game c.args.self.now.progress)
+          (line_with c.args.line (Lay c.args.lay)) c.args.lay cost c.record.new.history c.append.new.self _
+          c.amount_of-cost.result c.with_lay-self.result c.in_ok-record-in-Ok.ensures.ruling refl
+          c.in_ok-append-in-Ok.ensures.ok (c.amount_of-cost.ensures ∙ ap unsigned_abs may.kept)
+          (lay_done_by _ (map_state_now game.events) _ (asker_of game c.args.self.now.by.company
+          c.args.self.now.progress) c.args.lay c.args.self.now.progress c.with_lay-self.result
+          c.in_ok-update_map_state.ensures.map_state c.asker-asker.ensures c.with_lay-self.ensures);
     }
 
 pub returns-in_ok-append-in-Ok-clause-order : goal.returns-in_ok-append-in-Ok-clause-order
 returns-in_ok-append-in-Ok-clause-order c =
     let game = c.args.self.now.history in
     let cost = c.in-Ok.cost in
-    let answered = lay_by _ (map_state_now game.events) _ (asker_of game c.args.self.now.by.company c.args.self.now.progress) c.args.lay (Ok cost) c.in_ok-update_map_state.ensures.map_state c.asker-asker.ensures c.in-Ok.ensures in
-    let may = lay_allowed (map_state_now game.events) (asker_of game c.args.self.now.by.company c.args.self.now.progress) c.args.lay cost answered in
+    let answered = lay_by _ (map_state_now game.events) _
+    (asker_of game c.args.self.now.by.company c.args.self.now.progress) c.args.lay (Ok cost)
+    c.in_ok-update_map_state.ensures.map_state c.asker-asker.ensures c.in-Ok.ensures in
+    let may = lay_allowed (map_state_now game.events)
+    (asker_of game c.args.self.now.by.company c.args.self.now.progress) c.args.lay cost answered in
     record {
       by = refl;
       round = refl;
-      sound = laid_sound game c.record.new.history c.append.new.self c.args.self.now.by.company c.args.self.now.progress c.args.self.now.by.president (line_with c.args.line (Lay c.args.lay)) _ c.args.lay cost c.amount_of-cost.result answered c.in_ok-record-in-Ok.ensures.ruling c.in_ok-append-in-Ok.ensures.ok (c.amount_of-cost.ensures ∙ ap unsigned_abs may.kept) c.in_ok-record-in-Ok.ensures.sound;
+      sound = laid_sound game c.record.new.history c.append.new.self c.args.self.now.by.company
+          c.args.self.now.progress c.args.self.now.by.president (line_with c.args.line (Lay c.args.lay)) _ c.args.lay
+          cost c.amount_of-cost.result answered c.in_ok-record-in-Ok.ensures.ruling c.in_ok-append-in-Ok.ensures.ok
+          (c.amount_of-cost.ensures ∙ ap unsigned_abs may.kept) c.in_ok-record-in-Ok.ensures.sound;
       front = c.in_ok-update_map_state.ensures.front;
     }
 
@@ -58,6 +78,9 @@ returns-in_ok-record-in-Err-Rule-clause-turn c =
     let answered = rw c.in-Err-Rule.field-0-is at c.in-Err-Rule.ensures in
     record {
       answer = Err rule;
-      answered = lay_by _ _ _ _ c.args.lay (Err rule) c.in_ok-update_map_state.ensures.map_state c.asker-asker.ensures answered;
-      after = lay_refused_steps c.args.self.now.by (in_turn game c.args.self.now.progress) (line_with c.args.line (Lay c.args.lay)) c.args.lay rule c.record-in-Err-Rule.new.history _ c.in_ok-record-in-Err-Rule.ensures.ruling refl;
+      answered = lay_by _ _ _ _ c.args.lay (Err rule) c.in_ok-update_map_state.ensures.map_state c.asker-asker.ensures
+          answered;
+      after = lay_refused_steps c.args.self.now.by (in_turn game c.args.self.now.progress)
+          (line_with c.args.line (Lay c.args.lay)) c.args.lay rule c.record-in-Err-Rule.new.history _
+          c.in_ok-record-in-Err-Rule.ensures.ruling refl;
     }

@@ -23,15 +23,20 @@ loop-line-preserved g c =
     let before = c.loop-line.invariant in
     let are = ap (λ (parts : Parts). parts.before) c.in-Some.ensures in
     let on = c.in_ok-rule_line.ensures.order in
-    let leads : LineLeads begun.by (state old) line (state new) = subst (λ (by : Operator). LineLeads by (state old) line (state new)) before.by c.in_ok-rule_line.ensures.turn in
+    let leads : LineLeads begun.by (state old) line (state new) =
+    subst (λ (by : Operator). LineLeads by (state old) line (state new)) before.by c.in_ok-rule_line.ensures.turn in
     record {
       seats = line_seats begun.by (state old) line line.reading (state new) leads ∙ before.seats;
       by = on.by ∙ before.by;
-      turn = λ end rest. before.turn end (subst (λ (lines : List Numbered). LinesLead begun.by (state old) lines end) (sym are) (state new, leads, rest));
+      turn = λ end rest. before.turn end (subst (λ (lines : List Numbered). LinesLead begun.by (state old) lines end)
+          (sym are) (state new, leads, rest));
       calls = λ outcome after made. before.calls outcome after
           (line_calls_on g.R.Runner.earns begun.by begun.round _ line _ (state old) (state new) outcome _ _ after are
-          (subst (λ (round : Round). Makes g.R.Runner.earns c.loop-line.runner (LineCalls begun.by round line (state old) (Ok (state new))) c.rule_line.new.runner) before.round
-          (subst (λ (by : Operator). Makes g.R.Runner.earns c.loop-line.runner (LineCalls by old.round line (state old) (Ok (state new))) c.rule_line.new.runner) before.by c.in_ok-rule_line.ensures.calls)) made);
+          (subst (λ (round : Round). Makes g.R.Runner.earns c.loop-line.runner
+          (LineCalls begun.by round line (state old) (Ok (state new))) c.rule_line.new.runner) before.round
+          (subst (λ (by : Operator). Makes g.R.Runner.earns c.loop-line.runner
+          (LineCalls by old.round line (state old) (Ok (state new))) c.rule_line.new.runner) before.by
+          c.in_ok-rule_line.ensures.calls)) made);
       round = on.round ∙ before.round;
       small = (subst AreSmall are before.small).1;
       order = after_line old new line line.reading c.in_ok-rule_line.ensures.turn on;
@@ -49,12 +54,20 @@ returns-in_err-rule_line-clause-calls g c =
     let before = c.loop-line.invariant in
     let told = err_from_is_err_and c.from_residual.result c.from_residual.ensures.1 in
     let is : c.from_residual.result ≡ Err c.in_err-rule_line.field-0.0 = told.1 ∙ ap Err told.2 in
-    subst (λ (met : Result _ RunnerFault). Makes g.R.Runner.earns c.args.runner.now (LinesCall begun.by begun.round c.args.orders.now.before (state begun) (led_to (state c.rule_line.new.self) met)) c.rule_line.new.runner) (sym is)
+    subst (λ (met : Result _ RunnerFault). Makes g.R.Runner.earns c.args.runner.now
+    (LinesCall begun.by begun.round c.args.orders.now.before (state begun)
+    (led_to (state c.rule_line.new.self) met)) c.rule_line.new.runner) (sym is)
     (before.calls (Err c.in_err-rule_line.field-0.0) _
-    (line_calls_end g.R.Runner.earns begun.by begun.round _ line _ (state old) _ _ _ (ap (λ (parts : Parts). parts.before) c.in-Some.ensures)
-    (subst (λ (round : Round). Makes g.R.Runner.earns c.loop-line.runner (LineCalls begun.by round line (state old) (Err c.in_err-rule_line.field-0.0)) c.rule_line.new.runner) before.round
-    (subst (λ (by : Operator). Makes g.R.Runner.earns c.loop-line.runner (LineCalls by old.round line (state old) (Err c.in_err-rule_line.field-0.0)) c.rule_line.new.runner) before.by c.in_err-rule_line.ensures.calls))))
+    (line_calls_end g.R.Runner.earns begun.by begun.round _ line _ (state old) _ _ _
+    (ap (λ (parts : Parts). parts.before) c.in-Some.ensures)
+    (subst (λ (round : Round). Makes g.R.Runner.earns c.loop-line.runner
+    (LineCalls begun.by round line (state old) (Err c.in_err-rule_line.field-0.0)) c.rule_line.new.runner)
+    before.round
+    (subst (λ (by : Operator). Makes g.R.Runner.earns c.loop-line.runner
+    (LineCalls by old.round line (state old) (Err c.in_err-rule_line.field-0.0)) c.rule_line.new.runner) before.by
+    c.in_err-rule_line.ensures.calls))))
 
 pub returns-clause-calls : goal.returns-clause-calls
 returns-clause-calls g c =
-    c.loop-line.invariant.calls _ _ (no_line_calls g.R.Runner.earns c.args.self.now.by c.args.self.now.round _ _ _ c.in_default.ensures.0)
+    c.loop-line.invariant.calls _ _ (no_line_calls g.R.Runner.earns c.args.self.now.by c.args.self.now.round _ _ _
+    c.in_default.ensures.0)

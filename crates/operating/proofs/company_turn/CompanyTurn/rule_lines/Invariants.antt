@@ -13,8 +13,12 @@ abbrev pub invariant-loop-line : goal.invariant-loop-line
 invariant-loop-line g l = record {
   seats : l.self.history.seats ≡ l.fn.self.history.seats;
   by : l.self.by ≡ l.fn.self.by;
-  turn : (new : InTurn) → LinesLead l.fn.self.by (state l.self) l.orders.before new → LinesLead l.fn.self.by (state l.fn.self) l.fn.orders.before new;
-  calls : (outcome : Result InTurn RunnerFault) (after : _) → Makes g.R.Runner.earns l.runner (LinesCall l.fn.self.by l.fn.self.round l.orders.before (state l.self) outcome) after → Makes g.R.Runner.earns l.fn.runner (LinesCall l.fn.self.by l.fn.self.round l.fn.orders.before (state l.fn.self) outcome) after;
+  turn : (new : InTurn) → LinesLead l.fn.self.by (state l.self) l.orders.before new
+      → LinesLead l.fn.self.by (state l.fn.self) l.fn.orders.before new;
+  calls : (outcome : Result InTurn RunnerFault) (after : _)
+      → Makes g.R.Runner.earns l.runner (LinesCall l.fn.self.by l.fn.self.round l.orders.before (state l.self)
+      outcome) after → Makes g.R.Runner.earns l.fn.runner
+      (LinesCall l.fn.self.by l.fn.self.round l.fn.orders.before (state l.fn.self) outcome) after;
   round : l.self.round ≡ l.fn.self.round;
   small : AreSmall l.orders.before;
   order : IsInOrder l.self;

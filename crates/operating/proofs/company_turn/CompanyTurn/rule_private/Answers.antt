@@ -9,14 +9,24 @@ use Rattle.operating.proofs.company_turn.CompanyTurn.rule_private.Goals as goal
 pub buy_private-requires-clause-may : goal.buy_private-requires-clause-may
 buy_private-requires-clause-may c =
     let none : is_none c.map-broken.result ≡ true = sym c.in_ok-record.ensures.obeyed ∙ c.if-branch.true in
-    same_after_line c.args.self.now.history c.record.new.history c.args.self.now.by.president (line_with c.args.line (BuyOwnedPrivate c.args.private c.args.price)) c.args.self.now.by.company c.args.private c.args.price
-    (told_obeyed c.args.self.now.history c.record.new.history c.args.self.now.by.president (line_with c.args.line (BuyOwnedPrivate c.args.private c.args.price)) (BuyOwnedPrivate c.args.private c.args.price) c.map-broken.result c.in_ok-record.ensures.ruling none)
+    same_after_line c.args.self.now.history c.record.new.history c.args.self.now.by.president
+    (line_with c.args.line (BuyOwnedPrivate c.args.private c.args.price)) c.args.self.now.by.company
+    c.args.private c.args.price
+    (told_obeyed c.args.self.now.history c.record.new.history c.args.self.now.by.president
+    (line_with c.args.line (BuyOwnedPrivate c.args.private c.args.price))
+    (BuyOwnedPrivate c.args.private c.args.price) c.map-broken.result c.in_ok-record.ensures.ruling none)
     ∙ sym c.judge_private.ensures
     ∙ kept_all c.judge_private.result c.map-broken.result none c.map-broken.ensures.variant
 
 pub returns-in_ok-buy_private-clause-turn : goal.returns-in_ok-buy_private-clause-turn
 returns-in_ok-buy_private-clause-turn c =
     let none : is_none c.map-broken.result ≡ true = sym c.in_ok-record.ensures.obeyed ∙ c.if-branch.true in
-    sold_steps c.args.self.now.by (in_turn c.args.self.now.history c.args.self.now.progress) (line_with c.args.line (BuyOwnedPrivate c.args.private c.args.price)) c.args.private c.args.price (BuyOwnedPrivate c.args.private c.args.price) c.record.new.history c.buy_private.new.history refl
-    (sym c.judge_private.ensures ∙ kept_all c.judge_private.result c.map-broken.result none c.map-broken.ensures.variant)
-    (told_obeyed c.args.self.now.history c.record.new.history c.args.self.now.by.president (line_with c.args.line (BuyOwnedPrivate c.args.private c.args.price)) (BuyOwnedPrivate c.args.private c.args.price) c.map-broken.result c.in_ok-record.ensures.ruling none) c.in_ok-buy_private.ensures.after
+    sold_steps c.args.self.now.by (in_turn c.args.self.now.history c.args.self.now.progress)
+    (line_with c.args.line (BuyOwnedPrivate c.args.private c.args.price)) c.args.private c.args.price
+    (BuyOwnedPrivate c.args.private c.args.price) c.record.new.history c.buy_private.new.history refl
+    (sym c.judge_private.ensures ∙ kept_all c.judge_private.result c.map-broken.result none
+    c.map-broken.ensures.variant)
+    (told_obeyed c.args.self.now.history c.record.new.history c.args.self.now.by.president
+    (line_with c.args.line (BuyOwnedPrivate c.args.private c.args.price))
+    (BuyOwnedPrivate c.args.private c.args.price) c.map-broken.result c.in_ok-record.ensures.ruling none)
+    c.in_ok-buy_private.ensures.after

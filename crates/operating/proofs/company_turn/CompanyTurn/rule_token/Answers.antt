@@ -13,40 +13,60 @@ pub amount_of-cost-requires : goal.amount_of-cost-requires
 amount_of-cost-requires c =
     let game = c.args.self.now.history in
     let cost = c.in-Ok.cost in
-    let answered = token_by _ (map_state_now game.events) _ (asker_of game c.args.self.now.by.company c.args.self.now.progress) c.args.place (Ok cost) c.in_ok-update_map_state.ensures.map_state c.asker-asker.ensures c.in-Ok.ensures in
-    let kept = cost_kept _ cost _ _ (token_allowed (map_state_now game.events) (asker_of game c.args.self.now.by.company c.args.self.now.progress) c.args.place cost answered) in
+    let answered = token_by _ (map_state_now game.events) _
+    (asker_of game c.args.self.now.by.company c.args.self.now.progress) c.args.place (Ok cost)
+    c.in_ok-update_map_state.ensures.map_state c.asker-asker.ensures c.in-Ok.ensures in
+    let kept = cost_kept _ cost _ _ (token_allowed (map_state_now game.events)
+    (asker_of game c.args.self.now.by.company c.args.self.now.progress) c.args.place cost answered) in
     record { whole = kept.whole; small = kept.small }
 
 pub append-requires : goal.append-requires
 append-requires c =
     let game = c.args.self.now.history in
     let cost = c.in-Ok.cost in
-    let answered = token_by _ (map_state_now game.events) _ (asker_of game c.args.self.now.by.company c.args.self.now.progress) c.args.place (Ok cost) c.in_ok-update_map_state.ensures.map_state c.asker-asker.ensures c.in-Ok.ensures in
-    let may = token_allowed (map_state_now game.events) (asker_of game c.args.self.now.by.company c.args.self.now.progress) c.args.place cost answered in
+    let answered = token_by _ (map_state_now game.events) _
+    (asker_of game c.args.self.now.by.company c.args.self.now.progress) c.args.place (Ok cost)
+    c.in_ok-update_map_state.ensures.map_state c.asker-asker.ensures c.in-Ok.ensures in
+    let may = token_allowed (map_state_now game.events)
+    (asker_of game c.args.self.now.by.company c.args.self.now.progress) c.args.place cost answered in
     amount_small cost c.amount_of-cost.result (c.amount_of-cost.ensures ∙ ap unsigned_abs may.kept) may.small
 
 pub returns-in_ok-append-in-Ok-clause-turn : goal.returns-in_ok-append-in-Ok-clause-turn
 returns-in_ok-append-in-Ok-clause-turn c =
     let game = c.args.self.now.history in
     let cost = c.in-Ok.cost in
-    let answered = token_by _ (map_state_now game.events) _ (asker_of game c.args.self.now.by.company c.args.self.now.progress) c.args.place (Ok cost) c.in_ok-update_map_state.ensures.map_state c.asker-asker.ensures c.in-Ok.ensures in
-    let may = token_allowed (map_state_now game.events) (asker_of game c.args.self.now.by.company c.args.self.now.progress) c.args.place cost answered in
+    let answered = token_by _ (map_state_now game.events) _
+    (asker_of game c.args.self.now.by.company c.args.self.now.progress) c.args.place (Ok cost)
+    c.in_ok-update_map_state.ensures.map_state c.asker-asker.ensures c.in-Ok.ensures in
+    let may = token_allowed (map_state_now game.events)
+    (asker_of game c.args.self.now.by.company c.args.self.now.progress) c.args.place cost answered in
     record {
       answer = Ok cost;
       answered = answered;
-      after = placed_steps c.args.self.now.by (in_turn game c.args.self.now.progress) (line_with c.args.line (Token c.args.place)) c.args.place cost c.record.new.history c.append.new.self _ c.amount_of-cost.result c.with_token-self.result c.in_ok-record-in-Ok.ensures.ruling refl c.in_ok-append-in-Ok.ensures.ok (c.amount_of-cost.ensures ∙ ap unsigned_abs may.kept) c.with_token-self.ensures;
+      after = placed_steps c.args.self.now.by (in_turn game c.args.self.now.progress)
+          (line_with c.args.line (Token c.args.place)) c.args.place cost c.record.new.history c.append.new.self _
+          c.amount_of-cost.result c.with_token-self.result c.in_ok-record-in-Ok.ensures.ruling refl
+          c.in_ok-append-in-Ok.ensures.ok (c.amount_of-cost.ensures ∙ ap unsigned_abs may.kept)
+          c.with_token-self.ensures;
     }
 
 pub returns-in_ok-append-in-Ok-clause-order : goal.returns-in_ok-append-in-Ok-clause-order
 returns-in_ok-append-in-Ok-clause-order c =
     let game = c.args.self.now.history in
     let cost = c.in-Ok.cost in
-    let answered = token_by _ (map_state_now game.events) _ (asker_of game c.args.self.now.by.company c.args.self.now.progress) c.args.place (Ok cost) c.in_ok-update_map_state.ensures.map_state c.asker-asker.ensures c.in-Ok.ensures in
-    let may = token_allowed (map_state_now game.events) (asker_of game c.args.self.now.by.company c.args.self.now.progress) c.args.place cost answered in
+    let answered = token_by _ (map_state_now game.events) _
+    (asker_of game c.args.self.now.by.company c.args.self.now.progress) c.args.place (Ok cost)
+    c.in_ok-update_map_state.ensures.map_state c.asker-asker.ensures c.in-Ok.ensures in
+    let may = token_allowed (map_state_now game.events)
+    (asker_of game c.args.self.now.by.company c.args.self.now.progress) c.args.place cost answered in
     record {
       by = refl;
       round = refl;
-      sound = placed_sound game c.record.new.history c.append.new.self c.args.self.now.by.company c.args.self.now.progress c.args.self.now.by.president (line_with c.args.line (Token c.args.place)) _ c.args.place cost c.amount_of-cost.result answered c.in_ok-record-in-Ok.ensures.ruling c.in_ok-append-in-Ok.ensures.ok (c.amount_of-cost.ensures ∙ ap unsigned_abs may.kept) c.in_ok-record-in-Ok.ensures.sound;
+      sound = placed_sound game c.record.new.history c.append.new.self c.args.self.now.by.company
+          c.args.self.now.progress c.args.self.now.by.president (line_with c.args.line (Token c.args.place)) _
+          c.args.place cost c.amount_of-cost.result answered c.in_ok-record-in-Ok.ensures.ruling
+          c.in_ok-append-in-Ok.ensures.ok (c.amount_of-cost.ensures ∙ ap unsigned_abs may.kept)
+          c.in_ok-record-in-Ok.ensures.sound;
       front = c.in_ok-update_map_state.ensures.front;
     }
 
@@ -57,6 +77,9 @@ returns-in_ok-record-in-Err-Rule-clause-turn c =
     let answered = rw c.in-Err-Rule.field-0-is at c.in-Err-Rule.ensures in
     record {
       answer = Err rule;
-      answered = token_by _ _ _ _ c.args.place (Err rule) c.in_ok-update_map_state.ensures.map_state c.asker-asker.ensures answered;
-      after = token_refused_steps c.args.self.now.by (in_turn game c.args.self.now.progress) (line_with c.args.line (Token c.args.place)) c.args.place rule c.record-in-Err-Rule.new.history _ c.in_ok-record-in-Err-Rule.ensures.ruling refl;
+      answered = token_by _ _ _ _ c.args.place (Err rule) c.in_ok-update_map_state.ensures.map_state
+          c.asker-asker.ensures answered;
+      after = token_refused_steps c.args.self.now.by (in_turn game c.args.self.now.progress)
+          (line_with c.args.line (Token c.args.place)) c.args.place rule c.record-in-Err-Rule.new.history _
+          c.in_ok-record-in-Err-Rule.ensures.ruling refl;
     }

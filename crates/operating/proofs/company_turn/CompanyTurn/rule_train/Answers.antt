@@ -9,14 +9,24 @@ use Rattle.operating.proofs.company_turn.CompanyTurn.rule_train.Goals as goal
 pub buy_train-requires-clause-may : goal.buy_train-requires-clause-may
 buy_train-requires-clause-may c =
     let none : is_none c.map-broken.result ≡ true = sym c.in_ok-record.ensures.obeyed ∙ c.if-branch.true in
-    same_judgement c.args.self.now.history c.record.new.history c.args.self.now.by.president (line_with c.args.line (BuyTrain c.args.kind c.args.from)) c.args.kind c.args.from c.args.self.now.by.company c.purchase_of-purchase.result
-    (told_obeyed c.args.self.now.history c.record.new.history c.args.self.now.by.president (line_with c.args.line (BuyTrain c.args.kind c.args.from)) (BuyTrain c.args.kind c.args.from) c.map-broken.result c.in_ok-record.ensures.ruling none)
+    same_judgement c.args.self.now.history c.record.new.history c.args.self.now.by.president
+    (line_with c.args.line (BuyTrain c.args.kind c.args.from)) c.args.kind c.args.from c.args.self.now.by.company
+    c.purchase_of-purchase.result
+    (told_obeyed c.args.self.now.history c.record.new.history c.args.self.now.by.president
+    (line_with c.args.line (BuyTrain c.args.kind c.args.from)) (BuyTrain c.args.kind c.args.from)
+    c.map-broken.result c.in_ok-record.ensures.ruling none)
     ∙ sym c.judge_purchase.ensures
     ∙ kept_all c.judge_purchase.result c.map-broken.result none c.map-broken.ensures.variant
 
 pub returns-in_ok-buy_train-clause-turn : goal.returns-in_ok-buy_train-clause-turn
 returns-in_ok-buy_train-clause-turn c =
     let none : is_none c.map-broken.result ≡ true = sym c.in_ok-record.ensures.obeyed ∙ c.if-branch.true in
-    bought_steps c.args.self.now.by (in_turn c.args.self.now.history c.args.self.now.progress) (line_with c.args.line (BuyTrain c.args.kind c.args.from)) c.args.kind c.args.from c.purchase_of-purchase.result (BuyTrain c.args.kind c.args.from) c.record.new.history c.buy_train.new.history c.purchase_of-purchase.ensures.purchase refl
-    (sym c.judge_purchase.ensures ∙ kept_all c.judge_purchase.result c.map-broken.result none c.map-broken.ensures.variant)
-    (told_obeyed c.args.self.now.history c.record.new.history c.args.self.now.by.president (line_with c.args.line (BuyTrain c.args.kind c.args.from)) (BuyTrain c.args.kind c.args.from) c.map-broken.result c.in_ok-record.ensures.ruling none) c.in_ok-buy_train.ensures.after
+    bought_steps c.args.self.now.by (in_turn c.args.self.now.history c.args.self.now.progress)
+    (line_with c.args.line (BuyTrain c.args.kind c.args.from)) c.args.kind c.args.from
+    c.purchase_of-purchase.result (BuyTrain c.args.kind c.args.from) c.record.new.history c.buy_train.new.history
+    c.purchase_of-purchase.ensures.purchase refl
+    (sym c.judge_purchase.ensures ∙ kept_all c.judge_purchase.result c.map-broken.result none
+    c.map-broken.ensures.variant)
+    (told_obeyed c.args.self.now.history c.record.new.history c.args.self.now.by.president
+    (line_with c.args.line (BuyTrain c.args.kind c.args.from)) (BuyTrain c.args.kind c.args.from)
+    c.map-broken.result c.in_ok-record.ensures.ruling none) c.in_ok-buy_train.ensures.after

@@ -6,5 +6,6 @@ use Rattle.operating.proofs.standing.StandingLinesFamily.judge.Goals as goal
 
 pub returns-in-Discard : goal.returns-in-Discard
 returns-in-Discard c =
-    let broken : c.map.result ≡ option_map Train (discard_judgement c.args.history.now.events c.args.seat c.in-Discard.company c.in-Discard.kind) = search rules in
+    let broken : c.map.result ≡ option_map Train (discard_judgement c.args.history.now.events c.args.seat
+    c.in-Discard.company c.in-Discard.kind) = search rules in
     broken ∙ ap (standing_judgement c.args.history.now.events c.args.seat) (sym c.in-Discard.is)

@@ -14,8 +14,10 @@ loop-i-preserved c =
     let lt : i < length letters = omega (arith, short) in
     let front : take (i + 1) (set letters i byte) ≡ raised (take (i + 1) word) =
     take_more_set letters i byte lt ∙ ap (λ (x : List ℕ). x ++ byte ∷ []) c.loop-i.invariant.1
-    ∙ ap (λ (x : ℕ). raised (take i word) ++ x ∷ []) c.to_ascii_uppercase.ensures.value ∙ sym (map_more to_ascii_uppercase word i 0 c.loop-i-test.true) in
+    ∙ ap (λ (x : ℕ). raised (take i word) ++ x ∷ []) c.to_ascii_uppercase.ensures.value
+    ∙ sym (map_more to_ascii_uppercase word i 0 c.loop-i-test.true) in
     let rest : drop (i + 1) (set letters i byte) ≡ replicate (8 - (i + 1)) 0 =
-    drop-set-lt (i + 1) letters i byte (omega arith) ∙ sym (drop-drop 1 i letters) ∙ ap (λ (x : List ℕ). drop 1 x) c.loop-i.invariant.2
+    drop-set-lt (i + 1) letters i byte (omega arith) ∙ sym (drop-drop 1 i letters)
+    ∙ ap (λ (x : List ℕ). drop 1 x) c.loop-i.invariant.2
     ∙ drop-replicate 1 (8 - i) 0 ∙ ap (λ n. replicate n 0) (omega arith) in
     (length-set letters i byte ∙ c.loop-i.invariant.0, front, rest)

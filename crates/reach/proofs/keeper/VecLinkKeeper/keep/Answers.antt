@@ -6,7 +6,8 @@ use Rattle.reach.specs.Search.{IsKept}
 use Rattle.reach.proofs.Lists.{among_before, among_cases, among_end}
 use Rattle.reach.proofs.keeper.VecLinkKeeper.keep.Goals as goal
 
-pushed : (links : List Link) (link : Link) → IsKept link (λ other. IsAmong other links) (λ other. IsAmong other (links ++ link ∷ []))
+pushed : (links : List Link) (link : Link) → IsKept link (λ other. IsAmong other links)
+    (λ other. IsAmong other (links ++ link ∷ []))
 pushed links link =
     record {
       here = among_end links link;
@@ -14,8 +15,10 @@ pushed links link =
       only = λ other among. among_cases links other link among;
     }
 
-is_pushed : (links : List Link) (link : Link) (new : List Link) → new ≡ links ++ link ∷ [] → IsKept link (λ other. IsAmong other links) (λ other. IsAmong other new)
-is_pushed links link new is = subst (λ ls. IsKept link (λ other. IsAmong other links) (λ other. IsAmong other ls)) (sym is) (pushed links link)
+is_pushed : (links : List Link) (link : Link) (new : List Link) → new ≡ links ++ link ∷ []
+    → IsKept link (λ other. IsAmong other links) (λ other. IsAmong other new)
+is_pushed links link new is = subst (λ ls. IsKept link (λ other. IsAmong other links) (λ other. IsAmong other ls))
+    (sym is) (pushed links link)
 
 pub returns : goal.returns
 returns c = is_pushed c.args.self.now.items c.args.link c.push.new.self.items c.in_ok-push.ensures.items

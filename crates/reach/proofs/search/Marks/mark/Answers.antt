@@ -8,7 +8,13 @@ use Rattle.reach.proofs.search.Marks.mark.Goals as goal
 -- where one is not marked not all are
 not_all : (marks : List Bool) (n : ℕ) → n < length marks → get_or marks n false ≡ false → marked marks < length marks
 not_all marks n low off =
-    omega (arith, one_more marks n low off, count_by-le-length (λ mark. mark) (set marks n true), length-set marks n true)
+    omega (
+      arith,
+      one_more marks n low off,
+      count_by-le-length (λ mark. mark) (set marks n true),
+      length-set marks n
+          true,
+    )
 
 pub push-requires : goal.push-requires
 push-requires c =

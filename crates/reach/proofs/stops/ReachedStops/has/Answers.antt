@@ -9,7 +9,8 @@ pub returns : goal.returns
 returns c =
     let stop = c.args.stop in
     let mark : c.has.result ≡ get_or (marks_of c.args.self.now) (stop_order stop) false =
-    c.has.ensures ∙ ap (λ (marks : List Bool). get_or marks (stop_order stop) false) (c.self.invariant.2 ∙ ap marks_of c.self.view_is) in (
+    c.has.ensures ∙ ap (λ (marks : List Bool). get_or marks (stop_order stop) false)
+    (c.self.invariant.2 ∙ ap marks_of c.self.view_is) in (
       λ is. among_mark c.args.self.now stop (sym mark ∙ is),
       λ among. mark ∙ mark_among c.args.self.now stop among,
     )

@@ -8,9 +8,12 @@ use Rattle.reach.proofs.StopLists.{marks_push}
 use Rattle.reach.proofs.stops.ReachedStops.push.Goals as goal
 
 -- the marks of the first stops and one more
-marks_more : (stops : List Stop) (count : ℕ) (stop : Stop) (marks new : List Bool) → count < length stops → marks ≡ marks_of (take count stops) → new ≡ set marks (stop_order stop) true → new ≡ marks_of (take (count + 1) (set stops count stop))
+marks_more : (stops : List Stop) (count : ℕ) (stop : Stop) (marks new : List Bool) → count < length stops
+    → marks ≡ marks_of (take count stops) → new ≡ set marks (stop_order stop) true
+    → new ≡ marks_of (take (count + 1) (set stops count stop))
 marks_more stops count stop marks new low are is =
-    is ∙ ap (λ ms. set ms (stop_order stop) true) are ∙ sym (ap marks_of (take_more_set stops count stop low) ∙ marks_push (take count stops) stop)
+    is ∙ ap (λ ms. set ms (stop_order stop) true) are
+    ∙ sym (ap marks_of (take_more_set stops count stop low) ∙ marks_push (take count stops) stop)
 
 pub invariant_of-self : goal.invariant_of-self
 invariant_of-self c =
@@ -22,5 +25,6 @@ invariant_of-self c =
     let room : count < 186 = omega (arith, c.requires) in (
       omega arith,
       length-set stops count c.args.stop ∙ long,
-      marks_more stops count c.args.stop c.self.inside.marks c.mark.new.self (omega arith) c.self.invariant.2 c.mark.ensures,
+      marks_more stops count c.args.stop c.self.inside.marks c.mark.new.self (omega arith) c.self.invariant.2
+          c.mark.ensures,
     )

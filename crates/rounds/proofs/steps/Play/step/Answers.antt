@@ -5,10 +5,22 @@ use Rattle.rounds.proofs.steps.Play.step.Goals as goal
 
 pub play_next-requires : goal.play_next-requires
 play_next-requires g c =
-    let here : Between = record { game = c.self.inside.history; in_set = c.self.inside.in_set; next = c.self.inside.upcoming } in
-    comes_next c.self.inside.sheets.now c.self.inside.fault here c.self.inside.last_round c.self.inside.outcome c.args.self.now _ c.self.view_is (search rules) (search rules)
+    let here : Between = record {
+      game = c.self.inside.history;
+      in_set = c.self.inside.in_set;
+      next =
+          c.self.inside.upcoming;
+    } in
+    comes_next c.self.inside.sheets.now c.self.inside.fault here c.self.inside.last_round c.self.inside.outcome
+    c.args.self.now _ c.self.view_is (search rules) (search rules)
 
 pub stop-requires : goal.stop-requires
 stop-requires g c =
-    let here : Between = record { game = c.self.inside.history; in_set = c.self.inside.in_set; next = c.self.inside.upcoming } in
-    is_over c.self.inside.sheets.now c.self.inside.fault here c.self.inside.last_round c.self.inside.outcome c.args.self.now c.self.view_is (search rules) (search rules)
+    let here : Between = record {
+      game = c.self.inside.history;
+      in_set = c.self.inside.in_set;
+      next =
+          c.self.inside.upcoming;
+    } in
+    is_over c.self.inside.sheets.now c.self.inside.fault here c.self.inside.last_round c.self.inside.outcome
+    c.args.self.now c.self.view_is (search rules) (search rules)

@@ -20,11 +20,14 @@ returns-in_ok-close-clause-ok c =
     on_ok_weaker c.begin.result
     (λ m body r.
     let s =
-    reaches_sheet_line c.args.version players body (get same_sheet_key old.sheets) (get same_sheet_key mid.sheets) old.unread.items old.good line rest c.args.text.now old.current is
+    reaches_sheet_line c.args.version players body (get same_sheet_key old.sheets) (get same_sheet_key mid.sheets)
+    old.unread.items old.good line rest c.args.text.now old.current is
     c.requires.lines h.sheets r in
-    let t : Stands c.args.version players body (line ∷ written_lines rest) None (get same_sheet_key mid.sheets) mid.unread.items mid.good = rw (h.unread, h.good) s in
+    let t : Stands c.args.version players body (line ∷ written_lines rest) None (get same_sheet_key mid.sheets)
+    mid.unread.items mid.good = rw (h.unread, h.good) s in
     rw c.begin.ensures.sheets
-    (reaches_begun c.args.version players body (get same_sheet_key mid.sheets) mid.unread.items mid.good line rest new.current new.unread.items new.good is m t))
+    (reaches_begun c.args.version players body (get same_sheet_key mid.sheets) mid.unread.items mid.good line rest
+    new.current new.unread.items new.good is m t))
     c.begin.ensures.ok
 
 pub returns-in_ok-close-clause-err : goal.returns-in_ok-close-clause-err
@@ -39,10 +42,13 @@ returns-in_ok-close-clause-err c =
     IfErr-weaker c.begin.result _ _
     (λ fault m body r.
     let s =
-    reaches_sheet_line c.args.version players body (get same_sheet_key old.sheets) (get same_sheet_key mid.sheets) old.unread.items old.good line rest c.args.text.now old.current is
+    reaches_sheet_line c.args.version players body (get same_sheet_key old.sheets) (get same_sheet_key mid.sheets)
+    old.unread.items old.good line rest c.args.text.now old.current is
     c.requires.lines h.sheets r in
-    let t : Stands c.args.version players body (line ∷ written_lines rest) None (get same_sheet_key mid.sheets) mid.unread.items mid.good = rw (h.unread, h.good) s in
-    stops_begun c.args.version players body (get same_sheet_key mid.sheets) mid.unread.items mid.good line (written_lines rest) fault is m t)
+    let t : Stands c.args.version players body (line ∷ written_lines rest) None (get same_sheet_key mid.sheets)
+    mid.unread.items mid.good = rw (h.unread, h.good) s in
+    stops_begun c.args.version players body (get same_sheet_key mid.sheets) mid.unread.items mid.good line
+    (written_lines rest) fault is m t)
     c.begin.ensures.err
 
 pub returns-then-is_some-clause-ok : goal.returns-then-is_some-clause-ok
@@ -51,9 +57,11 @@ returns-then-is_some-clause-ok c = λ body r.
     let rest : List ℕ = c.args.piece.rest.now in
     let old = c.args.self.now in
     let other : is_sheet_line line ≡ false = sym c.if-is_sheet_line.ensures in
-    reaches_inside c.args.version c.args.players.now body (get same_sheet_key old.sheets) old.unread.items old.good c.requires.first.0 line rest c.args.text.now old.current r.0
+    reaches_inside c.args.version c.args.players.now body (get same_sheet_key old.sheets) old.unread.items old.good
+    c.requires.first.0 line rest c.args.text.now old.current r.0
     (sym c.if-is_some.ensures) other c.requires.first.1 r.1
-    (subst (λ ls. Stands c.args.version c.args.players.now body ls r.0 (get same_sheet_key old.sheets) old.unread.items old.good) c.requires.lines r.2)
+    (subst (λ ls. Stands c.args.version c.args.players.now body ls r.0 (get same_sheet_key old.sheets)
+    old.unread.items old.good) c.requires.lines r.2)
 
 pub returns-in_ok-push-clause-ok : goal.returns-in_ok-push-clause-ok
 returns-in_ok-push-clause-ok c = λ body r.
@@ -62,5 +70,7 @@ returns-in_ok-push-clause-ok c = λ body r.
     let old = c.args.self.now in
     let other : is_sheet_line line ≡ false = sym c.if-is_sheet_line.ensures in
     rw (c.in_ok-push.ensures.items, c.unread_fault.ensures)
-    (reaches_stray c.args.version c.args.players.now body (get same_sheet_key old.sheets) old.unread.items old.good line rest c.args.text.now old.current r.0 (sym c.if-is_some.ensures) other r.1
-    (subst (λ ls. Stands c.args.version c.args.players.now body ls r.0 (get same_sheet_key old.sheets) old.unread.items old.good) c.requires.lines r.2))
+    (reaches_stray c.args.version c.args.players.now body (get same_sheet_key old.sheets) old.unread.items old.good
+    line rest c.args.text.now old.current r.0 (sym c.if-is_some.ensures) other r.1
+    (subst (λ ls. Stands c.args.version c.args.players.now body ls r.0 (get same_sheet_key old.sheets)
+    old.unread.items old.good) c.requires.lines r.2))

@@ -6,4 +6,5 @@ use Rattle.sheets.proofs.file.Sheets.sheet.Goals as goal
 pub returns : goal.returns
 returns c =
     let sheet_key = sheet_key_at c.args.seat.0 c.args.round.now in
-    rw (← c.self.view_is) (c.get.ensures.value ∙ found_by_sheet_key sheet_key c.self.inside.sheets.entries ∙ c.self.invariant.sheets_are sheet_key)
+    rw (← c.self.view_is) (c.get.ensures.value ∙ found_by_sheet_key sheet_key c.self.inside.sheets.entries
+    ∙ c.self.invariant.sheets_are sheet_key)

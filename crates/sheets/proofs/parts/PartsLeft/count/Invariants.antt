@@ -5,7 +5,8 @@ use Rattle.sheets.proofs.parts.PartsLeft.count.Given as goal
 -- those that are counted, and those that are still to come
 abbrev pub invariant-loop-line : goal.invariant-loop-line
 invariant-loop-line l = record {
-  counted : l.count + lines_in (parts_left l.self-inside.round l.rest) ≡ lines_in (parts_left l.self-inside.round l.self-inside.lines);
+  counted : l.count + lines_in (parts_left l.self-inside.round l.rest)
+      ≡ lines_in (parts_left l.self-inside.round l.self-inside.lines);
   few : l.count ≤ l.rest.number;
 }
 

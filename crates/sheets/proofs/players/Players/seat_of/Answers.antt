@@ -10,5 +10,6 @@ returns c =
     let name = c.args.name.now in
     let seats = c.self.inside.seats in
     rw (← c.self.view_is)
-    (c.copied.ensures ∙ c.get.ensures.value ∙ ap (λ (entries : List (List ℕ × Seat)). lookup (is_equal name) entries) c.self.invariant
+    (c.copied.ensures ∙ c.get.ensures.value ∙ ap (λ (entries : List (List ℕ × Seat)). lookup (is_equal name) entries)
+    c.self.invariant
     ∙ seat_looked_up 0 (keys seats) name)

@@ -17,7 +17,15 @@ returns-in-Company c =
     let within : c.place.result < length self.companies = search rules in
     let at_place : SFits w128 (get_or self.companies c.place.result (pos 0) +ℤ c.args.change) =
     subst (λ (n : ℕ). SFits w128 (get_or self.companies n (pos 0) +ℤ c.args.change)) (sym c.place.ensures.place)
-    (subst (λ (h : Holder). SFits w128 (cash_in self (party.Holder h) +ℤ c.args.change)) c.in-Company.is c.requires.fits)
+    (subst (λ (h : Holder). SFits w128 (cash_in self (party.Holder h) +ℤ c.args.change)) c.in-Company.is
+    c.requires.fits)
     in
-    let is : to_z w128 (of_z w128 (to_z w128 (of_z w128 had) +ℤ to_z w128 (of_z w128 c.args.change))) ≡ had +ℤ c.args.change = omega (arith, ints) in
-    λ other has. subst (λ (h : Holder). cash_in (record self { companies = set self.companies c.place.result (to_z w128 (of_z w128 (to_z w128 (of_z w128 had) +ℤ to_z w128 (of_z w128 c.args.change)))) }) other ≡ cash_in self other +ℤ part_of (party.Holder h) other c.args.change) (sym c.in-Company.is) (company_changed self c.in-Company.company c.args.change _ c.place.result c.place.ensures.place within is other has)
+    let is : to_z w128 (of_z w128 (to_z w128 (of_z w128 had) +ℤ to_z w128 (of_z w128 c.args.change)))
+    ≡ had +ℤ c.args.change = omega (arith, ints) in
+    λ other has. subst (λ (h : Holder). cash_in (record self {
+      companies = set self.companies c.place.result
+          (to_z w128 (of_z w128 (to_z w128 (of_z w128 had) +ℤ to_z w128 (of_z w128 c.args.change))));
+    }) other
+    ≡ cash_in self other +ℤ part_of (party.Holder h) other c.args.change) (sym c.in-Company.is)
+    (company_changed self c.in-Company.company c.args.change _ c.place.result c.place.ensures.place within is
+    other has)

@@ -10,10 +10,12 @@ pub returns-clause-accounts : goal.returns-clause-accounts
 returns-clause-accounts c =
     let fits : SFits w128 c.cash.result = search rules in
     accounts_of (record { seats = c.args.past.now.seats; events = c.args.past.now.events.now }) _ _ _ refl refl
-    (to_z-of_z w128 c.cash.result fits ∙ c.cash.ensures.sum) c.cash_of_seats.ensures.cash c.cash_of_companies.ensures.cash
+    (to_z-of_z w128 c.cash.result fits ∙ c.cash.ensures.sum) c.cash_of_seats.ensures.cash
+    c.cash_of_companies.ensures.cash
 
 pub returns-clause-moderate : goal.returns-clause-moderate
 returns-clause-moderate c =
     let fits : SFits w128 c.cash.result = search rules in
-    moderate_of _ (subst (λ (z : ℤ). IsModerate z) (sym (to_z-of_z w128 c.cash.result fits)) c.cash.ensures.within) c.cash_of_seats.ensures.moderate
+    moderate_of _ (subst (λ (z : ℤ). IsModerate z) (sym (to_z-of_z w128 c.cash.result fits)) c.cash.ensures.within)
+    c.cash_of_seats.ensures.moderate
     c.cash_of_companies.ensures.moderate

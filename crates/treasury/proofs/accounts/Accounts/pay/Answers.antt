@@ -4,8 +4,10 @@ use Rattle.treasury.proofs.accounts.Accounts.pay.Goals as goal
 
 pub add-requires-2-clause-fits : goal.add-requires-2-clause-fits
 add-requires-2-clause-fits c =
-    paid_fits (same_party c.args.from c.args.to) _ _ c.args.sum c.requires.to_cash c.requires.sum c.ranges.sum (c.add.ensures c.args.to c.requires.to)
+    paid_fits (same_party c.args.from c.args.to) _ _ c.args.sum c.requires.to_cash c.requires.sum c.ranges.sum
+    (c.add.ensures c.args.to c.requires.to)
 
 pub returns-clause-paid : goal.returns-clause-paid
 returns-clause-paid c =
-    λ party has. paid_both (same_party c.args.from party) (same_party c.args.to party) _ _ _ c.args.sum c.requires.sum c.ranges.sum (c.add.ensures party has) (c.add-2.ensures party has)
+    λ party has. paid_both (same_party c.args.from party) (same_party c.args.to party) _ _ _ c.args.sum c.requires.sum
+    c.ranges.sum (c.add.ensures party has) (c.add-2.ensures party has)
