@@ -82,5 +82,5 @@ returns-in_ok-record-in-Err-Rule-clause-turn c =
           answered;
       after = lay_refused_steps c.args.self.now.by (in_turn game c.args.self.now.progress)
           (line_with c.args.line (Lay c.args.lay)) c.args.lay rule c.record-in-Err-Rule.new.history _
-          c.in_ok-record-in-Err-Rule.ensures.ruling refl;
+          (rw c.in-Err-Rule.field-0-is at c.in_ok-record-in-Err-Rule.ensures.ruling) refl;
     }
