@@ -196,7 +196,8 @@ impl Task {
         requires spot { stop < 744 }
         requires stops { stop_in (node_at self.now stop) ≡ true }
         requires known { IsWorth self.now.spots.items reach.old.ahead reach.old.worth }
-        ensures reaches { ReachesPast self.now settled.now.used stop reach.old.ahead reach.new.ahead }
+        ensures reaches { ReachesPast self.now settled.now.used stop reach.old.ahead
+            reach.new.ahead }
         ensures known { IsWorth self.now.spots.items reach.new.ahead reach.new.worth }
     {
         self.hold(settled, stop, reach);

@@ -111,7 +111,8 @@ impl Task {
         requires ready { AreReady self.now }
         requires spot { spot < 744 }
         requires lies { get_or outlook.old.ahead spot false ≡ true }
-        requires passed { CountsAsPassed self.now settled.now run.now spot outlook.old.ahead outlook.old.worth }
+        requires passed { CountsAsPassed self.now settled.now run.now spot outlook.old.ahead
+            outlook.old.worth }
         ensures same { outlook.new.ahead ≡ outlook.old.ahead }
         ensures known { HasWorth self.now settled.now run.now outlook.new.ahead outlook.new.worth }
     {

@@ -82,7 +82,8 @@ impl Task {
         requires spot { spot < 744 }
         requires stop { stop_in (node_at self.now spot) ≡ true }
         requires known { HasWorth self.now settled.now run.now outlook.old.ahead outlook.old.worth }
-        ensures widens { WidensFrom self.now settled.now run.now spot outlook.old.ahead outlook.new.ahead }
+        ensures widens { WidensFrom self.now settled.now run.now spot outlook.old.ahead
+            outlook.new.ahead }
         ensures known { HasWorth self.now settled.now run.now outlook.new.ahead outlook.new.worth }
         ensures same { result ≡ false → outlook.new ≡ outlook.old }
     {
@@ -112,7 +113,8 @@ impl Task {
         requires stop { stop_in (node_at self.now spot) ≡ true }
         requires free { get_or outlook.old.ahead spot false ≡ false }
         requires known { HasWorth self.now settled.now run.now outlook.old.ahead outlook.old.worth }
-        ensures widens { WidensPast self.now settled.now run.now spot outlook.old.ahead outlook.new.ahead }
+        ensures widens { WidensPast self.now settled.now run.now spot outlook.old.ahead
+            outlook.new.ahead }
         ensures known { HasWorth self.now settled.now run.now outlook.new.ahead outlook.new.worth }
     {
         outlook.ahead.is_whole();
@@ -139,7 +141,8 @@ impl Task {
         requires to { segment.now.to < 744 }
         requires stop { stop_in (node_at self.now segment.now.to) ≡ true }
         requires known { HasWorth self.now settled.now run.now outlook.old.ahead outlook.old.worth }
-        ensures widens { WidensBy self.now settled.now run.now segment.now outlook.old.ahead outlook.new.ahead }
+        ensures widens { WidensBy self.now settled.now run.now segment.now outlook.old.ahead
+            outlook.new.ahead }
         ensures known { HasWorth self.now settled.now run.now outlook.new.ahead outlook.new.worth }
     {
         if self.leads_on(settled, run, segment, outlook) {
@@ -155,7 +158,8 @@ impl Task {
         requires home { run.now.home < 744 }
         requires begun { stop_in (node_at self.now run.now.home) ≡ true }
         requires known { HasWorth self.now settled.now run.now outlook.old.ahead outlook.old.worth }
-        ensures widens { WidensBack self.now settled.now run.now outlook.old.ahead outlook.new.ahead }
+        ensures widens { WidensBack self.now settled.now run.now outlook.old.ahead
+            outlook.new.ahead }
         ensures known { HasWorth self.now settled.now run.now outlook.new.ahead outlook.new.worth }
     {
         if self.spots[run.home].ends {
@@ -179,7 +183,8 @@ impl Task {
         requires home { run.now.home < 744 }
         requires begun { stop_in (node_at self.now run.now.home) ≡ true }
         requires nothing { outlook.old.ahead ≡ replicate 744 false }
-        requires known { (nodes : List Node) → IsWorth nodes (replicate 744 false) outlook.old.worth }
+        requires known { (nodes : List Node) → IsWorth nodes (replicate 744 false)
+            outlook.old.worth }
         ensures outlook { IsOutlook self.now settled.now run.now outlook.new.ahead }
         ensures known { HasWorth self.now settled.now run.now outlook.new.ahead outlook.new.worth }
         ensures borders { length settled.now.used ≡ 279 }

@@ -61,7 +61,8 @@ fn origin_of(spot: Spot) -> Origin
 
 /// The piece of a step, over the border at which it is entered.
 fn segment_of(step: Step, border: Option<usize>) -> Stretch
-    requires { let entered = entered_at step in option_to_list border ≡ border_at entered.hex entered.end }
+    requires { let entered = entered_at step in option_to_list border ≡ border_at entered.hex
+        entered.end }
     ensures { IsSegmentOf step result }
 {
     Stretch::of(spot_number(step.left()), step, border)

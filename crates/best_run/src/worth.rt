@@ -44,7 +44,8 @@ impl Worth {
         requires value { value ≤ 80 }
         requires levels { 0 < self.old.levels }
         requires few { self.old.levels ≤ 9 }
-        requires room { (place : ℕ) → place < self.old.levels → get_or self.old.beyond place 0 ≤ 59520 }
+        requires room { (place : ℕ) → place < self.old.levels → get_or self.old.beyond place 0 ≤
+            59520 }
         ensures { HasPassed value self.old self.new }
     {
         self.beyond[0] += value;
@@ -99,7 +100,8 @@ impl Worth {
         requires place { place < self.now.levels }
         requires few { self.now.levels ≤ 9 }
         requires left { left ≤ 744 }
-        requires room { (each : ℕ) → each < self.now.levels → get_or self.now.beyond each 0 ≤ 59520 }
+        requires room { (each : ℕ) → each < self.now.levels → get_or self.now.beyond each 0 ≤
+            59520 }
         requires first { self.now.first ≤ 80 }
         requires second { self.now.second ≤ self.now.first }
         ensures value { result ≡ at_level self.now place left on back }
@@ -114,7 +116,8 @@ impl Worth {
         requires levels { 0 < self.now.levels }
         requires few { self.now.levels ≤ 9 }
         requires left { left ≤ 744 }
-        requires room { (each : ℕ) → each < self.now.levels → get_or self.now.beyond each 0 ≤ 59520 }
+        requires room { (each : ℕ) → each < self.now.levels → get_or self.now.beyond each 0 ≤
+            59520 }
         requires first { self.now.first ≤ 80 }
         requires second { self.now.second ≤ self.now.first }
         ensures least { IsLeast self.now left on back result }

@@ -45,11 +45,12 @@ impl CompanyTurn {
         runner: &mut R,
     ) -> Result<(), RunnerFault>
         requires { IsInOrder self.old }
-        ensures turn { OnOk result (BestLeads self.old.by (state self.old) (line_with line order.RunBest)
-            (state self.new)) }
+        ensures turn { OnOk result (BestLeads self.old.by (state self.old)
+            (line_with line order.RunBest) (state self.new)) }
         ensures calls { let turn = state self.old in
-            Makes R.earns runner.old (BestCalls self.old.by self.old.round (line_with line order.RunBest)
-            (best_judgement turn self.old.by.company) turn (led_to (state self.new) result))
+            Makes R.earns runner.old (BestCalls self.old.by self.old.round
+            (line_with line order.RunBest) (best_judgement turn self.old.by.company) turn
+            (led_to (state self.new) result))
             runner.new }
         ensures order { OnOk result (GoesOn self.old self.new) }
         ensures refuses { IfErr result (λ fault. fault ≡ runner_refuses → R.may_refuse ≡ true) }

@@ -20,8 +20,8 @@ impl CompanyTurn {
     /// Rules a LAY of this line, and lays the tile if it is obeyed.
     pub(crate) fn rule_lay(&mut self, line: ReadLine, lay: Lay) -> Result<(), AllocError>
         requires { IsInOrder self.old }
-        ensures turn { OnOk result (LayLeads self.old.by (state self.old) (line_with line (order.Lay lay))
-            lay (state self.new)) }
+        ensures turn { OnOk result (LayLeads self.old.by (state self.old)
+            (line_with line (order.Lay lay)) lay (state self.new)) }
         ensures order { OnOk result (GoesOn self.old self.new) }
     {
         let board = &mut *self.board;

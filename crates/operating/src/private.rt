@@ -29,7 +29,8 @@ impl CompanyTurn {
     ) -> Result<(), AllocError>
         requires { IsInOrder self.old }
         ensures turn { OnOk result (state self.new
-            ≡ after_private self.old.by (state self.old) (line_with line (BuyOwnedPrivate private price)) private price) }
+            ≡ after_private self.old.by (state self.old)
+            (line_with line (BuyOwnedPrivate private price)) private price) }
         ensures order { OnOk result (GoesOn self.old self.new) }
     {
         let by = self.by;

@@ -37,7 +37,8 @@ impl CompanyTurn {
     ) -> Result<(), AllocError>
         requires { IsInOrder self.old }
         ensures turn { OnOk result (state self.new
-            ≡ after_run self.old.by (state self.old) (line_with line order.now) order.now kind run.now) }
+            ≡ after_run self.old.by (state self.old) (line_with line order.now) order.now kind
+            run.now) }
         ensures order { OnOk result (GoesOn self.old self.new) }
     {
         let judged = self.judge_run(kind, run)?;
@@ -146,7 +147,8 @@ fn rule_of_turn(
 
 /// Whether each train of a kind that a company has, if any, has run by an order of its own.
 fn has_run_all(history: &History, company: Company, kind: Kind, runs: &Runs) -> bool
-    ensures all { result ≡ le_z (trains_held history.now.events (Some company) kind) (has_run runs.now kind) }
+    ensures all { result ≡ le_z (trains_held history.now.events (Some company) kind) (has_run
+        runs.now kind) }
     ensures few { result ≡ false → has_run runs.now kind ≤ℤ runs_most }
 {
     history.now().trains(Some(company), kind) <= runs.of_kind(kind)

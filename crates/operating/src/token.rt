@@ -20,8 +20,8 @@ impl CompanyTurn {
     /// Rules a TOKEN of this line, and places the token if it is obeyed.
     pub(crate) fn rule_token(&mut self, line: ReadLine, place: Place) -> Result<(), AllocError>
         requires { IsInOrder self.old }
-        ensures turn { OnOk result (TokenLeads self.old.by (state self.old) (line_with line (order.Token place))
-            place (state self.new)) }
+        ensures turn { OnOk result (TokenLeads self.old.by (state self.old)
+            (line_with line (order.Token place)) place (state self.new)) }
         ensures order { OnOk result (GoesOn self.old self.new) }
     {
         let board = &mut *self.board;

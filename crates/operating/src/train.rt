@@ -27,7 +27,8 @@ impl CompanyTurn {
         requires small { IsSmallOrder (BuyTrain kind from) }
         requires order { IsInOrder self.old }
         ensures turn { OnOk result (state self.new
-            ≡ after_buying self.old.by (state self.old) (line_with line (BuyTrain kind from)) kind from) }
+            ≡ after_buying self.old.by (state self.old) (line_with line (BuyTrain kind from)) kind
+            from) }
         ensures order { OnOk result (GoesOn self.old self.new) }
         ensures board { OnOk result (self.new.board ≡ self.old.board) }
     {

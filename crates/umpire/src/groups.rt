@@ -98,7 +98,8 @@ fn take_line(group: &mut Group, line: &[u8]) -> Result<bool, AllocError>
 
 /// Takes a run into a group, unless that has marks.
 fn take_run(group: &mut Group, run: ClaimedRun) -> Result<bool, AllocError>
-    ensures { IfOk result (λ taken. group_if taken group.new ≡ with_run group.old run group.old.bits) }
+    ensures { IfOk result (λ taken. group_if taken group.new ≡ with_run group.old run
+        group.old.bits) }
 {
     if !group.bits.reader().is_empty() {
         return Ok(false);
