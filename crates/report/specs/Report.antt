@@ -15,7 +15,7 @@ use Rattle.report.specs.Worth.{worth_lines}
 use Rattle.rounds.specs.Play.{Between, Played, Plays, end_of}
 use Rattle.rounds.specs.declared.game.End.{End}
 use Rattle.rounds.specs.declared.game.End.TheVariants.{Awaiting, Bank, Bankrupt}
-use Rattle.sheets.specs.File.{Content, content_of, code_of as code_of_fault, sheet_of, players_of, unread_of, version_of}
+use Rattle.sheets.specs.File.{Content, content_of, code_of_fault, sheet_of, players_of, unread_of, version_of}
 use Rattle.sheets.specs.declared.fault.FileFault.{FileFault}
 use Rattle.tables.specs.Round.{same_round}
 use Rattle.tables.specs.declared.round.Round as round
