@@ -1,4 +1,4 @@
--- What may lie ahead of a run that has begun: the stops that it may still come to, if it may take each way that it may take
+-- What may lie ahead of a run that has begun: the stops that it may still come to, if it may take each leg that it may take
 -- now. With a level, so many dollars, each stop to come is worth at most the level and what it is
 -- worth beyond: so the run earns at most the level for each stop that is left, and what the stops ahead are worth
 -- beyond it. Of the stops at which runs end, red or full, it may come to one from where it stands and to one from where it
@@ -19,13 +19,13 @@ use Rattle.best_run.specs.Moves.{LeadsToAtMost, can_take, ends_in, node_at, part
 abbrev pub LiesAhead : List Bool → ℕ → Type 0
 LiesAhead ahead spot = get_or ahead spot false ≡ true
 
--- each way that a run may take from a stop, if it may pass the stop, leads to one that lies ahead
+-- each leg that a run may take from a stop, if it may pass the stop, leads to one that lies ahead
 abbrev pub IsGoneOver : Task → Settled → PartialRun → List Bool → ℕ → Type 0
 IsGoneOver task settled run ahead spot =
     ends_in (node_at task spot) ≡ false → (place : ℕ) (leg : Leg) → slice_get (legs_at task spot) place ≡ Some leg
     → can_take task run settled.used leg.segment ≡ true → LiesAhead ahead leg.segment.to
 
--- the same for those ways alone of which the first piece does not stand before a place
+-- the same for those legs alone of which the first segment does not stand before a place
 abbrev pub IsGoneOverFrom : Task → Settled → PartialRun → ℕ → List Bool → ℕ → Type 0
 IsGoneOverFrom task settled run least ahead spot =
     ends_in (node_at task spot) ≡ false → (place : ℕ) (leg : Leg) → slice_get (legs_at task spot) place ≡ Some leg
@@ -49,17 +49,17 @@ pub record WidensPast (task : Task) (settled : Settled) (run : PartialRun) (spot
   pub widens : Widens task settled run old new
   pub lies : LiesAhead new spot
 
--- a run may come by a piece to a stop that does not lie ahead
+-- a run may come by a segment to a stop that does not lie ahead
 abbrev pub leads_on : Task → Settled → PartialRun → List Bool → Segment → Bool
 leads_on task settled run ahead segment = not (get_or ahead segment.to false) && can_take task run settled.used segment
 
--- a piece leads to a stop that lies ahead, if the run may take it
+-- a segment leads to a stop that lies ahead, if the run may take it
 pub record WidensBy (task : Task) (settled : Settled) (run : PartialRun) (segment : Segment)
     (old new : List Bool) : Type 0 where
   pub widens : Widens task settled run old new
   pub leads : can_take task run settled.used segment ≡ true → LiesAhead new segment.to
 
--- the ways from a stop before one of them are gone over
+-- the legs from a stop before one of them are gone over
 pub record WidensBelow (task : Task) (settled : Settled) (run : PartialRun) (spot most : ℕ)
     (old new : List Bool) : Type 0 where
   pub widens : Widens task settled run old new
@@ -71,7 +71,7 @@ pub record WidensBack (task : Task) (settled : Settled) (run : PartialRun) (old 
   pub widens : Widens task settled run old new
   pub here : IsGoneOverFrom task settled run run.first new run.home
 
--- the ways from there before one of them are gone over
+-- the legs from there before one of them are gone over
 pub record WidensBackBelow (task : Task) (settled : Settled) (run : PartialRun) (most : ℕ)
     (old new : List Bool) : Type 0 where
   pub widens : Widens task settled run old new

@@ -1,4 +1,4 @@
--- What the trains that are left can come to: the borders that no way from there crosses make no difference to them, so two
+-- What the trains that are left can come to: the borders that no leg from there crosses make no difference to them, so two
 -- states that differ in such borders alone are alike: between runs, or with the same run begun.
 use Rattle.std.specs.Prelude.{◌≡◌, ℕ, ◌<◌, Bool, true, false, not, ◌&&◌, ◌||◌, ◌⊎◌, Option, Some, None, List, [], ◌∷◌, length, get_or, replicate, set, slice_get}
 use Rattle.best_run.specs.declared.search_state.SearchState.{SearchState}
@@ -11,7 +11,7 @@ use Rattle.best_run.specs.Kept.{Freer, IsBarred}
 use Rattle.best_run.specs.Moves.{ends_in, misses, node_at, own_in, stop_in}
 use Rattle.best_run.specs.Legs.{IsListed, IsStop, legs_at}
 
--- each way from a stop that crosses no used border leads to a stop in reach
+-- each leg from a stop that crosses no used border leads to a stop in reach
 abbrev pub AllLead : Task → List Bool → List Bool → ℕ → Type 0
 AllLead task used reach spot =
     (place : ℕ) (leg : Leg) → slice_get (legs_at task spot) place ≡ Some leg
@@ -37,7 +37,7 @@ pub record Holds (stop : ℕ) (old new : List Bool) : Type 0 where
   pub over : (spot : ℕ) → LiesAhead new spot → LiesAhead old spot ⊎ (stop ≡ spot)
   pub lies : LiesAhead new stop
 
--- the tokens from which ways lead lie in reach, and all stops to which a run may come from a stop that does
+-- the tokens from which legs lead lie in reach, and all stops to which a run may come from a stop that does
 pub record AreHeld (task : Task) (used reach : List Bool) : Type 0 where
   pub held : (spot : ℕ) → IsStop task spot → own_in (node_at task spot) ≡ true
       → (legs_at task spot ≡ []) ⊎ LiesAhead reach spot
@@ -65,7 +65,7 @@ anywhere =
           replicate 744 false;
     }
 
--- more stops lie in reach, and all to which a way from a stop leads
+-- more stops lie in reach, and all to which a leg from a stop leads
 pub record WidensTo (task : Task) (settled : Settled) (spot : ℕ) (old new : List Bool) : Type 0 where
   pub widens : Widens task settled anywhere old new
   pub here : AllLead task settled.used new spot
@@ -75,7 +75,7 @@ abbrev pub cleared_all : List Bool → List ℕ → List Bool
 cleared_all marks [] = marks
 cleared_all marks (border ∷ borders) = cleared_all (set marks border false) borders
 
--- each way from a stop before a place that crosses no used border crosses none of the shut ones
+-- each leg from a stop before a place that crosses no used border crosses none of the shut ones
 abbrev pub AreOpenBelow : Task → List Bool → ℕ → ℕ → List Bool → Type 0
 AreOpenBelow task used spot most shut =
     (place : ℕ) (leg : Leg) → place < most → slice_get (legs_at task spot) place ≡ Some leg
@@ -91,7 +91,7 @@ pub record Opens (used old new : List Bool) : Type 0 where
   pub fewer : (borders : List ℕ) → misses old borders ≡ true → misses new borders ≡ true
   pub kept : Freer old used → Freer new used
 
--- each way from the listed stops before one from which a run may go on is open, and the used borders are shut
+-- each leg from the listed stops before one from which a run may go on is open, and the used borders are shut
 pub record IsShutBelow (task : Task) (used reach : List Bool) (most : ℕ) (shut : List Bool) : Type 0 where
   pub kept : Freer shut used
   pub open_legs : (spot : ℕ) → IsListed task.stops.items most spot → SetsOut task reach spot

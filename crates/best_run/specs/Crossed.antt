@@ -1,4 +1,4 @@
--- Borders that a piece of track crosses, by their numbers, and which numbers are marked in a set.
+-- Borders that a segment of track crosses, by their numbers, and which numbers are marked in a set.
 use Rattle.std.specs.Prelude.{ℕ, suc, Bool, true, false, Option, None, Some, List, [], ◌∷◌}
 use Rattle.reach.specs.Position.{IsAmong}
 

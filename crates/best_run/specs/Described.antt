@@ -1,5 +1,5 @@
 -- What a search goes over, on a position: its spots are the ends of the hexes, by their numbers, with what the stops
--- are to a company; the pieces that lead from a spot are the steps of walks that may be taken from there.
+-- are to a company; the segments that lead from a spot are the steps of walks that may be taken from there.
 use Rattle.std.specs.Prelude.{◌≡◌, ◌↔◌, ℕ, ◌%◌, ◌<◌, ◌≤◌, true, false, ◌⊎◌, Option, Some, None, option_map, List, [], ◌∷◌, ◌++◌, length, slice_get}
 use Rattle.map_tables.specs.Hex.{index_of}
 use Rattle.map_tables.specs.declared.hex.Hex.{Hex}
@@ -29,7 +29,7 @@ pub record GoesFrom (number : ℕ) (step : Step) : Type 0 where
   pub number_is : spot_number spot ≡ number
   pub joined : AreJoined spot (entered_at step)
 
--- a piece is that of a step: it leads to where the step is left, over the border at which it is entered
+-- a segment is that of a step: it leads to where the step is left, over the border at which it is entered
 pub record IsSegmentOf (step : Step) (segment : Segment) : Type 0 where
   pub to : segment.to ≡ spot_number (left_at step)
   pub step_is : segment.step ≡ step
@@ -62,14 +62,14 @@ abbrev pub most_of_all : List Kind → List ℕ
 most_of_all [] = []
 most_of_all (kind ∷ kinds) = most_of (stops_of kind) ∷ most_of_all kinds
 
--- a piece is that of a step which may be taken from a spot
+-- a segment is that of a step which may be taken from a spot
 pub record IsStepFrom (position : Position) (number : ℕ) (segment : Segment) : Type 0 where
   pub step : Step
   pub track : IsTrack position step
   pub goes : GoesFrom number step
   pub segment_is : IsSegmentOf step segment
 
--- the piece of a step is among those that lead from a spot
+-- the segment of a step is among those that lead from a spot
 pub record HasSegmentOf (task : Task) (number : ℕ) (step : Step) : Type 0 where
   pub index : ℕ
   pub segment : Segment
@@ -117,25 +117,25 @@ pub record Adds (P : Link → Type 0) (old new : List Step) : Type 0 where
   pub added : (step : Step) → P step.link → IsAmong step new
   pub only : (step : Step) → IsAmong step new → IsAmong step old ⊎ P step.link
 
--- a piece is that of one of some steps
+-- a segment is that of one of some steps
 pub record IsOfStep (number : ℕ) (steps : List Step) (segment : Segment) : Type 0 where
   pub step : Step
   pub among : IsAmong step steps
   pub comes : ComesFrom number step
   pub segment_is : IsSegmentOf step segment
 
--- the piece of a step is one of some
+-- the segment of a step is one of some
 pub record HasIts (segments : List Segment) (step : Step) : Type 0 where
   pub segment : Segment
   pub among : IsAmong segment segments
   pub segment_is : IsSegmentOf step segment
 
--- these are the pieces of those steps that may be taken from a spot with this number
+-- these are the segments of those steps that may be taken from a spot with this number
 pub record AreSegmentsFrom (number : ℕ) (steps : List Step) (segments : List Segment) : Type 0 where
   pub sound : (segment : Segment) → IsAmong segment segments → IsOfStep number steps segment
   pub complete : (step : Step) → IsAmong step steps → ComesFrom number step → HasIts segments step
 
--- these are the pieces of those steps that may be taken from each spot
+-- these are the segments of those steps that may be taken from each spot
 abbrev pub AreSegments : List Step → List Entry → Type 0
 AreSegments steps entries = (number : ℕ) → AreSegmentsFrom number steps (segments_from number entries)
 
@@ -157,17 +157,17 @@ pub record AreNumberedBefore (position : Position) (company : Company) (most : �
   pub each : (number : ℕ) (node : Node) → slice_get nodes number ≡ Some node → (number < most) ⊎ (number % 8 < 6)
       → IsNumbered position company number node
 
--- to the pieces of some steps that of one more step is added
+-- to the segments of some steps that of one more step is added
 abbrev pub TakesStep : Step → List Entry → List Entry → Type 0
 TakesStep step old new = (steps : List Step) → AreSegments steps old → AreSegments (steps ++ step ∷ []) new
 
--- these are the pieces of steps of a position, among these all that lie in its first hexes
+-- these are the segments of steps of a position, among these all that lie in its first hexes
 pub record LaidBefore (position : Position) (index : ℕ) (entries : List Entry) : Type 0 where
   pub steps : List Step
   pub before : StepsBefore position steps index
   pub segments : AreSegments steps entries
 
--- these are the pieces of all steps of a position
+-- these are the segments of all steps of a position
 pub record AreLaid (position : Position) (entries : List Entry) : Type 0 where
   pub steps : List Step
   pub all : AreSteps position steps

@@ -11,7 +11,7 @@ use Rattle.best_run.specs.Moves.{LeadsFrom, node_at, own_in, stop_in}
 abbrev pub BordersFit : List ℕ → Type 0
 BordersFit borders = AllByRecursion (λ border. border < 279) borders
 
--- a piece leads from a stop to a side, or from a side over at least one border
+-- a segment leads from a stop to a side, or from a side over at least one border
 pub record SegmentFits (task : Task) (from_stop : Bool) (segment : Segment) : Type 0 where
   pub to : segment.to < 744
   pub borders : BordersFit segment.borders.items

@@ -1,5 +1,5 @@
--- Stops ahead of a run at which it ends, though others may pass them: all ways from there that cross no used border cross
--- one and the same, and so does the way by which the run comes, since a way leads back over it. Such a stop counts as one at
+-- Stops ahead of a run at which it ends, though others may pass them: all legs from there that cross no used border cross
+-- one and the same, and so does the leg by which the run comes, since a leg leads back over it. Such a stop counts as one at
 -- which runs end.
 use Rattle.std.specs.Prelude.{◌≡◌, ℕ, ◌<◌, ◌≤◌, Bool, true, false, ◌⊎◌, Some, List, length, slice_get}
 use Rattle.reach.specs.Position.{IsAmong}
@@ -13,7 +13,7 @@ use Rattle.best_run.specs.Ahead.{IsWorth, most_ahead}
 use Rattle.best_run.specs.Moves.{ends_in, misses, node_at, value_in}
 use Rattle.best_run.specs.Legs.{IsMirrored, legs_at}
 
--- all ways from a stop that cross no used border cross a border
+-- all legs from a stop that cross no used border cross a border
 abbrev pub CrossIt : Task → List Bool → ℕ → ℕ → Type 0
 CrossIt task used spot border =
     (place : ℕ) (leg : Leg) → slice_get (legs_at task spot) place ≡ Some leg

@@ -1,5 +1,5 @@
--- Ways of plain track: from a stop by a piece, and over sides by others, to the next stop, over no border twice. A run goes
--- over a way at once.
+-- Legs of plain track: from a stop by a segment, and over sides by others, to the next stop, over no border twice. A run goes
+-- over a leg at once.
 use Rattle.std.specs.Prelude.{◌≡◌, ℕ, ◌+◌, ◌<◌, ◌≤◌, Bool, true, false, ◌⊎◌, Option, Some, None, List, [], ◌∷◌, ◌++◌, length, replicate, slice_get}
 use Rattle.reach.specs.Position.{IsAmong}
 use Rattle.reach.specs.declared.walk.Step.{Step}
@@ -14,7 +14,7 @@ use Rattle.best_run.specs.declared.state.PartialRun.{PartialRun}
 use Rattle.best_run.specs.Crossed.{numbers_in}
 use Rattle.best_run.specs.Moves.{AreInMemo, Completes, IsTraced, LeadsFrom, Move, State, along, can_take, ends_in, marked_all, misses, node_at, own_in, partial, stop_in, total_after, using}
 
--- a piece, with its place among those that lead from a spot
+-- a segment, with its place among those that lead from a spot
 pub record Hop : Type 0 where
   pub place : ℕ
   pub segment : Segment
@@ -23,7 +23,7 @@ pub record Hop : Type 0 where
 abbrev pub IsPassed : Task → ℕ → Type 0
 IsPassed task spot = (stop_in (node_at task spot) ≡ false) × (ends_in (node_at task spot) ≡ false)
 
--- by a piece, and others after it, one comes over sides to a stop
+-- by a segment, and others after it, one comes over sides to a stop
 abbrev pub LeadsTo : Task → Segment → List Hop → ℕ → Type 0
 LeadsTo task segment [] to = (stop_in (node_at task segment.to) ≡ true) × (segment.to ≡ to)
 LeadsTo task segment (hop ∷ hops) to =
@@ -45,7 +45,7 @@ AreFree used segment [] = misses used segment.borders.items ≡ true
 AreFree used segment (hop ∷ hops) =
     (misses used segment.borders.items ≡ true) × AreFree (marked_all used segment.borders.items) hop.segment hops
 
--- a way is made of a piece at a place and of others, after some steps over the used borders: it crosses these as well
+-- a leg is made of a segment at a place and of others, after some steps over the used borders: it crosses these as well
 pub record IsMadeOf (task : Task) (used : List Bool) (walked : List Step) (place : ℕ) (segment : Segment)
     (hops : List Hop) (leg : Leg) : Type 0 where
   pub leads : LeadsTo task segment hops leg.segment.to
@@ -54,7 +54,7 @@ pub record IsMadeOf (task : Task) (used : List Bool) (walked : List Step) (place
   pub borders : leg.segment.borders.items ≡ numbers_in (marked_all used (borders_by segment hops))
   pub steps : leg.steps.items ≡ walked ++ steps_by segment hops
 
--- a way by a piece is among some
+-- a leg by a segment is among some
 pub record HasLeg (task : Task) (used : List Bool) (walked : List Step) (place : ℕ) (segment : Segment)
     (hops : List Hop) (to : ℕ) (legs : List Leg) : Type 0 where
   pub leg : Leg
@@ -62,7 +62,7 @@ pub record HasLeg (task : Task) (used : List Bool) (walked : List Step) (place :
   pub made : IsMadeOf task used walked place segment hops leg
   pub to_is : leg.segment.to ≡ to
 
--- the ways by a piece are added to some
+-- the legs by a segment are added to some
 pub record AddsLegs (task : Task) (used : List Bool) (walked : List Step) (place : ℕ) (segment : Segment)
     (old new : List Leg) : Type 0 where
   pub kept : (leg : Leg) → IsAmong leg old → IsAmong leg new
@@ -71,24 +71,24 @@ pub record AddsLegs (task : Task) (used : List Bool) (walked : List Step) (place
   pub complete : (hops : List Hop) (to : ℕ) → LeadsTo task segment hops to → AreFree used segment hops
       → HasLeg task used walked place segment hops to new
 
--- the ways by a piece after a path are added to some
+-- the legs by a segment after a path are added to some
 abbrev pub AddsLegsBy : Task → List Bool → Path → Segment → List Leg → List Leg → Type 0
 AddsLegsBy task used path segment old new =
     AddsLegs task used path.steps.items path.first segment old new
 
--- a path is longer by a piece
+-- a path is longer by a segment
 pub record IsLonger (path : Path) (segment : Segment) (longer : Path) : Type 0 where
   pub first : longer.first ≡ path.first
   pub steps : longer.steps.items ≡ path.steps.items ++ segment.step ∷ []
 
--- a way is made of a path and of one more piece, and crosses the borders of a set
+-- a leg is made of a path and of one more segment, and crosses the borders of a set
 pub record IsLegBy (path : Path) (segment : Segment) (set : List Bool) (leg : Leg) : Type 0 where
   pub first : leg.first ≡ path.first
   pub to : leg.segment.to ≡ segment.to
   pub borders : leg.segment.borders.items ≡ numbers_in set
   pub steps : leg.steps.items ≡ path.steps.items ++ segment.step ∷ []
 
--- no piece of a path yet
+-- no segment of a path yet
 pub record IsNoPath (path : Path) : Type 0 where
   pub steps : path.steps.items ≡ []
 
@@ -97,7 +97,7 @@ pub record IsSamePath (old new : Path) : Type 0 where
   pub first : new.first ≡ old.first
   pub steps : new.steps.items ≡ old.steps.items
 
--- those by the pieces from a spot before one of them, after a piece that led there
+-- those by the segments from a spot before one of them, after a segment that led there
 pub record AddsBelow (task : Task) (used : List Bool) (walked : List Step) (place : ℕ) (spot most : ℕ)
     (old new : List Leg) : Type 0 where
   pub kept : (leg : Leg) → IsAmong leg old → IsAmong leg new
@@ -112,7 +112,7 @@ pub record AddsBelow (task : Task) (used : List Bool) (walked : List Step) (plac
 abbrev pub none_used : List Bool
 none_used = replicate 279 false
 
--- the ways from a stop by its pieces before one of them
+-- the legs from a stop by its segments before one of them
 pub record AreLegsFrom (task : Task) (stop most : ℕ) (legs : List Leg) : Type 0 where
   pub sound : (leg : Leg) → IsAmong leg legs → (segment : Segment) × LeadsFrom task stop leg.first segment
       × ((hops : List Hop) × IsMadeOf task none_used [] leg.first segment hops leg)
@@ -120,7 +120,7 @@ pub record AreLegsFrom (task : Task) (stop most : ℕ) (legs : List Leg) : Type 
       → LeadsFrom task stop place segment → LeadsTo task segment hops to → AreFree none_used segment hops
       → HasLeg task none_used [] place segment hops to legs
 
--- the ways from a stop
+-- the legs from a stop
 pub record AreLegsOf (task : Task) (stop : ℕ) (legs : List Leg) : Type 0 where
   pub sound : (leg : Leg) → IsAmong leg legs → (segment : Segment) × LeadsFrom task stop leg.first segment
       × ((hops : List Hop) × IsMadeOf task none_used [] leg.first segment hops leg)
@@ -142,7 +142,7 @@ AreSides task from to = (spot : ℕ) → from ≤ spot → spot < to → stop_in
 abbrev pub IsStop : Task → ℕ → Type 0
 IsStop task spot = (spot < 744) × (stop_in (node_at task spot) ≡ true)
 
--- the ways from a stop, by its number
+-- the legs from a stop, by its number
 abbrev pub legs_in : Option Departures → List Leg
 legs_in (Some from) = from.legs.items
 legs_in None = []
@@ -154,7 +154,7 @@ legs_at task stop = legs_in (slice_get task.departures.items stop)
 abbrev pub IsListed : List ℕ → ℕ → ℕ → Type 0
 IsListed stops most stop = (place : ℕ) × (place < most) × (slice_get stops place ≡ Some stop)
 
--- the stops before one from which ways lead are listed, and all that are listed are stops
+-- the stops before one from which legs lead are listed, and all that are listed are stops
 pub record AreStops (task : Task) (count : ℕ) (stops : List ℕ) : Type 0 where
   pub each : (stop : ℕ) → stop < count → stop_in (node_at task stop) ≡ true
       → (legs_at task stop ≡ []) ⊎ IsListed stops (length stops) stop
@@ -171,22 +171,22 @@ AreHomes task from to (home ∷ homes) =
     (from ≤ home) × (home < to) × (own_in (node_at task home) ≡ true) × HasNoHome task from home
     × AreHomes task (home + 1) to homes
 
--- a way leads back from where another one comes to, and crosses no border but those of it
+-- a leg leads back from where another one comes to, and crosses no border but those of it
 pub record HasMirror (task : Task) (leg : Leg) : Type 0 where
   pub place : ℕ
   pub back : Leg
   pub stands : slice_get (legs_at task leg.segment.to) place ≡ Some back
   pub within : (border : ℕ) → IsAmong border back.segment.borders.items → IsAmong border leg.segment.borders.items
 
--- one does for each way from a spot, and for each way
+-- one does for each leg from a spot, and for each leg
 abbrev pub AllLeadBack : Task → ℕ → Type 0
 AllLeadBack task spot = (place : ℕ) (leg : Leg) → slice_get (legs_at task spot) place ≡ Some leg → HasMirror task leg
 
 abbrev pub IsMirrored : Task → Type 0
 IsMirrored task = (spot : ℕ) → AllLeadBack task spot
 
--- the ways from each stop are known, and the stops from which they lead, and where the company has tokens; where it is said,
--- ways lead back over all of them
+-- the legs from each stop are known, and the stops from which they lead, and where the company has tokens; where it is said,
+-- legs lead back over all of them
 pub record AreReady (task : Task) : Type 0 where
   pub long : length task.departures.items ≡ 744
   pub each : (stop : ℕ) (from : Departures) → slice_get task.departures.items stop ≡ Some from
@@ -195,12 +195,12 @@ pub record AreReady (task : Task) : Type 0 where
   pub homes : AreHomes task 0 744 task.homes.items
   pub mirrored : task.mirrored ≡ true → IsMirrored task
 
--- a way stands among some before a place
+-- a leg stands among some before a place
 abbrev pub StandsBefore : List Leg → ℕ → Leg → Type 0
 StandsBefore legs most leg = (place : ℕ) × (place < most) × (slice_get legs place ≡ Some leg)
 
 -- such ways have been tried, each with its run: the best found grows at most, the trail tells how it is earned from where
--- the ways are tried, and whatever comes after one of them earns at most that
+-- the legs are tried, and whatever comes after one of them earns at most that
 pub record TriesLegs (task : Task) (from : State) (settled : Settled) (runs : Leg → PartialRun) (P : Leg → Type 0)
     (old new : Found) : Type 0 where
   pub grows : old.amount ≤ new.amount

@@ -25,7 +25,7 @@ pub record IsWritten (marks : List Mark) (old new : MovePath) : Type 0 where
   pub refused : new.refused ≡ None → old.refused ≡ None
   pub marks_are : new.refused ≡ None → marks_in new ≡ marks ++ marks_in old
 
--- a walk from its other end: each step is taken the other way over its link, the last one first
+-- a walk from its other end: each step is taken the other leg over its link, the last one first
 abbrev pub turned_step : Step → Step
 turned_step step = record { link = step.link; turned = not step.turned }
 

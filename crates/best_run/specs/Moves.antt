@@ -1,6 +1,6 @@
 -- What the search goes over: from nothing settled, move by move, to all trains settled. The next train passes, or
--- begins a run at a token of the company by a piece of plain track; a run that has begun goes on from where it stands;
--- once, it may turn back to the token, and go on from there by a piece that is not before the one by which it began;
+-- begins a run at a token of the company by a segment of plain track; a run that has begun goes on from where it stands;
+-- once, it may turn back to the token, and go on from there by a segment that is not before the one by which it began;
 -- and it may be settled at a stop. So each run is met once: from the first of its tokens, by their numbers, since the
 -- tokens before that one are passed over, and not from both its ends.
 use Rattle.std.specs.Prelude.{◌≡◌, ℕ, zero, suc, ◌+◌, ◌-◌, ◌<◌, ◌≤◌, Bool, true, false, not, ◌&&◌, ◌||◌, nat_lt, nat_le, ◌==◌, ◌⊎◌, Option, Some, None, List, [], ◌∷◌, length, get_or, set, slice_get, replicate}
@@ -37,11 +37,11 @@ stop_in None = false
 abbrev pub node_at : Task → ℕ → Option Node
 node_at task stop = slice_get task.spots.items stop
 
--- the pieces that lead from a spot
+-- the segments that lead from a spot
 abbrev pub segments_at : Task → ℕ → List Segment
 segments_at task spot = segments_from spot task.segments
 
--- a piece leads from a stop, at a place among its pieces
+-- a segment leads from a stop, at a place among its segments
 abbrev pub LeadsFrom : Task → ℕ → ℕ → Segment → Type 0
 LeadsFrom task stop index segment = slice_get (segments_at task stop) index ≡ Some segment
 
@@ -59,7 +59,7 @@ abbrev pub may_come : Bool → PartialRun → ℕ → Bool
 may_come true run spot = nat_lt 0 run.left && not (get_or run.visited spot false)
 may_come false run spot = true
 
--- a run may take a piece
+-- a run may take a segment
 abbrev pub can_take : Task → PartialRun → List Bool → Segment → Bool
 can_take task run used segment = may_come (stop_in (node_at task segment.to)) run segment.to
     && misses used segment.borders.items
@@ -78,7 +78,7 @@ abbrev pub own_before : Task → ℕ → List Bool
 own_before task zero = replicate 744 false
 own_before task (suc number) = marked_if (own_in (node_at task number)) (own_before task number) number
 
--- a run that stands at the token where it begins, by the piece at a place; the tokens before that one are passed over
+-- a run that stands at the token where it begins, by the segment at a place; the tokens before that one are passed over
 abbrev pub begun : Task → Settled → ℕ → ℕ → PartialRun
 begun task settled stop first =
     record {
@@ -92,7 +92,7 @@ begun task settled stop first =
       visited = set (own_before task stop) stop true;
     }
 
--- the same run, by the piece at another place
+-- the same run, by the segment at another place
 abbrev pub begun_by : PartialRun → ℕ → PartialRun
 begun_by run first = record run { first = first }
 
@@ -100,7 +100,7 @@ begun_by run first = record run { first = first }
 abbrev pub turned_back : PartialRun → PartialRun
 turned_back run = record run { turned = true; head = run.home }
 
--- a run after a piece
+-- a run after a segment
 abbrev pub along : Task → PartialRun → Segment → PartialRun
 along task run segment =
     record run {
@@ -110,7 +110,7 @@ along task run segment =
       visited = marked_if (stop_in (node_at task segment.to)) run.visited segment.to;
     }
 
--- the borders of a piece are used
+-- the borders of a segment are used
 abbrev pub using : Settled → Segment → Settled
 using settled segment = record settled { used = marked_all settled.used segment.borders.items }
 
@@ -295,7 +295,7 @@ pub record Explores (task : Task) (state : State) (old new : Found) : Type 0 whe
   pub most : AreInMemo task old → (moves : List Move) → Completes task state moves
       → total_after task state moves ≤ new.amount
 
--- a piece has been tried with a run that stands before it: if the run may take it, all ways on have been tried
+-- a segment has been tried with a run that stands before it: if the run may take it, all ways on have been tried
 pub record Takes (task : Task) (settled : Settled) (run : PartialRun) (segment : Segment) (old new : Found) : Type
     0 where
   pub grows : old.amount ≤ new.amount

@@ -1,45 +1,45 @@
--- The pieces of track that lead from the spots, in one table. Those from a spot are found from the last one on, back to
+-- The segments of track that lead from the spots, in one table. Those from a spot are found from the last one on, back to
 -- the first.
 use Rattle.std.specs.Prelude.{◌≡◌, ℕ, ◌+◌, Bool, true, false, ◌==◌, Some, List, [], ◌∷◌, ◌++◌, length, slice_get}
 use Rattle.best_run.specs.declared.segments.Entry.{Entry}
 use Rattle.best_run.specs.declared.segments.Tail.{Tail}
 use Rattle.best_run.specs.declared.task.Segment.{Segment}
 
--- a piece, if it leads from a spot, before others
+-- a segment, if it leads from a spot, before others
 abbrev pub segment_if : Bool → Segment → List Segment → List Segment
 segment_if true segment segments = segment ∷ segments
 segment_if false segment segments = segments
 
--- the pieces from a spot, in order
+-- the segments from a spot, in order
 abbrev pub segments_from : ℕ → List Entry → List Segment
 segments_from spot [] = []
 segments_from spot (entry ∷ entries) = segment_if (entry.from == spot) entry.segment (segments_from spot entries)
 
--- a piece is added behind those from a spot
+-- a segment is added behind those from a spot
 pub record AddsSegment (from : ℕ) (segment : Segment) (old new : List Entry) : Type 0 where
   pub entry : Entry
   pub from_is : entry.from ≡ from
   pub segment_is : entry.segment ≡ segment
   pub more : new ≡ old ++ entry ∷ []
 
--- at a place in the table stands the piece that has a place among those from a spot
+-- at a place in the table stands the segment that has a place among those from a spot
 pub record StandsThere (entries : List Entry) (there spot place : ℕ) : Type 0 where
   pub entry : Entry
   pub there_is : slice_get entries there ≡ Some entry
   pub from_is : entry.from ≡ spot
   pub place_is : entry.place ≡ place
 
--- a piece has its place among those from its spot, and the one before it is found
+-- a segment has its place among those from its spot, and the one before it is found
 pub record HasPlace (entries : List Entry) (entry : Entry) : Type 0 where
   pub segment_is : slice_get (segments_from entry.from entries) entry.place ≡ Some entry.segment
   pub before : (place : ℕ) → place + 1 ≡ entry.place → StandsThere entries entry.before entry.from place
 
--- the pieces from a spot are counted, and the last one is found
+-- the segments from a spot are counted, and the last one is found
 pub record IsTail (entries : List Entry) (spot : ℕ) (tail : Tail) : Type 0 where
   pub count : tail.count ≡ length (segments_from spot entries)
   pub last : (place : ℕ) → place + 1 ≡ tail.count → StandsThere entries tail.last spot place
 
--- so it is for each piece and each spot
+-- so it is for each segment and each spot
 pub record AreChained (entries : List Entry) (tails : List Tail) : Type 0 where
   pub long : length tails ≡ 744
   pub places : (there : ℕ) (entry : Entry) → slice_get entries there ≡ Some entry → HasPlace entries entry

@@ -114,7 +114,7 @@ impl Task {
         self.are_pruned_by_cap(settled.next, most, cap, settled.total, bounds, best)
     }
 
-    /// Opens the ways from a stop that cross no used border.
+    /// Opens the legs from a stop that cross no used border.
     fn open_from(&self, settled: &Settled, stop: usize, shut: &mut Borders)
         requires fit { IsFit self.now }
         requires ready { AreReady self.now }

@@ -1,4 +1,4 @@
-//! Borders that a way crosses: the set of them.
+//! Borders that a leg crosses: the set of them.
 ghost use Rattle.std.specs.Prelude.{◌≡◌, ℕ, ◌<◌, IsTrue, Some, length};
 ghost use Rattle.best_run.specs.Canonical.{cleared_all};
 ghost use Rattle.best_run.specs.Crossed.{IsShared, numbers_in};

@@ -12,8 +12,8 @@ use crate::state::{PartialRun, Settled};
 use crate::task::Task;
 
 impl Task {
-    /// A border that the first two ways from a stop cross of those that cross no used border; one of the only such way
-    /// where there is one. `None` where these two share none, or there is no such way.
+    /// A border that the first two legs from a stop cross of those that cross no used border; one of the only such leg
+    /// where there is one. `None` where these two share none, or there is no such leg.
     fn exit(&self, settled: &Settled, spot: usize) -> Option<usize>
         requires ready { AreReady self.now }
         requires spot { spot < 744 }
@@ -36,7 +36,7 @@ impl Task {
         }
     }
 
-    /// Whether all ways from a stop that cross no used border cross another one.
+    /// Whether all legs from a stop that cross no used border cross another one.
     fn cross_it(&self, settled: &Settled, spot: usize, border: usize) -> bool
         requires ready { AreReady self.now }
         requires spot { spot < 744 }
@@ -53,7 +53,7 @@ impl Task {
         true
     }
 
-    /// Whether a run that comes to a stop ahead ends there, since all its ways that cross no used border cross the
+    /// Whether a run that comes to a stop ahead ends there, since all its legs that cross no used border cross the
     /// one by which it comes. It is not told of all such stops, and of none to a run that visits no stops.
     fn is_last(&self, settled: &Settled, run: &PartialRun, spot: usize) -> bool
         requires ready { AreReady self.now }

@@ -4,24 +4,24 @@
 //! The definitions of a legal set, of the greatest revenue and of what is claimed are those of
 //! `certificate`. Those of this crate, in `specs/`, are of the search alone: `Moves` says what
 //! it goes over, move by move, `MovePath` how these are written down and which runs are read from
-//! that, `Described` how a position is laid out for it, `Legs` how pieces of plain track make
-//! ways from stop to stop, and where runs may begin, `Fit` what keeps its numbers within their
+//! that, `Described` how a position is laid out for it, `Legs` how segments of plain track make
+//! legs from stop to stop, and where runs may begin, `Fit` what keeps its numbers within their
 //! bounds, `Suffix` what the last trains earn by themselves, and equal trains one after
 //! another, which bounds what they earn behind others, `Ahead` what may lie ahead of a run,
 //! which bounds what it may still earn, `Last` at which of the stops ahead it ends since it can
 //! leave them only as it comes, `Kept` which states need not be explored since another one
 //! was, `Canonical` which of them are alike to the trains left, `Marks` how bits in
-//! words are marks, `Crossed` what borders a piece crosses, `Segments` how the pieces that lead
+//! words are marks, `Crossed` what borders a segment crosses, `Segments` how the segments that lead
 //! from a spot stand in one table, `Answer` what the search finds in the end, `Keeping` what is
 //! kept of one call after the other.
 //!
 //! Reading order: `revenue` (the public call), `answer`, `trains` (their order), `spots` (the
-//! spots of a position with the pieces of track between them), `legs` (from stop to stop),
-//! `task`, `bits` (marks of borders and spots, a bit each), `stretch` (a piece of track),
-//! `segments` (those from all spots), `steps` (those of a way), `crossing` (its borders, a set of
+//! spots of a position with the segments of track between them), `legs` (from stop to stop),
+//! `task`, `bits` (marks of borders and spots, a bit each), `stretch` (a segment of track),
+//! `segments` (those from all spots), `steps` (those of a leg), `crossing` (its borders, a set of
 //! them), `state` (the trains settled so far, and the run begun), `outlook` (what lies ahead of
 //! that run) with `worth` (what that is worth), `last` (at which stops ahead it ends) and
-//! `mirror` (whether ways lead back over all ways), `move_path` (the moves that earn what has been
+//! `mirror` (whether legs lead back over all legs), `move_path` (the moves that earn what has been
 //! found), `search_state` (a state that is kept), `memo` (what has been found, and what need not be
 //! explored again), `canonical` (states that are alike to the trains left), `search`, `claimed` (the
 //! runs that a trail tells),

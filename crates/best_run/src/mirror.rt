@@ -1,11 +1,11 @@
-//! Ways that lead back over others: a way is the same track in both directions.
+//! Legs that lead back over others: a leg is the same track in both directions.
 ghost use Rattle.std.specs.Prelude.{◌≡◌, ◌<◌, IsTrue, length};
 ghost use Rattle.best_run.specs.Legs.{AllLeadBack, HasMirror, IsMirrored};
 
 use crate::task::{Leg, Task};
 
 impl Task {
-    /// Whether a way leads back over one, from where that comes to, over no borders but those of it.
+    /// Whether a leg leads back over one, from where that comes to, over no borders but those of it.
     fn leads_back(&self, leg: &Leg) -> bool
         ensures { IsTrue result → HasMirror self.now leg.now }
     {
@@ -23,7 +23,7 @@ impl Task {
         false
     }
 
-    /// Whether ways lead back over all ways from a spot.
+    /// Whether legs lead back over all legs from a spot.
     fn all_lead_back(&self, spot: usize) -> bool
         requires { spot < length self.now.departures.items }
         ensures { IsTrue result → AllLeadBack self.now spot }
@@ -38,7 +38,7 @@ impl Task {
         true
     }
 
-    /// Whether ways lead back over all ways.
+    /// Whether legs lead back over all legs.
     pub(crate) fn is_mirrored(&self) -> bool
         ensures { IsTrue result → IsMirrored self.now }
     {

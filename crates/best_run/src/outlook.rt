@@ -50,7 +50,7 @@ impl Task {
         Outlook::nothing(if left >= self.stops.len() { 1 } else { LEVELS })
     }
 
-    /// Whether a run may come by a piece to a stop that does not lie ahead so far.
+    /// Whether a run may come by a segment to a stop that does not lie ahead so far.
     fn leads_on(
         &self,
         settled: &Settled,
@@ -127,7 +127,7 @@ impl Task {
         }
     }
 
-    /// Adds to what lies ahead of a run what it may come to by a piece.
+    /// Adds to what lies ahead of a run what it may come to by a segment.
     #[inline(always)]
     pub(crate) fn look_along(
         &self,
@@ -151,7 +151,7 @@ impl Task {
     }
 
     /// Adds to what lies ahead of a run what it may come to from where it began, once it turns back: not by
-    /// a way before the one by which it began.
+    /// a leg before the one by which it began.
     fn look_back(&self, settled: &Settled, run: &PartialRun, outlook: &mut Outlook)
         requires fit { IsFit self.now }
         requires ready { AreReady self.now }

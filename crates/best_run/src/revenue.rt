@@ -61,7 +61,7 @@ impl Task {
         Ok(bounds)
     }
 
-    /// The greatest total of all ways from nothing settled to the end, with the moves that earn it. The
+    /// The greatest total of all legs from nothing settled to the end, with the moves that earn it. The
     /// only error is want of memory.
     fn greatest(&self, alloc: Global) -> Result<Found, AllocError>
         requires fit { IsFit self.now }

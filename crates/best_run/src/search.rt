@@ -174,7 +174,7 @@ impl Task {
         }
     }
 
-    /// Tries all ways on from a piece, if the run may take it.
+    /// Tries all ways on from a segment, if the run may take it.
     #[cycle(explore)]
     fn take(
         &self,

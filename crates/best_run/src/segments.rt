@@ -1,4 +1,4 @@
-//! The pieces of track that lead from the spots, all in one table: the pieces from a spot are told one
+//! The segments of track that lead from the spots, all in one table: the segments from a spot are told one
 //! after another, each with the place of the one before it.
 ghost use Rattle.std.specs.Prelude.{◌≡◌, ◌<◌, [], IfOk, OnOk, Some, length, slice_get};
 ghost use Rattle.best_run.specs.Segments.{AddsSegment, segments_from};
@@ -8,32 +8,32 @@ use crate::stretch::Stretch;
 use std::alloc::{AllocError, Global};
 use std::marker::Model;
 
-/// How many pieces there is room for at first.
+/// How many segments there is room for at first.
 const ROOM: usize = 256;
 
-/// A piece that leads from a spot.
+/// A segment that leads from a spot.
 #[derive(Drop)]
 pub(crate) struct Entry {
     /// The spot, by its number.
     pub(crate) from: usize,
-    /// How many pieces lead from there before it.
+    /// How many segments lead from there before it.
     pub(crate) place: usize,
     /// The place in the table of the one before it, if there is one.
     pub(crate) before: usize,
-    /// The piece.
+    /// The segment.
     pub(crate) segment: Stretch,
 }
 
 /// What leads from a spot.
 #[derive(Clone, Copy)]
 pub(crate) struct Tail {
-    /// How many pieces.
+    /// How many segments.
     pub(crate) count: usize,
     /// The place in the table of the last of them, if there is one.
     pub(crate) last: usize,
 }
 
-/// The pieces from all spots. The contracts see the table, in order.
+/// The segments from all spots. The contracts see the table, in order.
 #[derive(Drop)]
 pub(crate) struct Segments {
     entries: Vec<Entry>,
@@ -65,7 +65,7 @@ impl Segments {
         Ok(Segments { entries, tails })
     }
 
-    /// Adds a piece behind those that lead from a spot. The only error is want of memory.
+    /// Adds a segment behind those that lead from a spot. The only error is want of memory.
     pub(crate) fn add(&mut self, from: usize, segment: Stretch) -> Result<(), AllocError>
         requires { from < 744 }
         ensures { OnOk result (AddsSegment from segment self.old self.new) }
@@ -85,7 +85,7 @@ impl Segments {
         Ok(())
     }
 
-    /// How many pieces lead from a spot.
+    /// How many segments lead from a spot.
     pub(crate) fn count(&self, spot: usize) -> usize
         requires { spot < 744 }
         ensures { result ≡ length (segments_from spot self.now) }
@@ -93,7 +93,7 @@ impl Segments {
         self.tails[spot].count
     }
 
-    /// The piece that leads from a spot at a place among those from there.
+    /// The segment that leads from a spot at a place among those from there.
     pub(crate) fn at(&self, spot: usize, place: usize) -> &Stretch
         requires spot { spot < 744 }
         requires place { place < length (segments_from spot self.now) }

@@ -1,4 +1,4 @@
-//! The spots of a position, and the pieces of track that lead from them.
+//! The spots of a position, and the segments of track that lead from them.
 ghost use Rattle.std.specs.Prelude.{◌≡◌, ◌+◌, ◌<◌, ◌≤◌, ◌%◌, IfOk, OnOk, Some, option_to_list};
 ghost use Rattle.best_run.specs.Described.{AreLaid, AreNumbered, AreNumberedBefore, Describes, IsSegmentOf, IsSideNode, IsStopNode, LaidBefore, TakesStep, most_of, most_of_all, number_before, number_or_none};
 ghost use Rattle.best_run.specs.Fit.{IsFit};
@@ -59,7 +59,7 @@ fn origin_of(spot: Spot) -> Origin
     }
 }
 
-/// The piece of a step, over the border at which it is entered.
+/// The segment of a step, over the border at which it is entered.
 fn segment_of(step: Step, border: Option<usize>) -> Stretch
     requires { let entered = entered_at step in option_to_list border ≡ border_at entered.hex
         entered.end }
@@ -146,7 +146,7 @@ fn all_spots<N: Network>(
     Ok(nodes)
 }
 
-/// Adds the piece of a step to those of the spot from which it may be taken, if there is one. The only
+/// Adds the segment of a step to those of the spot from which it may be taken, if there is one. The only
 /// error is want of memory.
 fn add_step(step: Step, segments: &mut Segments) -> Result<(), AllocError>
     ensures { OnOk result (TakesStep step segments.old segments.new) }
@@ -159,7 +159,7 @@ fn add_step(step: Step, segments: &mut Segments) -> Result<(), AllocError>
     Ok(())
 }
 
-/// Adds the pieces of the steps in a hex: each link in both directions. The only error is want of memory.
+/// Adds the segments of the steps in a hex: each link in both directions. The only error is want of memory.
 fn add_steps<N: Network>(network: &N, hex: Hex, segments: &mut Segments) -> Result<(), AllocError>
     requires lawful { IsLawful (N.position network.now) }
     requires laid { LaidBefore (N.position network.now) (index_of hex) segments.old }
@@ -181,7 +181,7 @@ fn add_steps<N: Network>(network: &N, hex: Hex, segments: &mut Segments) -> Resu
     Ok(())
 }
 
-/// The pieces from all spots. The only error is want of memory.
+/// The segments from all spots. The only error is want of memory.
 fn all_segments<N: Network>(alloc: Global, network: &N) -> Result<Segments, AllocError>
     requires { IsLawful (N.position network.now) }
     ensures { IfOk result (AreLaid (N.position network.now)) }

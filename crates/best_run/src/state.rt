@@ -27,7 +27,7 @@ pub(crate) struct Settled {
 pub(crate) struct PartialRun {
     /// Where it began: at a token of the company.
     pub(crate) home: usize,
-    /// By which of the pieces from there.
+    /// By which of the segments from there.
     pub(crate) first: usize,
     /// It has turned back to where it began, and goes on from there.
     pub(crate) turned: bool,
@@ -112,7 +112,7 @@ impl Settled {
         }
     }
 
-    /// The borders of a piece are used.
+    /// The borders of a segment are used.
     pub(crate) fn using(&self, segment: &Segment) -> Settled
         ensures using { result ≡ using self.now segment.now }
         ensures whole { length self.now.used ≡ 279 }
@@ -172,7 +172,7 @@ impl PartialRun {
         }
     }
 
-    /// The same run, begun by the piece at another place.
+    /// The same run, begun by the segment at another place.
     pub(crate) fn by(&self, first: usize) -> PartialRun
         ensures { result ≡ begun_by self.now first }
     {
@@ -221,7 +221,7 @@ fn left_after(stop: bool, left: usize) -> usize
 }
 
 impl Task {
-    /// Whether a run may take a piece to a stop.
+    /// Whether a run may take a segment to a stop.
     pub(crate) fn can_take(&self, run: &PartialRun, settled: &Settled, segment: &Segment) -> bool
         requires to { segment.now.to < 744 }
         requires stop { stop_in (node_at self.now segment.now.to) ≡ true }
@@ -242,7 +242,7 @@ impl Task {
         }
     }
 
-    /// A run that stands at the token where it begins, by the piece at a place. The tokens before that one
+    /// A run that stands at the token where it begins, by the segment at a place. The tokens before that one
     /// are given.
     pub(crate) fn begun(
         &self,
@@ -280,7 +280,7 @@ impl Task {
         self.spots[run.head].stop && settled.may_earn(run)
     }
 
-    /// A run after a piece.
+    /// A run after a segment.
     pub(crate) fn along(&self, run: &PartialRun, segment: &Segment) -> PartialRun
         requires fit { IsFit self.now }
         requires to { segment.now.to < 744 }

@@ -1,4 +1,4 @@
-//! The steps of a way: a few need no memory of their own.
+//! The steps of a leg: a few need no memory of their own.
 ghost use Rattle.std.specs.Prelude.{◌≡◌, ◌∷◌, ◌++◌, [], IfOk};
 
 use reach::Step;

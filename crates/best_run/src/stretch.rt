@@ -1,4 +1,4 @@
-//! A piece of track, as the spot keeps it from which it leads.
+//! A segment of track, as the spot keeps it from which it leads.
 ghost use Rattle.std.specs.Prelude.{◌≡◌, option_to_list};
 ghost use Rattle.best_run.specs.Fit.{BordersFit};
 ghost use Rattle.best_run.specs.Moves.{marked_all, misses};
@@ -7,7 +7,7 @@ use crate::bits::Borders;
 use reach::Step;
 use std::marker::Model;
 
-/// A piece of track that is one step: it crosses one border at most.
+/// A segment of track that is one step: it crosses one border at most.
 #[derive(Drop)]
 pub(crate) struct Stretch {
     to: usize,

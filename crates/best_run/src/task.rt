@@ -6,12 +6,12 @@ use crate::steps::Steps;
 use reach::Step;
 use tables::Amount;
 
-/// Track that leads from a spot to another: what a way comes to, and what each `Stretch` is to the contracts.
+/// Track that leads from a spot to another: what a leg comes to, and what each `Stretch` is to the contracts.
 #[derive(Drop)]
 pub(crate) struct Segment {
     /// The spot to which it leads, by its number.
     pub(crate) to: usize,
-    /// The step that it is; the last one of a way.
+    /// The step that it is; the last one of a leg.
     pub(crate) step: Step,
     /// The borders that it crosses, by their numbers.
     pub(crate) borders: Crossing,
@@ -30,21 +30,21 @@ pub(crate) struct Node {
     pub(crate) ends: bool,
 }
 
-/// A way of plain track from a stop to the next one.
+/// A leg of plain track from a stop to the next one.
 #[derive(Drop)]
 pub(crate) struct Leg {
-    /// The place of its first piece among those that lead from the stop.
+    /// The place of its first segment among those that lead from the stop.
     pub(crate) first: usize,
-    /// The steps of its pieces, in order.
+    /// The steps of its segments, in order.
     pub(crate) steps: Steps,
     /// The stop to which it leads, and the borders that it crosses.
     pub(crate) segment: Segment,
 }
 
-/// The ways from a stop.
+/// The legs from a stop.
 #[derive(Drop)]
 pub(crate) struct Departures {
-    /// The ways, in the order of their first pieces.
+    /// The legs, in the order of their first segments.
     pub(crate) legs: Vec<Leg>,
 }
 
@@ -53,16 +53,16 @@ pub(crate) struct Departures {
 pub(crate) struct Task {
     /// The spots, by their numbers.
     pub(crate) spots: Vec<Node>,
-    /// The pieces of track that lead from them.
+    /// The segments of track that lead from them.
     pub(crate) segments: Segments,
-    /// For each spot that is a stop, by its number, the ways from there.
+    /// For each spot that is a stop, by its number, the legs from there.
     pub(crate) departures: Vec<Departures>,
-    /// The stops from which ways lead, by their numbers.
+    /// The stops from which legs lead, by their numbers.
     pub(crate) stops: Vec<usize>,
     /// The spots where the company has tokens, by their numbers, in order.
     pub(crate) homes: Vec<usize>,
     /// For each train, the most stops of a run.
     pub(crate) trains: Vec<usize>,
-    /// Over each way another one leads back, as is asked once.
+    /// Over each leg another one leads back, as is asked once.
     pub(crate) mirrored: bool,
 }
