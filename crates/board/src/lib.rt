@@ -1,4 +1,4 @@
-//! The ground of 1830's operating rounds: the tiles and tokens that lie on the map, and the rules
+//! The map state of 1830's operating rounds: the tiles and tokens that lie on the map, and the rules
 //! by which a company lays more.
 //!
 //! To a contract a `Board` is the tiles that were laid, oldest first, the tokens that were placed,

@@ -9,7 +9,7 @@ use map_tables::{Hex, Links, Stop};
 use reach::Network;
 use tables::{Amount, Company};
 
-/// The position of each ground keeps the laws. It does nothing.
+/// The position of each map state keeps the laws. It does nothing.
 fn map_states_are_lawful()
     ensures { MapStatesAreLawful }
 {

@@ -1,4 +1,4 @@
-//! Tables of what a game says of its companies, as the books of the game have it.
+//! Tables of what a game says of its companies, as the totals of the game have it.
 ghost use Rattle.certs.specs.Notes.{AreNoted, ArePresidentsOf, AreSquaresOf, AreTenthsOf, IsRowOf};
 ghost use Rattle.certs.specs.Rows.{AreBounded, IsBounded};
 

@@ -1,4 +1,4 @@
--- What the books have after one more event.
+-- What the totals have after one more event.
 use Rattle.std.proofs.Common.{◌≡◌, ℕ, ◌+◌, ◌^◌, ◌<◌, ◌||◌, Bool, true, false, if◌then◌else◌, List, [], ◌∷◌, ◌++◌, Option, Some, None, is_some, ℤ, pos, ◌≤◌, ◌+ℤ◌, ◌-ℤ◌, get_or, length, take, unwrap_or, refl, ap, subst, sym, ◌∙◌, arith, length-append, length-take-le}
 use Rattle.std.proofs.lemmas.List.{take_more}
 use Rattle.std.proofs.lemmas.List.Folds.{list_any-append}
@@ -165,7 +165,7 @@ tokens_applied events event company old new short counts before =
       few = omega (arith, counted, token_at_most_one event company, before.few, length-append events (event ∷ []));
     }
 
--- the books of a list up to a place, and those with the event there
+-- the totals of a list up to a place, and those with the event there
 pub one_more :
     (events : List Event) (i : ℕ) (event d : Event) (old new : Totals) → i < length events → event ≡ get_or events i d
     → AreTotalsOf old (take i events) →

@@ -1,4 +1,4 @@
--- The books of a list of events: what its readers answer, kept while the events come. Tables are by the places
+-- The totals of a list of events: what its readers answer, kept while the events come. Tables are by the places
 -- of the privates and the companies in the roster, and by the numbers of the six seats that a table has.
 use Rattle.std.specs.Prelude.{◌≡◌, ℕ, ◌<◌, ◌≤◌, ◌+◌, ◌*◌, ◌^◌, ℤ, pos, neg_ℤ, ◌≤ℤ◌, [], List, length, Bool, false, ◌||◌, Option, Some, None, is_some, if◌then◌else◌, slice_index_or}
 use Rattle.events.specs.Event.{actor_of, floated_by, ownership_of, payment_of, phase_set, round_begun_by, square_set, train_owner_place, sv_price_set, train_moved, transfer_of}
@@ -27,7 +27,7 @@ use Rattle.tables.specs.declared.roster.Company.{Company}
 use Rattle.tables.specs.declared.roster.Private.{Private}
 use Rattle.tables.specs.declared.seat.Seat.{Seat}
 
--- what the books have as the last word on a private's owner
+-- what the totals have as the last word on a private's owner
 abbrev pub word_in : Owners → Private → Option (Option Holder)
 word_in owners private = slice_index_or owners.said (place_of_private private) None
 
@@ -142,7 +142,7 @@ pub record IsNet (brings takes : Event → ℕ) (events : List Event) (net : ℤ
   pub not_under : neg_ℤ (pos (2 ^ 32 * length events)) ≤ℤ net
   pub not_over : net ≤ℤ pos (2 ^ 32 * length events)
 
--- the books have what the list says
+-- the totals have what the list says
 pub record AreTotalsOf (totals : Totals) (events : List Event) : Type 0 where
   pub told : totals.told ≡ length events
   pub owners : (private : Private) → word_in totals.owners private ≡ word_on events private

@@ -1,4 +1,4 @@
-//! How an event changes what the books have, table by table.
+//! How an event changes what the totals have, table by table.
 ghost use Rattle.std.specs.Prelude.{◌≡◌, ℕ, ◌<◌, ◌+◌, ◌^◌, ◌&&◌, ◌||◌, [], ◌∷◌, None, Some, IsOk, false, is_some, slice_index_or, unwrap_or, vec_capacity, vec_len};
 ghost use Rattle.std.specs.Option.{option_map, option_or};
 ghost use Rattle.events.specs.Event.{floated_by, obeyed_of, office_of, operated_by, par_set, square_set, tells_bankrupt, tells_broken, transfer_of};

@@ -1,4 +1,4 @@
-//! The books of a game as the game keeps them: behind a box, so that few bytes are handed on with
+//! The totals of a game as the game keeps them: behind a box, so that few bytes are handed on with
 //! the game.
 ghost use Rattle.std.specs.Prelude.{◌++◌, ◌∷◌, ◌<◌, ◌^◌, [], ◌≡◌, IfOk, List, MatchOption, OnOk, length};
 ghost use Rattle.events.specs.declared.event.Event.{Event as TheEvent};
@@ -9,21 +9,21 @@ use crate::totals::Totals;
 use events::Event;
 use std::alloc::{AllocError, Global};
 
-/// The books of a list of events. There is no box before the first event is to come.
+/// The totals of a list of events. There is no box before the first event is to come.
 #[derive(Debug, Drop)]
 pub(crate) struct BoxedTotals {
     kept: Option<Box<Totals>>,
 }
 
 impl BoxedTotals {
-    /// The books of no events, which take no memory.
+    /// The totals of no events, which take no memory.
     pub(crate) fn start() -> BoxedTotals
         ensures { KeepsTotalsOf result [] }
     {
         BoxedTotals { kept: None }
     }
 
-    /// The books; none where nothing has happened.
+    /// The totals; none where nothing has happened.
     pub(crate) fn totals(&self) -> Option<&Totals>
         ensures { (events : List TheEvent) → KeepsTotalsOf self.now events →
             MatchOption result (events ≡ []) (λ totals. AreTotalsOf totals.now events) }
@@ -34,7 +34,7 @@ impl BoxedTotals {
         }
     }
 
-    /// Makes the box, where there is none, so that an event can be noted. The books stay those of
+    /// Makes the box, where there is none, so that an event can be noted. The totals stay those of
     /// the same events, also where the box gets no memory.
     pub(crate) fn reserve(&mut self, alloc: Global) -> Result<(), AllocError>
         ensures kept { (events : List TheEvent) →
@@ -60,7 +60,7 @@ impl BoxedTotals {
     }
 }
 
-/// The books of no events in a box. No other function has books among its locals that a game
+/// The totals of no events in a box. No other function has totals among its locals that a game
 /// keeps, since it would pay for them whenever it is called.
 #[inline(never)]
 fn boxed(alloc: Global) -> Result<Box<Totals>, AllocError>

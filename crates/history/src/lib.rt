@@ -15,7 +15,7 @@
 //! (how an event changes what is kept), `totals` (what a list says, kept event by event),
 //! `boxed_totals` (how a game keeps that), `look_back`, `owners`, `bids`, `offers`, `shares`,
 //! `operating`, `trains` and `conditions` (the readers of `GameView`), `walk` (along a list, with its
-//! books), `list` (`History`), `record_event` (events that follow from the list alone), `laws`.
+//! totals), `list` (`History`), `record_event` (events that follow from the list alone), `laws`.
 #![tactic(auto)]
 
 mod applying;

@@ -26,7 +26,7 @@ use std::marker::Model;
 use tables::{Company, Kind, Money, Private, Round, Seat, Square};
 
 /// A game: the number of its seats and the list of its events, oldest first; and beside it the
-/// books of that list, which say what it says, with the tiles and the tokens that lie on the map,
+/// totals of that list, which say what it says, with the tiles and the tokens that lie on the map,
 /// and the sales that were offered in the round.
 /// It is handed on by value, so it is of few bytes.
 #[derive(Debug, Drop)]
@@ -39,7 +39,7 @@ pub struct History {
     totals: BoxedTotals,
 }
 
-// The books, by far the most of a game, stand behind a box.
+// The totals, by far the most of a game, stand behind a box.
 const _: () = prove!(size_of::<History>() <= 120);
 
 impl Model for History {

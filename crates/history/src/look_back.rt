@@ -34,7 +34,7 @@ pub struct GameView<'a> {
 }
 
 impl<'a> GameView<'a> {
-    /// A game as it stood after these events, of which these are the books.
+    /// A game as it stood after these events, of which these are the totals.
     pub fn of(seats: usize, events: &'a [Event], totals: &'a Totals) -> GameView<'a>
         requires short { FitsMemory events.now }
         requires kept { AreTotalsOf totals.now events.now }
@@ -49,7 +49,7 @@ impl<'a> GameView<'a> {
         }
     }
 
-    /// A game as it stood after these events, of which these are the books, if there are any:
+    /// A game as it stood after these events, of which these are the totals, if there are any:
     /// where nothing has happened there may be none; and these are the sales offered in the round.
     pub(crate) fn with_totals(
         seats: usize,
@@ -71,7 +71,7 @@ impl<'a> GameView<'a> {
         }
     }
 
-    /// The books; there may be none where nothing has happened.
+    /// The totals; there may be none where nothing has happened.
     pub(crate) fn totals(&self) -> Option<&'a Totals>
         ensures { MatchOption result (self.now.events.now ≡ [])
             (λ totals. AreTotalsOf totals.now self.now.events.now) }
@@ -116,7 +116,7 @@ impl GameView<'_> {
         self.owners().is_sold(private)
     }
 
-    /// The owners of all privates, as the books have them.
+    /// The owners of all privates, as the totals have them.
     pub fn owners(&self) -> Owners
         ensures owner { (private : Private) →
             owner_in result private ≡ owner_of self.now.events.now private }

@@ -1,4 +1,4 @@
-//! The books of a list of events: what its readers answer, kept while the events come, so that an
+//! The totals of a list of events: what its readers answer, kept while the events come, so that an
 //! answer costs no more for a long list than for a short one.
 ghost use Rattle.std.specs.Prelude.{◌++◌, ◌∷◌, ◌<◌, ◌^◌, [], List, length};
 ghost use Rattle.events.specs.declared.event.Event.{Event as TheEvent};
@@ -54,7 +54,7 @@ pub struct Totals {
 const _: () = prove!(size_of::<Totals>() < 4096);
 
 impl Totals {
-    /// The books of no events.
+    /// The totals of no events.
     pub fn start() -> Totals
         ensures { AreTotalsOf result [] }
     {
@@ -86,7 +86,7 @@ impl Totals {
         }
     }
 
-    /// The books of these events, by one look over them.
+    /// The totals of these events, by one look over them.
     pub fn of(events: &[Event]) -> Totals
         requires { FitsMemory events.now }
         ensures { AreTotalsOf result events.now }

@@ -1,4 +1,4 @@
-//! A way along a list of events, with the books of those that were passed.
+//! A way along a list of events, with the totals of those that were passed.
 ghost use Rattle.std.specs.Prelude.{◌≡◌, ◌+◌, ◌<◌, ◌≤◌, length, take};
 ghost use Rattle.history.specs.Totals.{AreTotalsOf};
 ghost use Rattle.history.specs.LookBack.{FitsMemory};
@@ -7,7 +7,7 @@ use crate::look_back::GameView;
 use crate::totals::Totals;
 use events::Event;
 
-/// A list of events, of which the first so many were passed, and the books of those. One who asks
+/// A list of events, of which the first so many were passed, and the totals of those. One who asks
 /// for a game as it stood, and later for the same game as it stood later, notes each event once.
 #[derive(Clone, Copy, Debug)]
 pub struct Walk<'a> {

@@ -62,7 +62,7 @@ same_break {Code} first later a b same =
     ]
     refl
 
--- the position of each ground is lawful
+-- the position of each map state is lawful
 abbrev pub AllLawful : Type 0
 AllLawful = (laid : MapState) → IsLawful (position_of laid)
 
