@@ -20,3 +20,4 @@ pub mod FrontLemmas
 pub mod LineLemmas
 pub mod HasWords
 pub mod SpellingLemmas
+pub mod UnderLemmas

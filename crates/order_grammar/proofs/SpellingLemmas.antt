@@ -7,7 +7,6 @@ use Rattle.std.proofs.lemmas.Bool.{le-ltb, leb-true, eqb-true, and_parts, and_fr
 use Rattle.std.proofs.lemmas.Bool.Decides.{nat_tests}
 use Rattle.std.proofs.lemmas.Fmt.{decimal_digit, decimal_by_steps, decimal_nonempty, first_decimal, length-decimal-le}
 use Rattle.std.proofs.lemmas.List.{drop_at, length-append, length-map, append-nil}
-use Rattle.std.proofs.lemmas.Grind.{flat_map-append}
 use Rattle.std.proofs.lemmas.List.Concat.{flat_map-cons}
 use Rattle.std.proofs.lemmas.List.Folds.{list_all-append}
 use Rattle.std.proofs.lemmas.List.Sums.{fold_push}
@@ -33,25 +32,18 @@ use Rattle.tables.specs.declared.roster.Private.TheVariants as private
 use Rattle.tables.specs.declared.round.Round.{Round}
 use Rattle.tables.specs.declared.round.Round.TheVariants.{Opening, Stock, Operating}
 use Rattle.order_grammar.specs.Class.{are_digits, value_of_digits, is_of_class}
-use Rattle.order_grammar.specs.Condition.{condition_values, ordered}
-use Rattle.order_grammar.specs.Form.{Row, forms, order_forms, words_reading, is_row_of, has_form, are_of_classes, is_of_repeated}
+use Rattle.order_grammar.specs.Form.{Row, forms, words_reading, is_row_of, has_form, are_of_classes, is_of_repeated}
 use Rattle.order_grammar.specs.Keyword.{text_of_keyword}
 use Rattle.tables.specs.Round.{number_most, operating_most}
-use Rattle.order_grammar.specs.Limits.{line_most}
 use Rattle.order_grammar.specs.Line.{reading_by}
 use Rattle.order_grammar.specs.Name.{is_name, is_capital, is_digit, is_letter_or_digit}
 use Rattle.order_grammar.specs.Order.{made_of, parts_of, Parts}
-use Rattle.order_grammar.specs.Print.{spaced, joined, text_of_value, words_of_order, words_of_tail, words_of_parts, spelling_of, conditional_spelling}
+use Rattle.order_grammar.specs.Print.{spaced, joined, text_of_value, words_of_tail, words_of_parts, spelling_of}
 use Rattle.order_grammar.specs.Row.{has_room, is_short_row}
 use Rattle.order_grammar.specs.Spells.{AreWordsFor, HasSmallNumbers, IsNumber, IsNumbered, is_round_of_line, BeginWithOneOf, FitsLineIn, IsOrderIn}
-use Rattle.order_grammar.specs.SpellsVersion.{AreConditionWords, AreOrderWords, AreWordsUnder, BeginAnOrder, FitsLineUnder, HasSmallCondition, IsOrderUnder}
-use Rattle.order_grammar.specs.Texts.{TextKind, order_file, play_words}
-use Rattle.order_grammar.specs.Version.{reading_in}
+use Rattle.order_grammar.specs.Texts.{TextKind}
 use Rattle.order_grammar.specs.Words.{before, with_word, words_from, raised, words_of, is_printable, same_word}
 use Rattle.order_grammar.specs.declared.class.Class.{Class}
-use Rattle.order_grammar.specs.declared.condition.Condition.{Condition}
-use Rattle.order_grammar.specs.declared.condition.Condition.TheVariants.{Price, Phase, Floated}
-use Rattle.order_grammar.specs.declared.condition.Version.TheVariants.{Two}
 use Rattle.order_grammar.specs.declared.form.Repeated.{Repeated}
 use Rattle.order_grammar.specs.declared.form.Repeated.TheVariants as repeated
 use Rattle.order_grammar.specs.declared.keyword.Keyword.{Keyword}
@@ -64,11 +56,10 @@ use Rattle.order_grammar.specs.declared.order.Value.{Value}
 use Rattle.order_grammar.specs.declared.order.Value.TheVariants as value
 use Rattle.order_grammar.proofs.HasWords.{has_word, has_words, have_words}
 use Rattle.order_grammar.proofs.OrderLemmas.{IsTextOf, AreTextsOf, AreWordsOfTail, AreWordsByParts, of_parts}
-use Rattle.order_grammar.proofs.PartLemmas.{AreRowsOf, known_read, passed, rows_of_orders}
+use Rattle.order_grammar.proofs.PartLemmas.{AreRowsOf, known_read}
 use Rattle.order_grammar.proofs.RowLemmas.{among_any, all_among}
 use Rattle.order_grammar.proofs.SmallLemmas.{is_small, are_small, small_of_parts}
-use Rattle.order_grammar.proofs.SpellsLemmas.{read_spells, spelt_words_read}
-use Rattle.order_grammar.proofs.VersionLemmas.{spells_read_in}
+use Rattle.order_grammar.proofs.SpellsLemmas.{spelt_words_read}
 use Rattle.order_grammar.proofs.WordLemmas.{words_from-word}
 
 -- a byte of a printed word: printable, no space, no `#`, and no letter in lower case
@@ -76,12 +67,12 @@ abbrev is_plain : ℕ → Bool
 is_plain byte = is_printable byte && (not (byte == 32) && (not (byte == 35) && to_ascii_uppercase byte == byte))
 
 -- a printed word
-record IsPlain (word : List ℕ) : Type 0 where
-  some : 0 < length word
-  few : length word ≤ 16
-  plain : list_all is_plain word ≡ true
+pub record IsPlain (word : List ℕ) : Type 0 where
+  pub some : 0 < length word
+  pub few : length word ≤ 16
+  pub plain : list_all is_plain word ≡ true
 
-ArePlain : List (List ℕ) → Type 0
+unfoldable pub ArePlain : List (List ℕ) → Type 0
 ArePlain [] = Unit {0}
 ArePlain (word ∷ words) = IsPlain word × ArePlain words
 
@@ -135,7 +126,7 @@ printable-plain (byte ∷ bytes) h =
     rw ((plain_byte byte parts.0).printable, printable-plain bytes parts.1) refl
 
 -- the first of spaced words
-spaced-cons : (word : List ℕ) (words : List (List ℕ)) → spaced (word ∷ words) ≡ (32 ∷ word) ++ spaced words
+pub spaced-cons : (word : List ℕ) (words : List (List ℕ)) → spaced (word ∷ words) ≡ (32 ∷ word) ++ spaced words
 spaced-cons word words = flat_map-cons (λ (w : List ℕ). 32 ∷ w) word words
 
 -- words with spaces before them have no `#`
@@ -208,17 +199,17 @@ raised-words [] h = refl
 raised-words (word ∷ words) h = rw (raised-plain word h.0.plain, raised-words words h.1) refl
 
 -- 20 plain words are not long
-few_fit : (words : List (List ℕ)) → ArePlain words → length words ≤ 20 → length (joined words) ≤ 340
+pub few_fit : (words : List (List ℕ)) → ArePlain words → length words ≤ 20 → length (joined words) ≤ 340
 unfolding ArePlain
 few_fit [] h few = omega arith
 few_fit (word ∷ words) h few = omega (arith, few, h.0.few, length-append word (spaced words), length-spaced words h.1)
 
 -- plain words with single spaces between them
-record AreJoined (words : List (List ℕ)) : Type 0 where
-  printable : list_all is_printable (before 35 (joined words)) ≡ true
-  are : words_of (joined words) ≡ words
+pub record AreJoined (words : List (List ℕ)) : Type 0 where
+  pub printable : list_all is_printable (before 35 (joined words)) ≡ true
+  pub are : words_of (joined words) ≡ words
 
-joined_line : (words : List (List ℕ)) → ArePlain words → AreJoined words
+pub joined_line : (words : List (List ℕ)) → ArePlain words → AreJoined words
 unfolding ArePlain
 joined_line [] h = record { printable = refl; are = refl }
 joined_line (word ∷ words) h =
@@ -281,7 +272,7 @@ some_digits [] some all = absurd (omega arith)
 some_digits (digit ∷ digits) some all = all
 
 -- the spelling of a number is that number
-decimal_number : (number : ℕ) → number ≤ number_most → IsNumber number (decimal number)
+pub decimal_number : (number : ℕ) → number ≤ number_most → IsNumber number (decimal number)
 decimal_number number small =
     let long : number < 2 ^ 64 = omega arith in
     let digits = decimal_by_steps DigitsOf digits_one digits_more number long in
@@ -295,7 +286,7 @@ plain_digits (digit ∷ digits) all =
     rw (plain_letter digit (or_right (is_capital digit) (is_digit digit) parts.0), plain_digits digits parts.1) refl
 
 -- the spelling of a number is plain
-decimal_plain : (number : ℕ) → number ≤ number_most → IsPlain (decimal number)
+pub decimal_plain : (number : ℕ) → number ≤ number_most → IsPlain (decimal number)
 decimal_plain number small =
     let long : number < 2 ^ 64 = omega arith in
     let digits = decimal_by_steps DigitsOf digits_one digits_more number long in
@@ -334,7 +325,7 @@ names_plain (name ∷ names) all =
 abbrev is_plain_word : List ℕ → Bool
 is_plain_word word = nat_le 1 (length word) && (nat_le (length word) 16 && list_all is_plain word)
 
-plain_word : (word : List ℕ) → is_plain_word word ≡ true → IsPlain word
+pub plain_word : (word : List ℕ) → is_plain_word word ≡ true → IsPlain word
 plain_word word h =
     let a = and_parts (nat_le 1 (length word)) (nat_le (length word) 16 && list_all is_plain word) h in
     let b = and_parts (nat_le (length word) 16) (list_all is_plain word) a.1 in
@@ -348,11 +339,11 @@ code_plain : (p : Private) → is_plain_word (code_of_private p) ≡ true
 code_plain private.SchuylkillValley = refl
 code_plain other = refl
 
-company_plain : (co : Company) → is_plain_word (code_of_company co) ≡ true
+pub company_plain : (co : Company) → is_plain_word (code_of_company co) ≡ true
 company_plain company.Pennsylvania = refl
 company_plain other = refl
 
-kind_plain : (k : Kind) → is_plain_word (code_of_kind k) ≡ true
+pub kind_plain : (k : Kind) → is_plain_word (code_of_kind k) ≡ true
 kind_plain kind.Two = refl
 kind_plain other = refl
 
@@ -543,7 +534,7 @@ values_spelt (v ∷ values) t has plain =
     }
 
 -- what is repeated is not much, unless it is the places of a run
-abbrev IsFew : Tail → Type 0
+abbrev pub IsFew : Tail → Type 0
 IsFew (tail.Places run) = Unit {0}
 IsFew t = length (words_of_tail t) ≤ 6
 
@@ -630,14 +621,14 @@ parts_fit most k values (tail.Names names) room five few plain fits =
 parts_fit most k values (tail.Places run) room five few plain fits = fits
 
 -- what is known of the words of parts of a form that have words
-record IsSpeltOut (order : Order) (parts : Parts) : Type 0 where
-  plain : ArePlain (words_of_parts (Some parts))
-  are : AreWordsFor order (words_of_parts (Some parts))
-  small : HasSmallNumbers order
-  five : length parts.values ≤ 5
-  few : IsFew parts.tail
+pub record IsSpeltOut (order : Order) (parts : Parts) : Type 0 where
+  pub plain : ArePlain (words_of_parts (Some parts))
+  pub are : AreWordsFor order (words_of_parts (Some parts))
+  pub small : HasSmallNumbers order
+  pub five : length parts.values ≤ 5
+  pub few : IsFew parts.tail
 
-spelt_out : (order : Order) (parts : Parts) → parts_of order ≡ Some parts → have_words (Some parts) ≡ true →
+pub spelt_out : (order : Order) (parts : Parts) → parts_of order ≡ Some parts → have_words (Some parts) ≡ true →
     IsSpeltOut order parts
 unfolding ArePlain
 spelt_out order parts is has =
@@ -686,161 +677,3 @@ pub spelling_read : (text : TextKind) (rows : List Row) → AreRowsOf text rows 
     reading_by text.most rows (spelling_of order) ≡ Ok order
 spelling_read text rows of room order is =
     parts_read text rows of room order (parts_of order) refl (has_words order is.0) (fits_by_parts text order is.1) is.2
-
--- the words of a condition after IF
-abbrev words_of_condition : Condition → List (List ℕ)
-words_of_condition condition = map text_of_value (condition_values condition)
-
--- the words of a line with a condition, behind which these come
-abbrev under_words : Condition → List (List ℕ) → List (List ℕ)
-under_words condition words = text_of_keyword keyword.If ∷ (words_of_condition condition ++ words)
-
-condition_few : (condition : Condition) → length (words_of_condition condition) ≤ 4
-condition_few (Price co price) = omega arith
-condition_few other = omega arith
-
--- a condition is spelt by its words, which are plain
-condition_plain : (condition : Condition) (words : List (List ℕ)) → HasSmallCondition (Some condition) →
-    ArePlain words →
-    ArePlain (words_of_condition condition ++ words)
-unfolding ArePlain
-condition_plain (Price co price) words small plain = (
-  plain_word (text_of_keyword keyword.Price) refl,
-  (
-    plain_word (code_of_company co) (company_plain co),
-    (plain_word (text_of_keyword keyword.AtLeast) refl, (decimal_plain price small, plain)),
-  ),
-)
-condition_plain (Phase k) words small plain =
-    (plain_word (text_of_keyword keyword.Phase) refl, (plain_word (code_of_kind k) (kind_plain k), plain))
-condition_plain (Floated co) words small plain =
-    (plain_word (text_of_keyword keyword.Floated) refl, (plain_word (code_of_company co) (company_plain co), plain))
-
-condition_spelt : (condition : Condition) (order : Order) (words : List (List ℕ)) →
-    HasSmallCondition (Some condition) → AreOrderWords order words →
-    AreConditionWords condition (AreOrderWords order) (words_of_condition condition ++ words)
-condition_spelt (Price co price) order words small are = (refl, (refl, (refl, (decimal_number price small, are))))
-condition_spelt (Phase k) order words small are = (refl, (refl, are))
-condition_spelt (Floated co) order words small are = (refl, (refl, are))
-
--- a front and words behind it, with single spaces between them
-spaced-behind : (first : List ℕ) (words : List (List ℕ)) (next : List ℕ) (rest : List (List ℕ)) →
-    joined (first ∷ words) ++ codes " " ++ joined (next ∷ rest) ≡ joined (first ∷ (words ++ next ∷ rest))
-spaced-behind first words next rest =
-    append_assoc (first ++ spaced words) (codes " ") (next ++ spaced rest)
-    ∙ append_assoc first (spaced words) (codes " " ++ (next ++ spaced rest))
-    ∙ ap (λ (text : List ℕ). first ++ text)
-    (sym (flat_map-append (λ (w : List ℕ). 32 ∷ w) words (next ∷ rest)
-    ∙ ap (λ (text : List ℕ). spaced words ++ text) (spaced-cons next rest)))
-
--- parts with the places of a run fit a line under a condition
-abbrev FitUnderWith : Condition → Keyword → List Value → Tail → Type 0
-FitUnderWith condition k values (tail.Places run) =
-    length (joined (under_words condition (words_of_parts (made_of k values (tail.Places run))))) ≤ line_most
-FitUnderWith condition k values t = Unit {0}
-
-abbrev FitUnder : Condition → Option Parts → Type 0
-FitUnder condition None = Unit {0}
-FitUnder condition (Some parts) = FitUnderWith condition parts.keyword parts.values parts.tail
-
--- so do those of an order that does
-fits_under : (condition : Condition) (order : Order) → FitsLineUnder condition order →
-    BeginAnOrder (words_of_parts (parts_of order)) →
-    FitUnder condition (parts_of order)
-fits_under condition (Run k run) fits begins =
-    subst (λ (line : List ℕ). length line ≤ line_most)
-    (spaced-behind (text_of_keyword keyword.If) (words_of_condition condition) (text_of_keyword keyword.Run)
-    (code_of_kind k ∷ map text_of_place run)) fits
-fits_under condition (Claim k run) fits begins =
-    absurd (false≢true (passed (λ (word : List ℕ). not (same_word word (codes "CLAIM"))) play_words (codes "CLAIM")
-    refl begins))
-fits_under condition other fits begins = tt
-
--- words under a condition fit a line
-under_fit : (condition : Condition) (k : Keyword) (values : List Value) (t : Tail) → length values ≤ 5 → IsFew t →
-    ArePlain (under_words condition (words_of_parts (made_of k values t))) → FitUnderWith condition k values t →
-    length (joined (under_words condition (words_of_parts (made_of k values t)))) ≤ line_most
-under_fit condition k values tail.Nothing five few plain fits =
-    let size = length-append (words_of_condition condition) (words_of_parts (made_of k values tail.Nothing)) in
-    let own = length-append (map text_of_value values) [] in
-    let short = few_fit _ plain (omega (
-      arith,
-      size,
-      own,
-      condition_few condition,
-      length-map values text_of_value,
-      five,
-    )) in
-    omega (arith, short)
-under_fit condition k values (tail.Names names) five few plain fits =
-    let size = length-append (words_of_condition condition) (words_of_parts (made_of k values (tail.Names names))) in
-    let own = length-append (map text_of_value values) names.items in
-    let short = few_fit _ plain (omega (
-      arith,
-      size,
-      own,
-      condition_few condition,
-      length-map values text_of_value,
-      five,
-      few,
-    )) in
-    omega (arith, short)
-under_fit condition k values (tail.Places run) five few plain fits = fits
-
--- parts of a form that have words are read as what they make, under the condition
-parts_read_under : (condition : Condition) (order : Order) (parts : Option Parts) → parts_of order ≡ parts →
-    have_words parts ≡ true →
-    HasSmallCondition (Some condition) → FitUnder condition parts → BeginAnOrder (words_of_parts parts) →
-    reading_in Two (joined (under_words condition (words_of_parts parts))) ≡ Ok (ordered (Some condition) order)
-unfolding ArePlain
-parts_read_under condition order None is has small fits begins = absurd begins
-parts_read_under condition order (Some parts) is has small fits begins =
-    let spelt = spelt_out order parts is has in
-    let behind = words_of_parts (Some parts) in
-    let words = under_words condition behind in
-    let plain : ArePlain words = (
-      plain_word (text_of_keyword keyword.If) refl,
-      condition_plain condition behind small spelt.plain,
-    ) in
-    let line = joined_line words plain in
-    let are : AreWordsUnder Two (Some condition) order words =
-    (refl, condition_spelt condition order behind small (begins, spelt.are)) in
-    spells_read_in Two (joined words) (ordered (Some condition) order) (record {
-      loosely = record {
-        short = under_fit condition parts.keyword parts.values parts.tail spelt.five spelt.few plain fits;
-        printable = line.printable;
-        words = subst (AreWordsUnder Two (Some condition) order) (sym line.are) are;
-      };
-      small = (small, spelt.small);
-    })
-
--- the spelling of an order under a condition is what its words are with single spaces between them
-spelling_joined : (condition : Condition) (order : Order) (words : List (List ℕ)) → words_of_order order ≡ words →
-    BeginAnOrder words →
-    conditional_spelling (Some condition) order ≡ joined (under_words condition words)
-spelling_joined condition order [] is begins = absurd begins
-spelling_joined condition order (next ∷ rest) is begins =
-    ap (λ (ws : List (List ℕ)). joined (text_of_keyword keyword.If ∷ words_of_condition
-    condition) ++ codes " " ++ joined ws) is
-    ∙ spaced-behind (text_of_keyword keyword.If) (words_of_condition condition) next rest
-
--- the spelling of an order under a condition, if there is one, is read as that in version 2
-pub spelling_read_in : (condition : Option Condition) (order : Order) → IsOrderUnder condition order →
-    reading_in Two (conditional_spelling condition order) ≡ Ok (ordered condition order)
-spelling_read_in None order is =
-    let line = spelling_of order in
-    let spelt = read_spells order_file order_forms rows_of_orders line order
-    (spelling_read order_file order_forms rows_of_orders (omega arith) order is) in
-    spells_read_in Two line (ordered None order) (record {
-      loosely = record {
-        short = spelt.loosely.short;
-        printable = spelt.loosely.printable;
-        words =
-            (spelt.loosely.known, spelt.loosely.words);
-      };
-      small = (tt, spelt.small);
-    })
-spelling_read_in (Some condition) order is =
-    ap (reading_in Two) (spelling_joined condition order (words_of_order order) refl is.3)
-    ∙ parts_read_under condition order (parts_of order) refl (has_words order is.1) is.0
-    (fits_under condition order is.2 is.3) is.3

@@ -1,5 +1,5 @@
 -- The forms of play that take few bytes, which is all but a run through places.
-use Rattle.std.specs.Prelude.{◌≡◌, Bool, true, false, Option, Some, None}
+use Rattle.std.specs.Prelude.{Bool, true, false}
 use Rattle.order_grammar.specs.declared.order.Order.{Order}
 use Rattle.order_grammar.specs.declared.order.Order.TheVariants as order
 use Rattle.order_grammar.specs.declared.short.ShortOrder.{ShortOrder}

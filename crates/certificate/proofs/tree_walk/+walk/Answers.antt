@@ -52,12 +52,11 @@ choose-returns-then-not-set_out-clause-walks g t c = λ settled stands crossed l
     let here : AreCrossed c.trains.used (run_borders settled) =
     subst (λ (u : List Bool). AreCrossed u (run_borders settled)) (sym c.trains.invariant.0) crossed in
     let walk = c.set_out.ensures.walks settled stands here before in
-    up_ends g.D.Decider.decides position tree c.args.value settled stands c.args.decider.now c.trains.decider
-    c.set_out.new.decider c.args.first c.trains.place (node_from tree settled c.args.first ∷ [])
-    c.trains-test.true ahead.1
+    up_ends g.D.Decider.decides position tree c.args.value settled stands c.args.decider.now c.trains.decider c.set_out.new.decider
+    c.args.first c.trains.place (node_from tree settled c.args.first ∷ []) c.trains-test.true ahead.1
     (subst (λ (b : Bool). WalksOver g.D.Decider.decides position tree c.trains.decider
-    (setting_out position tree.company (reached_in tree) (node_from tree settled (c.trains.place - 1))) b
-    c.set_out.new.decider) c.if-not-set_out.true walk)
+    (setting_out position tree.company (reached_in tree) (node_from tree settled (c.trains.place - 1))) b c.set_out.new.decider)
+    c.if-not-set_out.true walk)
 
 pub choose-returns-then-not-set_out-clause-used : goal.choose-returns-then-not-set_out-clause-used
 choose-returns-then-not-set_out-clause-used g t c = c.set_out.ensures.used ∙ c.trains.invariant.0
@@ -74,9 +73,8 @@ choose-trains-preserved g t c = (
       subst (λ (u : List Bool). AreCrossed u (run_borders settled)) (sym c.trains.invariant.0) crossed in
       let walk = c.set_out.ensures.walks settled stands here before in (
         omega (arith, ahead.0),
-        up_over g.D.Decider.decides position tree c.args.value settled stands c.args.decider.now c.trains.decider
-            c.set_out.new.decider c.args.first c.trains.place (node_from tree settled c.args.first ∷ [])
-            c.trains-test.true ahead.1
+        up_over g.D.Decider.decides position tree c.args.value settled stands c.args.decider.now c.trains.decider c.set_out.new.decider
+            c.args.first c.trains.place (node_from tree settled c.args.first ∷ []) c.trains-test.true ahead.1
             (subst (λ (b : Bool). WalksOver g.D.Decider.decides position tree c.trains.decider
             (setting_out position tree.company (reached_in tree) (node_from tree settled (c.trains.place - 1))) b
             c.set_out.new.decider) c.if-not-set_out.false walk),
@@ -89,9 +87,8 @@ choose-trains-smaller g t c = omega (arith, c.trains-test.true)
 pub choose-returns-clause-walks : goal.choose-returns-clause-walks
 choose-returns-clause-walks g t c = λ settled stands crossed low.
     let ahead = c.trains.invariant.1 settled stands crossed low in
-    up_whole g.D.Decider.decides (g.N.Network.position c.args.network.now) c.args.tree.now c.args.value settled stands
-    c.args.decider.now c.trains.decider c.args.first c.trains.place
-    (node_from c.args.tree.now settled c.args.first ∷ []) c.trains-test.false ahead.1
+    up_whole g.D.Decider.decides (g.N.Network.position c.args.network.now) c.args.tree.now c.args.value settled stands c.args.decider.now
+    c.trains.decider c.args.first c.trains.place (node_from c.args.tree.now settled c.args.first ∷ []) c.trains-test.false ahead.1
 
 pub choose-returns-clause-used : goal.choose-returns-clause-used
 choose-returns-clause-used g t c = c.trains.invariant.0
@@ -134,13 +131,13 @@ set_out-returns-then-not-whole-clause-walks g t c = λ settled stands crossed lo
     let here : AreCrossed c.loop-stop.used (run_borders settled) =
     subst (λ (u : List Bool). AreCrossed u (run_borders settled)) (sym c.loop-stop.invariant.0) crossed in
     let same : node ≡ node_at tree begun settled [] =
-    node_out position tree c.args.value c.args.place settled kind begun stands low
-    (sym c.kind_at.ensures ∙ c.in-Some.is) c.visiting-begun.ensures.train next in
+    node_out position tree c.args.value c.args.place settled kind begun stands low (sym c.kind_at.ensures ∙ c.in-Some.is)
+    c.visiting-begun.ensures.train next in
     let marked : c.mark.new.self ≡ set (replicate 186 false) (stop_order stop) true =
     c.mark.ensures ∙ ap (λ (m : List Bool). set m (stop_order stop) true) c.loop-stop.invariant.1 in
     let there : Stands position tree begun c.loop-stop.used c.mark.new.self settled [] (stop ∷ []) =
-    stands_same position tree begun c.loop-stop.used (set (replicate 186 false) (stop_order stop) true)
-    c.loop-stop.used c.mark.new.self settled [] (stop ∷ []) refl marked
+    stands_same position tree begun c.loop-stop.used (set (replicate 186 false) (stop_order stop) true) c.loop-stop.used c.mark.new.self
+    settled [] (stop ∷ []) refl marked
     (stands_out position tree c.args.value c.args.place c.loop-stop.used settled kind stop begun stands here low
     c.visiting-begun.ensures.train next
     (c.visiting-begun.ensures.later ∙ (c.may_earn_from.ensures
@@ -154,16 +151,14 @@ set_out-returns-then-not-whole-clause-walks g t c = λ settled stands crossed lo
     let over : WalksOver g.D.Decider.decides position tree c.loop-stop.decider
     (with_steps (goes_over (taken_borders node)) node (ways_from position stop)) false c.leave-whole.new.decider =
     subst (λ (b : Bool). WalksOver g.D.Decider.decides position tree c.loop-stop.decider
-    (with_steps (goes_over (taken_borders node)) node (ways_from position stop)) b c.leave-whole.new.decider)
-    c.if-not-whole.true
+    (with_steps (goes_over (taken_borders node)) node (ways_from position stop)) b c.leave-whole.new.decider) c.if-not-whole.true
     (subst (λ (n : Node). WalksOver g.D.Decider.decides position tree c.loop-stop.decider
-    (with_steps (goes_over (taken_borders n)) n (ways_from position stop)) c.leave-whole.result
-    c.leave-whole.new.decider) (sym same) walk) in
-    thing_ends g.D.Decider.decides position tree (ways_from position) (goes_over (taken_borders node)) node items
-    c.args.decider.now c.loop-stop.decider c.leave-whole.new.decider
-    (setting_out position tree.company (reached_in tree) node) c.loop-stop.stop-index
-    (record { hex = A9; number = First }) c.loop-stop-test.true
-    (c.loop-stop.invariant.2 settled stands crossed low) over
+    (with_steps (goes_over (taken_borders n)) n (ways_from position stop)) c.leave-whole.result c.leave-whole.new.decider) (sym same)
+    walk) in
+    thing_ends g.D.Decider.decides position tree (ways_from position) (goes_over (taken_borders node)) node items c.args.decider.now
+    c.loop-stop.decider c.leave-whole.new.decider
+    (setting_out position tree.company (reached_in tree) node) c.loop-stop.stop-index (record { hex = A9; number = First })
+    c.loop-stop-test.true (c.loop-stop.invariant.2 settled stands crossed low) over
 
 pub set_out-returns-then-not-whole-clause-used : goal.set_out-returns-then-not-whole-clause-used
 set_out-returns-then-not-whole-clause-used g t c = c.leave-whole.ensures.used ∙ c.loop-stop.invariant.0
@@ -185,18 +180,17 @@ set_out-loop-stop-preserved g t c = (
       let begun = c.visiting-begun.result in
       let kind = c.in-Some.kind in
       let is : items ≡ reached_in tree = c.stops-stop-items.ensures.value in
-      let next : begun.next ≡ capped (c.args.place + 1) =
-      c.visiting-begun.ensures.next ∙ c.saturating_add-next.ensures in
+      let next : begun.next ≡ capped (c.args.place + 1) = c.visiting-begun.ensures.next ∙ c.saturating_add-next.ensures in
       let here : AreCrossed c.loop-stop.used (run_borders settled) =
       subst (λ (u : List Bool). AreCrossed u (run_borders settled)) (sym c.loop-stop.invariant.0) crossed in
       let same : node ≡ node_at tree begun settled [] =
-      node_out position tree c.args.value c.args.place settled kind begun stands low
-      (sym c.kind_at.ensures ∙ c.in-Some.is) c.visiting-begun.ensures.train next in
+      node_out position tree c.args.value c.args.place settled kind begun stands low (sym c.kind_at.ensures ∙ c.in-Some.is)
+      c.visiting-begun.ensures.train next in
       let marked : c.mark.new.self ≡ set (replicate 186 false) (stop_order stop) true =
       c.mark.ensures ∙ ap (λ (m : List Bool). set m (stop_order stop) true) c.loop-stop.invariant.1 in
       let there : Stands position tree begun c.loop-stop.used c.mark.new.self settled [] (stop ∷ []) =
-      stands_same position tree begun c.loop-stop.used (set (replicate 186 false) (stop_order stop) true)
-      c.loop-stop.used c.mark.new.self settled [] (stop ∷ []) refl marked
+      stands_same position tree begun c.loop-stop.used (set (replicate 186 false) (stop_order stop) true) c.loop-stop.used c.mark.new.self
+      settled [] (stop ∷ []) refl marked
       (stands_out position tree c.args.value c.args.place c.loop-stop.used settled kind stop begun stands here low
       c.visiting-begun.ensures.train next
       (c.visiting-begun.ensures.later ∙ (c.may_earn_from.ensures
@@ -210,16 +204,14 @@ set_out-loop-stop-preserved g t c = (
       let over : WalksOver g.D.Decider.decides position tree c.loop-stop.decider
       (with_steps (goes_over (taken_borders node)) node (ways_from position stop)) true c.leave-whole.new.decider =
       subst (λ (b : Bool). WalksOver g.D.Decider.decides position tree c.loop-stop.decider
-      (with_steps (goes_over (taken_borders node)) node (ways_from position stop)) b c.leave-whole.new.decider)
-      c.if-not-whole.false
+      (with_steps (goes_over (taken_borders node)) node (ways_from position stop)) b c.leave-whole.new.decider) c.if-not-whole.false
       (subst (λ (n : Node). WalksOver g.D.Decider.decides position tree c.loop-stop.decider
-      (with_steps (goes_over (taken_borders n)) n (ways_from position stop)) c.leave-whole.result
-      c.leave-whole.new.decider) (sym same) walk) in
-      thing_over g.D.Decider.decides position tree (ways_from position) (goes_over (taken_borders node)) node items
-      c.args.decider.now c.loop-stop.decider c.leave-whole.new.decider
-      (setting_out position tree.company (reached_in tree) node) c.loop-stop.stop-index
-      (record { hex = A9; number = First }) c.loop-stop-test.true
-      (c.loop-stop.invariant.2 settled stands crossed low) over,
+      (with_steps (goes_over (taken_borders n)) n (ways_from position stop)) c.leave-whole.result c.leave-whole.new.decider)
+      (sym same) walk) in
+      thing_over g.D.Decider.decides position tree (ways_from position) (goes_over (taken_borders node)) node items c.args.decider.now
+      c.loop-stop.decider c.leave-whole.new.decider
+      (setting_out position tree.company (reached_in tree) node) c.loop-stop.stop-index (record { hex = A9; number = First })
+      c.loop-stop-test.true (c.loop-stop.invariant.2 settled stands crossed low) over,
 )
 
 pub set_out-returns-clause-walks : goal.set_out-returns-clause-walks
@@ -227,8 +219,8 @@ set_out-returns-clause-walks g t c = λ settled stands crossed low.
     let position = g.N.Network.position c.args.network.now in
     let tree = c.args.tree.now in
     let node : Node = node_from tree settled c.args.place in
-    things_over g.D.Decider.decides position tree (ways_from position) (goes_over (taken_borders node)) node
-    c.stops-stop-items.result.now c.args.decider.now c.loop-stop.decider
+    things_over g.D.Decider.decides position tree (ways_from position) (goes_over (taken_borders node)) node c.stops-stop-items.result.now
+    c.args.decider.now c.loop-stop.decider
     (setting_out position tree.company (reached_in tree) node) c.loop-stop.stop-index c.loop-stop-test.false
     (c.loop-stop.invariant.2 settled stands crossed low)
 
@@ -248,8 +240,8 @@ leave-returns-in_default-clause-walks g t c = λ settled steps stops stands cont
     let at_own : (step : Step) → entered_at step ≡ spot_at stop.hex (AtStop stop.number) → Continues steps stops step =
     λ step at. continues step (ap stop_of at ∙ ap (λ (s : Stop). Some s) named) in
     let walk = c.follow.ensures.walks settled steps stops stands at_own in
-    subst (λ (l : List Step). WalksOver g.D.Decider.decides position tree c.args.decider.now (with_steps test node l)
-    c.follow.result c.follow.new.decider) (sym (one_hex position stop (sym c.twin.ensures ∙ c.in_default.is))) walk
+    subst (λ (l : List Step). WalksOver g.D.Decider.decides position tree c.args.decider.now (with_steps test node l) c.follow.result
+    c.follow.new.decider) (sym (one_hex position stop (sym c.twin.ensures ∙ c.in_default.is))) walk
 
 pub leave-returns-then-not-follow-clause-walks : goal.leave-returns-then-not-follow-clause-walks
 leave-returns-then-not-follow-clause-walks g t c = λ settled steps stops stands continues named.
@@ -265,15 +257,13 @@ leave-returns-then-not-follow-clause-walks g t c = λ settled steps stops stands
     let first : List Node = with_steps test node (ways_at position other (AtStop stop.number)) in
     let second : List Node = with_steps test node (ways_at position stop.hex (AtStop stop.number)) in
     let at_other : (step : Step) → entered_at step ≡ spot_at other (AtStop stop.number) → Continues steps stops step =
-    λ step at. continues step (ap stop_of at ∙ ap (λ (h : Hex). Some (stop_at h stop.number))
-    (other_named stop.hex other beside)) in
+    λ step at. continues step (ap stop_of at ∙ ap (λ (h : Hex). Some (stop_at h stop.number)) (other_named stop.hex other beside)) in
     let walk = c.follow-2.ensures.walks settled steps stops stands at_other in
-    subst (λ (l : List Node). WalksOver g.D.Decider.decides position tree c.args.decider.now l false
-    c.follow-2.new.decider) (sym (hexes_steps position test node stop other beside))
-    (walks_ended g.D.Decider.decides position tree.company (reached_in tree) c.args.decider.now c.follow-2.new.decider
-    first second
-    (subst (λ (b : Bool). WalksOver g.D.Decider.decides position tree c.args.decider.now first b
-    c.follow-2.new.decider) c.if-not-follow.true walk))
+    subst (λ (l : List Node). WalksOver g.D.Decider.decides position tree c.args.decider.now l false c.follow-2.new.decider)
+    (sym (hexes_steps position test node stop other beside))
+    (walks_ended g.D.Decider.decides position tree.company (reached_in tree) c.args.decider.now c.follow-2.new.decider first second
+    (subst (λ (b : Bool). WalksOver g.D.Decider.decides position tree c.args.decider.now first b c.follow-2.new.decider)
+    c.if-not-follow.true walk))
 
 pub leave-returns-clause-walks : goal.leave-returns-clause-walks
 leave-returns-clause-walks g t c = λ settled steps stops stands continues named.
@@ -289,18 +279,17 @@ leave-returns-clause-walks g t c = λ settled steps stops stands continues named
     let first : List Node = with_steps test node (ways_at position other (AtStop stop.number)) in
     let second : List Node = with_steps test node (ways_at position stop.hex (AtStop stop.number)) in
     let at_other : (step : Step) → entered_at step ≡ spot_at other (AtStop stop.number) → Continues steps stops step =
-    λ step at. continues step (ap stop_of at ∙ ap (λ (h : Hex). Some (stop_at h stop.number))
-    (other_named stop.hex other beside)) in
+    λ step at. continues step (ap stop_of at ∙ ap (λ (h : Hex). Some (stop_at h stop.number)) (other_named stop.hex other beside)) in
     let walk = c.follow-2.ensures.walks settled steps stops stands at_other in
     let later = c.follow-3.ensures.walks settled steps stops
-    (stands_same position tree c.args.begun.now c.args.used.now c.args.seen.now c.follow-2.new.used
-    c.follow-2.new.seen settled steps stops c.follow-2.ensures.used c.follow-2.ensures.seen stands) at_own in
-    subst (λ (l : List Node). WalksOver g.D.Decider.decides position tree c.args.decider.now l c.follow-3.result
-    c.follow-3.new.decider) (sym (hexes_steps position test node stop other beside))
+    (stands_same position tree c.args.begun.now c.args.used.now c.args.seen.now c.follow-2.new.used c.follow-2.new.seen settled steps
+    stops c.follow-2.ensures.used c.follow-2.ensures.seen stands) at_own in
+    subst (λ (l : List Node). WalksOver g.D.Decider.decides position tree c.args.decider.now l c.follow-3.result c.follow-3.new.decider)
+    (sym (hexes_steps position test node stop other beside))
     (walks_both g.D.Decider.decides position tree.company (reached_in tree) c.args.decider.now c.follow-2.new.decider
     c.follow-3.new.decider first second c.follow-3.result
-    (subst (λ (b : Bool). WalksOver g.D.Decider.decides position tree c.args.decider.now first b
-    c.follow-2.new.decider) c.if-not-follow.false walk) later)
+    (subst (λ (b : Bool). WalksOver g.D.Decider.decides position tree c.args.decider.now first b c.follow-2.new.decider)
+    c.if-not-follow.false walk) later)
 
 pub follow-loop-link-init : goal.follow-loop-link-init
 follow-loop-link-init g t c = (
@@ -334,20 +323,19 @@ follow-returns-then-not-take-clause-walks g t c = λ settled steps stops stands 
     let items : List Link = c.as_slice-link-items.result.now in
     let all : List Node = with_steps test node (ways_at position at.hex at.end) in
     let is : items ≡ links_of position at.hex = c.as_slice-link-items.ensures.value ∙ c.links-links.ensures in
-    let link : Link = get_or items c.loop-link.link-index
-    (record { hex = A9; a = AtSide SouthWest; b = AtSide SouthWest }) in
+    let link : Link = get_or items c.loop-link.link-index (record { hex = A9; a = AtSide SouthWest; b = AtSide SouthWest }) in
     let among : IsAmong link (links_of position at.hex) =
     subst (λ (l : List Link). IsAmong link l) is (among_at items c.loop-link.link-index
     (record { hex = A9; a = AtSide SouthWest; b = AtSide SouthWest }) c.loop-link-test.true) in
     let walk = c.take.ensures.walks settled steps stops
-    (stands_same position tree c.args.begun.now c.args.used.now c.args.seen.now c.loop-link.used c.loop-link.seen
-    settled steps stops c.loop-link.invariant.0 c.loop-link.invariant.1 stands) among continues in
-    thing_ends g.D.Decider.decides position tree (ways_by at.end) test node items c.args.decider.now
-    c.loop-link.decider c.take.new.decider all c.loop-link.link-index
-    (record { hex = A9; a = AtSide SouthWest; b = AtSide SouthWest }) c.loop-link-test.true
+    (stands_same position tree c.args.begun.now c.args.used.now c.args.seen.now c.loop-link.used c.loop-link.seen settled steps stops
+    c.loop-link.invariant.0 c.loop-link.invariant.1 stands) among continues in
+    thing_ends g.D.Decider.decides position tree (ways_by at.end) test node items c.args.decider.now c.loop-link.decider
+    c.take.new.decider all c.loop-link.link-index (record { hex = A9; a = AtSide SouthWest; b = AtSide SouthWest })
+    c.loop-link-test.true
     (c.loop-link.invariant.2 settled steps stops stands continues)
-    (subst (λ (b : Bool). WalksOver g.D.Decider.decides position tree c.loop-link.decider
-    (with_steps test node (ways_by at.end link)) b c.take.new.decider) c.if-not-take.true walk)
+    (subst (λ (b : Bool). WalksOver g.D.Decider.decides position tree c.loop-link.decider (with_steps test node (ways_by at.end link)) b
+    c.take.new.decider) c.if-not-take.true walk)
 
 pub follow-returns-then-not-take-clause-used : goal.follow-returns-then-not-take-clause-used
 follow-returns-then-not-take-clause-used g t c = c.take.ensures.used ∙ c.loop-link.invariant.0
@@ -368,21 +356,19 @@ follow-loop-link-preserved g t c = (
       let items : List Link = c.as_slice-link-items.result.now in
       let all : List Node = with_steps test node (ways_at position at.hex at.end) in
       let is : items ≡ links_of position at.hex = c.as_slice-link-items.ensures.value ∙ c.links-links.ensures in
-      let link : Link = get_or items c.loop-link.link-index
-      (record { hex = A9; a = AtSide SouthWest; b = AtSide SouthWest }) in
+      let link : Link = get_or items c.loop-link.link-index (record { hex = A9; a = AtSide SouthWest; b = AtSide SouthWest }) in
       let among : IsAmong link (links_of position at.hex) =
       subst (λ (l : List Link). IsAmong link l) is (among_at items c.loop-link.link-index
       (record { hex = A9; a = AtSide SouthWest; b = AtSide SouthWest }) c.loop-link-test.true) in
       let walk = c.take.ensures.walks settled steps stops
-      (stands_same position tree c.args.begun.now c.args.used.now c.args.seen.now c.loop-link.used
-      c.loop-link.seen settled steps stops c.loop-link.invariant.0 c.loop-link.invariant.1 stands) among
-      continues in
-      thing_over g.D.Decider.decides position tree (ways_by at.end) test node items c.args.decider.now
-      c.loop-link.decider c.take.new.decider all c.loop-link.link-index
-      (record { hex = A9; a = AtSide SouthWest; b = AtSide SouthWest }) c.loop-link-test.true
+      (stands_same position tree c.args.begun.now c.args.used.now c.args.seen.now c.loop-link.used c.loop-link.seen settled steps
+      stops c.loop-link.invariant.0 c.loop-link.invariant.1 stands) among continues in
+      thing_over g.D.Decider.decides position tree (ways_by at.end) test node items c.args.decider.now c.loop-link.decider
+      c.take.new.decider all c.loop-link.link-index (record { hex = A9; a = AtSide SouthWest; b = AtSide SouthWest })
+      c.loop-link-test.true
       (c.loop-link.invariant.2 settled steps stops stands continues)
-      (subst (λ (b : Bool). WalksOver g.D.Decider.decides position tree c.loop-link.decider
-      (with_steps test node (ways_by at.end link)) b c.take.new.decider) c.if-not-take.false walk),
+      (subst (λ (b : Bool). WalksOver g.D.Decider.decides position tree c.loop-link.decider (with_steps test node (ways_by at.end link)) b
+      c.take.new.decider) c.if-not-take.false walk),
 )
 
 pub follow-returns-clause-walks : goal.follow-returns-clause-walks
@@ -394,9 +380,8 @@ follow-returns-clause-walks g t c = λ settled steps stops stands continues.
     let test : Step → Bool = may_take (reached_in tree) node at.end in
     let items : List Link = c.as_slice-link-items.result.now in
     let all : List Node = with_steps test node (ways_at position at.hex at.end) in
-    things_over g.D.Decider.decides position tree (ways_by at.end) test node items c.args.decider.now
-    c.loop-link.decider all c.loop-link.link-index c.loop-link-test.false
-    (c.loop-link.invariant.2 settled steps stops stands continues)
+    things_over g.D.Decider.decides position tree (ways_by at.end) test node items c.args.decider.now c.loop-link.decider all
+    c.loop-link.link-index c.loop-link-test.false (c.loop-link.invariant.2 settled steps stops stands continues)
 
 pub follow-returns-clause-used : goal.follow-returns-clause-used
 follow-returns-clause-used g t c = c.loop-link.invariant.0
@@ -427,15 +412,13 @@ take-returns-in_default-stop-clause-walks g t c = λ settled steps stops stands 
     let made : Node = with_step node step in
     let one : node_if (test step) made ≡ with_steps test node (ways_by at.end link) =
     one_way test node at.end link c.step_into.result step c.in-Some.is c.step_into.ensures in
-    let enters : entered_at step ≡ at = way_enters position stands.told.lawful at link c.step_into.result step among
-    c.in-Some.is c.step_into.ensures in
-    let none : stop_of (left_at step) ≡ None = sym (c.stop.ensures ∙ ap stop_of c.left-left.ensures)
-    ∙ c.in_default-stop.is in
+    let enters : entered_at step ≡ at = way_enters position stands.told.lawful at link c.step_into.result step among c.in-Some.is
+    c.step_into.ensures in
+    let none : stop_of (left_at step) ≡ None = sym (c.stop.ensures ∙ ap stop_of c.left-left.ensures) ∙ c.in_default-stop.is in
     let walk = c.cross.ensures.walks settled steps stops step stands (continues step enters) (sym c.left-left.ensures)
     (sym c.stop.ensures ∙ c.in_default-stop.is) in
-    subst (λ (l : List Node). WalksOver g.D.Decider.decides position tree c.args.decider.now l c.cross.result
-    c.cross.new.decider) (ap (λ (b : Bool). node_if b made)
-    (sym (takes_over (reached_in tree) node at.end step none)) ∙ one) walk
+    subst (λ (l : List Node). WalksOver g.D.Decider.decides position tree c.args.decider.now l c.cross.result c.cross.new.decider)
+    (ap (λ (b : Bool). node_if b made) (sym (takes_over (reached_in tree) node at.end step none)) ∙ one) walk
 
 pub take-returns-in_default-end-clause-walks : goal.take-returns-in_default-end-clause-walks
 take-returns-in_default-end-clause-walks g t c = λ settled steps stops stands among continues.
@@ -449,14 +432,13 @@ take-returns-in_default-end-clause-walks g t c = λ settled steps stops stands a
     let made : Node = with_step node step in
     let one : node_if (test step) made ≡ with_steps test node (ways_by at.end link) =
     one_way test node at.end link c.step_into.result step c.in-Some.is c.step_into.ensures in
-    let enters : entered_at step ≡ at = way_enters position stands.told.lawful at link c.step_into.result step among
-    c.in-Some.is c.step_into.ensures in
+    let enters : entered_at step ≡ at = way_enters position stands.told.lawful at link c.step_into.result step among c.in-Some.is
+    c.step_into.ensures in
     let stop : Stop = c.in-Some-stop.stop in
-    let left : stop_of (left_at step) ≡ Some stop =
-    sym (c.stop.ensures ∙ ap stop_of c.left-left.ensures) ∙ c.in-Some-stop.is in
+    let left : stop_of (left_at step) ≡ Some stop = sym (c.stop.ensures ∙ ap stop_of c.left-left.ensures) ∙ c.in-Some-stop.is in
     over_none g.D.Decider.decides position tree c.args.decider.now (with_steps test node (ways_by at.end link))
-    (sym one ∙ ap (λ (b : Bool). node_if b made) (takes_no_stop (reached_in tree) node at.end
-    c.in_default-end.field-0 step stop c.in_default-end.is left))
+    (sym one ∙ ap (λ (b : Bool). node_if b made) (takes_no_stop (reached_in tree) node at.end c.in_default-end.field-0 step stop
+    c.in_default-end.is left))
 
 pub take-returns-then-not-reaches-clause-walks : goal.take-returns-then-not-reaches-clause-walks
 take-returns-then-not-reaches-clause-walks g t c = λ settled steps stops stands among continues.
@@ -470,11 +452,10 @@ take-returns-then-not-reaches-clause-walks g t c = λ settled steps stops stands
     let made : Node = with_step node step in
     let one : node_if (test step) made ≡ with_steps test node (ways_by at.end link) =
     one_way test node at.end link c.step_into.result step c.in-Some.is c.step_into.ensures in
-    let enters : entered_at step ≡ at = way_enters position stands.told.lawful at link c.step_into.result step among
-    c.in-Some.is c.step_into.ensures in
+    let enters : entered_at step ≡ at = way_enters position stands.told.lawful at link c.step_into.result step among c.in-Some.is
+    c.step_into.ensures in
     let stop : Stop = c.in-Some-stop.stop in
-    let left : stop_of (left_at step) ≡ Some stop =
-    sym (c.stop.ensures ∙ ap stop_of c.left-left.ensures) ∙ c.in-Some-stop.is in
+    let left : stop_of (left_at step) ≡ Some stop = sym (c.stop.ensures ∙ ap stop_of c.left-left.ensures) ∙ c.in-Some-stop.is in
     let side : Side = c.in-Side.field-0 in
     let from : (entered_at step).end ≡ AtSide side = ap (λ (s : Spot). s.end) enters ∙ c.in-Side.is in
     let reaches : c.reaches.result ≡ has_stop stop (reached_in tree) = c.reaches.ensures in
@@ -482,8 +463,7 @@ take-returns-then-not-reaches-clause-walks g t c = λ settled steps stops stands
     takes_stop (reached_in tree) node at.end side step stop c.in-Side.is left in
     over_none g.D.Decider.decides position tree c.args.decider.now (with_steps test node (ways_by at.end link))
     (sym one ∙ ap (λ (b : Bool). node_if b made) (tests
-    ∙ and_false (has_stop stop (reached_in tree)) (has_stop stop (visited steps))
-    (sym reaches ∙ c.if-not-reaches.true)))
+    ∙ and_false (has_stop stop (reached_in tree)) (has_stop stop (visited steps)) (sym reaches ∙ c.if-not-reaches.true)))
 
 pub take-returns-then-has-clause-walks : goal.take-returns-then-has-clause-walks
 take-returns-then-has-clause-walks g t c = λ settled steps stops stands among continues.
@@ -497,11 +477,10 @@ take-returns-then-has-clause-walks g t c = λ settled steps stops stands among c
     let made : Node = with_step node step in
     let one : node_if (test step) made ≡ with_steps test node (ways_by at.end link) =
     one_way test node at.end link c.step_into.result step c.in-Some.is c.step_into.ensures in
-    let enters : entered_at step ≡ at = way_enters position stands.told.lawful at link c.step_into.result step among
-    c.in-Some.is c.step_into.ensures in
+    let enters : entered_at step ≡ at = way_enters position stands.told.lawful at link c.step_into.result step among c.in-Some.is
+    c.step_into.ensures in
     let stop : Stop = c.in-Some-stop.stop in
-    let left : stop_of (left_at step) ≡ Some stop =
-    sym (c.stop.ensures ∙ ap stop_of c.left-left.ensures) ∙ c.in-Some-stop.is in
+    let left : stop_of (left_at step) ≡ Some stop = sym (c.stop.ensures ∙ ap stop_of c.left-left.ensures) ∙ c.in-Some-stop.is in
     let side : Side = c.in-Side.field-0 in
     let from : (entered_at step).end ≡ AtSide side = ap (λ (s : Spot). s.end) enters ∙ c.in-Side.is in
     let reaches : c.reaches.result ≡ has_stop stop (reached_in tree) = c.reaches.ensures in
@@ -514,8 +493,7 @@ take-returns-then-has-clause-walks g t c = λ settled steps stops stands among c
     ∙ seen_false (has_stop stop (reached_in tree)) (has_stop stop (visited steps)) (seen ∙ c.if-has.true)))
 
 pub take-at_stop-whole-requires : goal.take-at_stop-whole-requires
-take-at_stop-whole-requires g t c = λ lifetimes within.
-    (omega (arith, ap end_rank c.in-Side.is), (search rules, search rules))
+take-at_stop-whole-requires g t c = λ lifetimes within. (omega (arith, ap end_rank c.in-Side.is), (search rules, search rules))
 
 pub take-returns-clause-walks : goal.take-returns-clause-walks
 take-returns-clause-walks g t c = λ settled steps stops stands among continues.
@@ -529,11 +507,10 @@ take-returns-clause-walks g t c = λ settled steps stops stands among continues.
     let made : Node = with_step node step in
     let one : node_if (test step) made ≡ with_steps test node (ways_by at.end link) =
     one_way test node at.end link c.step_into.result step c.in-Some.is c.step_into.ensures in
-    let enters : entered_at step ≡ at = way_enters position stands.told.lawful at link c.step_into.result step among
-    c.in-Some.is c.step_into.ensures in
+    let enters : entered_at step ≡ at = way_enters position stands.told.lawful at link c.step_into.result step among c.in-Some.is
+    c.step_into.ensures in
     let stop : Stop = c.in-Some-stop.stop in
-    let left : stop_of (left_at step) ≡ Some stop =
-    sym (c.stop.ensures ∙ ap stop_of c.left-left.ensures) ∙ c.in-Some-stop.is in
+    let left : stop_of (left_at step) ≡ Some stop = sym (c.stop.ensures ∙ ap stop_of c.left-left.ensures) ∙ c.in-Some-stop.is in
     let side : Side = c.in-Side.field-0 in
     let from : (entered_at step).end ≡ AtSide side = ap (λ (s : Spot). s.end) enters ∙ c.in-Side.is in
     let reaches : c.reaches.result ≡ has_stop stop (reached_in tree) = c.reaches.ensures in
@@ -546,27 +523,24 @@ take-returns-clause-walks g t c = λ settled steps stops stands among continues.
     let passes : test step ≡ true = tests ∙ and_true (has_stop stop (reached_in tree)) (has_stop stop (visited steps))
     (sym reaches ∙ c.if-not-reaches.false) (seen ∙ c.if-has.false) in
     let low : stop_order stop < length c.args.seen.now = omega (arith, stop_low stop, stands.seen.0) in
-    let there = stands_at_stop position tree begun c.args.used.now c.args.seen.now settled steps stops stands step
-    stop here (continues step enters) left low
-    c.visiting-here.ensures.train c.visiting-here.ensures.next c.visiting-here.ensures.later
-    c.visiting-here.ensures.value c.visiting-here.ensures.left c.visiting-here.ensures.own in
-    let marked : Stands position tree here c.args.used.now c.mark.new.self settled (step ∷ steps)
-    (visited (step ∷ steps)) =
-    stands_same position tree here c.args.used.now (set c.args.seen.now (stop_order stop) true) c.args.used.now
-    c.mark.new.self settled (step ∷ steps) (visited (step ∷ steps)) refl c.mark.ensures there in
-    let two = two_stops position tree begun c.args.used.now c.args.seen.now settled steps stops stands step stop
-    (continues step enters) left in
+    let there = stands_at_stop position tree begun c.args.used.now c.args.seen.now settled steps stops stands step stop here
+    (continues step enters) left low
+    c.visiting-here.ensures.train c.visiting-here.ensures.next c.visiting-here.ensures.later c.visiting-here.ensures.value
+    c.visiting-here.ensures.left c.visiting-here.ensures.own in
+    let marked : Stands position tree here c.args.used.now c.mark.new.self settled (step ∷ steps) (visited (step ∷ steps)) =
+    stands_same position tree here c.args.used.now (set c.args.seen.now (stop_order stop) true) c.args.used.now c.mark.new.self settled
+    (step ∷ steps) (visited (step ∷ steps)) refl c.mark.ensures there in
+    let two = two_stops position tree begun c.args.used.now c.args.seen.now settled steps stops stands step stop (continues step enters)
+    left in
     let walk = c.at_stop-whole.ensures.walks settled steps step marked two left in
     let same : node_at tree here settled (step ∷ steps) ≡ made =
     same_node tree here begun settled (step ∷ steps) c.visiting-here.ensures.train c.visiting-here.ensures.next in
     subst (λ (l : List Node). WalksOver g.D.Decider.decides position tree c.args.decider.now l c.at_stop-whole.result
-    c.at_stop-whole.new.decider) (ap (λ (n : Node). n ∷ []) same
-    ∙ (ap (λ (b : Bool). node_if b made) (sym passes) ∙ one)) walk
+    c.at_stop-whole.new.decider) (ap (λ (n : Node). n ∷ []) same ∙ (ap (λ (b : Bool). node_if b made) (sym passes) ∙ one)) walk
 
 pub take-returns-clause-seen : goal.take-returns-clause-seen
 take-returns-clause-seen g t c = let stop : Stop = c.in-Some-stop.stop in
-    c.unmark.ensures ∙ (ap (λ (m : List Bool). set m (stop_order stop) false)
-    (c.at_stop-whole.ensures.seen ∙ c.mark.ensures)
+    c.unmark.ensures ∙ (ap (λ (m : List Bool). set m (stop_order stop) false) (c.at_stop-whole.ensures.seen ∙ c.mark.ensures)
     ∙ mark_undone c.args.seen.now (stop_order stop) (sym c.has.ensures ∙ c.if-has.false))
 
 -- the hex beyond a border is the neighbour over it
@@ -604,8 +578,7 @@ cross-returns-in_default-end-clause-walks g t c = λ settled steps stops step st
     let node : Node = node_at tree c.args.begun.now settled steps in
     let made : Node = with_step node step in
     let taken : List ℕ = taken_borders node in
-    let wrong : None ≡ Some c.in-Some.beyond = sym (ap (across_end head.hex) c.in_default-end.is)
-    ∙ (sym c.across.ensures ∙ c.in-Some.is) in
+    let wrong : None ≡ Some c.in-Some.beyond = sym (ap (across_end head.hex) c.in_default-end.is) ∙ (sym c.across.ensures ∙ c.in-Some.is) in
     absurd cc
 
 pub cross-returns-then-has-clause-walks : goal.cross-returns-then-has-clause-walks
@@ -647,24 +620,22 @@ cross-returns-clause-walks g t c = λ settled steps stops step stands continues 
     let at_side : (left_at step).end ≡ AtSide side = ap (λ (s : Spot). s.end) at ∙ c.in-Side.is in
     let over : across (left_at step) ≡ Some c.in-Some.beyond = ap across at ∙ (sym c.across.ensures ∙ c.in-Some.is) in
     let left : stop_of (left_at step) ≡ None = ap stop_of at ∙ none in
-    let there = stands_over position tree c.args.begun.now c.args.used.now c.args.seen.now settled steps stops stands
-    step side continues left at_side low in
-    let marked : Stands position tree c.args.begun.now c.add.new.self c.args.seen.now settled (step ∷ steps)
-    (visited (step ∷ steps)) =
-    stands_same position tree c.args.begun.now (set c.args.used.now (border_of (left_at step).hex side) true)
-    c.args.seen.now c.add.new.self c.args.seen.now settled (step ∷ steps) (visited (step ∷ steps))
+    let there = stands_over position tree c.args.begun.now c.args.used.now c.args.seen.now settled steps stops stands step side continues
+    left at_side low in
+    let marked : Stands position tree c.args.begun.now c.add.new.self c.args.seen.now settled (step ∷ steps) (visited (step ∷ steps)) =
+    stands_same position tree c.args.begun.now (set c.args.used.now (border_of (left_at step).hex side) true) c.args.seen.now
+    c.add.new.self c.args.seen.now settled (step ∷ steps) (visited (step ∷ steps))
     (c.add.ensures.marked ∙ ap (λ (n : ℕ). set c.args.used.now n true) (sym number)) refl there in
     let walk = c.at_border-whole.ensures.walks settled steps step marked left over in
     let passes : goes_over taken step ≡ true = ap (λ (s : Spot). is_free_end taken s.hex s.end) at
     ∙ is_free taken head.hex head.end side c.in-Some.beyond c.in-Side.is (sym c.across.ensures ∙ c.in-Some.is)
     (marks ∙ c.if-has.false) in
-    subst (λ (b : Bool). WalksOver g.D.Decider.decides position tree c.args.decider.now (node_if b made)
-    c.at_border-whole.result c.at_border-whole.new.decider) (sym passes) walk
+    subst (λ (b : Bool). WalksOver g.D.Decider.decides position tree c.args.decider.now (node_if b made) c.at_border-whole.result
+    c.at_border-whole.new.decider) (sym passes) walk
 
 pub cross-returns-clause-used : goal.cross-returns-clause-used
 cross-returns-clause-used g t c = c.remove.ensures
-    ∙ (ap (λ (m : List Bool). set m c.border_to-number.result false)
-    (c.at_border-whole.ensures.used ∙ c.add.ensures.marked)
+    ∙ (ap (λ (m : List Bool). set m c.border_to-number.result false) (c.at_border-whole.ensures.used ∙ c.add.ensures.marked)
     ∙ mark_undone c.args.used.now c.border_to-number.result (sym c.has.ensures ∙ c.if-has.false))
 
 pub at_border-returns-in-Cut-clause-walks : goal.at_border-returns-in-Cut-clause-walks
@@ -684,8 +655,7 @@ at_border-returns-in-Stop-clause-walks g t c = λ settled before step stands non
     (c.in-Stop.ensures position c.args.used.now settled (step ∷ before) stands)
 
 pub at_border-follow-requires : goal.at_border-follow-requires
-at_border-follow-requires g t c = λ lifetimes within.
-    (omega (arith, rank_low c.args.beyond.end), (search rules, search rules))
+at_border-follow-requires g t c = λ lifetimes within. (omega (arith, rank_low c.args.beyond.end), (search rules, search rules))
 
 pub at_border-returns-in-Split-clause-walks : goal.at_border-returns-in-Split-clause-walks
 at_border-returns-in-Split-clause-walks g t c = λ settled before step stands none over.
@@ -694,11 +664,10 @@ at_border-returns-in-Split-clause-walks g t c = λ settled before step stands no
     let node : Node = node_at tree c.args.begun.now settled (step ∷ before) in
     let walk = c.follow.ensures.walks settled (step ∷ before) (visited (step ∷ before)) stands
     (λ next at. border_continues position stands.told.lawful before step c.args.beyond next over at) in
-    one_split g.D.Decider.decides position tree c.args.decider.now c.ask.new.decider c.follow.new.decider node
-    c.follow.result (c.in-Split.ensures position c.args.used.now settled (step ∷ before) stands)
-    (subst (λ (l : List Node). WalksOver g.D.Decider.decides position tree c.ask.new.decider l c.follow.result
-    c.follow.new.decider) (sym (children_at_border position tree c.args.begun.now settled before step
-    c.args.beyond none over)) walk)
+    one_split g.D.Decider.decides position tree c.args.decider.now c.ask.new.decider c.follow.new.decider node c.follow.result
+    (c.in-Split.ensures position c.args.used.now settled (step ∷ before) stands)
+    (subst (λ (l : List Node). WalksOver g.D.Decider.decides position tree c.ask.new.decider l c.follow.result c.follow.new.decider)
+    (sym (children_at_border position tree c.args.begun.now settled before step c.args.beyond none over)) walk)
 
 pub at_stop-returns-in-Cut-clause-walks : goal.at_stop-returns-in-Cut-clause-walks
 at_stop-returns-in-Cut-clause-walks g t c = λ settled before step stands two at.
@@ -729,18 +698,15 @@ at_stop-returns-then-not-begun-clause-walks g t c = λ settled before step stand
     let node : Node = node_at tree begun settled steps in
     let run : List TrainRun = with_run begun settled steps in
     let passed : List Node = from_stop position tree.company (reached_in tree) node begun.kind c.args.stop in
-    let all : children position tree.company (reached_in tree) node
-    ≡ node_if begun.own_token (node_from tree run begun.next) ++ passed =
+    let all : children position tree.company (reached_in tree) node ≡ node_if begun.own_token (node_from tree run begun.next) ++ passed =
     children_at_stop position tree begun settled before step c.args.stop at
-    ∙ ap (λ (l : List Node). l ++ passed) (finishing_is position tree begun settled steps begun.own_token two
-    stands.own) in
-    let parts : children position tree.company (reached_in tree) node
-    ≡ node_if false (node_from tree run begun.next) ++ passed =
+    ∙ ap (λ (l : List Node). l ++ passed) (finishing_is position tree begun settled steps begun.own_token two stands.own) in
+    let parts : children position tree.company (reached_in tree) node ≡ node_if false (node_from tree run begun.next) ++ passed =
     all ∙ ap (λ (b : Bool). node_if b (node_from tree run begun.next) ++ passed) c.if-not-begun.true in
-    one_split g.D.Decider.decides position tree c.args.decider.now c.ask.new.decider c.pass.new.decider node
-    c.pass.result (c.in-Split.ensures position c.args.used.now settled (step ∷ before) stands)
-    (subst (λ (l : List Node). WalksOver g.D.Decider.decides position tree c.ask.new.decider l c.pass.result
-    c.pass.new.decider) (sym parts) (c.pass.ensures.walks settled before step stands at))
+    one_split g.D.Decider.decides position tree c.args.decider.now c.ask.new.decider c.pass.new.decider node c.pass.result
+    (c.in-Split.ensures position c.args.used.now settled (step ∷ before) stands)
+    (subst (λ (l : List Node). WalksOver g.D.Decider.decides position tree c.ask.new.decider l c.pass.result c.pass.new.decider)
+    (sym parts) (c.pass.ensures.walks settled before step stands at))
 
 pub at_stop-returns-then-not-choose-clause-walks : goal.at_stop-returns-then-not-choose-clause-walks
 at_stop-returns-then-not-choose-clause-walks g t c = λ settled before step stands two at.
@@ -751,26 +717,22 @@ at_stop-returns-then-not-choose-clause-walks g t c = λ settled before step stan
     let node : Node = node_at tree begun settled steps in
     let run : List TrainRun = with_run begun settled steps in
     let passed : List Node = from_stop position tree.company (reached_in tree) node begun.kind c.args.stop in
-    let all : children position tree.company (reached_in tree) node
-    ≡ node_if begun.own_token (node_from tree run begun.next) ++ passed =
+    let all : children position tree.company (reached_in tree) node ≡ node_if begun.own_token (node_from tree run begun.next) ++ passed =
     children_at_stop position tree begun settled before step c.args.stop at
-    ∙ ap (λ (l : List Node). l ++ passed) (finishing_is position tree begun settled steps begun.own_token two
-    stands.own) in
-    let parts : children position tree.company (reached_in tree) node
-    ≡ node_if true (node_from tree run begun.next) ++ passed =
+    ∙ ap (λ (l : List Node). l ++ passed) (finishing_is position tree begun settled steps begun.own_token two stands.own) in
+    let parts : children position tree.company (reached_in tree) node ≡ node_if true (node_from tree run begun.next) ++ passed =
     all ∙ ap (λ (b : Bool). node_if b (node_from tree run begun.next) ++ passed) c.if-not-begun.false in
     let first : List Node = node_from tree run begun.next ∷ [] in
-    let walk = c.choose.ensures.walks run (finished_stands position tree begun c.args.used.now c.args.seen.now settled
-    before step c.args.stop stands at) (finished_crossed position tree begun c.args.used.now c.args.seen.now
-    settled before step c.args.stop stands at) stands.within in
+    let walk = c.choose.ensures.walks run (finished_stands position tree begun c.args.used.now c.args.seen.now settled before step
+    c.args.stop stands at) (finished_crossed position tree begun c.args.used.now c.args.seen.now settled before step c.args.stop
+    stands at) stands.within in
     let over : WalksOver g.D.Decider.decides position tree c.ask.new.decider first false c.choose.new.decider =
-    subst (λ (b : Bool). WalksOver g.D.Decider.decides position tree c.ask.new.decider first b
-    c.choose.new.decider) c.if-not-choose.true walk in
+    subst (λ (b : Bool). WalksOver g.D.Decider.decides position tree c.ask.new.decider first b c.choose.new.decider)
+    c.if-not-choose.true walk in
     one_split g.D.Decider.decides position tree c.args.decider.now c.ask.new.decider c.choose.new.decider node false
     (c.in-Split.ensures position c.args.used.now settled (step ∷ before) stands)
-    (subst (λ (l : List Node). WalksOver g.D.Decider.decides position tree c.ask.new.decider l false
-    c.choose.new.decider) (sym parts) (walks_ended g.D.Decider.decides position tree.company (reached_in tree)
-    c.ask.new.decider c.choose.new.decider first passed over))
+    (subst (λ (l : List Node). WalksOver g.D.Decider.decides position tree c.ask.new.decider l false c.choose.new.decider) (sym parts)
+    (walks_ended g.D.Decider.decides position tree.company (reached_in tree) c.ask.new.decider c.choose.new.decider first passed over))
 
 pub at_stop-returns-clause-walks : goal.at_stop-returns-clause-walks
 at_stop-returns-clause-walks g t c = λ settled before step stands two at.
@@ -781,29 +743,26 @@ at_stop-returns-clause-walks g t c = λ settled before step stands two at.
     let node : Node = node_at tree begun settled steps in
     let run : List TrainRun = with_run begun settled steps in
     let passed : List Node = from_stop position tree.company (reached_in tree) node begun.kind c.args.stop in
-    let all : children position tree.company (reached_in tree) node
-    ≡ node_if begun.own_token (node_from tree run begun.next) ++ passed =
+    let all : children position tree.company (reached_in tree) node ≡ node_if begun.own_token (node_from tree run begun.next) ++ passed =
     children_at_stop position tree begun settled before step c.args.stop at
-    ∙ ap (λ (l : List Node). l ++ passed) (finishing_is position tree begun settled steps begun.own_token two
-    stands.own) in
-    let parts : children position tree.company (reached_in tree) node
-    ≡ node_if true (node_from tree run begun.next) ++ passed =
+    ∙ ap (λ (l : List Node). l ++ passed) (finishing_is position tree begun settled steps begun.own_token two stands.own) in
+    let parts : children position tree.company (reached_in tree) node ≡ node_if true (node_from tree run begun.next) ++ passed =
     all ∙ ap (λ (b : Bool). node_if b (node_from tree run begun.next) ++ passed) c.if-not-begun.false in
     let first : List Node = node_from tree run begun.next ∷ [] in
-    let walk = c.choose.ensures.walks run (finished_stands position tree begun c.args.used.now c.args.seen.now settled
-    before step c.args.stop stands at) (finished_crossed position tree begun c.args.used.now c.args.seen.now
-    settled before step c.args.stop stands at) stands.within in
+    let walk = c.choose.ensures.walks run (finished_stands position tree begun c.args.used.now c.args.seen.now settled before step
+    c.args.stop stands at) (finished_crossed position tree begun c.args.used.now c.args.seen.now settled before step c.args.stop
+    stands at) stands.within in
     let over : WalksOver g.D.Decider.decides position tree c.ask.new.decider first true c.choose.new.decider =
-    subst (λ (b : Bool). WalksOver g.D.Decider.decides position tree c.ask.new.decider first b
-    c.choose.new.decider) c.if-not-choose.false walk in
+    subst (λ (b : Bool). WalksOver g.D.Decider.decides position tree c.ask.new.decider first b c.choose.new.decider)
+    c.if-not-choose.false walk in
     let later = c.pass-2.ensures.walks settled before step
-    (stands_same position tree begun c.args.used.now c.args.seen.now c.choose.new.used c.args.seen.now settled
-    steps (visited steps) c.choose.ensures.used refl stands) at in
-    one_split g.D.Decider.decides position tree c.args.decider.now c.ask.new.decider c.pass-2.new.decider node
-    c.pass-2.result (c.in-Split.ensures position c.args.used.now settled (step ∷ before) stands)
-    (subst (λ (l : List Node). WalksOver g.D.Decider.decides position tree c.ask.new.decider l c.pass-2.result
-    c.pass-2.new.decider) (sym parts) (walks_both g.D.Decider.decides position tree.company (reached_in tree)
-    c.ask.new.decider c.choose.new.decider c.pass-2.new.decider first passed c.pass-2.result over later))
+    (stands_same position tree begun c.args.used.now c.args.seen.now c.choose.new.used c.args.seen.now settled steps (visited steps)
+    c.choose.ensures.used refl stands) at in
+    one_split g.D.Decider.decides position tree c.args.decider.now c.ask.new.decider c.pass-2.new.decider node c.pass-2.result
+    (c.in-Split.ensures position c.args.used.now settled (step ∷ before) stands)
+    (subst (λ (l : List Node). WalksOver g.D.Decider.decides position tree c.ask.new.decider l c.pass-2.result c.pass-2.new.decider)
+    (sym parts) (walks_both g.D.Decider.decides position tree.company (reached_in tree) c.ask.new.decider c.choose.new.decider
+    c.pass-2.new.decider first passed c.pass-2.result over later))
 
 pub pass-returns-then-ends_at-clause-walks : goal.pass-returns-then-ends_at-clause-walks
 pass-returns-then-ends_at-clause-walks g t c = λ settled before step stands at.
@@ -818,8 +777,7 @@ pass-returns-then-ends_at-clause-walks g t c = λ settled before step stands at.
     ∙ (sym c.ends_at.ensures ∙ c.if-ends_at.true) in
     let over : List Node = with_steps (goes_over (taken_borders node)) node (ways_from position stop) in
     over_none g.D.Decider.decides position tree c.args.decider.now
-    (from_stop position tree.company (reached_in tree) node begun.kind stop)
-    (ap (λ (b : Bool). if b then [] else over) last)
+    (from_stop position tree.company (reached_in tree) node begun.kind stop) (ap (λ (b : Bool). if b then [] else over) last)
 
 pub pass-returns-clause-walks : goal.pass-returns-clause-walks
 pass-returns-clause-walks g t c = λ settled before step stands at.
@@ -833,7 +791,7 @@ pass-returns-clause-walks g t c = λ settled before step stands at.
     is_last position tree begun c.args.used.now c.args.seen.now settled before step stop stands at
     ∙ (sym c.ends_at.ensures ∙ c.if-ends_at.false) in
     let over : List Node = with_steps (goes_over (taken_borders node)) node (ways_from position stop) in
-    let walk = c.leave.ensures.walks settled steps (visited steps) stands
-    (λ next is. stop_continues before step stop next at is) (named_at (left_at step) stop at) in
-    subst (λ (l : List Node). WalksOver g.D.Decider.decides position tree c.args.decider.now l c.leave.result
-    c.leave.new.decider) (sym (ap (λ (b : Bool). if b then [] else over) last)) walk
+    let walk = c.leave.ensures.walks settled steps (visited steps) stands (λ next is. stop_continues before step stop next at is)
+    (named_at (left_at step) stop at) in
+    subst (λ (l : List Node). WalksOver g.D.Decider.decides position tree c.args.decider.now l c.leave.result c.leave.new.decider)
+    (sym (ap (λ (b : Bool). if b then [] else over) last)) walk

@@ -1,4 +1,4 @@
-use Rattle.order_grammar.proofs.SpellingLemmas.{spelling_read_in}
+use Rattle.order_grammar.proofs.UnderLemmas.{spelling_read_in}
 use Rattle.order_grammar.proofs.laws.conditional_spelling_is_read_again.Goals as goal
 
 pub returns : goal.returns
