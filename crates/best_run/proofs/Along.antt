@@ -1,41 +1,35 @@
 -- Ways that are tried are moves that are tried: what may be done by a piece begins with a way, and whatever comes after a
 -- way comes after its pieces.
-use Rattle.std.proofs.Common.{◌≡◌, ℕ, ◌+◌, ◌<◌, ◌≤◌, Bool, true, false, ◌&&◌, ◌⊎◌, inl, inr, Some, List, [], ◌∷◌, ◌++◌, length, slice_get, replicate, refl, sym, ap, subst, ◌∙◌, arith, le_trans, length-append}
+use Rattle.std.proofs.Common.{◌≡◌, ℕ, ◌+◌, ◌<◌, ◌≤◌, Bool, true, false, ◌&&◌, ◌⊎◌, inl, inr, Some, List, [], ◌∷◌, ◌++◌}
+use Rattle.std.proofs.Common.{length, slice_get, replicate, refl, sym, ap, subst, ◌∙◌, arith, le_trans, length-append}
 use Rattle.std.proofs.lemmas.Option.{slice_get_within}
 use Rattle.reach.specs.Position.{IsAmong}
 use Rattle.reach.specs.declared.walk.Step.{Step}
 use Rattle.best_run.specs.declared.memo.Found.{Found}
-use Rattle.best_run.specs.declared.task.Segment.{Segment}
-use Rattle.best_run.specs.declared.task.Task.{Task}
-use Rattle.best_run.specs.declared.task.Leg.{Leg}
-use Rattle.best_run.specs.declared.state.Settled.{Settled}
+use Rattle.search_task.specs.declared.task.Segment.{Segment}
+use Rattle.search_task.specs.declared.task.Task.{Task}
+use Rattle.search_task.specs.declared.task.Leg.{Leg}
+use Rattle.best_run.specs.declared.state.Assigned.{Assigned}
 use Rattle.best_run.specs.declared.state.PartialRun.{PartialRun}
 use Rattle.best_run.specs.declared.move_path.Mark.{Mark}
 use Rattle.best_run.specs.declared.move_path.Mark.TheVariants.{Go, Turn}
 use Rattle.best_run.specs.MovePath.{go_along}
-use Rattle.best_run.specs.Crossed.{numbers_in}
-use Rattle.best_run.specs.Fit.{BordersFit, IsFit, SegmentFits}
-use Rattle.best_run.specs.Moves.{Any, AreInMemo, Completes, IsBeginAt, IsGo, IsTurn, LeadsFrom, Move, State, Tries, along, begin, begun, between, can_take, ends_in, go, marked_all, marks_of, may_come, misses, node_at, own_in, pass, settle, partial, stop_in, total_after, turn, turned_back, using}
-use Rattle.best_run.specs.Legs.{AreFree, AreLegsOf, HasLeg, Hop, IsMadeOf, LeadsTo, StandsBefore, TriesLegs, borders_by, none_used}
-use Rattle.best_run.proofs.Chunks.{Back, Chunk, arrived, chunk_back, chunk_of, fits_by, free_all, free_freer, free_used, over}
-use Rattle.best_run.proofs.Described.{among_place, place_among}
-use Rattle.best_run.specs.Kept.{Freer}
+use Rattle.search_task.specs.Crossed.{marked_all, misses, numbers_in}
+use Rattle.search_task.specs.Fit.{BordersFit, IsFit, SegmentFits}
+use Rattle.best_run.specs.Moves.{Any, AreInMemo, Completes, IsBeginAt, IsGo, IsTurn, Move, State, Tries, TriesLegs}
+use Rattle.best_run.specs.Moves.{along, begin, begun, between, can_take, go, marks_of, may_come, partial, pass, finish}
+use Rattle.best_run.specs.Moves.{total_after, turn, turned_back, using}
+use Rattle.search_task.specs.Spots.{LeadsFrom, ends_in, node_at, own_in, stop_in}
+use Rattle.search_task.specs.Legs.{AreFree, AreLegsOf, HasLeg, Hop, IsMadeOf, LeadsTo, borders_by, none_used, IsListed}
+use Rattle.best_run.proofs.Chunks.{Back, Chunk, arrived, chunk_back, chunk_of, fits_by, free_all, free_freer, free_used}
+use Rattle.best_run.proofs.Chunks.{over}
+use Rattle.search_task.proofs.Described.{among_place, place_among}
+use Rattle.search_task.specs.Marks.{Freer}
 use Rattle.best_run.proofs.Eased.{freer_none}
-use Rattle.best_run.proofs.Numbers.{crossed_fit, crossed_marks, crossed_misses, crossed_some}
-use Rattle.best_run.proofs.Places.{below_next}
+use Rattle.search_task.proofs.Numbers.{crossed_fit, crossed_marks, crossed_misses, crossed_some}
+use Rattle.search_task.proofs.Places.{below_next}
 use Rattle.best_run.proofs.Traced.{Leads, TakesFrom, traced_both, traced_none}
-
-both_first : (a b : Bool) → (a && b) ≡ true → a ≡ true
-both_first true b is = refl
-both_first false b is = absurd cc
-
-both_second : (a b : Bool) → (a && b) ≡ true → b ≡ true
-both_second true b is = is
-both_second false b is = absurd cc
-
-both_are : (a b : Bool) → a ≡ true → b ≡ true → (a && b) ≡ true
-both_are true b first second = second
-both_are false b first second = absurd cc
+use Rattle.search_task.proofs.Booleans.{both_are, both_first, both_second}
 
 -- a piece that leads from a spot is fit
 fits_at : (task : Task) → IsFit task → (spot place : ℕ) (segment : Segment) (stop : Bool)
@@ -43,7 +37,7 @@ fits_at : (task : Task) → IsFit task → (spot place : ℕ) (segment : Segment
 fits_at task fit spot place segment stop is leads =
     subst (λ (b : Bool). SegmentFits task b segment) is (fit.segments spot place segment leads)
 
--- a way comes to a stop
+-- a way reaches a stop
 leads_stop : (task : Task) (hops : List Hop) (segment : Segment) (to : ℕ) → LeadsTo task segment hops to
     → stop_in (node_at task to) ≡ true
 leads_stop task [] segment to leads = ap (λ (n : ℕ). stop_in (node_at task n)) (sym leads.1) ∙ leads.0
@@ -97,32 +91,32 @@ leg_fits task fit stop legs are stops leg among =
     )
 
 -- after a way one is where its pieces lead
-there_by : (task : Task) (settled : Settled) (run : PartialRun) (segment : Segment) (borders : List ℕ) (to : ℕ)
+there_by : (task : Task) (assigned : Assigned) (run : PartialRun) (segment : Segment) (borders : List ℕ) (to : ℕ)
     → BordersFit borders → segment.borders.items ≡ numbers_in (marked_all none_used borders) → segment.to ≡ to
-    → partial (using settled segment) (along task run segment) ≡ partial (over settled borders) (arrived task run to)
-there_by task settled run segment borders to fit same is =
-    ap (λ (u : List Bool). partial (record settled { used = u }) (arrived task run segment.to))
-    (ap (marked_all settled.used) same ∙ crossed_marks settled.used borders fit)
-    ∙ ap (λ (n : ℕ). partial (over settled borders) (arrived task run n)) is
+    → partial (using assigned segment) (along task run segment) ≡ partial (over assigned borders) (arrived task run to)
+there_by task assigned run segment borders to fit same is =
+    ap (λ (u : List Bool). partial (record assigned { used = u }) (arrived task run segment.to))
+    (ap (marked_all assigned.used) same ∙ crossed_marks assigned.used borders fit)
+    ∙ ap (λ (n : ℕ). partial (over assigned borders) (arrived task run n)) is
 
 module _ (task : Task) (fit : IsFit task) (stop : ℕ) (stops : stop_in (node_at task stop) ≡ true) (legs : List Leg)
     (are : AreLegsOf task stop legs) where
   -- whatever comes after a way comes after its first piece
-  pub record BySegments (settled : Settled) (run : PartialRun) (leg : Leg) (later : List Move) : Type 0 where
+  pub record BySegments (assigned : Assigned) (run : PartialRun) (leg : Leg) (later : List Move) : Type 0 where
     pub segment : Segment
     pub leads : LeadsFrom task stop leg.first segment
-    pub can : can_take task run settled.used segment ≡ true
+    pub can : can_take task run assigned.used segment ≡ true
     pub moves : List Move
-    pub completes : Completes task (partial (using settled segment) (along task run segment)) moves
-    pub total : total_after task (partial (using settled segment) (along task run segment)) moves
-        ≡ total_after task (partial (using settled leg.segment) (along task run leg.segment)) later
+    pub completes : Completes task (partial (using assigned segment) (along task run segment)) moves
+    pub total : total_after task (partial (using assigned segment) (along task run segment)) moves
+        ≡ total_after task (partial (using assigned leg.segment) (along task run leg.segment)) later
     pub marks_are : Go segment.step ∷ marks_of moves ≡ go_along leg.steps.items ++ marks_of later
 
-  pub by_segments : (settled : Settled) (run : PartialRun) (leg : Leg) → IsAmong leg legs
-      → can_take task run settled.used leg.segment ≡ true → (later : List Move)
-      → Completes task (partial (using settled leg.segment) (along task run leg.segment)) later
-      → BySegments settled run leg later
-  by_segments settled run leg among can later completes =
+  pub by_segments : (assigned : Assigned) (run : PartialRun) (leg : Leg) → IsAmong leg legs
+      → can_take task run assigned.used leg.segment ≡ true → (later : List Move)
+      → Completes task (partial (using assigned leg.segment) (along task run leg.segment)) later
+      → BySegments assigned run leg later
+  by_segments assigned run leg among can later completes =
       let found = are.sound leg among in
       let segment = found.0 in
       let hops = found.2.0 in
@@ -130,22 +124,22 @@ module _ (task : Task) (fit : IsFit task) (stop : ℕ) (stops : stop_in (node_at
       let first : SegmentFits task true segment = fits_at task fit stop leg.first segment true stops found.1 in
       let fits : BordersFit (borders_by segment hops) =
       fits_by task fit segment hops leg.segment.to first.borders made.leads in
-      let here = there_by task settled run leg.segment (borders_by segment hops) leg.segment.to fits made.borders
+      let here = there_by task assigned run leg.segment (borders_by segment hops) leg.segment.to fits made.borders
       refl in
       let to_stop : stop_in (node_at task leg.segment.to) ≡ true =
       leads_stop task hops segment leg.segment.to made.leads in
       let come : may_come true run leg.segment.to ≡ true =
       sym (ap (λ b. may_come b run leg.segment.to) to_stop)
       ∙ both_first (may_come (stop_in (node_at task leg.segment.to)) run leg.segment.to)
-      (misses settled.used leg.segment.borders.items) can in
-      let missed : misses settled.used (borders_by segment hops) ≡ true =
-      sym (crossed_misses settled.used (borders_by segment hops) fits)
-      ∙ (sym (ap (misses settled.used) made.borders)
+      (misses assigned.used leg.segment.borders.items) can in
+      let missed : misses assigned.used (borders_by segment hops) ≡ true =
+      sym (crossed_misses assigned.used (borders_by segment hops) fits)
+      ∙ (sym (ap (misses assigned.used) made.borders)
       ∙ both_second (may_come (stop_in (node_at task leg.segment.to)) run leg.segment.to)
-      (misses settled.used leg.segment.borders.items) can) in
-      let free : AreFree settled.used segment hops = free_used segment hops settled.used fits made.free missed in
-      let back : Back task fit settled run segment hops leg.segment.to later =
-      chunk_back task fit hops settled run segment leg.segment.to later made.leads free come
+      (misses assigned.used leg.segment.borders.items) can) in
+      let free : AreFree assigned.used segment hops = free_used segment hops assigned.used fits made.free missed in
+      let back : Back task fit assigned run segment hops leg.segment.to later =
+      chunk_back task fit hops assigned run segment leg.segment.to later made.leads free come
       (subst (λ s. Completes task s later) here completes) in
       record {
         segment = segment;
@@ -158,38 +152,38 @@ module _ (task : Task) (fit : IsFit task) (stop : ℕ) (stops : stop_in (node_at
       }
 
   -- what may be done by a piece begins with a way
-  pub record ByLeg (settled : Settled) (run : PartialRun) (place : ℕ) (segment : Segment) (moves : List Move) : Type
+  pub record ByLeg (assigned : Assigned) (run : PartialRun) (place : ℕ) (segment : Segment) (moves : List Move) : Type
       0 where
     pub leg : Leg
     pub place_of : ℕ
     pub stands : slice_get legs place_of ≡ Some leg
     pub first : leg.first ≡ place
-    pub can : can_take task run settled.used leg.segment ≡ true
+    pub can : can_take task run assigned.used leg.segment ≡ true
     pub later : List Move
     pub shorter : length later ≤ length moves
-    pub completes : Completes task (partial (using settled leg.segment) (along task run leg.segment)) later
-    pub total : total_after task (partial (using settled segment) (along task run segment)) moves
-        ≡ total_after task (partial (using settled leg.segment) (along task run leg.segment)) later
+    pub completes : Completes task (partial (using assigned leg.segment) (along task run leg.segment)) later
+    pub total : total_after task (partial (using assigned segment) (along task run segment)) moves
+        ≡ total_after task (partial (using assigned leg.segment) (along task run leg.segment)) later
 
-  pub by_leg : (settled : Settled) (run : PartialRun) → length settled.used ≡ 279
+  pub by_leg : (assigned : Assigned) (run : PartialRun) → length assigned.used ≡ 279
       → (place : ℕ) (segment : Segment) (moves : List Move) → LeadsFrom task stop place segment
-      → can_take task run settled.used segment ≡ true
-      → Completes task (partial (using settled segment) (along task run segment)) moves
-      → ByLeg settled run place segment moves
-  by_leg settled run whole place segment moves leads can completes =
-      let chunk : Chunk task fit settled run segment moves =
-      chunk_of task fit moves settled run segment (stop_in (node_at task segment.to)) refl can completes in
-      let freer : Freer settled.used none_used = subst (λ (n : ℕ). Freer settled.used (replicate n false)) whole
-      (freer_none settled.used) in
+      → can_take task run assigned.used segment ≡ true
+      → Completes task (partial (using assigned segment) (along task run segment)) moves
+      → ByLeg assigned run place segment moves
+  by_leg assigned run whole place segment moves leads can completes =
+      let chunk : Chunk task fit assigned run segment moves =
+      chunk_of task fit moves assigned run segment (stop_in (node_at task segment.to)) refl can completes in
+      let freer : Freer assigned.used none_used = subst (λ (n : ℕ). Freer assigned.used (replicate n false)) whole
+      (freer_none assigned.used) in
       let has : HasLeg task none_used [] place segment chunk.hops chunk.to legs =
       are.complete place segment chunk.hops chunk.to leads chunk.leads
-      (free_freer segment chunk.hops settled.used none_used freer chunk.free) in
+      (free_freer segment chunk.hops assigned.used none_used freer chunk.free) in
       let leg = has.leg in
       let at = place_among legs leg has.among in
       let first : SegmentFits task true segment = fits_at task fit stop place segment true stops leads in
       let fits : BordersFit (borders_by segment chunk.hops) =
       fits_by task fit segment chunk.hops chunk.to first.borders chunk.leads in
-      let here = there_by task settled run leg.segment (borders_by segment chunk.hops) chunk.to fits has.made.borders
+      let here = there_by task assigned run leg.segment (borders_by segment chunk.hops) chunk.to fits has.made.borders
       has.to_is in
       let to_stop : stop_in (node_at task leg.segment.to) ≡ true =
       leads_stop task chunk.hops segment leg.segment.to has.made.leads in
@@ -199,11 +193,11 @@ module _ (task : Task) (fit : IsFit task) (stop : ℕ) (stops : stop_in (node_at
         stands = at.1;
         first = has.made.place_is;
         can = both_are (may_come (stop_in (node_at task leg.segment.to)) run leg.segment.to)
-            (misses settled.used leg.segment.borders.items)
+            (misses assigned.used leg.segment.borders.items)
             (ap (λ b. may_come b run leg.segment.to) to_stop
             ∙ (ap (λ (n : ℕ). may_come true run n) has.to_is ∙ chunk.come))
-            (ap (misses settled.used) has.made.borders ∙ (crossed_misses settled.used (borders_by segment chunk.hops)
-            fits ∙ free_all segment chunk.hops settled.used chunk.free));
+            (ap (misses assigned.used) has.made.borders ∙ (crossed_misses assigned.used (borders_by segment chunk.hops)
+            fits ∙ free_all segment chunk.hops assigned.used chunk.free));
         later = chunk.later;
         shorter = chunk.shorter;
         completes = subst (λ s. Completes task s chunk.later) (sym here) chunk.completes;
@@ -215,9 +209,9 @@ module _ (task : Task) (fit : IsFit task) (stop : ℕ) (stops : stop_in (node_at
   among_at place leg at = among_place legs place leg at
 
   -- no way has been tried, one more has been, or it is none that is to be tried
-  pub legs_none : (from : State) (settled : Settled) (runs : Leg → PartialRun) (Q : Leg → Type 0) (best : Found)
-      → TriesLegs task from settled runs (λ leg. StandsBefore legs 0 leg × Q leg) best best
-  legs_none from settled runs Q best =
+  pub legs_none : (from : State) (assigned : Assigned) (runs : Leg → PartialRun) (Q : Leg → Type 0) (best : Found)
+      → TriesLegs task from assigned runs (λ leg. IsListed legs 0 leg × Q leg) best best
+  legs_none from assigned runs Q best =
       record {
         grows = omega arith;
         traced = traced_none task from best;
@@ -227,7 +221,7 @@ module _ (task : Task) (fit : IsFit task) (stop : ℕ) (stops : stop_in (node_at
       }
 
   legs_next : (P Q : Leg → Type 0) (place : ℕ) (leg other : Leg) → slice_get legs place ≡ Some leg
-      → StandsBefore legs (place + 1) other → StandsBefore legs place other ⊎ (leg ≡ other)
+      → IsListed legs (place + 1) other → IsListed legs place other ⊎ (leg ≡ other)
   legs_next P Q place leg other at stands =
       elim (below_next stands.0 place stands.1) [
         | inl less ↦ inl (stands.0, less, stands.2)
@@ -236,13 +230,13 @@ module _ (task : Task) (fit : IsFit task) (stop : ℕ) (stops : stop_in (node_at
       ]
 
   pub legs_more :
-      (from : State) (settled : Settled) (runs : Leg → PartialRun) (Q : Leg → Type 0) (place : ℕ) (leg : Leg)
+      (from : State) (assigned : Assigned) (runs : Leg → PartialRun) (Q : Leg → Type 0) (place : ℕ) (leg : Leg)
       (old middle new : Found) →
-      slice_get legs place ≡ Some leg → TriesLegs task from settled runs (λ w. StandsBefore legs place w × Q w) old
+      slice_get legs place ≡ Some leg → TriesLegs task from assigned runs (λ w. IsListed legs place w × Q w) old
       middle →
-      TakesFrom task from settled (runs leg) leg middle new
-      → TriesLegs task from settled runs (λ w. StandsBefore legs (place + 1) w × Q w) old new
-  legs_more from settled runs Q place leg old middle new at before takes =
+      TakesFrom task from assigned (runs leg) leg middle new
+      → TriesLegs task from assigned runs (λ w. IsListed legs (place + 1) w × Q w) old new
+  legs_more from assigned runs Q place leg old middle new at before takes =
       record {
         grows = le_trans before.grows takes.grows;
         traced = traced_both task from old middle new before.grows takes.grows before.traced takes.traced;
@@ -250,18 +244,18 @@ module _ (task : Task) (fit : IsFit task) (stop : ℕ) (stops : stop_in (node_at
         most = λ known other is can moves completes. elim (legs_next Q Q place leg other at is.0) [
           | inl sooner ↦ le_trans (before.most known other (sooner, is.1) can moves completes) takes.grows
           | inr same ↦
-              subst (λ (w : Leg). can_take task (runs w) settled.used w.segment ≡ true → (moves : List Move)
-              → Completes task (partial (using settled w.segment) (along task (runs w) w.segment)) moves
-              → total_after task (partial (using settled w.segment) (along task (runs w) w.segment)) moves
+              subst (λ (w : Leg). can_take task (runs w) assigned.used w.segment ≡ true → (moves : List Move)
+              → Completes task (partial (using assigned w.segment) (along task (runs w) w.segment)) moves
+              → total_after task (partial (using assigned w.segment) (along task (runs w) w.segment)) moves
               ≤ new.amount) same (takes.most (before.known known)) can moves completes
         ];
       }
 
-  pub legs_skip : (from : State) (settled : Settled) (runs : Leg → PartialRun) (Q : Leg → Type 0) (place : ℕ)
+  pub legs_skip : (from : State) (assigned : Assigned) (runs : Leg → PartialRun) (Q : Leg → Type 0) (place : ℕ)
       (leg : Leg) (old middle : Found) → slice_get legs place ≡ Some leg → (Q leg → ⊥)
-      → TriesLegs task from settled runs (λ w. StandsBefore legs place w × Q w) old middle
-      → TriesLegs task from settled runs (λ w. StandsBefore legs (place + 1) w × Q w) old middle
-  legs_skip from settled runs Q place leg old middle at none before =
+      → TriesLegs task from assigned runs (λ w. IsListed legs place w × Q w) old middle
+      → TriesLegs task from assigned runs (λ w. IsListed legs (place + 1) w × Q w) old middle
+  legs_skip from assigned runs Q place leg old middle at none before =
       record {
         grows = before.grows;
         traced = before.traced;
@@ -272,8 +266,9 @@ module _ (task : Task) (fit : IsFit task) (stop : ℕ) (stops : stop_in (node_at
         ];
       }
 
-  stands_low : (place : ℕ) (leg : Leg) (most : ℕ) → slice_get legs place ≡ Some leg → length legs ≤ most → place < most
-  stands_low place leg most at all = omega (arith, slice_get_within legs place leg at, all)
+  place_within : (place : ℕ) (leg : Leg) (most : ℕ) → slice_get legs place ≡ Some leg → length legs ≤ most
+      → place < most
+  place_within place leg most at all = omega (arith, slice_get_within legs place leg at, all)
 
 -- any way
 abbrev pub AnyLeg : Leg → Type 0
@@ -283,18 +278,18 @@ AnyLeg leg = Unit {0}
 abbrev pub IsLater : PartialRun → Leg → Type 0
 IsLater run leg = run.first ≤ leg.first
 
-module _ (task : Task) (fit : IsFit task) (settled : Settled) (whole : length settled.used ≡ 279) where
-  -- on from where a run stands
+module _ (task : Task) (fit : IsFit task) (assigned : Assigned) (whole : length assigned.used ≡ 279) where
+  -- on from where a run is
   pub leads_go :
       (run : PartialRun) → (stops : stop_in (node_at task run.head) ≡ true) → ends_in (node_at task run.head) ≡ false
       → (legs : List Leg) →
       (are : AreLegsOf task run.head legs) → (place : ℕ) (leg : Leg) → slice_get legs place ≡ Some leg
-      → can_take task run settled.used leg.segment ≡ true →
-      Leads task (partial settled run) (partial (using settled leg.segment) (along task run leg.segment))
+      → can_take task run assigned.used leg.segment ≡ true →
+      Leads task (partial assigned run) (partial (using assigned leg.segment) (along task run leg.segment))
       (go_along leg.steps.items)
   leads_go run stops passes legs are place leg at can later completes =
-      let by : BySegments task fit run.head stops legs are settled run leg later =
-      by_segments task fit run.head stops legs are settled run leg
+      let by : BySegments task fit run.head stops legs are assigned run leg later =
+      by_segments task fit run.head stops legs are assigned run leg
       (among_at task fit run.head stops legs are place leg at) can later completes in
       record {
         moves = go leg.first by.segment ∷ by.moves;
@@ -305,25 +300,25 @@ module _ (task : Task) (fit : IsFit task) (settled : Settled) (whole : length se
 
   pub go_by_legs : (run : PartialRun) → (stops : stop_in (node_at task run.head) ≡ true) → (legs : List Leg)
       → (are : AreLegsOf task run.head legs) → (count : ℕ) (old new : Found) → length legs ≤ count
-      → TriesLegs task (partial settled run) settled (λ leg. run) (λ leg. StandsBefore legs count leg × AnyLeg leg)
-      old new → Tries task (partial settled run) (IsGo Any) old new
+      → TriesLegs task (partial assigned run) assigned (λ leg. run) (λ leg. IsListed legs count leg × AnyLeg leg)
+      old new → Tries task (partial assigned run) (IsGo Any) old new
   go_by_legs run stops legs are count old new all tries =
       record { grows = tries.grows; traced = tries.traced; known = tries.known; most = by_move }
     where
       by_move : AreInMemo task old → (move : Move) (moves : List Move) → IsGo Any move
-          → Completes task (partial settled run) (move ∷ moves)
-          → total_after task (partial settled run) (move ∷ moves) ≤ new.amount
+          → Completes task (partial assigned run) (move ∷ moves)
+          → total_after task (partial assigned run) (move ∷ moves) ≤ new.amount
       by_move known pass moves is completes = absurd is
       by_move known (begin there place segment) moves is completes = absurd is
       by_move known (go place segment) moves is completes =
           let may = completes.0 in
-          let by : ByLeg task fit run.head stops legs are settled run place segment moves =
-          by_leg task fit run.head stops legs are settled run whole place segment moves may.leads may.taken
+          let by : ByLeg task fit run.head stops legs are assigned run place segment moves =
+          by_leg task fit run.head stops legs are assigned run whole place segment moves may.leads may.taken
           completes.1 in
           let low = tries.most known by.leg (
             (
               by.place_of,
-              stands_low task fit run.head stops legs are by.place_of
+              place_within task fit run.head stops legs are by.place_of
                   by.leg count by.stands all,
               by.stands,
             ),
@@ -331,7 +326,7 @@ module _ (task : Task) (fit : IsFit task) (settled : Settled) (whole : length se
           ) by.can by.later by.completes in
           subst (λ (n : ℕ). n ≤ new.amount) (sym by.total) low
       by_move known (turn place segment) moves is completes = absurd is
-      by_move known settle moves is completes = absurd is
+      by_move known finish moves is completes = absurd is
 
   -- back from where it began
   pub leads_turn :
@@ -340,18 +335,19 @@ module _ (task : Task) (fit : IsFit task) (settled : Settled) (whole : length se
       ends_in (node_at task run.home) ≡ false → (legs : List Leg) → (are : AreLegsOf task run.home legs)
       → (place : ℕ) (leg : Leg) →
       slice_get legs place ≡ Some leg → IsLater run leg
-      → can_take task (turned_back run) settled.used leg.segment ≡ true → Leads task (partial settled run)
-      (partial (using settled leg.segment) (along task (turned_back run) leg.segment)) (Turn ∷ go_along leg.steps.items)
+      → can_take task (turned_back run) assigned.used leg.segment ≡ true → Leads task (partial assigned run)
+      (partial (using assigned leg.segment) (along task (turned_back run) leg.segment))
+      (Turn ∷ go_along leg.steps.items)
   leads_turn run stops once stands passes legs are place leg at after can later completes =
-      let by : BySegments task fit run.home stops legs are settled (turned_back run) leg later =
-      by_segments task fit run.home stops legs are settled (turned_back run) leg
+      let by : BySegments task fit run.home stops legs are assigned (turned_back run) leg later =
+      by_segments task fit run.home stops legs are assigned (turned_back run) leg
       (among_at task fit run.home stops legs are place leg at) can later completes in
       record {
         moves = turn leg.first by.segment ∷ by.moves;
         completes = (
           record {
             once = once;
-            stands = stands;
+            at_stop = stands;
             later = after;
             passes = passes;
             leads = by.leads;
@@ -366,27 +362,27 @@ module _ (task : Task) (fit : IsFit task) (settled : Settled) (whole : length se
 
   pub turn_by_legs : (run : PartialRun) → (stops : stop_in (node_at task run.home) ≡ true) → (legs : List Leg)
       → (are : AreLegsOf task run.home legs) → (count : ℕ) (old new : Found) → length legs ≤ count
-      → TriesLegs task (partial settled run) settled (λ leg. turned_back run)
-      (λ leg. StandsBefore legs count leg × IsLater run leg) old new
-      → Tries task (partial settled run) (IsTurn Any) old new
+      → TriesLegs task (partial assigned run) assigned (λ leg. turned_back run)
+      (λ leg. IsListed legs count leg × IsLater run leg) old new
+      → Tries task (partial assigned run) (IsTurn Any) old new
   turn_by_legs run stops legs are count old new all tries =
       record { grows = tries.grows; traced = tries.traced; known = tries.known; most = by_move }
     where
       by_move : AreInMemo task old → (move : Move) (moves : List Move) → IsTurn Any move
-          → Completes task (partial settled run) (move ∷ moves)
-          → total_after task (partial settled run) (move ∷ moves) ≤ new.amount
+          → Completes task (partial assigned run) (move ∷ moves)
+          → total_after task (partial assigned run) (move ∷ moves) ≤ new.amount
       by_move known pass moves is completes = absurd is
       by_move known (begin there place segment) moves is completes = absurd is
       by_move known (go place segment) moves is completes = absurd is
       by_move known (turn place segment) moves is completes =
           let may = completes.0 in
-          let by : ByLeg task fit run.home stops legs are settled (turned_back run) place segment moves =
-          by_leg task fit run.home stops legs are settled (turned_back run) whole place segment moves may.leads
+          let by : ByLeg task fit run.home stops legs are assigned (turned_back run) place segment moves =
+          by_leg task fit run.home stops legs are assigned (turned_back run) whole place segment moves may.leads
           may.taken completes.1 in
           let low = tries.most known by.leg (
             (
               by.place_of,
-              stands_low task fit run.home stops legs are by.place_of
+              place_within task fit run.home stops legs are by.place_of
                   by.leg count by.stands all,
               by.stands,
             ),
@@ -394,21 +390,21 @@ module _ (task : Task) (fit : IsFit task) (settled : Settled) (whole : length se
           ) by.can by.later
           by.completes in
           subst (λ (n : ℕ). n ≤ new.amount) (sym by.total) low
-      by_move known settle moves is completes = absurd is
+      by_move known finish moves is completes = absurd is
 
   -- from a token
   pub leads_begin :
       (there : ℕ) → (stops : stop_in (node_at task there) ≡ true) → own_in (node_at task there) ≡ true
-      → settled.next < length task.trains.items →
+      → assigned.next < length task.trains.items →
       (legs : List Leg) → (are : AreLegsOf task there legs) → (place : ℕ) (leg : Leg)
       → slice_get legs place ≡ Some leg →
-      can_take task (begun task settled there leg.first) settled.used leg.segment ≡ true
-      → Leads task (between settled) (partial (using settled leg.segment)
-      (along task (begun task settled there leg.first) leg.segment)) (go_along leg.steps.items)
+      can_take task (begun task assigned there leg.first) assigned.used leg.segment ≡ true
+      → Leads task (between assigned) (partial (using assigned leg.segment)
+      (along task (begun task assigned there leg.first) leg.segment)) (go_along leg.steps.items)
   leads_begin there stops token train legs are place leg at can later completes =
-      let run = begun task settled there leg.first in
-      let by : BySegments task fit there stops legs are settled run leg later =
-      by_segments task fit there stops legs are settled run leg
+      let run = begun task assigned there leg.first in
+      let by : BySegments task fit there stops legs are assigned run leg later =
+      by_segments task fit there stops legs are assigned run leg
       (among_at task fit there stops legs are place leg at) can later completes in
       record {
         moves = begin there leg.first by.segment ∷ by.moves;
@@ -422,31 +418,31 @@ module _ (task : Task) (fit : IsFit task) (settled : Settled) (whole : length se
 
   pub begin_by_legs : (there : ℕ) → (stops : stop_in (node_at task there) ≡ true) → (legs : List Leg)
       → (are : AreLegsOf task there legs) → (count : ℕ) (old new : Found) → length legs ≤ count
-      → TriesLegs task (between settled) settled (λ leg. begun task settled there leg.first)
-      (λ leg. StandsBefore legs count leg × AnyLeg leg) old new
-      → Tries task (between settled) (IsBeginAt there Any) old new
+      → TriesLegs task (between assigned) assigned (λ leg. begun task assigned there leg.first)
+      (λ leg. IsListed legs count leg × AnyLeg leg) old new
+      → Tries task (between assigned) (IsBeginAt there Any) old new
   begin_by_legs there stops legs are count old new all tries =
       record { grows = tries.grows; traced = tries.traced; known = tries.known; most = by_move }
     where
       from_there : AreInMemo task old → (place : ℕ) (segment : Segment) (moves : List Move)
-          → LeadsFrom task there place segment → can_take task (begun task settled there place) settled.used segment
-          ≡ true → Completes task (partial (using settled segment)
-          (along task (begun task settled there place) segment)) moves
-          → total_after task (partial (using settled segment) (along task (begun task settled there place) segment))
+          → LeadsFrom task there place segment → can_take task (begun task assigned there place) assigned.used segment
+          ≡ true → Completes task (partial (using assigned segment)
+          (along task (begun task assigned there place) segment)) moves
+          → total_after task (partial (using assigned segment) (along task (begun task assigned there place) segment))
           moves ≤ new.amount
       from_there known place segment moves leads can completes =
-          let run = begun task settled there place in
-          let by : ByLeg task fit there stops legs are settled run place segment moves =
-          by_leg task fit there stops legs are settled run whole place segment moves leads can completes in
-          let IsLow : ℕ → Type 0 = λ first. can_take task (begun task settled there first) settled.used by.leg.segment
-          ≡ true → Completes task (partial (using settled by.leg.segment)
-          (along task (begun task settled there first) by.leg.segment)) by.later
-          → total_after task (partial (using settled by.leg.segment)
-          (along task (begun task settled there first) by.leg.segment)) by.later ≤ new.amount in
+          let run = begun task assigned there place in
+          let by : ByLeg task fit there stops legs are assigned run place segment moves =
+          by_leg task fit there stops legs are assigned run whole place segment moves leads can completes in
+          let IsLow : ℕ → Type 0 = λ first. can_take task (begun task assigned there first) assigned.used by.leg.segment
+          ≡ true → Completes task (partial (using assigned by.leg.segment)
+          (along task (begun task assigned there first) by.leg.segment)) by.later
+          → total_after task (partial (using assigned by.leg.segment)
+          (along task (begun task assigned there first) by.leg.segment)) by.later ≤ new.amount in
           let low : IsLow by.leg.first = λ taken ends. tries.most known by.leg (
             (
               by.place_of,
-              stands_low task fit there stops legs are by.place_of by.leg count by.stands all,
+              place_within task fit there stops legs are by.place_of by.leg count by.stands all,
               by.stands,
             ),
             tt,
@@ -455,19 +451,19 @@ module _ (task : Task) (fit : IsFit task) (settled : Settled) (whole : length se
           subst (λ (n : ℕ). n ≤ new.amount) (sym by.total) (here by.can by.completes)
 
       by_move : AreInMemo task old → (move : Move) (moves : List Move) → IsBeginAt there Any move
-          → Completes task (between settled) (move ∷ moves)
-          → total_after task (between settled) (move ∷ moves) ≤ new.amount
+          → Completes task (between assigned) (move ∷ moves)
+          → total_after task (between assigned) (move ∷ moves) ≤ new.amount
       by_move known pass moves is completes = absurd is
       by_move known (begin stop place segment) moves is completes =
           let may = completes.0 in
           let At : ℕ → Type 0 = λ n. LeadsFrom task n place segment
-          → can_take task (begun task settled n place) settled.used segment ≡ true
-          → Completes task (partial (using settled segment) (along task (begun task settled n place) segment))
-          moves → total_after task (partial (using settled segment)
-          (along task (begun task settled n place) segment)) moves ≤ new.amount in
+          → can_take task (begun task assigned n place) assigned.used segment ≡ true
+          → Completes task (partial (using assigned segment) (along task (begun task assigned n place) segment))
+          moves → total_after task (partial (using assigned segment)
+          (along task (begun task assigned n place) segment)) moves ≤ new.amount in
           let here : At stop = subst At (sym is.0) (λ leads can ends. from_there known place segment moves leads can
           ends) in
           here may.leads may.taken completes.1
       by_move known (go place segment) moves is completes = absurd is
       by_move known (turn place segment) moves is completes = absurd is
-      by_move known settle moves is completes = absurd is
+      by_move known finish moves is completes = absurd is

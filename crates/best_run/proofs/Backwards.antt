@@ -1,20 +1,22 @@
 -- A walk from its other end: each step is taken the other way over its link, the last one first. It visits the same
 -- stops, crosses the same borders and passes the same stops.
-use Rattle.std.proofs.Common.{◌≡◌, ◌↔◌, ℕ, ◌+◌, true, ◌⊎◌, inl, inr, Option, Some, None, IfSome, List, [], ◌∷◌, ◌++◌, length, refl, sym, ap, subst, ◌∙◌, arith}
+use Rattle.std.proofs.Common.{◌≡◌, ◌↔◌, ℕ, ◌+◌, true, ◌⊎◌, inl, inr, Option, Some, None, IfSome, List, [], ◌∷◌, ◌++◌}
+use Rattle.std.proofs.Common.{length, refl, sym, ap, subst, ◌∙◌, arith}
 use Rattle.map_tables.specs.declared.hex.Hex.{Hex}
 use Rattle.map_tables.specs.declared.place.Stop.{Stop}
 use Rattle.map_tables.specs.declared.track.End.{End}
 use Rattle.map_tables.specs.declared.track.End.TheVariants.{Side as AtSide, Stop as AtStop}
 use Rattle.reach.specs.Lawful.{IsLawful}
 use Rattle.reach.specs.Position.{Position, IsAmong, IsFull, is_red}
-use Rattle.reach.specs.Walk.{AreJoined, BeginsAt, GoesOn, IsWalk, PassesBy, PassesOnly, begins_at, entered_at, left_at, stop_at_end, stop_of}
+use Rattle.reach.specs.Walk.{AreJoined, BeginsAt, GoesOn, IsWalk, PassesBy, PassesOnly, begins_at, entered_at, left_at}
+use Rattle.reach.specs.Walk.{stop_at_end, stop_of}
 use Rattle.reach.specs.declared.walk.Spot.{Spot}
 use Rattle.reach.specs.declared.walk.Step.{Step}
 use Rattle.reach.proofs.Spots.{back}
 use Rattle.tables.specs.declared.roster.Company.{Company}
-use Rattle.certificate.specs.Legal.{AreDistinct, EndsAtStop, border_at, crossed, first_stop, listed, visited, worth}
-use Rattle.certificate.proofs.RunReached.{flip_enters, flip_leaves, flipped}
-use Rattle.certificate.proofs.TwoTrain.{one_border, returning}
+use Rattle.legal_runs.specs.Legal.{AreDistinct, EndsAtStop, border_at, crossed, first_stop, listed, visited, worth}
+use Rattle.legal_runs.proofs.RunReached.{flip_enters, flip_leaves, flipped}
+use Rattle.legal_runs.proofs.TwoTrain.{one_border, returning}
 use Rattle.best_run.proofs.Prefix.{Holds, onto}
 
 -- things of a list, one by one before others

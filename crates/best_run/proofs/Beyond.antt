@@ -1,13 +1,16 @@
 -- What the stops ahead are worth beyond a level: where one more lies ahead, and where fewer do.
-use Rattle.std.proofs.Common.{◌≡◌, ℕ, zero, suc, ◌+◌, ◌-◌, ◌*◌, ◌<◌, ◌≤◌, max, Bool, true, false, Some, List, [], ◌∷◌, length, get_or, set, slice_get, replicate, refl, sym, ap, subst, ◌∙◌, arith}
-use Rattle.best_run.specs.declared.task.Node.{Node}
-use Rattle.best_run.specs.declared.task.Task.{Task}
+use Rattle.std.proofs.Common.{◌≡◌, ℕ, zero, suc, ◌+◌, ◌-◌, ◌*◌, ◌<◌, ◌≤◌, max, Bool, true, false, Some, List, [], ◌∷◌}
+use Rattle.std.proofs.Common.{length, get_or, set, slice_get, replicate, refl, sym, ap, subst, ◌∙◌, arith}
+use Rattle.search_task.specs.declared.task.Node.{Node}
+use Rattle.search_task.specs.declared.task.Task.{Task}
 use Rattle.best_run.specs.declared.state.PartialRun.{PartialRun}
 use Rattle.best_run.specs.declared.worth.Worth.{Worth}
-use Rattle.best_run.specs.Ahead.{HasPassed, HasRanked, IsLeast, IsWorth, beyond, ends_by, goes_back, goes_on, if_ending, if_passed, most_ahead, one_end, two_ends}
-use Rattle.best_run.specs.Fit.{IsFit}
-use Rattle.best_run.specs.Moves.{ends_in, value_in}
-use Rattle.best_run.proofs.Places.{node_is}
+use Rattle.best_run.specs.Ahead.{HasPassed, HasRanked, IsLeast, IsWorth, beyond, ends_by, goes_back, goes_on, if_ending}
+use Rattle.best_run.specs.Ahead.{if_passed, most_ahead, one_end, two_ends}
+use Rattle.search_task.specs.Fit.{IsFit}
+use Rattle.search_task.specs.Spots.{ends_in, value_in}
+use Rattle.search_task.proofs.Places.{node_is}
+use Rattle.search_task.proofs.Booleans.{not_both}
 
 -- a spot is worth at most 80 dollars
 pub worth_low : (task : Task) → IsFit task → (spot : ℕ) (node : Node) → spot < 744
@@ -24,10 +27,6 @@ ends level node = if_ending node.ends (node.value - level)
 pub same_node : (first node : Node) → Some first ≡ Some node → first ≡ node
 same_node first node at = cc
 
-pub not_free : (b : Bool) → b ≡ true → b ≡ false → ⊥
-not_free true is free = let wrong : true ≡ false = free in cc
-not_free false is free = let wrong : false ≡ true = is in cc
-
 -- one stop more lies ahead
 beyond_more : (level : ℕ) (nodes : List Node) (ahead : List Bool) (n : ℕ) (node : Node)
     → slice_get nodes n ≡ Some node → get_or ahead n false ≡ false → n < length ahead
@@ -35,7 +34,7 @@ beyond_more : (level : ℕ) (nodes : List Node) (ahead : List Bool) (n : ℕ) (n
 beyond_more level [] ahead zero node at free low = absurd cc
 beyond_more level [] ahead (suc n) node at free low = absurd cc
 beyond_more level (first ∷ nodes) [] n node at free low = absurd (omega arith)
-beyond_more level (first ∷ nodes) (true ∷ ahead) zero node at free low = absurd (not_free true refl free)
+beyond_more level (first ∷ nodes) (true ∷ ahead) zero node at free low = absurd (not_both true refl free)
 beyond_more level (first ∷ nodes) (false ∷ ahead) zero node at free low =
     ap (λ (x : Node). passes level x + beyond level nodes ahead) (same_node first node at)
 beyond_more level (first ∷ nodes) (true ∷ ahead) (suc n) node at free low =
@@ -210,41 +209,30 @@ Within (mark ∷ marks) [] = ⊥
 Within (mark ∷ marks) (other ∷ others) = (mark ≡ true → other ≡ true) × Within marks others
 
 -- where fewer stops lie ahead, they are worth no more
-pub beyond_less : (level : ℕ) (nodes : List Node) (marks others : List Bool) → Within marks others
-    → beyond level nodes marks ≤ beyond level nodes others
-beyond_less level [] marks others within = omega arith
-beyond_less level (node ∷ nodes) [] others within = omega arith
-beyond_less level (node ∷ nodes) (mark ∷ marks) [] within = absurd within
-beyond_less level (node ∷ nodes) (true ∷ marks) (true ∷ others) within =
-    omega (arith, beyond_less level nodes marks others within.1)
-beyond_less level (node ∷ nodes) (true ∷ marks) (false ∷ others) within = absurd (not_free false (within.0 refl) refl)
-beyond_less level (node ∷ nodes) (false ∷ marks) (true ∷ others) within =
-    omega (arith, beyond_less level nodes marks others within.1)
-beyond_less level (node ∷ nodes) (false ∷ marks) (false ∷ others) within = beyond_less level nodes marks others within.1
+pub record IsLess (level : ℕ) (nodes : List Node) (marks others : List Bool) : Type 0 where
+  pub passed : beyond level nodes marks ≤ beyond level nodes others
+  pub one : one_end level nodes marks ≤ one_end level nodes others
+  pub two : two_ends level nodes marks ≤ two_ends level nodes others
 
-pub one_less : (level : ℕ) (nodes : List Node) (marks others : List Bool) → Within marks others
-    → one_end level nodes marks ≤ one_end level nodes others
-one_less level [] marks others within = omega arith
-one_less level (node ∷ nodes) [] others within = omega arith
-one_less level (node ∷ nodes) (mark ∷ marks) [] within = absurd within
-one_less level (node ∷ nodes) (true ∷ marks) (true ∷ others) within =
-    omega (arith, one_less level nodes marks others within.1)
-one_less level (node ∷ nodes) (true ∷ marks) (false ∷ others) within = absurd (not_free false (within.0 refl) refl)
-one_less level (node ∷ nodes) (false ∷ marks) (true ∷ others) within =
-    omega (arith, one_less level nodes marks others within.1)
-one_less level (node ∷ nodes) (false ∷ marks) (false ∷ others) within = one_less level nodes marks others within.1
-
-pub two_less : (level : ℕ) (nodes : List Node) (marks others : List Bool) → Within marks others
-    → two_ends level nodes marks ≤ two_ends level nodes others
-two_less level [] marks others within = omega arith
-two_less level (node ∷ nodes) [] others within = omega arith
-two_less level (node ∷ nodes) (mark ∷ marks) [] within = absurd within
-two_less level (node ∷ nodes) (true ∷ marks) (true ∷ others) within =
-    omega (arith, two_less level nodes marks others within.1, one_less level nodes marks others within.1)
-two_less level (node ∷ nodes) (true ∷ marks) (false ∷ others) within = absurd (not_free false (within.0 refl) refl)
-two_less level (node ∷ nodes) (false ∷ marks) (true ∷ others) within =
-    omega (arith, two_less level nodes marks others within.1)
-two_less level (node ∷ nodes) (false ∷ marks) (false ∷ others) within = two_less level nodes marks others within.1
+pub worth_less : (level : ℕ) (nodes : List Node) (marks others : List Bool) → Within marks others
+    → IsLess level nodes marks others
+worth_less level [] marks others within = record { passed = omega arith; one = omega arith; two = omega arith }
+worth_less level (node ∷ nodes) [] others within = record { passed = omega arith; one = omega arith; two = omega arith }
+worth_less level (node ∷ nodes) (mark ∷ marks) [] within = absurd within
+worth_less level (node ∷ nodes) (true ∷ marks) (true ∷ others) within =
+    let rest = worth_less level nodes marks others within.1 in
+    record {
+      passed = omega (arith, rest.passed);
+      one = omega (arith, rest.one);
+      two = omega (arith, rest.two, rest.one);
+    }
+worth_less level (node ∷ nodes) (true ∷ marks) (false ∷ others) within = absurd (not_both false (within.0 refl) refl)
+worth_less level (node ∷ nodes) (false ∷ marks) (true ∷ others) within =
+    let rest = worth_less level nodes marks others within.1 in
+    record { passed = omega (arith, rest.passed); one = omega (arith, rest.one); two = omega (arith, rest.two) }
+worth_less level (node ∷ nodes) (false ∷ marks) (false ∷ others) within =
+    let rest = worth_less level nodes marks others within.1 in
+    record { passed = rest.passed; one = rest.one; two = rest.two }
 
 -- one is worth no more than two
 pub one_two : (level : ℕ) (nodes : List Node) (ahead : List Bool)
@@ -257,7 +245,7 @@ one_two level (node ∷ nodes) (false ∷ ahead) = one_two level nodes ahead
 -- a stop ahead lies ahead no more
 pub unset_within : (marks : List Bool) (n : ℕ) → Within (set marks n false) marks
 unset_within [] n = tt
-unset_within (mark ∷ marks) zero = ((λ wrong. absurd (not_free false wrong refl)), same_within marks)
+unset_within (mark ∷ marks) zero = ((λ wrong. absurd (not_both false wrong refl)), same_within marks)
   where
     same_within : (marks : List Bool) → Within marks marks
     same_within [] = tt
@@ -269,9 +257,9 @@ pub beyond_spent : (level : ℕ) (nodes : List Node) (marks : List Bool) (n : �
     + beyond level nodes (set marks n false) ≤ beyond level nodes marks
 beyond_spent level [] marks zero is = omega arith
 beyond_spent level [] marks (suc n) is = omega arith
-beyond_spent level (node ∷ nodes) [] n is = absurd (not_free false is refl)
+beyond_spent level (node ∷ nodes) [] n is = absurd (not_both false is refl)
 beyond_spent level (node ∷ nodes) (true ∷ marks) zero is = omega arith
-beyond_spent level (node ∷ nodes) (false ∷ marks) zero is = absurd (not_free false is refl)
+beyond_spent level (node ∷ nodes) (false ∷ marks) zero is = absurd (not_both false is refl)
 beyond_spent level (node ∷ nodes) (true ∷ marks) (suc n) is = omega (arith, beyond_spent level nodes marks n is)
 beyond_spent level (node ∷ nodes) (false ∷ marks) (suc n) is = beyond_spent level nodes marks n is
 
@@ -279,9 +267,9 @@ pub one_spent : (level : ℕ) (nodes : List Node) (marks : List Bool) (n : ℕ) 
     → if_ending (ends_in (slice_get nodes n)) (value_in (slice_get nodes n) - level) ≤ one_end level nodes marks
 one_spent level [] marks zero is = omega arith
 one_spent level [] marks (suc n) is = omega arith
-one_spent level (node ∷ nodes) [] n is = absurd (not_free false is refl)
+one_spent level (node ∷ nodes) [] n is = absurd (not_both false is refl)
 one_spent level (node ∷ nodes) (true ∷ marks) zero is = omega arith
-one_spent level (node ∷ nodes) (false ∷ marks) zero is = absurd (not_free false is refl)
+one_spent level (node ∷ nodes) (false ∷ marks) zero is = absurd (not_both false is refl)
 one_spent level (node ∷ nodes) (true ∷ marks) (suc n) is = omega (arith, one_spent level nodes marks n is)
 one_spent level (node ∷ nodes) (false ∷ marks) (suc n) is = one_spent level nodes marks n is
 
@@ -290,9 +278,9 @@ pub two_spent : (level : ℕ) (nodes : List Node) (marks : List Bool) (n : ℕ) 
     + one_end level nodes (set marks n false) ≤ two_ends level nodes marks
 two_spent level [] marks zero is = omega arith
 two_spent level [] marks (suc n) is = omega arith
-two_spent level (node ∷ nodes) [] n is = absurd (not_free false is refl)
+two_spent level (node ∷ nodes) [] n is = absurd (not_both false is refl)
 two_spent level (node ∷ nodes) (true ∷ marks) zero is = omega arith
-two_spent level (node ∷ nodes) (false ∷ marks) zero is = absurd (not_free false is refl)
+two_spent level (node ∷ nodes) (false ∷ marks) zero is = absurd (not_both false is refl)
 two_spent level (node ∷ nodes) (true ∷ marks) (suc n) is =
     omega (arith, two_spent level nodes marks n is, one_spent level nodes marks n is)
 two_spent level (node ∷ nodes) (false ∷ marks) (suc n) is = two_spent level nodes marks n is

@@ -1,52 +1,30 @@
 -- A run that has left a stop by a piece comes, over sides, to the next stop: what it may do until then is a way. So a way
 -- at once leads to the same state as its pieces one by one.
-use Rattle.std.proofs.Common.{◌≡◌, ℕ, zero, suc, ◌+◌, ◌<◌, ◌≤◌, Bool, true, false, not, ◌&&◌, nat_lt, ◌⊎◌, inl, inr, List, [], ◌∷◌, ◌++◌, length, get_or, set, refl, sym, ap, subst, ◌∙◌, arith, length-set}
+use Rattle.std.proofs.Common.{◌≡◌, ℕ, zero, suc, ◌+◌, ◌<◌, ◌≤◌, Bool, true, false, not, ◌&&◌, nat_lt, ◌⊎◌, inl, inr}
+use Rattle.std.proofs.Common.{List, [], ◌∷◌, ◌++◌, length, get_or, set, refl, sym, ap, subst, ◌∙◌, arith, length-set}
 use Rattle.reach.proofs.Marking.{set_cases}
-use Rattle.certificate.proofs.Marks.{among_both}
-use Rattle.best_run.specs.declared.task.Segment.{Segment}
-use Rattle.best_run.specs.declared.task.Task.{Task}
-use Rattle.best_run.specs.declared.state.Settled.{Settled}
+use Rattle.legal_runs.proofs.Marks.{among_both}
+use Rattle.search_task.specs.declared.task.Segment.{Segment}
+use Rattle.search_task.specs.declared.task.Task.{Task}
+use Rattle.best_run.specs.declared.state.Assigned.{Assigned}
 use Rattle.best_run.specs.declared.state.PartialRun.{PartialRun}
 use Rattle.best_run.specs.declared.move_path.Mark.{Mark}
 use Rattle.best_run.specs.declared.move_path.Mark.TheVariants.{Go}
 use Rattle.best_run.specs.MovePath.{go_along}
-use Rattle.best_run.specs.Fit.{BordersFit, IsFit}
-use Rattle.best_run.specs.Moves.{Completes, LeadsFrom, Move, along, begin, can_take, ends_in, go, left_after, marked_all, marked_if, marks_of, may_come, may_earn, misses, node_at, pass, settle, partial, stop_in, total_after, turn, using, value_in}
-use Rattle.best_run.specs.Legs.{AreFree, Hop, LeadsTo, borders_by, none_used, steps_by}
-use Rattle.best_run.specs.Marks.{IsMarked}
-use Rattle.best_run.proofs.Advance.{free_misses, misses_free}
-use Rattle.best_run.proofs.Eased.{freer_all, freer_marked}
-use Rattle.best_run.specs.Kept.{Freer}
-use Rattle.best_run.proofs.Few.{length_replicate}
-use Rattle.best_run.proofs.Marks.{length_marked}
-use Rattle.best_run.proofs.Places.{leading_fits, side_value, take_free}
-
-both_first : (a b : Bool) → (a && b) ≡ true → a ≡ true
-both_first true b is = refl
-both_first false b is = absurd cc
-
-both_are : (a b : Bool) → a ≡ true → b ≡ true → (a && b) ≡ true
-both_are true b first second = second
-both_are false b first second = absurd cc
-
-pub marked_append : (used : List Bool) (xs ys : List ℕ)
-    → marked_all (marked_all used xs) ys ≡ marked_all used (xs ++ ys)
-marked_append used [] ys = refl
-marked_append used (x ∷ xs) ys = marked_append (set used x true) xs ys
-
--- what is marked stays so
-set_stays : (marks : List Bool) (n m : ℕ) → IsMarked marks m → IsMarked (set marks n true) m
-set_stays [] n m is = is
-set_stays (mark ∷ marks) zero zero is = refl
-set_stays (mark ∷ marks) zero (suc m) is = is
-set_stays (mark ∷ marks) (suc n) zero is = is
-set_stays (mark ∷ marks) (suc n) (suc m) is = set_stays marks n m is
-
-pub marked_stays : (marks : List Bool) (borders : List ℕ) (m : ℕ) → IsMarked marks m
-    → IsMarked (marked_all marks borders) m
-marked_stays marks [] m is = is
-marked_stays marks (border ∷ borders) m is = marked_stays (set marks border true) borders m
-    (set_stays marks border m is)
+use Rattle.search_task.specs.Fit.{BordersFit, IsFit}
+use Rattle.best_run.specs.Moves.{Completes, Move, along, begin, can_take, go, left_after, marked_if, marks_of, may_come}
+use Rattle.best_run.specs.Moves.{may_earn, partial, pass, finish, total_after, turn, using}
+use Rattle.search_task.specs.Spots.{LeadsFrom, ends_in, node_at, stop_in, value_in}
+use Rattle.search_task.specs.Crossed.{marked_all, misses}
+use Rattle.search_task.specs.Legs.{AreFree, Hop, LeadsTo, borders_by, none_used, steps_by}
+use Rattle.search_task.specs.Marks.{Freer, IsMarked}
+use Rattle.search_task.proofs.Marked.{free_misses, freer_marked, length_replicate, marked_append, marked_stays}
+use Rattle.search_task.proofs.Marked.{misses_free, set_stays}
+use Rattle.best_run.proofs.Eased.{freer_all}
+use Rattle.search_task.proofs.Marks.{length_marked}
+use Rattle.search_task.proofs.Places.{leading_fits, side_value}
+use Rattle.best_run.proofs.Places.{take_free}
+use Rattle.search_task.proofs.Booleans.{both_are, both_first}
 
 -- what some pieces cross is free where they are
 pub free_all : (segment : Segment) (hops : List Hop) (used : List Bool) → AreFree used segment hops
@@ -159,9 +137,9 @@ fits_by task fit segment (hop ∷ hops) to fits leads =
     fits_both segment.borders.items (borders_by hop.segment hops) fits
     (fits_by task fit hop.segment hops to next.1.borders leads.2)
 
--- some borders are used, and a run has come to a stop
-abbrev pub over : Settled → List ℕ → Settled
-over settled borders = record settled { used = marked_all settled.used borders }
+-- some borders are used, and a run has reached a stop
+abbrev pub over : Assigned → List ℕ → Assigned
+over assigned borders = record assigned { used = marked_all assigned.used borders }
 
 abbrev pub arrived : Task → PartialRun → ℕ → PartialRun
 arrived task run to =
@@ -206,30 +184,30 @@ module _ (task : Task) (fit : IsFit task) where
       ∙ ap (λ (m : List Bool). nat_lt 0 run.left && not (get_or m to false)) three
 
   -- what comes after a piece begins with a way
-  pub record Chunk (settled : Settled) (run : PartialRun) (segment : Segment) (moves : List Move) : Type 0 where
+  pub record Chunk (assigned : Assigned) (run : PartialRun) (segment : Segment) (moves : List Move) : Type 0 where
     pub hops : List Hop
     pub to : ℕ
     pub later : List Move
     pub shorter : length later ≤ length moves
     pub leads : LeadsTo task segment hops to
-    pub free : AreFree settled.used segment hops
+    pub free : AreFree assigned.used segment hops
     pub come : may_come true run to ≡ true
-    pub completes : Completes task (partial (over settled (borders_by segment hops)) (arrived task run to)) later
-    pub total : total_after task (partial (using settled segment) (along task run segment)) moves
-        ≡ total_after task (partial (over settled (borders_by segment hops)) (arrived task run to)) later
+    pub completes : Completes task (partial (over assigned (borders_by segment hops)) (arrived task run to)) later
+    pub total : total_after task (partial (using assigned segment) (along task run segment)) moves
+        ≡ total_after task (partial (over assigned (borders_by segment hops)) (arrived task run to)) later
 
-  chunk_more : (settled : Settled) (run : PartialRun) (segment next : Segment) (place : ℕ) (moves : List Move)
+  chunk_more : (assigned : Assigned) (run : PartialRun) (segment next : Segment) (place : ℕ) (moves : List Move)
       → stop_in (node_at task segment.to) ≡ false → ends_in (node_at task segment.to) ≡ false
-      → LeadsFrom task segment.to place next → misses settled.used segment.borders.items ≡ true
-      → Chunk (using settled segment) (along task run segment) next moves
-      → Chunk settled run segment (go place next ∷ moves)
-  chunk_more settled run segment next place moves side passes leads free rest =
-      let same : partial (over (using settled segment) (borders_by next rest.hops))
+      → LeadsFrom task segment.to place next → misses assigned.used segment.borders.items ≡ true
+      → Chunk (using assigned segment) (along task run segment) next moves
+      → Chunk assigned run segment (go place next ∷ moves)
+  chunk_more assigned run segment next place moves side passes leads free rest =
+      let same : partial (over (using assigned segment) (borders_by next rest.hops))
       (arrived task (along task run segment) rest.to)
-      ≡ partial (over settled (segment.borders.items ++ borders_by next rest.hops)) (arrived task run rest.to) =
-      ap (λ (u : List Bool). partial (record settled { used = u }) (arrived task (along task run segment) rest.to))
-      (marked_append settled.used segment.borders.items (borders_by next rest.hops))
-      ∙ ap (λ (r : PartialRun). partial (over settled (segment.borders.items ++ borders_by next rest.hops)) r)
+      ≡ partial (over assigned (segment.borders.items ++ borders_by next rest.hops)) (arrived task run rest.to) =
+      ap (λ (u : List Bool). partial (record assigned { used = u }) (arrived task (along task run segment) rest.to))
+      (marked_append assigned.used segment.borders.items (borders_by next rest.hops))
+      ∙ ap (λ (r : PartialRun). partial (over assigned (segment.borders.items ++ borders_by next rest.hops)) r)
       (arrived_by run segment rest.to side)
       in
       record {
@@ -244,83 +222,83 @@ module _ (task : Task) (fit : IsFit task) where
         total = rest.total ∙ ap (λ s. total_after task s rest.later) same;
       }
 
-  pub chunk_of : (moves : List Move) (settled : Settled) (run : PartialRun) (segment : Segment) (stop : Bool)
-      → stop_in (node_at task segment.to) ≡ stop → can_take task run settled.used segment ≡ true
-      → Completes task (partial (using settled segment) (along task run segment)) moves
-      → Chunk settled run segment moves
-  chunk_of moves settled run segment true is can completes =
+  pub chunk_of : (moves : List Move) (assigned : Assigned) (run : PartialRun) (segment : Segment) (stop : Bool)
+      → stop_in (node_at task segment.to) ≡ stop → can_take task run assigned.used segment ≡ true
+      → Completes task (partial (using assigned segment) (along task run segment)) moves
+      → Chunk assigned run segment moves
+  chunk_of moves assigned run segment true is can completes =
       record {
         hops = [];
         to = segment.to;
         later = moves;
         shorter = omega arith;
         leads = (is, refl);
-        free = take_free task run settled.used segment can;
+        free = take_free task run assigned.used segment can;
         come = sym (ap (λ b. may_come b run segment.to) is)
             ∙ both_first (may_come (stop_in (node_at task segment.to)) run segment.to)
-            (misses settled.used segment.borders.items) can;
+            (misses assigned.used segment.borders.items) can;
         completes = completes;
         total = refl;
       }
-  chunk_of [] settled run segment false is can completes = absurd completes
-  chunk_of (pass ∷ moves) settled run segment false is can completes = absurd completes.0
-  chunk_of (begin stop place next ∷ moves) settled run segment false is can completes = absurd completes.0
-  chunk_of (go place next ∷ moves) settled run segment false is can completes =
+  chunk_of [] assigned run segment false is can completes = absurd completes
+  chunk_of (pass ∷ moves) assigned run segment false is can completes = absurd completes.0
+  chunk_of (begin stop place next ∷ moves) assigned run segment false is can completes = absurd completes.0
+  chunk_of (go place next ∷ moves) assigned run segment false is can completes =
       let may = completes.0 in
-      chunk_more settled run segment next place moves is may.passes may.leads
-      (take_free task run settled.used segment can)
-      (chunk_of moves (using settled segment) (along task run segment) next (stop_in (node_at task next.to)) refl
+      chunk_more assigned run segment next place moves is may.passes may.leads
+      (take_free task run assigned.used segment can)
+      (chunk_of moves (using assigned segment) (along task run segment) next (stop_in (node_at task next.to)) refl
       may.taken completes.1)
-  chunk_of (turn place next ∷ moves) settled run segment false is can completes =
-      absurd (let wrong : false ≡ true = sym is ∙ completes.0.stands in cc)
-  chunk_of (settle ∷ moves) settled run segment false is can completes =
+  chunk_of (turn place next ∷ moves) assigned run segment false is can completes =
+      absurd (let wrong : false ≡ true = sym is ∙ completes.0.at_stop in cc)
+  chunk_of (finish ∷ moves) assigned run segment false is can completes =
       absurd (let wrong : false ≡ true = sym is ∙ both_first (stop_in (node_at task segment.to))
-      (may_earn settled.kind settled.cap (along task run segment).most (along task run segment).value)
+      (may_earn assigned.kind assigned.cap (along task run segment).most (along task run segment).value)
       completes.0 in cc)
 
   -- whatever comes after a way comes after its pieces
-  pub record Back (settled : Settled) (run : PartialRun) (segment : Segment) (hops : List Hop) (to : ℕ)
+  pub record Back (assigned : Assigned) (run : PartialRun) (segment : Segment) (hops : List Hop) (to : ℕ)
       (later : List Move) : Type 0 where
-    pub can : can_take task run settled.used segment ≡ true
+    pub can : can_take task run assigned.used segment ≡ true
     pub moves : List Move
-    pub completes : Completes task (partial (using settled segment) (along task run segment)) moves
-    pub total : total_after task (partial (using settled segment) (along task run segment)) moves
-        ≡ total_after task (partial (over settled (borders_by segment hops)) (arrived task run to)) later
+    pub completes : Completes task (partial (using assigned segment) (along task run segment)) moves
+    pub total : total_after task (partial (using assigned segment) (along task run segment)) moves
+        ≡ total_after task (partial (over assigned (borders_by segment hops)) (arrived task run to)) later
     pub marks_are : Go segment.step ∷ marks_of moves ≡ go_along (steps_by segment hops) ++ marks_of later
 
-  pub chunk_back : (hops : List Hop) (settled : Settled) (run : PartialRun) (segment : Segment) (to : ℕ)
-      (later : List Move) → LeadsTo task segment hops to → AreFree settled.used segment hops
+  pub chunk_back : (hops : List Hop) (assigned : Assigned) (run : PartialRun) (segment : Segment) (to : ℕ)
+      (later : List Move) → LeadsTo task segment hops to → AreFree assigned.used segment hops
       → may_come true run to ≡ true → Completes task
-      (partial (over settled (borders_by segment hops)) (arrived task run to)) later
-      → Back settled run segment hops to later
-  chunk_back [] settled run segment to later leads free come completes =
+      (partial (over assigned (borders_by segment hops)) (arrived task run to)) later
+      → Back assigned run segment hops to later
+  chunk_back [] assigned run segment to later leads free come completes =
       let same : to ≡ segment.to = sym leads.1 in
       record {
         can = both_are (may_come (stop_in (node_at task segment.to)) run segment.to)
-            (misses settled.used segment.borders.items)
+            (misses assigned.used segment.borders.items)
             (ap (λ b. may_come b run segment.to) leads.0 ∙ (ap (λ (n : ℕ). may_come true run n) leads.1 ∙ come)) free;
         moves = later;
-        completes = subst (λ (n : ℕ). Completes task (partial (using settled segment) (arrived task run n)) later)
+        completes = subst (λ (n : ℕ). Completes task (partial (using assigned segment) (arrived task run n)) later)
             same completes;
-        total = ap (λ (n : ℕ). total_after task (partial (using settled segment) (arrived task run n)) later) leads.1;
+        total = ap (λ (n : ℕ). total_after task (partial (using assigned segment) (arrived task run n)) later) leads.1;
         marks_are = refl;
       }
-  chunk_back (hop ∷ hops) settled run segment to later leads free come completes =
+  chunk_back (hop ∷ hops) assigned run segment to later leads free come completes =
       let side = leads.0.0 in
-      let same : partial (over (using settled segment) (borders_by hop.segment hops))
+      let same : partial (over (using assigned segment) (borders_by hop.segment hops))
       (arrived task (along task run segment) to) ≡ partial
-      (over settled (segment.borders.items ++ borders_by hop.segment hops)) (arrived task run to) =
-      ap (λ (u : List Bool). partial (record settled { used = u }) (arrived task (along task run segment) to))
-      (marked_append settled.used segment.borders.items (borders_by hop.segment hops))
-      ∙ ap (λ (r : PartialRun). partial (over settled (segment.borders.items ++ borders_by hop.segment hops)) r)
+      (over assigned (segment.borders.items ++ borders_by hop.segment hops)) (arrived task run to) =
+      ap (λ (u : List Bool). partial (record assigned { used = u }) (arrived task (along task run segment) to))
+      (marked_append assigned.used segment.borders.items (borders_by hop.segment hops))
+      ∙ ap (λ (r : PartialRun). partial (over assigned (segment.borders.items ++ borders_by hop.segment hops)) r)
       (arrived_by run segment to side)
       in
-      let rest : Back (using settled segment) (along task run segment) hop.segment hops to later =
-      chunk_back hops (using settled segment) (along task run segment) hop.segment to later leads.2 free.1
+      let rest : Back (using assigned segment) (along task run segment) hop.segment hops to later =
+      chunk_back hops (using assigned segment) (along task run segment) hop.segment to later leads.2 free.1
       (come_by run segment to side ∙ come) (subst (λ s. Completes task s later) (sym same) completes) in
       record {
         can = both_are (may_come (stop_in (node_at task segment.to)) run segment.to)
-            (misses settled.used segment.borders.items) (ap (λ b. may_come b run segment.to) side) free.0;
+            (misses assigned.used segment.borders.items) (ap (λ b. may_come b run segment.to) side) free.0;
         moves = go hop.place hop.segment ∷ rest.moves;
         completes = (record { passes = leads.0.1; leads = leads.1; taken = rest.can }, rest.completes);
         total = rest.total ∙ ap (λ s. total_after task s later) same;

@@ -1,5 +1,6 @@
--- A run that holds is gone over step by step: from where it stands to its end, where it is settled.
-use Rattle.std.proofs.Common.{◌≡◌, ℕ, ◌<◌, ◌≤◌, Bool, true, false, not, ◌&&◌, ltb, inl, inr, Option, Some, None, IfSome, List, [], ◌∷◌, ◌++◌, length, get_or, refl, sym, ap, subst, ◌∙◌, arith}
+-- A run that holds is gone over step by step: from where it is to its end, where it is finished.
+use Rattle.std.proofs.Common.{◌≡◌, ℕ, ◌<◌, ◌≤◌, Bool, true, false, not, ◌&&◌, ltb, inl, inr, Option, Some, None, IfSome}
+use Rattle.std.proofs.Common.{List, [], ◌∷◌, ◌++◌, length, get_or, refl, sym, ap, subst, ◌∙◌, arith}
 use Rattle.std.proofs.lemmas.Bool.{lt-ltb}
 use Rattle.map_tables.specs.declared.hex.Hex.{Hex}
 use Rattle.map_tables.specs.declared.place.Stop.{Stop}
@@ -12,17 +13,22 @@ use Rattle.reach.specs.declared.walk.Spot.{Spot}
 use Rattle.reach.specs.declared.walk.Step.{Step}
 use Rattle.tables.specs.declared.rolling_stock.Kind.{Kind}
 use Rattle.tables.specs.declared.roster.Company.{Company}
-use Rattle.certificate.specs.Legal.{AreDistinct, EndsAtStop, border_at, crossed, earned, listed, visited}
-use Rattle.certificate.proofs.Marks.{among_both}
-use Rattle.best_run.specs.declared.task.Segment.{Segment}
-use Rattle.best_run.specs.declared.task.Task.{Task}
-use Rattle.best_run.specs.declared.state.Settled.{Settled}
+use Rattle.legal_runs.specs.Legal.{AreDistinct, EndsAtStop, border_at, crossed, earned, listed, visited}
+use Rattle.legal_runs.proofs.Marks.{among_both}
+use Rattle.search_task.specs.declared.task.Segment.{Segment}
+use Rattle.search_task.specs.declared.task.Task.{Task}
+use Rattle.best_run.specs.declared.state.Assigned.{Assigned}
 use Rattle.best_run.specs.declared.state.PartialRun.{PartialRun}
-use Rattle.best_run.specs.Described.{Describes, GoesFrom, HasSegmentOf, IsSegmentOf, IsSideNode, IsStopNode}
-use Rattle.best_run.specs.Moves.{Completes, Move, State, along, between, can_take, ends_in, go, may_come, may_earn, misses, node_at, own_before, settle, with_run_settled, partial, stop_in, total_after, using}
-use Rattle.best_run.specs.Marks.{IsMarked}
-use Rattle.best_run.proofs.Advance.{Tells, free_misses, node_left, to_side, to_stop}
+use Rattle.search_task.specs.Described.{Describes, GoesFrom, HasSegmentOf, IsSegmentOf, IsSideNode, IsStopNode}
+use Rattle.best_run.specs.Moves.{Completes, Move, State, along, between, can_take, go, may_come, may_earn, own_before}
+use Rattle.best_run.specs.Moves.{partial, finish, total_after, using, with_run_finished}
+use Rattle.search_task.specs.Spots.{ends_in, node_at, stop_in}
+use Rattle.search_task.specs.Crossed.{misses}
+use Rattle.search_task.specs.Marks.{IsMarked}
+use Rattle.best_run.proofs.Advance.{Tells, node_left, to_side, to_stop}
+use Rattle.search_task.proofs.Marked.{free_misses}
 use Rattle.best_run.proofs.Prefix.{Holds, distinct_apart, holds_first, onto}
+use Rattle.search_task.proofs.Booleans.{both_are}
 
 -- some moves lead from a state to the end, and earn so much
 abbrev pub CanFinish : Task → State → ℕ → Type 0
@@ -31,10 +37,6 @@ CanFinish task state total = (moves : List Move) × Completes task state moves �
 not_marked : (b : Bool) → (b ≡ true → ⊥) → not b ≡ true
 not_marked true none = absurd (none refl)
 not_marked false none = refl
-
-both : (a b : Bool) → a ≡ true → b ≡ true → (a && b) ≡ true
-both true b first second = second
-both false b first second = absurd cc
 
 -- a step from a stop is entered there
 pub next_stop : (at next : Spot) (stop : Stop) → stop_of at ≡ Some stop → AreJoined at next → stop_of next ≡ Some stop
@@ -49,10 +51,10 @@ next_stop at next stop there joined =
     no_stop hex (AtSide side) stop next is over = cc
     no_stop hex (AtStop number) stop next is over = cc
 
--- a walk stands where its latest step is left
-abbrev pub Stands : List Step → Spot → Type 0
-Stands [] at = ⊥
-Stands (step ∷ before) at = left_at step ≡ at
+-- a walk is where its latest step is left
+abbrev pub EndsAt : List Step → Spot → Type 0
+EndsAt [] at = ⊥
+EndsAt (step ∷ before) at = left_at step ≡ at
 
 -- what is visited at the beginning of a walk is visited by it
 pub visited_first : (later : List Step) (step : Step) (before : List Step) (stop : Stop)
@@ -69,11 +71,11 @@ AreAhead task home stops =
     → ¬ IsMarked (own_before task home) (spot_number spot)
 
 -- what a run keeps as it goes on
-pub record StaysSo (settled after : Settled) (run done : PartialRun) : Type 0 where
-  pub next : after.next ≡ settled.next
-  pub total : after.total ≡ settled.total
-  pub kind : after.kind ≡ settled.kind
-  pub cap : after.cap ≡ settled.cap
+pub record StaysSo (assigned after : Assigned) (run done : PartialRun) : Type 0 where
+  pub next : after.next ≡ assigned.next
+  pub total : after.total ≡ assigned.total
+  pub kind : after.kind ≡ assigned.kind
+  pub cap : after.cap ≡ assigned.cap
   pub most : done.most ≡ run.most
   pub home : done.home ≡ run.home
   pub first : done.first ≡ run.first
@@ -82,26 +84,26 @@ pub record StaysSo (settled after : Settled) (run done : PartialRun) : Type 0 wh
 module _ (position : Position) (company : Company) (kinds : List Kind) (task : Task)
     (describes : Describes position company kinds task) (most : ℕ) (others : List ℕ) where
   -- what some moves tell of a run
-  abbrev pub Told : Spot → List Stop → List ℕ → Settled → PartialRun → Type 0
-  Told at stops borders settled run = Tells task position company most others at stops borders settled run
+  abbrev pub Told : Spot → List Stop → List ℕ → Assigned → PartialRun → Type 0
+  Told at stops borders assigned run = Tells task position company most others at stops borders assigned run
 
   -- the next step of a walk that holds, by its piece
-  pub record CanGo (at : Spot) (stops : List Stop) (borders : List ℕ) (settled : Settled) (run : PartialRun)
+  pub record CanGo (at : Spot) (stops : List Stop) (borders : List ℕ) (assigned : Assigned) (run : PartialRun)
       (step : Step) (segment : Segment) : Type 0 where
-    pub taken : can_take task run settled.used segment ≡ true
+    pub taken : can_take task run assigned.used segment ≡ true
     pub told : Told (left_at step) (listed (stop_of (left_at step)) ++ stops)
-        (border_at (entered_at step).hex (entered_at step).end ++ borders) (using settled segment)
+        (border_at (entered_at step).hex (entered_at step).end ++ borders) (using assigned segment)
         (along task run segment)
 
   -- the borders of a step are free
-  step_free : (at : Spot) (stops : List Stop) (borders : List ℕ) (settled : Settled) (run : PartialRun)
-      → Told at stops borders settled run → (step : Step) (segment : Segment) → IsSegmentOf step segment
+  step_free : (at : Spot) (stops : List Stop) (borders : List ℕ) (assigned : Assigned) (run : PartialRun)
+      → Told at stops borders assigned run → (step : Step) (segment : Segment) → IsSegmentOf step segment
       → AreDistinct (border_at (entered_at step).hex (entered_at step).end ++ borders)
       → ((border : ℕ) → IsAmong border (border_at (entered_at step).hex (entered_at step).end ++ borders)
-      → ¬ IsAmong border others) → misses settled.used segment.borders.items ≡ true
-  step_free at stops borders settled run tells step segment is distinct free =
+      → ¬ IsAmong border others) → misses assigned.used segment.borders.items ≡ true
+  step_free at stops borders assigned run tells step segment is distinct free =
       let new = border_at (entered_at step).hex (entered_at step).end in
-      free_misses settled.used segment.borders.items
+      free_misses assigned.used segment.borders.items
       (λ border among marked.
       let here : IsAmong border new = subst (IsAmong border) is.borders among in
       elim ((tells.used border).0 marked) [
@@ -110,25 +112,25 @@ module _ (position : Position) (company : Company) (kinds : List Kind) (task : T
       ])
 
   -- so the step can be taken
-  by_left : (at : Spot) (stops : List Stop) (borders : List ℕ) (settled : Settled) (run : PartialRun)
-      → Told at stops borders settled run → (step : Step) (segment : Segment) → IsSegmentOf step segment
-      → misses settled.used segment.borders.items ≡ true → (found : Option Stop) → stop_of (left_at step) ≡ found
+  by_left : (at : Spot) (stops : List Stop) (borders : List ℕ) (assigned : Assigned) (run : PartialRun)
+      → Told at stops borders assigned run → (step : Step) (segment : Segment) → IsSegmentOf step segment
+      → misses assigned.used segment.borders.items ≡ true → (found : Option Stop) → stop_of (left_at step) ≡ found
       → AreDistinct (listed found ++ stops) → length (listed found ++ stops) ≤ most
-      → AreAhead task run.home (listed found) → CanGo at stops borders settled run step segment
-  by_left at stops borders settled run tells step segment is free None side distinct few ahead =
+      → AreAhead task run.home (listed found) → CanGo at stops borders assigned run step segment
+  by_left at stops borders assigned run tells step segment is free None side distinct few ahead =
       let node : IsSideNode (node_at task segment.to) =
       subst (λ (n : ℕ). IsSideNode (node_at task n)) (sym is.to)
       (node_left position company kinds task describes (left_at step) None side) in
       record {
-        taken = both (may_come (stop_in (node_at task segment.to)) run segment.to)
-            (misses settled.used segment.borders.items) (ap (λ b. may_come b run segment.to) node.stops) free;
+        taken = both_are (may_come (stop_in (node_at task segment.to)) run segment.to)
+            (misses assigned.used segment.borders.items) (ap (λ b. may_come b run segment.to) node.stops) free;
         told = subst (λ o. Told (left_at step) (listed o ++ stops)
-            (border_at (entered_at step).hex (entered_at step).end ++ borders) (using settled segment)
+            (border_at (entered_at step).hex (entered_at step).end ++ borders) (using assigned segment)
             (along task run segment)) (sym side)
-            (to_side position company kinds task describes most others at stops borders settled run tells step segment
+            (to_side position company kinds task describes most others at stops borders assigned run tells step segment
             is side);
       }
-  by_left at stops borders settled run tells step segment is free (Some stop) there distinct few ahead =
+  by_left at stops borders assigned run tells step segment is free (Some stop) there distinct few ahead =
       let node : IsStopNode position company stop (node_at task segment.to) =
       subst (λ (n : ℕ). IsStopNode position company stop (node_at task n)) (sym is.to)
       (node_left position company kinds task describes (left_at step) (Some stop) there) in
@@ -139,29 +141,29 @@ module _ (position : Position) (company : Company) (kinds : List Kind) (task : T
         | inr passed ↦ ahead (left_at step) stop there (inl refl) passed
       ] in
       record {
-        taken = both (may_come (stop_in (node_at task segment.to)) run segment.to)
-            (misses settled.used segment.borders.items)
+        taken = both_are (may_come (stop_in (node_at task segment.to)) run segment.to)
+            (misses assigned.used segment.borders.items)
             (ap (λ b. may_come b run segment.to) node.stops
-            ∙ both (ltb 0 run.left) (not (get_or run.visited segment.to false)) (lt-ltb 0 run.left left)
+            ∙ both_are (ltb 0 run.left) (not (get_or run.visited segment.to false)) (lt-ltb 0 run.left left)
             (not_marked (get_or run.visited segment.to false) new)) free;
         told = subst (λ o. Told (left_at step) (listed o ++ stops)
-            (border_at (entered_at step).hex (entered_at step).end ++ borders) (using settled segment)
+            (border_at (entered_at step).hex (entered_at step).end ++ borders) (using assigned segment)
             (along task run segment)) (sym there)
-            (to_stop position company kinds task describes most others at stops borders settled run tells step segment
+            (to_stop position company kinds task describes most others at stops borders assigned run tells step segment
             is stop there left);
       }
 
-  pub can_go : (at : Spot) (stops : List Stop) (borders : List ℕ) (settled : Settled) (run : PartialRun)
-      → Told at stops borders settled run → (step : Step) (segment : Segment) → IsSegmentOf step segment
+  pub can_go : (at : Spot) (stops : List Stop) (borders : List ℕ) (assigned : Assigned) (run : PartialRun)
+      → Told at stops borders assigned run → (step : Step) (segment : Segment) → IsSegmentOf step segment
       → AreDistinct (listed (stop_of (left_at step)) ++ stops)
       → length (listed (stop_of (left_at step)) ++ stops) ≤ most
       → AreDistinct (border_at (entered_at step).hex (entered_at step).end ++ borders)
       → ((border : ℕ) → IsAmong border (border_at (entered_at step).hex (entered_at step).end ++ borders)
       → ¬ IsAmong border others) → AreAhead task run.home (listed (stop_of (left_at step)))
-      → CanGo at stops borders settled run step segment
-  can_go at stops borders settled run tells step segment is stops_once few borders_once free ahead =
-      by_left at stops borders settled run tells step segment is
-      (step_free at stops borders settled run tells step segment is borders_once free)
+      → CanGo at stops borders assigned run step segment
+  can_go at stops borders assigned run tells step segment is stops_once few borders_once free ahead =
+      by_left at stops borders assigned run tells step segment is
+      (step_free at stops borders assigned run tells step segment is borders_once free)
       (stop_of (left_at step)) refl stops_once few ahead
 
   -- a run may go on from a spot with this number
@@ -183,28 +185,28 @@ module _ (position : Position) (company : Company) (kinds : List Kind) (task : T
             (λ o. IfSome o (λ s. ¬ IsFull position s company)) same full,
       )
 
-  -- where a walk that ends at a stop stands, there is one
-  pub stands_at_stop : (walk : List Step) (at : Spot) → Stands walk at → EndsAtStop walk → (number : ℕ)
+  -- where a walk that ends at a stop is, there is one
+  pub ends_at_stop : (walk : List Step) (at : Spot) → EndsAt walk at → EndsAtStop walk → (number : ℕ)
       → number ≡ spot_number at → stop_in (node_at task number) ≡ true
-  stands_at_stop [] at stands ends number is = absurd stands
-  stands_at_stop (step ∷ before) at stands ends number is =
+  ends_at_stop [] at stands ends number is = absurd stands
+  ends_at_stop (step ∷ before) at stands ends number is =
       let there : stop_of at ≡ Some ends.0 = ap stop_of (sym stands) ∙ ends.1 in
       let node : IsStopNode position company ends.0 (node_at task (spot_number at)) =
       node_left position company kinds task describes at (Some ends.0) there in
       subst (λ (n : ℕ). stop_in (node_at task n) ≡ true) (sym is) node.stops
 
-  -- a run that has been gone over is settled, if what comes after it can be finished
-  pub settle_here : (walk : List Step) (at : Spot) (settled : Settled) (run : PartialRun) (total : ℕ)
-      → Told at (visited walk) (crossed walk) settled run → Stands walk at → EndsAtStop walk
-      → may_earn settled.kind settled.cap run.most (earned position walk) ≡ true
-      → CanFinish task (between (with_run_settled settled run)) total → CanFinish task (partial settled run) total
-  settle_here walk at settled run total tells stands ends may rest =
-      let stops : stop_in (node_at task run.head) ≡ true = stands_at_stop walk at stands ends run.head tells.head in
-      let earns : may_earn settled.kind settled.cap run.most run.value ≡ true =
-      subst (λ (v : ℕ). may_earn settled.kind settled.cap run.most v ≡ true) (sym tells.value) may in (
-        settle ∷ rest.0,
+  -- a run that has been gone over is finished, if what comes after it can be finished
+  pub finish_run : (walk : List Step) (at : Spot) (assigned : Assigned) (run : PartialRun) (total : ℕ)
+      → Told at (visited walk) (crossed walk) assigned run → EndsAt walk at → EndsAtStop walk
+      → may_earn assigned.kind assigned.cap run.most (earned position walk) ≡ true
+      → CanFinish task (between (with_run_finished assigned run)) total → CanFinish task (partial assigned run) total
+  finish_run walk at assigned run total tells stands ends may rest =
+      let stops : stop_in (node_at task run.head) ≡ true = ends_at_stop walk at stands ends run.head tells.head in
+      let earns : may_earn assigned.kind assigned.cap run.most run.value ≡ true =
+      subst (λ (v : ℕ). may_earn assigned.kind assigned.cap run.most v ≡ true) (sym tells.value) may in (
+        finish ∷ rest.0,
         (
-          both (stop_in (node_at task run.head)) (may_earn settled.kind settled.cap run.most run.value)
+          both_are (stop_in (node_at task run.head)) (may_earn assigned.kind assigned.cap run.most run.value)
               stops earns,
           rest.1,
         ),
@@ -212,16 +214,16 @@ module _ (position : Position) (company : Company) (kinds : List Kind) (task : T
       )
 
   -- the steps to the end of a walk, if what comes after them can be finished
-  pub walk_on : (later : List Step) (step : Step) (before : List Step) (settled : Settled) (run : PartialRun)
-      (total : ℕ) → Told (left_at step) (visited (step ∷ before)) (crossed (step ∷ before)) settled run
+  pub walk_on : (later : List Step) (step : Step) (before : List Step) (assigned : Assigned) (run : PartialRun)
+      (total : ℕ) → Told (left_at step) (visited (step ∷ before)) (crossed (step ∷ before)) assigned run
       → Holds position company most others (onto later (step ∷ before))
       → AreAhead task run.home (visited (onto later (step ∷ before)))
-      → ((last : Spot) (after : Settled) (done : PartialRun) → StaysSo settled after run done
-      → Stands (onto later (step ∷ before)) last → Told last (visited (onto later (step ∷ before)))
+      → ((last : Spot) (after : Assigned) (done : PartialRun) → StaysSo assigned after run done
+      → EndsAt (onto later (step ∷ before)) last → Told last (visited (onto later (step ∷ before)))
       (crossed (onto later (step ∷ before))) after done → CanFinish task (partial after done) total)
-      → CanFinish task (partial settled run) total
-  walk_on [] step before settled run total tells holds ahead done =
-      done (left_at step) settled run (record {
+      → CanFinish task (partial assigned run) total
+  walk_on [] step before assigned run total tells holds ahead done =
+      done (left_at step) assigned run (record {
         next = refl;
         total = refl;
         kind = refl;
@@ -232,7 +234,7 @@ module _ (position : Position) (company : Company) (kinds : List Kind) (task : T
         first = refl;
         turned = refl;
       }) refl tells
-  walk_on (next ∷ later) step before settled run total tells holds ahead done =
+  walk_on (next ∷ later) step before assigned run total tells holds ahead done =
       let first : Holds position company most others (next ∷ step ∷ before) =
       holds_first position company most others later next (step ∷ before) holds in
       let goes : GoesFrom run.head next = record {
@@ -246,14 +248,14 @@ module _ (position : Position) (company : Company) (kinds : List Kind) (task : T
       λ spot stop there among. ahead spot stop there
       (visited_first later next (step ∷ before) stop
       ((among_both stop (listed (stop_of (left_at next))) (visited (step ∷ before))).1 (inl among))) in
-      let go_next : CanGo (left_at step) (visited (step ∷ before)) (crossed (step ∷ before)) settled run next
-      has.segment = can_go (left_at step) (visited (step ∷ before)) (crossed (step ∷ before)) settled run tells
+      let go_next : CanGo (left_at step) (visited (step ∷ before)) (crossed (step ∷ before)) assigned run next
+      has.segment = can_go (left_at step) (visited (step ∷ before)) (crossed (step ∷ before)) assigned run tells
       next has.segment has.segment_is first.stops first.few first.borders first.free near in
       let passes : ends_in (node_at task run.head) ≡ false =
       passes_by (left_at step) (stop_of (left_at step)) refl run.head tells.head (entered_at next) first.walk.1
       first.red.0 first.full.0 in
-      let rest : CanFinish task (partial (using settled has.segment) (along task run has.segment)) total =
-      walk_on later next (step ∷ before) (using settled has.segment) (along task run has.segment) total go_next.told
+      let rest : CanFinish task (partial (using assigned has.segment) (along task run has.segment)) total =
+      walk_on later next (step ∷ before) (using assigned has.segment) (along task run has.segment) total go_next.told
       holds ahead
       (λ last after run_done stays stands told. done last after run_done
       (record {

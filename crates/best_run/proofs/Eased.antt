@@ -1,22 +1,27 @@
 -- Ways to the end stay open where fewer borders are used, and earn as much more: so the trains that are left never earn
 -- more than they do by themselves.
-use Rattle.std.proofs.Common.{◌≡◌, ℕ, zero, suc, ◌+◌, ◌-◌, ◌<◌, ◌≤◌, Bool, true, false, not, ◌&&◌, ◌||◌, nat_le, ◌==◌, ◌⊎◌, inl, inr, Some, None, List, [], ◌∷◌, ◌++◌, length, set, replicate, slice_get, refl, sym, ap, subst, ◌∙◌, arith, add-one, le_trans}
+use Rattle.std.proofs.Common.{◌≡◌, ℕ, zero, suc, ◌+◌, ◌-◌, ◌<◌, ◌≤◌, Bool, true, false, not, ◌&&◌, ◌||◌, nat_le, ◌==◌}
+use Rattle.std.proofs.Common.{◌⊎◌, inl, inr, Some, None, List, [], ◌∷◌, ◌++◌, length, set, replicate, slice_get, refl}
+use Rattle.std.proofs.Common.{sym, ap, subst, ◌∙◌, arith, add-one, le_trans}
 use Rattle.std.proofs.lemmas.Bool.{le-leb, leb-true}
-use Rattle.best_run.specs.declared.task.Segment.{Segment}
-use Rattle.best_run.specs.declared.task.Task.{Task}
+use Rattle.search_task.specs.declared.task.Segment.{Segment}
+use Rattle.search_task.specs.declared.task.Task.{Task}
 use Rattle.best_run.specs.declared.memo.Found.{Found}
-use Rattle.best_run.specs.declared.state.Settled.{Settled}
+use Rattle.best_run.specs.declared.state.Assigned.{Assigned}
 use Rattle.best_run.specs.declared.state.PartialRun.{PartialRun}
-use Rattle.best_run.specs.Moves.{AreInMemo, Completes, Earns, Explores, IsTraced, Move, State, along, begin, begun, between, can_take, go, marked_all, may_come, may_earn, misses, node_at, pass, passed, settle, with_run_settled, partial, start, stop_in, total_after, total_of, turn, turned_back, using}
-use Rattle.best_run.specs.Kept.{Freer}
-use Rattle.best_run.specs.Suffix.{AreBounds, EarnAtMost, FallShort, IsSolved, IsTop, nothing_before}
-use Rattle.best_run.specs.Marks.{IsMarked}
-use Rattle.best_run.proofs.Advance.{free_misses, misses_free}
+use Rattle.best_run.specs.Moves.{AreInMemo, Completes, Earns, Explores, IsTraced, Move, State, along, begin, begun}
+use Rattle.best_run.specs.Moves.{between, can_take, go, may_come, may_earn, partial, pass, passed, finish, start}
+use Rattle.best_run.specs.Moves.{total_after, total_of, turn, turned_back, using, with_run_finished}
+use Rattle.search_task.specs.Crossed.{marked_all, misses}
+use Rattle.search_task.specs.Spots.{node_at, stop_in}
+use Rattle.search_task.specs.Marks.{Freer}
+use Rattle.best_run.specs.Suffix.{AreBounds, EarnAtMost, ArePrunedBySuffix, IsSolved, IsTop, nothing_before}
+use Rattle.search_task.proofs.Marked.{free_misses, freer_marked, misses_free}
 use Rattle.best_run.specs.MovePath.{IsWritten, marks_in}
 use Rattle.best_run.specs.declared.move_path.Mark.{Mark}
 use Rattle.best_run.specs.declared.move_path.Mark.TheVariants.{Pass}
 use Rattle.best_run.specs.declared.move_path.MovePath.{MovePath}
-use Rattle.best_run.proofs.Traced.{earns_by, traced_none}
+use Rattle.best_run.proofs.Traced.{earns_by, explores_bounded}
 use Rattle.best_run.proofs.Tried.{leads_pass}
 
 pub freer_none : (used : List Bool) → Freer used (replicate (length used) false)
@@ -42,13 +47,6 @@ freer_all [] used others freer = freer
 freer_all (border ∷ borders) used others freer =
     freer_all borders (set used border true) (set others border true) (freer_set used others border freer)
 
-pub freer_marked : (used others : List Bool) (n : ℕ) → Freer used others → IsMarked others n → IsMarked used n
-freer_marked [] [] n freer marked = marked
-freer_marked [] (mark ∷ others) n freer marked = absurd freer
-freer_marked (mark ∷ used) [] n freer marked = absurd freer
-freer_marked (mark ∷ used) (other ∷ others) zero freer marked = freer.0 marked
-freer_marked (mark ∷ used) (other ∷ others) (suc n) freer marked = freer_marked used others n freer.1 marked
-
 both_true : (a b c : Bool) → (b ≡ true → c ≡ true) → (a && b) ≡ true → (a && c) ≡ true
 both_true true b c makes is = makes is
 both_true false b c makes is = is
@@ -67,14 +65,14 @@ freer_take task run used others segment freer =
 abbrev pub Looser : ℕ → ℕ → ℕ → ℕ → Type 0
 Looser before low kind cap = (kind ≡ 0) ⊎ ((before ≡ kind) × (low ≤ cap))
 
--- the same trains are settled, with another cap, other earnings and other marks
-abbrev pub eased : ℕ → ℕ → Settled → ℕ → List Bool → Settled
-eased kind cap settled total used =
-    record { next = settled.next; total = total; kind = kind; cap = cap; used = used }
+-- the same trains are assigned, with another cap, other earnings and other marks
+abbrev pub eased : ℕ → ℕ → Assigned → ℕ → List Bool → Assigned
+eased kind cap assigned total used =
+    record { next = assigned.next; total = total; kind = kind; cap = cap; used = used }
 
 abbrev eased_state : ℕ → ℕ → State → ℕ → List Bool → State
-eased_state kind cap (between settled) total used = between (eased kind cap settled total used)
-eased_state kind cap (partial settled run) total used = partial (eased kind cap settled total used) run
+eased_state kind cap (between assigned) total used = between (eased kind cap assigned total used)
+eased_state kind cap (partial assigned run) total used = partial (eased kind cap assigned total used) run
 
 either_true : (a b c : Bool) → (b ≡ true → c ≡ true) → (a || b) ≡ true → (a || c) ≡ true
 either_true true b c makes is = refl
@@ -89,12 +87,12 @@ earns_eased before low kind cap most value (inr same) may =
     (ap (λ (k : ℕ). may_earn k low most value) (sym same.0) ∙ may)
 
 abbrev cap_of : (ℕ → ℕ → Type 0) → State → Type 0
-cap_of P (between settled) = P settled.kind settled.cap
-cap_of P (partial settled run) = P settled.kind settled.cap
+cap_of P (between assigned) = P assigned.kind assigned.cap
+cap_of P (partial assigned run) = P assigned.kind assigned.cap
 
 abbrev marks_of : State → List Bool
-marks_of (between settled) = settled.used
-marks_of (partial settled run) = settled.used
+marks_of (between assigned) = assigned.used
+marks_of (partial assigned run) = assigned.used
 
 pub record Eased (task : Task) (kind cap : ℕ) (state : State) (moves : List Move) (total : ℕ)
     (used : List Bool) : Type 0 where
@@ -103,8 +101,8 @@ pub record Eased (task : Task) (kind cap : ℕ) (state : State) (moves : List Mo
       ≡ total_after task (eased_state kind cap state total used) moves + total_of state
 
 -- what a run earns is earned in both
-less_both : (a b total value settled : ℕ) → a + (total + value) ≡ b + (settled + value) → a + total ≡ b + settled
-less_both a b total value settled same = omega arith
+less_both : (a b total value assigned : ℕ) → a + (total + value) ≡ b + (assigned + value) → a + total ≡ b + assigned
+less_both a b total value assigned same = omega arith
 
 within : (a b total bound best : ℕ) → a + 0 ≡ b + total → b ≤ bound → total + bound ≤ best → a ≤ best
 within a b total bound best same low enough = omega arith
@@ -112,20 +110,20 @@ within a b total bound best same low enough = omega arith
 pub ease : (task : Task) (moves : List Move) (kind cap : ℕ) (state : State) (total : ℕ) (used : List Bool)
     → cap_of (λ before low. Looser before low kind cap) state → Freer (marks_of state) used
     → Completes task state moves → Eased task kind cap state moves total used
-ease task [] kind cap (between settled) total used looser freer completes =
+ease task [] kind cap (between assigned) total used looser freer completes =
     record { completes = completes; earns = omega arith }
-ease task [] kind cap (partial settled run) total used looser freer completes = absurd completes
-ease task (pass ∷ moves) kind cap (between settled) total used looser freer completes =
-    let rest : Eased task kind cap (between (passed settled)) moves total used =
-    ease task moves kind cap (between (passed settled)) total used looser freer completes.1 in
+ease task [] kind cap (partial assigned run) total used looser freer completes = absurd completes
+ease task (pass ∷ moves) kind cap (between assigned) total used looser freer completes =
+    let rest : Eased task kind cap (between (passed assigned)) moves total used =
+    ease task moves kind cap (between (passed assigned)) total used looser freer completes.1 in
     record { completes = (completes.0, rest.completes); earns = rest.earns }
-ease task (pass ∷ moves) kind cap (partial settled run) total used looser freer completes = absurd completes.0
-ease task (begin stop index segment ∷ moves) kind cap (between settled) total used looser freer completes =
-    let rest : Eased task kind cap (partial (using settled segment)
-    (along task (begun task settled stop index) segment)) moves total (marked_all used segment.borders.items) =
-    ease task moves kind cap (partial (using settled segment)
-    (along task (begun task settled stop index) segment)) total (marked_all used segment.borders.items) looser
-    (freer_all segment.borders.items settled.used used freer) completes.1 in
+ease task (pass ∷ moves) kind cap (partial assigned run) total used looser freer completes = absurd completes.0
+ease task (begin stop index segment ∷ moves) kind cap (between assigned) total used looser freer completes =
+    let rest : Eased task kind cap (partial (using assigned segment)
+    (along task (begun task assigned stop index) segment)) moves total (marked_all used segment.borders.items) =
+    ease task moves kind cap (partial (using assigned segment)
+    (along task (begun task assigned stop index) segment)) total (marked_all used segment.borders.items) looser
+    (freer_all segment.borders.items assigned.used used freer) completes.1 in
     record {
       completes = (
         record {
@@ -134,102 +132,98 @@ ease task (begin stop index segment ∷ moves) kind cap (between settled) total 
           token = completes.0.token;
           leads =
               completes.0.leads;
-          taken = freer_take task (begun task settled stop index) settled.used used segment freer
+          taken = freer_take task (begun task assigned stop index) assigned.used used segment freer
               completes.0.taken;
         },
         rest.completes,
       );
       earns = rest.earns;
     }
-ease task (begin stop index segment ∷ moves) kind cap (partial settled run) total used looser freer completes =
+ease task (begin stop index segment ∷ moves) kind cap (partial assigned run) total used looser freer completes =
     absurd completes.0
-ease task (go index segment ∷ moves) kind cap (between settled) total used looser freer completes = absurd completes.0
-ease task (go index segment ∷ moves) kind cap (partial settled run) total used looser freer completes =
-    let rest : Eased task kind cap (partial (using settled segment) (along task run segment)) moves total
+ease task (go index segment ∷ moves) kind cap (between assigned) total used looser freer completes = absurd completes.0
+ease task (go index segment ∷ moves) kind cap (partial assigned run) total used looser freer completes =
+    let rest : Eased task kind cap (partial (using assigned segment) (along task run segment)) moves total
     (marked_all used segment.borders.items) = ease task moves kind cap
-    (partial (using settled segment) (along task run segment)) total (marked_all used segment.borders.items)
-    looser (freer_all segment.borders.items settled.used used freer) completes.1 in
+    (partial (using assigned segment) (along task run segment)) total (marked_all used segment.borders.items)
+    looser (freer_all segment.borders.items assigned.used used freer) completes.1 in
     record {
       completes = (
         record {
           passes = completes.0.passes;
           leads = completes.0.leads;
           taken =
-              freer_take task run settled.used used segment freer completes.0.taken;
+              freer_take task run assigned.used used segment freer completes.0.taken;
         },
         rest.completes,
       );
       earns = rest.earns;
     }
-ease task (turn index segment ∷ moves) kind cap (between settled) total used looser freer completes = absurd completes.0
-ease task (turn index segment ∷ moves) kind cap (partial settled run) total used looser freer completes =
+ease task (turn index segment ∷ moves) kind cap (between assigned) total used looser freer completes = absurd
+    completes.0
+ease task (turn index segment ∷ moves) kind cap (partial assigned run) total used looser freer completes =
     let may = completes.0 in
-    let rest : Eased task kind cap (partial (using settled segment) (along task (turned_back run) segment)) moves
+    let rest : Eased task kind cap (partial (using assigned segment) (along task (turned_back run) segment)) moves
     total (marked_all used segment.borders.items) =
-    ease task moves kind cap (partial (using settled segment) (along task (turned_back run) segment)) total
-    (marked_all used segment.borders.items) looser (freer_all segment.borders.items settled.used used freer)
+    ease task moves kind cap (partial (using assigned segment) (along task (turned_back run) segment)) total
+    (marked_all used segment.borders.items) looser (freer_all segment.borders.items assigned.used used freer)
     completes.1 in
     record {
       completes = (
         record {
           once = may.once;
-          stands = may.stands;
+          at_stop = may.at_stop;
           later = may.later;
           passes = may.passes;
           leads =
               may.leads;
-          taken = freer_take task (turned_back run) settled.used used segment freer may.taken;
+          taken = freer_take task (turned_back run) assigned.used used segment freer may.taken;
         },
         rest.completes,
       );
       earns = rest.earns;
     }
-ease task (settle ∷ moves) kind cap (between settled) total used looser freer completes = absurd completes.0
-ease task (settle ∷ moves) kind cap (partial settled run) total used looser freer completes =
-    let rest : Eased task run.most run.value (between (with_run_settled settled run)) moves (total + run.value) used =
-    ease task moves run.most run.value (between (with_run_settled settled run)) (total + run.value) used
+ease task (finish ∷ moves) kind cap (between assigned) total used looser freer completes = absurd completes.0
+ease task (finish ∷ moves) kind cap (partial assigned run) total used looser freer completes =
+    let rest : Eased task run.most run.value (between (with_run_finished assigned run)) moves (total + run.value) used =
+    ease task moves run.most run.value (between (with_run_finished assigned run)) (total + run.value) used
     (inr (refl, omega arith)) freer completes.1 in
     record {
       completes = (
-        both_true (stop_in (node_at task run.head)) (may_earn settled.kind settled.cap run.most run.value)
-            (may_earn kind cap run.most run.value) (earns_eased settled.kind settled.cap kind cap run.most run.value
+        both_true (stop_in (node_at task run.head)) (may_earn assigned.kind assigned.cap run.most run.value)
+            (may_earn kind cap run.most run.value) (earns_eased assigned.kind assigned.cap kind cap run.most run.value
             looser) completes.0,
         rest.completes,
       );
-      earns = less_both (total_after task (between (with_run_settled settled run)) moves)
-          (total_after task (between (eased run.most run.value (with_run_settled settled run) (total + run.value)
-          used)) moves) total run.value settled.total rest.earns;
+      earns = less_both (total_after task (between (with_run_finished assigned run)) moves)
+          (total_after task (between (eased run.most run.value (with_run_finished assigned run) (total + run.value)
+          used)) moves) total run.value assigned.total rest.earns;
     }
 
--- what is settled and what the trains that are left earn by themselves
-pub rest_low : (task : Task) (settled : Settled) (bound : ℕ) → EarnAtMost task settled.next bound
-    → length settled.used ≡ 279 → (moves : List Move) → Completes task (between settled) moves
-    → total_after task (between settled) moves ≤ settled.total + bound
-rest_low task settled bound most whole moves completes =
-    let freer : Freer settled.used (replicate 279 false) =
-    subst (λ (n : ℕ). Freer settled.used (replicate n false)) whole (freer_none settled.used) in
-    let easy : Eased task 0 0 (between settled) moves 0 (replicate 279 false) =
-    ease task moves 0 0 (between settled) 0 (replicate 279 false) (inl refl) freer completes in
-    within (total_after task (between settled) moves) (total_after task (between (nothing_before settled.next)) moves)
-    settled.total bound (settled.total + bound) easy.earns (most moves easy.completes) (omega arith)
+-- what is assigned and what the trains that are left earn by themselves
+pub rest_low : (task : Task) (assigned : Assigned) (bound : ℕ) → EarnAtMost task assigned.next bound
+    → length assigned.used ≡ 279 → (moves : List Move) → Completes task (between assigned) moves
+    → total_after task (between assigned) moves ≤ assigned.total + bound
+rest_low task assigned bound most whole moves completes =
+    let freer : Freer assigned.used (replicate 279 false) =
+    subst (λ (n : ℕ). Freer assigned.used (replicate n false)) whole (freer_none assigned.used) in
+    let easy : Eased task 0 0 (between assigned) moves 0 (replicate 279 false) =
+    ease task moves 0 0 (between assigned) 0 (replicate 279 false) (inl refl) freer completes in
+    within (total_after task (between assigned) moves) (total_after task (between (nothing_before assigned.next)) moves)
+    assigned.total bound (assigned.total + bound) easy.earns (most moves easy.completes) (omega arith)
 
 -- what falls short need not be tried
-pub is_pruned_by_suffix : (task : Task) (bounds : List ℕ) (settled : Settled) (best : Found) → AreBounds task bounds
-    → length settled.used ≡ 279 → settled.next ≤ length task.trains.items → FallShort task bounds settled best.amount
-    → Explores task (between settled) best best
-is_pruned_by_suffix task bounds settled best are whole next short =
-    record {
-      grows = omega arith;
-      traced = traced_none task (between settled) best;
-      known = λ known. known;
-      most =
-          λ known. most;
-    }
+pub is_pruned_by_suffix : (task : Task) (bounds : List ℕ) (assigned : Assigned) (best : Found) → AreBounds task bounds
+    → length assigned.used ≡ 279 → assigned.next ≤ length task.trains.items → ArePrunedBySuffix task bounds assigned
+    best.amount
+    → Explores task (between assigned) best best
+is_pruned_by_suffix task bounds assigned best are whole next short =
+    explores_bounded task (between assigned) best most
   where
-    most : (moves : List Move) → Completes task (between settled) moves
-        → total_after task (between settled) moves ≤ best.amount
+    most : (moves : List Move) → Completes task (between assigned) moves
+        → total_after task (between assigned) moves ≤ best.amount
     most moves completes =
-        le_trans (rest_low task settled short.0 (are (length task.trains.items - settled.next) short.0 settled.next
+        le_trans (rest_low task assigned short.0 (are (length task.trains.items - assigned.next) short.0 assigned.next
         short.1 (omega (arith, next))) whole moves completes) short.2
 
 slice_push : (xs : List ℕ) (x i y : ℕ) → slice_get (xs ++ x ∷ []) i ≡ Some y

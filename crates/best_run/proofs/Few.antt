@@ -1,5 +1,6 @@
 -- A walk that crosses no border twice visits at most 280 stops.
-use Rattle.std.proofs.Common.{◌≡◌, ℕ, zero, suc, ◌+◌, ◌<◌, ◌≤◌, Bool, true, false, inl, inr, Option, Some, None, List, [], ◌∷◌, length, get_or, set, replicate, refl, sym, ap, subst, ◌∙◌, arith, length-set}
+use Rattle.std.proofs.Common.{◌≡◌, ℕ, ◌+◌, ◌<◌, ◌≤◌, Bool, true, false, inl, inr, Option, Some, None, List, [], ◌∷◌}
+use Rattle.std.proofs.Common.{length, get_or, set, replicate, refl, sym, subst, ◌∙◌, arith, length-set}
 use Rattle.reach.proofs.Collected.{none_marked}
 use Rattle.reach.specs.Lawful.{IsLawful}
 use Rattle.reach.specs.Position.{Position, IsAmong}
@@ -7,16 +8,16 @@ use Rattle.reach.specs.Walk.{IsWalk}
 use Rattle.reach.specs.declared.walk.Step.{Step}
 use Rattle.tables.specs.Train.{stops_of}
 use Rattle.tables.specs.declared.rolling_stock.Kind.{Kind}
-use Rattle.certificate.specs.Legal.{AreAtMost, AreDistinct, crossed, visited}
-use Rattle.certificate.proofs.Earning.{few_visited}
-use Rattle.certificate.proofs.Kept.{crossed_low}
-use Rattle.best_run.specs.Described.{most_of}
-use Rattle.best_run.specs.Fit.{BordersFit, unused}
-use Rattle.best_run.specs.Marks.{IsMarked}
-use Rattle.best_run.proofs.Advance.{mark_more}
-use Rattle.best_run.proofs.Marks.{set_fewer}
+use Rattle.legal_runs.specs.Legal.{AreAtMost, AreDistinct, crossed, visited}
+use Rattle.legal_runs.proofs.Earning.{few_visited}
+use Rattle.legal_runs.proofs.Kept.{crossed_low}
+use Rattle.search_task.specs.Described.{most_of}
+use Rattle.search_task.specs.Fit.{BordersFit, unused}
+use Rattle.search_task.specs.Marks.{IsMarked}
+use Rattle.search_task.proofs.Marked.{length_replicate, mark_more, unused_none}
+use Rattle.search_task.proofs.Marks.{set_fewer}
 
--- distinct borders leave so many fewer
+-- distinct borders leave this many fewer
 marked_count : (used : List Bool) (borders : List ℕ) → length used ≡ 279 → BordersFit borders → AreDistinct borders
     → ((border : ℕ) → IsAmong border borders → ¬ IsMarked used border) → length borders ≤ unused used
 marked_count used [] whole fit distinct free = omega arith
@@ -35,14 +36,6 @@ marked_count used (first ∷ borders) whole fit distinct free =
     not_true : (b : Bool) → (b ≡ true → ⊥) → b ≡ false
     not_true true none = absurd (none refl)
     not_true false none = refl
-
-pub unused_none : (n : ℕ) → unused (replicate n false) ≡ n
-unused_none zero = refl
-unused_none (suc n) = let rest = unused_none n in omega arith
-
-pub length_replicate : (n : ℕ) (b : Bool) → length (replicate n b) ≡ n
-length_replicate zero b = refl
-length_replicate (suc n) b = ap suc (length_replicate n b)
 
 few_crossed : (steps : List Step) → AreDistinct (crossed steps) → length (crossed steps) ≤ 279
 few_crossed steps distinct =

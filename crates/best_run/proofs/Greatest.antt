@@ -1,4 +1,4 @@
--- What the search finds is the greatest revenue, and the runs that the trail tells earn it.
+-- What the search finds is the greatest revenue, and the runs that the path tells earn it.
 use Rattle.std.proofs.Common.{◌≡◌, ℕ, ◌+◌, true, false, List, [], ◌∷◌, replicate, refl, sym, subst, ◌∙◌, arith}
 use Rattle.std.specs.List.{AllByRecursion}
 use Rattle.reach.proofs.Collected.{none_marked}
@@ -6,28 +6,28 @@ use Rattle.reach.specs.Lawful.{IsLawful}
 use Rattle.reach.specs.Position.{Position}
 use Rattle.tables.specs.declared.rolling_stock.Kind.{Kind}
 use Rattle.tables.specs.declared.roster.Company.{Company}
-use Rattle.certificate.specs.Claim.{NameRuns}
-use Rattle.certificate.specs.Law.{AreItsPlaces}
-use Rattle.certificate.specs.Set.{IsGreatest, IsLegalSet, IsMost, RunsLegally, TrainRun, revenue_of}
-use Rattle.certificate.specs.Written.{places_of}
-use Rattle.certificate.proofs.Written.{legal_written}
+use Rattle.legal_runs.specs.Claim.{NameRuns}
+use Rattle.legal_runs.specs.Law.{AreItsPlaces}
+use Rattle.legal_runs.specs.Set.{IsGreatest, IsLegalSet, IsMost, RunsLegally, TrainRun, revenue_of}
+use Rattle.legal_runs.specs.Written.{places_of}
+use Rattle.legal_runs.proofs.Written.{legal_written}
 use Rattle.best_run.specs.declared.memo.Found.{Found}
-use Rattle.best_run.specs.declared.task.Task.{Task}
-use Rattle.best_run.specs.declared.state.Settled.{Settled}
+use Rattle.search_task.specs.declared.task.Task.{Task}
+use Rattle.best_run.specs.declared.state.Assigned.{Assigned}
 use Rattle.best_run.specs.declared.move_path.Mark.{Mark}
-use Rattle.best_run.specs.Described.{Describes}
+use Rattle.search_task.specs.Described.{Describes}
 use Rattle.best_run.specs.Moves.{Earns, marks_of, start, total_after}
 use Rattle.best_run.specs.Suffix.{IsTop}
 use Rattle.best_run.specs.MovePath.{CanBeClaimed, marks_in, runs_told, written}
 use Rattle.best_run.proofs.Complete.{CanFinish}
-use Rattle.best_run.proofs.Few.{length_replicate}
-use Rattle.best_run.proofs.Arms.{Used}
+use Rattle.search_task.proofs.Marked.{length_replicate}
+use Rattle.best_run.proofs.Branches.{Used}
 use Rattle.best_run.proofs.Runs.{finish_set}
 use Rattle.best_run.proofs.Sets.{Avoids, IsWithin}
 use Rattle.best_run.proofs.Sound.{RunsTold, sound_from, two_at_least}
 
--- nothing is settled at first
-abbrev nothing : Settled
+-- nothing is assigned at first
+abbrev nothing : Assigned
 nothing = record { next = 0; total = 0; kind = 0; cap = 0; used = replicate 279 false }
 
 none_used : Used [] nothing

@@ -1,33 +1,40 @@
 -- A run earns at most what it has, the level for each stop that is left, what the stops ahead are worth beyond the
 -- level, of those at which it ends as many as it may come to, and what the later trains earn by themselves.
-use Rattle.std.proofs.Common.{◌≡◌, ℕ, zero, suc, ◌+◌, ◌-◌, ◌*◌, ◌<◌, ◌≤◌, Bool, true, false, not, ◌&&◌, nat_lt, ◌⊎◌, Option, Some, None, inl, inr, List, [], ◌∷◌, length, get_or, set, slice_get, refl, sym, ap, subst, ◌∙◌, arith, length-set, suc-mul}
+use Rattle.std.proofs.Common.{◌≡◌, ℕ, zero, suc, ◌+◌, ◌-◌, ◌*◌, ◌<◌, ◌≤◌, Bool, true, false, not, ◌&&◌, nat_lt, ◌⊎◌}
+use Rattle.std.proofs.Common.{Option, Some, None, inl, inr, List, [], ◌∷◌, length, get_or, set, slice_get, refl, sym}
+use Rattle.std.proofs.Common.{ap, subst, ◌∙◌, arith, length-set, suc-mul}
 use Rattle.std.proofs.lemmas.Bool.{lt-ltb}
 use Rattle.reach.proofs.Marking.{set_keeps}
-use Rattle.best_run.specs.declared.task.Node.{Node}
-use Rattle.best_run.specs.declared.task.Segment.{Segment}
-use Rattle.best_run.specs.declared.task.Departures.{Departures}
-use Rattle.best_run.specs.declared.task.Task.{Task}
-use Rattle.best_run.specs.declared.task.Leg.{Leg}
+use Rattle.search_task.specs.declared.task.Node.{Node}
+use Rattle.search_task.specs.declared.task.Segment.{Segment}
+use Rattle.search_task.specs.declared.task.Departures.{Departures}
+use Rattle.search_task.specs.declared.task.Task.{Task}
+use Rattle.search_task.specs.declared.task.Leg.{Leg}
 use Rattle.best_run.specs.declared.memo.Found.{Found}
-use Rattle.best_run.specs.declared.state.Settled.{Settled}
+use Rattle.best_run.specs.declared.state.Assigned.{Assigned}
 use Rattle.best_run.specs.declared.state.PartialRun.{PartialRun}
-use Rattle.best_run.specs.Ahead.{EndsAtMost, IsGoneOverFrom, IsOutlook, LiesAhead, beyond, ends_by, goes_back, goes_on, if_ending, if_passed, most_ahead, one_end, two_ends}
-use Rattle.best_run.specs.Fit.{IsFit, SegmentFits}
+use Rattle.best_run.specs.Ahead.{EndsAtMost, IsGoneOverFrom, IsOutlook, LiesAhead, beyond, ends_by, goes_back, goes_on}
+use Rattle.best_run.specs.Ahead.{if_ending, if_passed, most_ahead, one_end, two_ends}
+use Rattle.search_task.specs.Fit.{IsFit, SegmentFits}
 use Rattle.best_run.specs.Last.{Counts, EndsThere}
-use Rattle.best_run.specs.Moves.{Completes, Explores, LeadsFrom, Move, along, begin, between, can_take, ends_in, go, left_after, marked_all, marked_if, may_come, misses, node_at, pass, settle, with_run_settled, partial, stop_in, total_after, turn, turned_back, using, value_in}
-use Rattle.best_run.specs.Legs.{AreReady, AreLegsOf, IsStop, legs_at, legs_in}
-use Rattle.best_run.specs.Suffix.{ArePrunedByCap, AreEqual, EarnAtMost}
-use Rattle.best_run.proofs.Advance.{free_misses, marks_more, misses_free}
-use Rattle.best_run.proofs.Ahead.{falsely}
-use Rattle.best_run.proofs.Beyond.{Within, beyond_less, beyond_spent, ends_less, one_less, one_spent, one_two, two_less, two_spent, unset_within}
+use Rattle.best_run.specs.Moves.{Completes, Explores, Move, along, begin, between, can_take, go, left_after, marked_if}
+use Rattle.best_run.specs.Moves.{may_come, partial, pass, finish, total_after, turn, turned_back, using}
+use Rattle.best_run.specs.Moves.{with_run_finished}
+use Rattle.search_task.specs.Spots.{LeadsFrom, ends_in, node_at, stop_in, value_in}
+use Rattle.search_task.specs.Crossed.{marked_all, misses}
+use Rattle.search_task.specs.Legs.{AreLegsOf, AreReady, IsStop, legs_at, legs_in}
+use Rattle.best_run.specs.Suffix.{AreEqual, ArePrunedByCap, EarnAtMost}
+use Rattle.search_task.proofs.Marked.{free_misses, marks_more, misses_free}
+use Rattle.best_run.proofs.Beyond.{Within, beyond_spent, ends_less, one_spent, one_two, two_spent, unset_within}
+use Rattle.best_run.proofs.Beyond.{worth_less}
 use Rattle.best_run.proofs.Along.{ByLeg, by_leg, leg_fits}
-use Rattle.best_run.proofs.Departing.{none_at}
-use Rattle.best_run.proofs.Described.{among_place}
+use Rattle.search_task.proofs.Departing.{legs_of, none_at}
+use Rattle.search_task.proofs.Described.{among_place}
 use Rattle.best_run.proofs.Eased.{rest_low}
-use Rattle.best_run.proofs.Equal.{low_settled}
+use Rattle.best_run.proofs.Equal.{low_assigned}
 use Rattle.best_run.proofs.Lasting.{last_stuck}
-use Rattle.best_run.proofs.Marks.{length_marked}
-use Rattle.best_run.proofs.Traced.{traced_none}
+use Rattle.search_task.proofs.Marks.{length_marked}
+use Rattle.search_task.proofs.Booleans.{both_are, both_first, both_second, not_both}
 
 -- the stops ahead that are not visited
 pub but : List Bool → List Bool → List Bool
@@ -39,15 +46,11 @@ and_false : (b : Bool) → (b && false) ≡ false
 and_false true = refl
 and_false false = refl
 
-and_first : (a b : Bool) → (a && b) ≡ true → a ≡ true
-and_first true b is = refl
-and_first false b is = absurd cc
-
 pub but_within : (ahead visited : List Bool) → Within (but ahead visited) ahead
 unfolding but
 but_within [] visited = tt
 but_within (lies ∷ ahead) [] = tt
-but_within (lies ∷ ahead) (was ∷ visited) = (and_first lies (not was), but_within ahead visited)
+but_within (lies ∷ ahead) (was ∷ visited) = (both_first lies (not was), but_within ahead visited)
 
 -- no more lies ahead than before a stop was visited
 pub but_unset : (ahead visited : List Bool) (n : ℕ) → get_or visited n false ≡ true
@@ -60,8 +63,8 @@ but_unset (lies ∷ ahead) (was ∷ visited) zero is = (none lies was is, but_wi
     none : (lies was : Bool) → was ≡ true → (lies && not was) ≡ true → false ≡ true
     none true true is both = both
     none false was is both = both
-    none lies false is both = absurd (falsely false is refl)
-but_unset (lies ∷ ahead) (was ∷ visited) (suc n) is = (and_first lies (not was), but_unset ahead visited n is)
+    none lies false is both = absurd (not_both false is refl)
+but_unset (lies ∷ ahead) (was ∷ visited) (suc n) is = (both_first lies (not was), but_unset ahead visited n is)
 
 -- one more is visited
 but_set : (ahead visited : List Bool) (n : ℕ) → n < length visited
@@ -76,14 +79,14 @@ but_set (lies ∷ ahead) (was ∷ visited) (suc n) low =
 but_at : (ahead visited : List Bool) (n : ℕ) → n < length visited → get_or ahead n false ≡ true
     → get_or visited n false ≡ false → get_or (but ahead visited) n false ≡ true
 unfolding but
-but_at [] visited n low lies free = absurd (falsely false lies refl)
+but_at [] visited n low lies free = absurd (not_both false lies refl)
 but_at (lies ∷ ahead) [] n low is free = absurd (omega arith)
 but_at (lies ∷ ahead) (was ∷ visited) zero low is free = both_here lies was is free
   where
     both_here : (lies was : Bool) → lies ≡ true → was ≡ false → (lies && not was) ≡ true
-    both_here lies true is free = absurd (falsely true refl free)
+    both_here lies true is free = absurd (not_both true refl free)
     both_here true false is free = refl
-    both_here false false is free = absurd (falsely false is refl)
+    both_here false false is free = absurd (not_both false is refl)
 but_at (lies ∷ ahead) (was ∷ visited) (suc n) low is free = but_at ahead visited n (omega arith) is free
 
 -- a stop is visited: what was left for it, and what it was worth beyond the level, is spent
@@ -95,18 +98,6 @@ spend true true value level here later passed after one first two second left le
 spend true false value level here later passed after one first two second left less ends both fewer all = omega arith
 spend false true value level here later passed after one first two second left less ends both fewer all = omega arith
 spend false false value level here later passed after one first two second left less ends both fewer all = omega arith
-
-both_first : (a b : Bool) → (a && b) ≡ true → a ≡ true
-both_first true b is = refl
-both_first false b is = absurd cc
-
-both_second : (a b : Bool) → (a && b) ≡ true → b ≡ true
-both_second true b is = is
-both_second false b is = absurd cc
-
-both_are : (a b : Bool) → a ≡ true → b ≡ true → (a && b) ≡ true
-both_are true b first second = second
-both_are false b first second = absurd cc
 
 not_is : (b : Bool) → not b ≡ true → b ≡ false
 not_is true is = absurd cc
@@ -150,30 +141,30 @@ come_before task run segment low true spot is =
     (both_first (nat_lt 0 (left_after (stop_in (node_at task segment.to)) run.left))
     (not (get_or (marked_if (stop_in (node_at task segment.to)) run.visited segment.to) spot false)) is))
     (is_not (get_or run.visited spot false) (false_or (get_or run.visited spot false) (λ was.
-    falsely (get_or (marked_if (stop_in (node_at task segment.to)) run.visited segment.to) spot false)
+    not_both (get_or (marked_if (stop_in (node_at task segment.to)) run.visited segment.to) spot false)
     (mark_keeps (stop_in (node_at task segment.to)) run.visited segment.to spot low was)
     (not_is (get_or (marked_if (stop_in (node_at task segment.to)) run.visited segment.to) spot false)
     (both_second (nat_lt 0 (left_after (stop_in (node_at task segment.to)) run.left))
     (not (get_or (marked_if (stop_in (node_at task segment.to)) run.visited segment.to) spot false)) is)))))
 
 -- a piece that may be taken after another may be taken before it
-take_before : (task : Task) (settled : Settled) (run : PartialRun) (from : Bool) (segment : Segment)
-    → SegmentFits task from segment → length settled.used ≡ 279 → length run.visited ≡ 744 → (other : Segment)
-    → can_take task (along task run segment) (using settled segment).used other ≡ true
-    → can_take task run settled.used other ≡ true
-take_before task settled run from segment fits whole spots other is =
+take_before : (task : Task) (assigned : Assigned) (run : PartialRun) (from : Bool) (segment : Segment)
+    → SegmentFits task from segment → length assigned.used ≡ 279 → length run.visited ≡ 744 → (other : Segment)
+    → can_take task (along task run segment) (using assigned segment).used other ≡ true
+    → can_take task run assigned.used other ≡ true
+take_before task assigned run from segment fits whole spots other is =
     let stop = stop_in (node_at task other.to) in
     let came : may_come stop (along task run segment) other.to ≡ true =
     both_first (may_come stop (along task run segment) other.to)
-    (misses (marked_all settled.used segment.borders.items) other.borders.items) is in
-    let missed : misses (marked_all settled.used segment.borders.items) other.borders.items ≡ true =
+    (misses (marked_all assigned.used segment.borders.items) other.borders.items) is in
+    let missed : misses (marked_all assigned.used segment.borders.items) other.borders.items ≡ true =
     both_second (may_come stop (along task run segment) other.to)
-    (misses (marked_all settled.used segment.borders.items) other.borders.items) is in
-    both_are (may_come stop run other.to) (misses settled.used other.borders.items)
+    (misses (marked_all assigned.used segment.borders.items) other.borders.items) is in
+    both_are (may_come stop run other.to) (misses assigned.used other.borders.items)
     (come_before task run segment (omega (arith, fits.to, spots)) stop other.to came)
-    (free_misses settled.used other.borders.items (λ border among marked.
-    misses_free (marked_all settled.used segment.borders.items) other.borders.items missed border among
-    ((marks_more settled.used segment.borders.items fits.borders whole border).1 (inr marked))))
+    (free_misses assigned.used other.borders.items (λ border among marked.
+    misses_free (marked_all assigned.used segment.borders.items) other.borders.items missed border among
+    ((marks_more assigned.used segment.borders.items fits.borders whole border).1 (inr marked))))
 
 -- a run that turns back may take the same pieces
 pub take_back : (task : Task) (run : PartialRun) (used : List Bool) (segment : Segment)
@@ -185,40 +176,31 @@ take_back task run used segment = ap (λ b. b && misses used segment.borders.ite
     by_stop true = refl
     by_stop false = refl
 
-module _ (task : Task) (fit : IsFit task) (ready : AreReady task) (first : Settled) (begun : PartialRun)
+module _ (task : Task) (fit : IsFit task) (ready : AreReady task) (first : Assigned) (begun : PartialRun)
     (ahead : List Bool) (look : IsOutlook task first begun ahead) (nodes : List Node)
     (counts : Counts task first begun nodes) where
-  -- a run goes on no more from where it stands
-  abbrev pub Halts : Settled → PartialRun → Type 0
-  Halts settled run =
+  -- a run goes on no more from where it is
+  abbrev pub Halts : Assigned → PartialRun → Type 0
+  Halts assigned run =
       (ends_in (node_at task run.head) ≡ true) ⊎ ((place : ℕ) (leg : Leg)
-      → slice_get (legs_at task run.head) place ≡ Some leg → can_take task run settled.used leg.segment ≡ true → ⊥)
+      → slice_get (legs_at task run.head) place ≡ Some leg → can_take task run assigned.used leg.segment ≡ true → ⊥)
 
-  -- a run that goes on from where the first one stands; by a mark it may go on from where it stands itself
-  pub record Follows (least : ℕ) (on : Bool) (settled : Settled) (run : PartialRun) : Type 0 where
-    pub halts : on ≡ false → Halts settled run
-    pub takes : (segment : Segment) → can_take task run settled.used segment ≡ true
+  -- a run that goes on from where the first one is; by a mark it may go on from where it is itself
+  pub record Follows (least : ℕ) (on : Bool) (assigned : Assigned) (run : PartialRun) : Type 0 where
+    pub halts : on ≡ false → Halts assigned run
+    pub takes : (segment : Segment) → can_take task run assigned.used segment ≡ true
         → can_take task begun first.used segment ≡ true
     pub head : IsGoneOverFrom task first begun least ahead run.head
     pub home : run.turned ≡ false → IsGoneOverFrom task first begun run.first ahead run.home
     pub stands : IsStop task run.head
     pub begins : IsStop task run.home
-    pub next : settled.next ≡ first.next
+    pub next : assigned.next ≡ first.next
     pub most : run.most ≡ begun.most
-    pub whole : length settled.used ≡ 279
+    pub whole : length assigned.used ≡ 279
     pub spots : length run.visited ≡ 744
 
-  -- the ways from a stop
-  legs_of : (stop : ℕ) → IsStop task stop → AreLegsOf task stop (legs_at task stop)
-  legs_of stop is = by_from (slice_get task.departures.items stop) refl
-    where
-      by_from : (found : Option Departures) → slice_get task.departures.items stop ≡ found
-          → AreLegsOf task stop (legs_in found)
-      by_from None at = absurd (none_at task.departures.items stop at (omega (arith, is.0, ready.long)))
-      by_from (Some from) at = ready.each stop from at is.1
-
   -- the next way
-  pub record Leads (settled : Settled) (run : PartialRun) (leg : Leg) : Type 0 where
+  pub record Leads (assigned : Assigned) (run : PartialRun) (leg : Leg) : Type 0 where
     pub from : ℕ
     pub place : ℕ
     pub stands : slice_get (legs_at task from) place ≡ Some leg
@@ -233,12 +215,13 @@ module _ (task : Task) (fit : IsFit task) (ready : AreReady task) (first : Settl
       both_second (may_come (stop_in (node_at task segment.to)) run segment.to) (misses used segment.borders.items)
       taken
 
-  leads_by : (least : ℕ) (on : Bool) (settled : Settled) (run : PartialRun) → Follows least on settled run
+  leads_by : (least : ℕ) (on : Bool) (assigned : Assigned) (run : PartialRun) → Follows least on assigned run
       → ends_in (node_at task run.head) ≡ false → (place : ℕ) (leg : Leg)
       → slice_get (legs_at task run.head) place ≡ Some leg → least ≤ leg.first
-      → can_take task run settled.used leg.segment ≡ true → Leads settled run leg
-  leads_by least on settled run follows passes place leg at later taken =
-      let fits = leg_fits task fit run.head (legs_at task run.head) (legs_of run.head follows.stands) follows.stands.1
+      → can_take task run assigned.used leg.segment ≡ true → Leads assigned run leg
+  leads_by least on assigned run follows passes place leg at later taken =
+      let fits = leg_fits task fit run.head (legs_at task run.head) (legs_of task ready run.head follows.stands)
+      follows.stands.1
       leg (among_place (legs_at task run.head) place leg at) in
       record {
         from = run.head;
@@ -258,32 +241,32 @@ module _ (task : Task) (fit : IsFit task) (ready : AreReady task) (first : Settl
   was_true true is = refl
   was_true false is = absurd cc
 
-  -- a run has come to a stop at which it ends
-  halts_go : (least : ℕ) (on : Bool) (settled : Settled) (run : PartialRun) → Follows least on settled run
-      → (leg : Leg) → Leads settled run leg → EndsThere task first begun leg.segment.to
-      → Halts (using settled leg.segment) (along task run leg.segment)
-  halts_go least on settled run follows leg leads ends =
+  -- a run has reached a stop at which it ends
+  halts_go : (least : ℕ) (on : Bool) (assigned : Assigned) (run : PartialRun) → Follows least on assigned run
+      → (leg : Leg) → Leads assigned run leg → EndsThere task first begun leg.segment.to
+      → Halts (using assigned leg.segment) (along task run leg.segment)
+  halts_go least on assigned run follows leg leads ends =
       elim ends [
         | inl ending ↦ inl ending
         | inr last ↦ inr (λ index other at taken.
-            last_stuck task first.used settled.used leads.from leads.place leg last.1 leads.stands leads.fits.borders
+            last_stuck task first.used assigned.used leads.from leads.place leg last.1 leads.stands leads.fits.borders
             follows.whole leads.free index other at
             (free_first begun first.used other.segment (follows.takes other.segment
-            (take_before task settled run false leg.segment leads.fits follows.whole follows.spots other.segment
+            (take_before task assigned run false leg.segment leads.fits follows.whole follows.spots other.segment
             taken)))
-            (free_first (along task run leg.segment) (marked_all settled.used leg.segment.borders.items) other.segment
+            (free_first (along task run leg.segment) (marked_all assigned.used leg.segment.borders.items) other.segment
             taken))
       ]
 
-  pub follows_go : (least : ℕ) (on : Bool) (settled : Settled) (run : PartialRun) → Follows least on settled run
-      → (leg : Leg) → Leads settled run leg → Follows 0 (passes leg.segment.to) (using settled leg.segment)
+  pub follows_go : (least : ℕ) (on : Bool) (assigned : Assigned) (run : PartialRun) → Follows least on assigned run
+      → (leg : Leg) → Leads assigned run leg → Follows 0 (passes leg.segment.to) (using assigned leg.segment)
       (along task run leg.segment)
   unfolding passes
-  follows_go least on settled run follows leg leads =
+  follows_go least on assigned run follows leg leads =
       record {
-        halts = λ off. halts_go least on settled run follows leg leads
+        halts = λ off. halts_go least on assigned run follows leg leads
             (counts.ends leg.segment.to (was_true (ends_in (slice_get nodes leg.segment.to)) off));
-        takes = λ other is. follows.takes other (take_before task settled run false leg.segment leads.fits
+        takes = λ other is. follows.takes other (take_before task assigned run false leg.segment leads.fits
             follows.whole follows.spots other is);
         head = λ passes place other at later taken. look.all leg.segment.to leads.lies passes place other at taken;
         home = follows.home;
@@ -291,19 +274,19 @@ module _ (task : Task) (fit : IsFit task) (ready : AreReady task) (first : Settl
         begins = follows.begins;
         next = follows.next;
         most = follows.most;
-        whole = length_marked settled.used leg.segment.borders.items ∙ follows.whole;
+        whole = length_marked assigned.used leg.segment.borders.items ∙ follows.whole;
         spots = mark_length (stop_in (node_at task leg.segment.to)) run.visited leg.segment.to ∙ follows.spots;
       }
 
   -- a run that turns back goes on from where it began
-  follows_back : (on : Bool) (settled : Settled) (run : PartialRun) → Follows 0 on settled run → run.turned ≡ false
-      → Follows run.first true settled (turned_back run)
-  follows_back on settled run follows once =
+  follows_back : (on : Bool) (assigned : Assigned) (run : PartialRun) → Follows 0 on assigned run → run.turned ≡ false
+      → Follows run.first true assigned (turned_back run)
+  follows_back on assigned run follows once =
       record {
-        halts = λ wrong. absurd (falsely true refl wrong);
-        takes = λ segment taken. follows.takes segment (sym (take_back task run settled.used segment) ∙ taken);
+        halts = λ wrong. absurd (not_both true refl wrong);
+        takes = λ segment taken. follows.takes segment (sym (take_back task run assigned.used segment) ∙ taken);
         head = follows.home once;
-        home = λ wrong. absurd (falsely true refl wrong);
+        home = λ wrong. absurd (not_both true refl wrong);
         stands = follows.begins;
         begins = follows.begins;
         next = follows.next;
@@ -320,18 +303,18 @@ module _ (task : Task) (fit : IsFit task) (ready : AreReady task) (first : Settl
       (two_ends level nodes (but ahead run.visited))
 
   -- a way leaves no more to be earned, as if the stop that it leaves might be passed
-  pub still_leg : (level least : ℕ) (on : Bool) (settled : Settled) (run : PartialRun) → Follows least on settled run
-      → (leg : Leg) → Leads settled run leg → can_take task run settled.used leg.segment ≡ true
+  pub still_leg : (level least : ℕ) (on : Bool) (assigned : Assigned) (run : PartialRun) → Follows least on assigned run
+      → (leg : Leg) → Leads assigned run leg → can_take task run assigned.used leg.segment ≡ true
       → value_in (node_at task leg.segment.to) + still level (passes leg.segment.to) (along task run leg.segment)
       ≤ (run.left * level + beyond level nodes (but ahead run.visited))
       + ends_by true (goes_back task run) (one_end level nodes (but ahead run.visited))
       (two_ends level nodes (but ahead run.visited))
   unfolding still passes
-  still_leg level least on settled run follows leg leads taken =
+  still_leg level least on assigned run follows leg leads taken =
       let came : may_come true run leg.segment.to ≡ true =
       subst (λ (b : Bool). may_come b run leg.segment.to ≡ true) leads.stop.1
       (both_first (may_come (stop_in (node_at task leg.segment.to)) run leg.segment.to)
-      (misses settled.used leg.segment.borders.items) taken) in
+      (misses assigned.used leg.segment.borders.items) taken) in
       let low : leg.segment.to < length run.visited = omega (arith, follows.spots, leads.fits.to) in
       let free : get_or run.visited leg.segment.to false ≡ false =
       not_is (get_or run.visited leg.segment.to false)
@@ -376,24 +359,24 @@ module _ (task : Task) (fit : IsFit task) (ready : AreReady task) (first : Settl
           (beyond_spent level nodes (but ahead run.visited) to open_here)
           (one_spent level nodes (but ahead run.visited) to open_here)
           (two_spent level nodes (but ahead run.visited) to open_here)
-          (one_less level nodes (set (but ahead run.visited) to false) (but ahead run.visited)
-          (unset_within (but ahead run.visited) to))
-          (two_less level nodes (set (but ahead run.visited) to false) (but ahead run.visited)
-          (unset_within (but ahead run.visited) to))))
+          (worth_less level nodes (set (but ahead run.visited) to false) (but ahead run.visited)
+          (unset_within (but ahead run.visited) to)).one
+          (worth_less level nodes (set (but ahead run.visited) to false) (but ahead run.visited)
+          (unset_within (but ahead run.visited) to)).two))
 
   -- a way leaves no more to be earned
-  still_go : (level least : ℕ) (on : Bool) (settled : Settled) (run : PartialRun) → Follows least on settled run
+  still_go : (level least : ℕ) (on : Bool) (assigned : Assigned) (run : PartialRun) → Follows least on assigned run
       → ends_in (node_at task run.head) ≡ false → (place : ℕ) (leg : Leg)
-      → slice_get (legs_at task run.head) place ≡ Some leg → Leads settled run leg
-      → can_take task run settled.used leg.segment ≡ true
+      → slice_get (legs_at task run.head) place ≡ Some leg → Leads assigned run leg
+      → can_take task run assigned.used leg.segment ≡ true
       → value_in (node_at task leg.segment.to) + still level (passes leg.segment.to) (along task run leg.segment)
       ≤ still level on run
   unfolding still
-  still_go level least true settled run follows goes place leg at leads taken =
-      still_leg level least true settled run follows leg leads taken
-  still_go level least false settled run follows goes place leg at leads taken =
+  still_go level least true assigned run follows goes place leg at leads taken =
+      still_leg level least true assigned run follows leg leads taken
+  still_go level least false assigned run follows goes place leg at leads taken =
       absurd (elim (follows.halts refl) [
-        | inl ends ↦ falsely (ends_in (node_at task run.head)) ends goes
+        | inl ends ↦ not_both (ends_in (node_at task run.head)) ends goes
         | inr none ↦ none place leg at taken
       ])
 
@@ -402,8 +385,8 @@ module _ (task : Task) (fit : IsFit task) (ready : AreReady task) (first : Settl
       → ends_by true (not true && not passes) one two ≤ ends_by on (not once && not passes) one two
   back_by true false false one two less once passes = less
   back_by false false false one two less once passes = omega arith
-  back_by on true passes one two less once is = absurd (falsely true refl once)
-  back_by on false true one two less once is = absurd (falsely true refl is)
+  back_by on true passes one two less once is = absurd (not_both true refl once)
+  back_by on false true one two less once is = absurd (not_both true refl is)
 
   still_back : (level : ℕ) (on : Bool) (run : PartialRun) → run.turned ≡ false
       → ends_in (node_at task run.home) ≡ false → still level true (turned_back run) ≤ still level on run
@@ -420,157 +403,159 @@ module _ (task : Task) (fit : IsFit task) (ready : AreReady task) (first : Settl
   still_first : (level : ℕ) → still level (goes_on task begun) begun ≤ most_ahead level task nodes begun ahead
   unfolding still
   still_first level =
-      let within : Within (but ahead begun.visited) ahead = but_within ahead begun.visited in
+      let less = worth_less level nodes (but ahead begun.visited) ahead (but_within ahead begun.visited) in
       omega (
         arith,
-        beyond_less level nodes (but ahead begun.visited) ahead within,
+        less.passed,
         ends_less (goes_on task begun) (goes_back task begun) (one_end level nodes (but ahead begun.visited))
             (two_ends level nodes (but ahead begun.visited)) (one_end level nodes ahead) (two_ends level nodes ahead)
-            (one_less level nodes (but ahead begun.visited) ahead within)
-            (two_less level nodes (but ahead begun.visited) ahead within),
+            less.one less.two,
       )
 
   -- the way with which what comes after a piece begins
-  abbrev Leg_of : (least : ℕ) (on : Bool) (settled : Settled) (run : PartialRun) → Follows least on settled run → ℕ
+  abbrev Leg_of : (least : ℕ) (on : Bool) (assigned : Assigned) (run : PartialRun) → Follows least on assigned run → ℕ
       → Segment → List Move → Type 0
-  Leg_of least on settled run follows place segment moves =
-      ByLeg task fit run.head follows.stands.1 (legs_at task run.head) (legs_of run.head follows.stands) settled run
+  Leg_of least on assigned run follows place segment moves =
+      ByLeg task fit run.head follows.stands.1 (legs_at task run.head) (legs_of task ready run.head follows.stands)
+      assigned run
       place segment moves
 
-  leg_of : (least : ℕ) (on : Bool) (settled : Settled) (run : PartialRun) → (follows : Follows least on settled run)
+  leg_of : (least : ℕ) (on : Bool) (assigned : Assigned) (run : PartialRun) → (follows : Follows least on assigned run)
       → (place : ℕ) (segment : Segment) (moves : List Move) → LeadsFrom task run.head place segment
-      → can_take task run settled.used segment ≡ true
-      → Completes task (partial (using settled segment) (along task run segment)) moves
-      → Leg_of least on settled run follows place segment moves
-  leg_of least on settled run follows place segment moves leads taken completes =
-      by_leg task fit run.head follows.stands.1 (legs_at task run.head) (legs_of run.head follows.stands) settled run
+      → can_take task run assigned.used segment ≡ true
+      → Completes task (partial (using assigned segment) (along task run segment)) moves
+      → Leg_of least on assigned run follows place segment moves
+  leg_of least on assigned run follows place segment moves leads taken completes =
+      by_leg task fit run.head follows.stands.1 (legs_at task run.head) (legs_of task ready run.head follows.stands)
+      assigned run
       follows.whole place segment moves leads taken completes
 
   -- all ways on
   low_by : (level later : ℕ) → EarnAtMost task (first.next + 1) later → (fuel : ℕ) (moves : List Move)
-      → length moves ≤ fuel → (settled : Settled) (run : PartialRun) (on : Bool) → Follows 0 on settled run
-      → Completes task (partial settled run) moves → total_after task (partial settled run) moves
-      ≤ settled.total + run.value + still level on run + later
-  low_by level later bound fuel [] enough settled run on follows completes = absurd completes
-  low_by level later bound fuel (pass ∷ moves) enough settled run on follows completes = absurd completes.0
-  low_by level later bound fuel (begin stop index segment ∷ moves) enough settled run on follows completes =
+      → length moves ≤ fuel → (assigned : Assigned) (run : PartialRun) (on : Bool) → Follows 0 on assigned run
+      → Completes task (partial assigned run) moves → total_after task (partial assigned run) moves
+      ≤ assigned.total + run.value + still level on run + later
+  low_by level later bound fuel [] enough assigned run on follows completes = absurd completes
+  low_by level later bound fuel (pass ∷ moves) enough assigned run on follows completes = absurd completes.0
+  low_by level later bound fuel (begin stop index segment ∷ moves) enough assigned run on follows completes =
       absurd completes.0
-  low_by level later bound zero (go index segment ∷ moves) enough settled run on follows completes =
+  low_by level later bound zero (go index segment ∷ moves) enough assigned run on follows completes =
       absurd (omega (arith, enough))
-  low_by level later bound (suc fuel) (go index segment ∷ moves) enough settled run on follows completes =
+  low_by level later bound (suc fuel) (go index segment ∷ moves) enough assigned run on follows completes =
       let may = completes.0 in
-      let by : Leg_of 0 on settled run follows index segment moves =
-      leg_of 0 on settled run follows index segment moves may.leads may.taken completes.1 in
-      let leads : Leads settled run by.leg = leads_by 0 on settled run follows may.passes by.place_of by.leg by.stands
+      let by : Leg_of 0 on assigned run follows index segment moves =
+      leg_of 0 on assigned run follows index segment moves may.leads may.taken completes.1 in
+      let leads : Leads assigned run by.leg = leads_by 0 on assigned run follows may.passes by.place_of by.leg by.stands
       (omega arith) by.can in
-      let rest : total_after task (partial (using settled by.leg.segment) (along task run by.leg.segment)) by.later
-      ≤ settled.total + (run.value + value_in (node_at task by.leg.segment.to))
+      let rest : total_after task (partial (using assigned by.leg.segment) (along task run by.leg.segment)) by.later
+      ≤ assigned.total + (run.value + value_in (node_at task by.leg.segment.to))
       + still level (passes by.leg.segment.to) (along task run by.leg.segment) + later =
-      low_by level later bound fuel by.later (omega (arith, by.shorter, enough)) (using settled by.leg.segment)
+      low_by level later bound fuel by.later (omega (arith, by.shorter, enough)) (using assigned by.leg.segment)
       (along task run by.leg.segment) (passes by.leg.segment.to)
-      (follows_go 0 on settled run follows by.leg leads) by.completes in
+      (follows_go 0 on assigned run follows by.leg leads) by.completes in
       omega (
         arith,
         rest,
         by.total,
-        still_go level 0 on settled run follows may.passes by.place_of by.leg by.stands
+        still_go level 0 on assigned run follows may.passes by.place_of by.leg by.stands
             leads by.can,
       )
-  low_by level later bound zero (turn index segment ∷ moves) enough settled run on follows completes =
+  low_by level later bound zero (turn index segment ∷ moves) enough assigned run on follows completes =
       absurd (omega (arith, enough))
-  low_by level later bound (suc fuel) (turn index segment ∷ moves) enough settled run on follows completes =
+  low_by level later bound (suc fuel) (turn index segment ∷ moves) enough assigned run on follows completes =
       let may = completes.0 in
-      let back : Follows run.first true settled (turned_back run) = follows_back on settled run follows may.once in
-      let by : Leg_of run.first true settled (turned_back run) back index segment moves =
-      leg_of run.first true settled (turned_back run) back index segment moves may.leads may.taken completes.1 in
-      let leads : Leads settled (turned_back run) by.leg =
-      leads_by run.first true settled (turned_back run) back may.passes by.place_of by.leg by.stands
+      let back : Follows run.first true assigned (turned_back run) = follows_back on assigned run follows may.once in
+      let by : Leg_of run.first true assigned (turned_back run) back index segment moves =
+      leg_of run.first true assigned (turned_back run) back index segment moves may.leads may.taken completes.1 in
+      let leads : Leads assigned (turned_back run) by.leg =
+      leads_by run.first true assigned (turned_back run) back may.passes by.place_of by.leg by.stands
       (omega (arith, may.later, by.first)) by.can in
-      let rest : total_after task (partial (using settled by.leg.segment)
+      let rest : total_after task (partial (using assigned by.leg.segment)
       (along task (turned_back run) by.leg.segment)) by.later
-      ≤ settled.total + (run.value + value_in (node_at task by.leg.segment.to))
+      ≤ assigned.total + (run.value + value_in (node_at task by.leg.segment.to))
       + still level (passes by.leg.segment.to) (along task (turned_back run) by.leg.segment) + later =
-      low_by level later bound fuel by.later (omega (arith, by.shorter, enough)) (using settled by.leg.segment)
+      low_by level later bound fuel by.later (omega (arith, by.shorter, enough)) (using assigned by.leg.segment)
       (along task (turned_back run) by.leg.segment) (passes by.leg.segment.to)
-      (follows_go run.first true settled (turned_back run) back by.leg leads) by.completes in
+      (follows_go run.first true assigned (turned_back run) back by.leg leads) by.completes in
       omega (
         arith,
         rest,
         by.total,
-        still_go level run.first true settled (turned_back run) back may.passes
+        still_go level run.first true assigned (turned_back run) back may.passes
             by.place_of by.leg by.stands leads by.can,
         still_back level on run may.once may.passes,
       )
-  low_by level later bound fuel (settle ∷ moves) enough settled run on follows completes =
-      let here : EarnAtMost task (with_run_settled settled run).next later =
+  low_by level later bound fuel (finish ∷ moves) enough assigned run on follows completes =
+      let here : EarnAtMost task (with_run_finished assigned run).next later =
       subst (λ (n : ℕ). EarnAtMost task (n + 1) later) (sym follows.next) bound in
-      let rest : total_after task (between (with_run_settled settled run)) moves ≤ settled.total + run.value + later =
-      rest_low task (with_run_settled settled run) later here follows.whole moves completes.1 in
+      let rest : total_after task (between (with_run_finished assigned run)) moves ≤ assigned.total + run.value
+      + later =
+      rest_low task (with_run_finished assigned run) later here follows.whole moves completes.1 in
       omega arith
 
   -- all ways on, if the next trains are of the same kind
   pub low_canonical : (level most : ℕ) → 0 < begun.most → (equal later : ℕ)
       → AreEqual task (first.next + 1) equal begun.most → EarnAtMost task (first.next + 1 + equal) later
-      → (fuel : ℕ) (moves : List Move) → length moves ≤ fuel → (settled : Settled) (run : PartialRun) (on : Bool)
-      → Follows 0 on settled run → run.value + still level on run ≤ most → Completes task (partial settled run) moves
-      → total_after task (partial settled run) moves ≤ settled.total + most + (equal * most + later)
-  low_canonical level most some equal later canonical bound fuel [] enough settled run on follows low completes =
+      → (fuel : ℕ) (moves : List Move) → length moves ≤ fuel → (assigned : Assigned) (run : PartialRun) (on : Bool)
+      → Follows 0 on assigned run → run.value + still level on run ≤ most → Completes task (partial assigned run) moves
+      → total_after task (partial assigned run) moves ≤ assigned.total + most + (equal * most + later)
+  low_canonical level most some equal later canonical bound fuel [] enough assigned run on follows low completes =
       absurd completes
-  low_canonical level most some equal later canonical bound fuel (pass ∷ moves) enough settled run on follows low
+  low_canonical level most some equal later canonical bound fuel (pass ∷ moves) enough assigned run on follows low
       completes = absurd completes.0
-  low_canonical level most some equal later canonical bound fuel (begin stop index segment ∷ moves) enough settled run
+  low_canonical level most some equal later canonical bound fuel (begin stop index segment ∷ moves) enough assigned run
       on follows low completes = absurd completes.0
-  low_canonical level most some equal later canonical bound zero (go index segment ∷ moves) enough settled run on
+  low_canonical level most some equal later canonical bound zero (go index segment ∷ moves) enough assigned run on
       follows low completes = absurd (omega (arith, enough))
-  low_canonical level most some equal later canonical bound (suc fuel) (go index segment ∷ moves) enough settled run
+  low_canonical level most some equal later canonical bound (suc fuel) (go index segment ∷ moves) enough assigned run
       on follows low completes =
       let may = completes.0 in
-      let by : Leg_of 0 on settled run follows index segment moves =
-      leg_of 0 on settled run follows index segment moves may.leads may.taken completes.1 in
-      let leads : Leads settled run by.leg = leads_by 0 on settled run follows may.passes by.place_of by.leg by.stands
+      let by : Leg_of 0 on assigned run follows index segment moves =
+      leg_of 0 on assigned run follows index segment moves may.leads may.taken completes.1 in
+      let leads : Leads assigned run by.leg = leads_by 0 on assigned run follows may.passes by.place_of by.leg by.stands
       (omega arith) by.can in
       let rest = low_canonical level most some equal later canonical bound fuel by.later
-      (omega (arith, by.shorter, enough)) (using settled by.leg.segment) (along task run by.leg.segment)
-      (passes by.leg.segment.to) (follows_go 0 on settled run follows by.leg leads)
+      (omega (arith, by.shorter, enough)) (using assigned by.leg.segment) (along task run by.leg.segment)
+      (passes by.leg.segment.to) (follows_go 0 on assigned run follows by.leg leads)
       (omega (
         arith,
         low,
-        still_go level 0 on settled run follows may.passes by.place_of by.leg by.stands leads
+        still_go level 0 on assigned run follows may.passes by.place_of by.leg by.stands leads
             by.can,
       )) by.completes in
       omega (arith, rest, by.total)
-  low_canonical level most some equal later canonical bound zero (turn index segment ∷ moves) enough settled run on
+  low_canonical level most some equal later canonical bound zero (turn index segment ∷ moves) enough assigned run on
       follows low completes = absurd (omega (arith, enough))
-  low_canonical level most some equal later canonical bound (suc fuel) (turn index segment ∷ moves) enough settled run
+  low_canonical level most some equal later canonical bound (suc fuel) (turn index segment ∷ moves) enough assigned run
       on follows low completes =
       let may = completes.0 in
-      let back : Follows run.first true settled (turned_back run) = follows_back on settled run follows may.once in
-      let by : Leg_of run.first true settled (turned_back run) back index segment moves =
-      leg_of run.first true settled (turned_back run) back index segment moves may.leads may.taken completes.1 in
-      let leads : Leads settled (turned_back run) by.leg =
-      leads_by run.first true settled (turned_back run) back may.passes by.place_of by.leg by.stands
+      let back : Follows run.first true assigned (turned_back run) = follows_back on assigned run follows may.once in
+      let by : Leg_of run.first true assigned (turned_back run) back index segment moves =
+      leg_of run.first true assigned (turned_back run) back index segment moves may.leads may.taken completes.1 in
+      let leads : Leads assigned (turned_back run) by.leg =
+      leads_by run.first true assigned (turned_back run) back may.passes by.place_of by.leg by.stands
       (omega (arith, may.later, by.first)) by.can in
       let rest = low_canonical level most some equal later canonical bound fuel by.later
-      (omega (arith, by.shorter, enough)) (using settled by.leg.segment)
+      (omega (arith, by.shorter, enough)) (using assigned by.leg.segment)
       (along task (turned_back run) by.leg.segment) (passes by.leg.segment.to)
-      (follows_go run.first true settled (turned_back run) back by.leg leads)
+      (follows_go run.first true assigned (turned_back run) back by.leg leads)
       (omega (
         arith,
         low,
-        still_go level run.first true settled (turned_back run) back may.passes by.place_of by.leg
+        still_go level run.first true assigned (turned_back run) back may.passes by.place_of by.leg
             by.stands leads by.can,
         still_back level on run may.once may.passes,
       )) by.completes in
       omega (arith, rest, by.total)
-  low_canonical level most some equal later canonical bound fuel (settle ∷ moves) enough settled run on follows low
+  low_canonical level most some equal later canonical bound fuel (finish ∷ moves) enough assigned run on follows low
       completes =
-      let here : AreEqual task (settled.next + 1) equal begun.most =
+      let here : AreEqual task (assigned.next + 1) equal begun.most =
       subst (λ (n : ℕ). AreEqual task (n + 1) equal begun.most) (sym follows.next) canonical in
-      let there : EarnAtMost task (settled.next + 1 + equal) later =
+      let there : EarnAtMost task (assigned.next + 1 + equal) later =
       subst (λ (n : ℕ). EarnAtMost task (n + 1 + equal) later) (sym follows.next) bound in
-      let rest : total_after task (between (with_run_settled settled run)) moves
-      ≤ settled.total + run.value + (equal * most + later) =
-      low_settled task begun.most most later some equal (with_run_settled settled run) here follows.most
+      let rest : total_after task (between (with_run_finished assigned run)) moves
+      ≤ assigned.total + run.value + (equal * most + later) =
+      low_assigned task begun.most most later some equal (with_run_finished assigned run) here follows.most
       (omega (arith, low)) follows.whole there moves completes.1 in
       omega (arith, rest, low)
 
@@ -617,15 +602,3 @@ module _ (task : Task) (fit : IsFit task) (ready : AreReady task) (first : Settl
             capped.rest (length moves) moves (omega arith) first begun (goes_on task begun)
             (first_follows stands begins whole spots) (omega (arith, low, still_first level)) completes,
       )
-
--- what cannot earn more need not be tried
-pub explores_hopeless : (task : Task) (settled : Settled) (run : PartialRun) (best : Found)
-    → EndsAtMost task settled run best.amount → Explores task (partial settled run) best best
-explores_hopeless task settled run best ends =
-    record {
-      grows = omega arith;
-      traced = traced_none task (partial settled run) best;
-      known = λ known. known;
-      most =
-          λ known. ends;
-    }

@@ -1,43 +1,46 @@
 -- A state that is covered by one that has been explored earns no more than the best found; a state that has been explored may
 -- be kept.
-use Rattle.std.proofs.Common.{◌≡◌, ℕ, Bool, zero, suc, ◌-◌, ◌<◌, ◌≤◌, ◌⊎◌, inl, inr, Option, None, Some, Ok, List, [], ◌∷◌, ◌++◌, length, set, slice_get, refl, sym, ap, subst, ◌∙◌, arith}
+use Rattle.std.proofs.Common.{◌≡◌, ℕ, Bool, zero, suc, ◌-◌, ◌<◌, ◌≤◌, ◌⊎◌, inl, inr, Option, None, Some, Ok, List, []}
+use Rattle.std.proofs.Common.{◌∷◌, ◌++◌, length, set, slice_get, refl, sym, ap, subst, ◌∙◌, arith}
 use Rattle.std.specs.declared.alloc.AllocError.{AllocError}
 use Rattle.best_run.specs.declared.memo.Found.{Found}
 use Rattle.best_run.specs.declared.search_state.SearchState.{SearchState}
-use Rattle.best_run.specs.declared.state.Settled.{Settled}
+use Rattle.best_run.specs.declared.state.Assigned.{Assigned}
 use Rattle.best_run.specs.declared.state.PartialRun.{PartialRun}
-use Rattle.best_run.specs.declared.task.Task.{Task}
+use Rattle.search_task.specs.declared.task.Task.{Task}
 use Rattle.best_run.specs.declared.move_path.MovePath.{MovePath}
-use Rattle.best_run.specs.Fit.{IsFit}
-use Rattle.best_run.specs.Kept.{Dominates, DominatesAny, DominatesRun, DominatesStage, IsCovered, IsHeld, IsKept, IsNothing, found_or, unless_refused}
-use Rattle.best_run.specs.Moves.{AreInMemo, Completes, Explores, LeadsToAtMost, State, between, partial, state_at, state_by, total_after}
+use Rattle.search_task.specs.Fit.{IsFit}
+use Rattle.best_run.specs.Kept.{Dominates, DominatesAny, DominatesRun, DominatesStage, IsDominated, IsHeld, IsKept}
+use Rattle.best_run.specs.Kept.{IsNothing, found_or, unless_refused}
+use Rattle.best_run.specs.Moves.{AreInMemo, Completes, Explores, LeadsToAtMost, State, between, partial, state_at}
+use Rattle.best_run.specs.Moves.{state_by, total_after}
 use Rattle.best_run.specs.MovePath.{marks_in}
 use Rattle.best_run.proofs.Eased.{Eased, ease, freer_length}
 use Rattle.best_run.proofs.Freed.{Freed, Frees, HasLeft, free, freed}
-use Rattle.best_run.proofs.Marks.{unused_most}
+use Rattle.search_task.proofs.Marks.{unused_most}
 use Rattle.best_run.proofs.Traced.{traced_both, traced_none}
 
 -- what is covered earns no more
-low_between : (task : Task) (entry settled : Settled) (most : ℕ) → Dominates entry settled
-    → LeadsToAtMost task (between entry) most → LeadsToAtMost task (between settled) most
-low_between task entry settled most dominates low moves completes =
-    let easy : Eased task entry.kind entry.cap (between settled) moves entry.total entry.used =
-    ease task moves entry.kind entry.cap (between settled) entry.total entry.used
+low_between : (task : Task) (entry assigned : Assigned) (most : ℕ) → Dominates entry assigned
+    → LeadsToAtMost task (between entry) most → LeadsToAtMost task (between assigned) most
+low_between task entry assigned most dominates low moves completes =
+    let easy : Eased task entry.kind entry.cap (between assigned) moves entry.total entry.used =
+    ease task moves entry.kind entry.cap (between assigned) entry.total entry.used
     (inr (sym dominates.kind, dominates.cap)) dominates.used completes in
-    let At : ℕ → Settled = λ next. record entry { next = next } in
+    let At : ℕ → Assigned = λ next. record entry { next = next } in
     let Ends : ℕ → Type 0 = λ next. Completes task (between (At next)) moves
     → total_after task (between (At next)) moves ≤ most in
     let here : Ends entry.next = low moves in
-    let there : Ends settled.next = subst Ends dominates.next here in
+    let there : Ends assigned.next = subst Ends dominates.next here in
     omega (arith, easy.earns, there easy.completes, dominates.total)
 
 -- a run that is covered earns no more
-low_partial : (task : Task) → IsFit task → (entry settled : Settled) (first second : PartialRun) (most : ℕ)
-    → length entry.used ≡ 279 → Dominates entry settled → entry.kind ≡ 0 → DominatesRun first second
-    → LeadsToAtMost task (partial entry first) most → LeadsToAtMost task (partial settled second) most
-low_partial task fit entry settled first second most whole dominates none run low moves completes =
+low_partial : (task : Task) → IsFit task → (entry assigned : Assigned) (first second : PartialRun) (most : ℕ)
+    → length entry.used ≡ 279 → Dominates entry assigned → entry.kind ≡ 0 → DominatesRun first second
+    → LeadsToAtMost task (partial entry first) most → LeadsToAtMost task (partial assigned second) most
+low_partial task fit entry assigned first second most whole dominates none run low moves completes =
     let more = first.value - second.value in
-    let frees : Frees settled second first.home first.first first.left first.value first.visited entry.used entry.kind
+    let frees : Frees assigned second first.home first.first first.left first.value first.visited entry.used entry.kind
     entry.cap more = record {
       back = run.back;
       left_is = has_left run.left;
@@ -48,15 +51,15 @@ low_partial task fit entry settled first second most whole dominates none run lo
       whole = whole;
     } in
     let other = freed second first.home first.first first.left first.value first.visited in
-    let easy : Freed task settled second other entry.used entry.kind entry.cap more entry.total moves =
-    free task fit moves settled second first.home first.first first.left first.value first.visited entry.used
+    let easy : Freed task assigned second other entry.used entry.kind entry.cap more entry.total moves =
+    free task fit moves assigned second first.home first.first first.left first.value first.visited entry.used
     entry.kind entry.cap more entry.total frees completes in
     let same : first ≡ other = same_run first second.turned second.head second.most run.turned run.head run.most in
-    let At : ℕ → Settled = λ next. record entry { next = next } in
+    let At : ℕ → Assigned = λ next. record entry { next = next } in
     let Ends : ℕ → Type 0 = λ next. Completes task (partial (At next) other) moves
     → total_after task (partial (At next) other) moves ≤ most in
     let here : Ends entry.next = subst (λ (r : PartialRun). LeadsToAtMost task (partial entry r) most) same low moves in
-    let there : Ends settled.next = subst Ends dominates.next here in
+    let there : Ends assigned.next = subst Ends dominates.next here in
     omega (arith, easy.earns, there easy.completes, dominates.total)
   where
     has_left : (second.left ≤ first.left) ⊎ (279 ≤ first.left) → HasLeft entry.used second.left first.left
@@ -78,24 +81,24 @@ low_partial task fit entry settled first second most whole dominates none run lo
     same_run r turned head many is_turned is_head is_most = rw (← is_turned, ← is_head, ← is_most) refl
 
 low_covered : (task : Task) → IsFit task → (entry search_state : SearchState) (most : ℕ)
-    → length search_state.settled.used ≡ 279 → DominatesStage entry search_state
+    → length search_state.assigned.used ≡ 279 → DominatesStage entry search_state
     → LeadsToAtMost task (state_at entry) most → LeadsToAtMost task (state_at search_state) most
 low_covered task fit entry search_state most whole dominates low = by_runs entry.run search_state.run dominates.run low
   where
-    by_runs : (first second : Option PartialRun) → DominatesAny entry.settled.kind first second
-        → LeadsToAtMost task (state_by entry.settled first) most
-        → LeadsToAtMost task (state_by search_state.settled second) most
-    by_runs None None run low = low_between task entry.settled search_state.settled most dominates.settled low
+    by_runs : (first second : Option PartialRun) → DominatesAny entry.assigned.kind first second
+        → LeadsToAtMost task (state_by entry.assigned first) most
+        → LeadsToAtMost task (state_by search_state.assigned second) most
+    by_runs None None run low = low_between task entry.assigned search_state.assigned most dominates.assigned low
     by_runs None (Some second) run low = absurd run
     by_runs (Some first) None run low = absurd run
-    by_runs (Some first) (Some second) run low = low_partial task fit entry.settled search_state.settled first second
-        most (sym (freer_length search_state.settled.used entry.settled.used dominates.settled.used) ∙ whole)
-        dominates.settled run.0 run.1 low
+    by_runs (Some first) (Some second) run low = low_partial task fit entry.assigned search_state.assigned first second
+        most (sym (freer_length search_state.assigned.used entry.assigned.used dominates.assigned.used) ∙ whole)
+        dominates.assigned run.0 run.1 low
 
-pub explores_covered : (task : Task) → IsFit task → (state : State) (like : SearchState) (best : Found)
-    → length like.settled.used ≡ 279 → ((most : ℕ) → LeadsToAtMost task (state_at like) most
-    → LeadsToAtMost task state most) → IsCovered best like → Explores task state best best
-explores_covered task fit state like best whole canonical is =
+pub explores_dominated : (task : Task) → IsFit task → (state : State) (like : SearchState) (best : Found)
+    → length like.assigned.used ≡ 279 → ((most : ℕ) → LeadsToAtMost task (state_at like) most
+    → LeadsToAtMost task state most) → IsDominated best like → Explores task state best best
+explores_dominated task fit state like best whole canonical is =
     record {
       grows = omega arith;
       traced = traced_none task state best;
@@ -141,16 +144,6 @@ empty_memo task found is place entry there =
     never zero none = absurd cc
     never (suc at) none = absurd cc
 
--- a place is written
-pub set_only : (entries : List SearchState) (n place : ℕ) (search_state entry : SearchState)
-    → slice_get (set entries n search_state) place ≡ Some entry
-    → (slice_get entries place ≡ Some entry) ⊎ (search_state ≡ entry)
-set_only [] n place search_state entry is = inl is
-set_only (one ∷ entries) zero zero search_state entry is = inr (let e : Some search_state ≡ Some entry = is in cc)
-set_only (one ∷ entries) zero (suc place) search_state entry is = inl is
-set_only (one ∷ entries) (suc n) zero search_state entry is = inl is
-set_only (one ∷ entries) (suc n) (suc place) search_state entry is = set_only entries n place search_state entry is
-
 -- one more is pushed
 pub push_only : (one : SearchState) (entries : List SearchState) (place : ℕ) (entry : SearchState)
     → slice_get (entries ++ one ∷ []) place ≡ Some entry → (slice_get entries place ≡ Some entry) ⊎ (one ≡ entry)
@@ -159,7 +152,7 @@ push_only one [] (suc place) entry is = inl is
 push_only one (other ∷ entries) zero entry is = inl is
 push_only one (other ∷ entries) (suc place) entry is = push_only one entries place entry is
 
--- and the state that is put there stands there
+-- and the state that is put there is there
 pub set_held : (entries : List SearchState) (n : ℕ) (search_state : SearchState) → n < length entries
     → slice_get (set entries n search_state) n ≡ Some search_state
 set_held [] n search_state low = absurd (omega (arith, low))
@@ -180,18 +173,4 @@ kept_twin search_state twin old now new place is at amount move_path items =
             | inl before ↦ is.only other entry before
             | inr same ↦ subst (λ (s : SearchState). IsHeld old s ⊎ (search_state ≡ s)) same (is.only place twin at)
           ];
-    }
-
--- a state is kept once more
-pub kept_again : (search_state : SearchState) (old now new : Found) → IsKept search_state old now
-    → IsKept search_state now new → IsKept search_state old new
-kept_again search_state old now new first again =
-    record {
-      amount = again.amount ∙ first.amount;
-      marks = again.marks ∙ first.marks;
-      refused = λ none. first.refused (again.refused none);
-      only = λ place entry there. elim (again.only place entry there) [
-        | inl held ↦ first.only held.0 entry held.1
-        | inr same ↦ inr same
-      ];
     }

@@ -1,20 +1,26 @@
 -- The stops ahead as they count: one more that a run may pass, or at which it ends. At a stop that is last it ends.
-use Rattle.std.proofs.Common.{◌≡◌, ℕ, zero, suc, ◌+◌, ◌-◌, ◌*◌, ◌<◌, ◌≤◌, max, Bool, true, false, ◌⊎◌, inl, inr, Some, List, [], ◌∷◌, length, get_or, set, slice_get, refl, sym, ap, subst, ◌∙◌, arith, length-set}
+use Rattle.std.proofs.Common.{◌≡◌, ℕ, zero, suc, ◌+◌, ◌-◌, ◌*◌, ◌<◌, ◌≤◌, max, Bool, true, false, ◌⊎◌, inl, inr, Some}
+use Rattle.std.proofs.Common.{List, [], ◌∷◌, length, get_or, set, slice_get, refl, sym, ap, subst, ◌∙◌, arith}
+use Rattle.std.proofs.Common.{length-set}
 use Rattle.reach.specs.Position.{IsAmong}
-use Rattle.best_run.specs.declared.task.Node.{Node}
-use Rattle.best_run.specs.declared.task.Task.{Task}
-use Rattle.best_run.specs.declared.task.Leg.{Leg}
-use Rattle.best_run.specs.declared.state.Settled.{Settled}
+use Rattle.std.proofs.lemmas.Option.{slice_get_within}
+use Rattle.search_task.specs.declared.task.Node.{Node}
+use Rattle.search_task.specs.declared.task.Task.{Task}
+use Rattle.search_task.specs.declared.task.Leg.{Leg}
+use Rattle.best_run.specs.declared.state.Assigned.{Assigned}
 use Rattle.best_run.specs.declared.state.PartialRun.{PartialRun}
 use Rattle.best_run.specs.declared.worth.Worth.{Worth}
-use Rattle.best_run.specs.Ahead.{HasPassed, HasRanked, HasTakenBack, IsLeast, IsWorth, beyond, goes_back, goes_on, if_ending, if_passed, one_end, two_ends}
-use Rattle.best_run.specs.Fit.{BordersFit, IsFit}
-use Rattle.best_run.specs.Last.{Counts, CountsAsPassed, EarnsAhead, EndsThere, HasWorth, IsLast}
-use Rattle.best_run.specs.Moves.{ends_in, marked_all, misses, node_at, value_in}
-use Rattle.best_run.specs.Legs.{legs_at}
-use Rattle.best_run.proofs.Advance.{free_misses, marks_more, misses_free}
-use Rattle.best_run.proofs.Beyond.{level_ahead, most_of, not_free, same_node, worth_ended, worth_passed}
-use Rattle.best_run.proofs.Places.{value_low}
+use Rattle.best_run.specs.Ahead.{HasPassed, HasRanked, HasTakenBack, IsLeast, IsWorth, beyond, goes_back, goes_on}
+use Rattle.best_run.specs.Ahead.{if_ending, if_passed, one_end, two_ends}
+use Rattle.search_task.specs.Fit.{BordersFit, IsFit}
+use Rattle.best_run.specs.Last.{Counts, CountsAsPassed, CrossIt, CrossItBelow, EarnsAhead, EndsThere, HasWorth, IsLast}
+use Rattle.search_task.specs.Spots.{ends_in, node_at, value_in}
+use Rattle.search_task.specs.Crossed.{marked_all, misses}
+use Rattle.search_task.specs.Legs.{legs_at}
+use Rattle.search_task.proofs.Marked.{free_misses, marks_more, misses_free}
+use Rattle.best_run.proofs.Beyond.{level_ahead, most_of, same_node, worth_ended, worth_passed}
+use Rattle.search_task.proofs.Places.{value_low}
+use Rattle.search_task.proofs.Booleans.{not_both}
 
 -- a run that has come to a last stop by a way goes on from there by none
 pub last_stuck : (task : Task) (used now : List Bool) (stop place : ℕ) (leg : Leg) → IsLast task used leg.segment.to
@@ -29,7 +35,7 @@ last_stuck task used now stop place leg last at fits whole missed index other st
     free_misses used mirror.back.segment.borders.items
     (λ b among marked. misses_free used leg.segment.borders.items missed b (mirror.within b among) marked) in
     let came : IsAmong border leg.segment.borders.items =
-    mirror.within border (last.1.1 mirror.place mirror.back mirror.stands back) in
+    mirror.within border (last.1.1 mirror.place mirror.back mirror.is_there back) in
     let goes : IsAmong border other.segment.borders.items = last.1.1 index other stands free in
     misses_free (marked_all now leg.segment.borders.items) other.segment.borders.items left border goes
     ((marks_more now leg.segment.borders.items fits whole border).1 (inl came))
@@ -62,7 +68,7 @@ beyond_free : (level : ℕ) (nodes : List Node) (ahead : List Bool) (n : ℕ) (n
 beyond_free level [] ahead n node free = refl
 beyond_free level (first ∷ nodes) [] zero node free = refl
 beyond_free level (first ∷ nodes) [] (suc n) node free = refl
-beyond_free level (first ∷ nodes) (true ∷ ahead) zero node free = absurd (not_free true refl free)
+beyond_free level (first ∷ nodes) (true ∷ ahead) zero node free = absurd (not_both true refl free)
 beyond_free level (first ∷ nodes) (false ∷ ahead) zero node free = refl
 beyond_free level (first ∷ nodes) (true ∷ ahead) (suc n) node free =
     ap (λ (x : ℕ). if_passed first.ends (first.value - level) + x) (beyond_free level nodes ahead n node free)
@@ -73,7 +79,7 @@ one_free : (level : ℕ) (nodes : List Node) (ahead : List Bool) (n : ℕ) (node
 one_free level [] ahead n node free = refl
 one_free level (first ∷ nodes) [] zero node free = refl
 one_free level (first ∷ nodes) [] (suc n) node free = refl
-one_free level (first ∷ nodes) (true ∷ ahead) zero node free = absurd (not_free true refl free)
+one_free level (first ∷ nodes) (true ∷ ahead) zero node free = absurd (not_both true refl free)
 one_free level (first ∷ nodes) (false ∷ ahead) zero node free = refl
 one_free level (first ∷ nodes) (true ∷ ahead) (suc n) node free =
     ap (λ (x : ℕ). max x (if_ending first.ends (first.value - level))) (one_free level nodes ahead n node free)
@@ -84,7 +90,7 @@ two_free : (level : ℕ) (nodes : List Node) (ahead : List Bool) (n : ℕ) (node
 two_free level [] ahead n node free = refl
 two_free level (first ∷ nodes) [] zero node free = refl
 two_free level (first ∷ nodes) [] (suc n) node free = refl
-two_free level (first ∷ nodes) (true ∷ ahead) zero node free = absurd (not_free true refl free)
+two_free level (first ∷ nodes) (true ∷ ahead) zero node free = absurd (not_both true refl free)
 two_free level (first ∷ nodes) (false ∷ ahead) zero node free = refl
 two_free level (first ∷ nodes) (true ∷ ahead) (suc n) node free =
     ap (λ (x : ℕ). max x (if_ending first.ends (first.value - level) + one_end level (set nodes n node) ahead))
@@ -107,26 +113,26 @@ worth_free nodes ahead n node worth free known =
     }
 
 -- the stops count as they are
-pub counts_plain : (task : Task) (settled : Settled) (run : PartialRun) → Counts task settled run task.spots.items
-counts_plain task settled run =
+pub counts_plain : (task : Task) (assigned : Assigned) (run : PartialRun) → Counts task assigned run task.spots.items
+counts_plain task assigned run =
     record { all = refl; value = λ spot. refl; ends = λ spot ending. inl ending; plain = λ none. refl }
 
-pub has_plain : (task : Task) (settled : Settled) (run : PartialRun) (ahead : List Bool) (worth : Worth)
-    → IsWorth task.spots.items ahead worth → HasWorth task settled run ahead worth
-has_plain task settled run ahead worth known =
-    record { nodes = task.spots.items; counts = counts_plain task settled run; known = known }
+pub has_plain : (task : Task) (assigned : Assigned) (run : PartialRun) (ahead : List Bool) (worth : Worth)
+    → IsWorth task.spots.items ahead worth → HasWorth task assigned run ahead worth
+has_plain task assigned run ahead worth known =
+    record { nodes = task.spots.items; counts = counts_plain task assigned run; known = known }
 
-pub plain_has : (task : Task) (settled : Settled) (run : PartialRun) (ahead : List Bool) (worth : Worth)
-    → run.most ≡ 0 → HasWorth task settled run ahead worth → IsWorth task.spots.items ahead worth
-plain_has task settled run ahead worth none has =
+pub plain_has : (task : Task) (assigned : Assigned) (run : PartialRun) (ahead : List Bool) (worth : Worth)
+    → run.most ≡ 0 → HasWorth task assigned run ahead worth → IsWorth task.spots.items ahead worth
+plain_has task assigned run ahead worth none has =
     subst (λ (nodes : List Node). IsWorth nodes ahead worth) (has.counts.plain none) has.known
 
 -- one stop counts otherwise
-counts_set : (task : Task) (settled : Settled) (run : PartialRun) (nodes : List Node) (n : ℕ) (node other : Node)
+counts_set : (task : Task) (assigned : Assigned) (run : PartialRun) (nodes : List Node) (n : ℕ) (node other : Node)
     → node_at task n ≡ Some node → n < length task.spots.items → other.value ≡ node.value
-    → (other.ends ≡ true → EndsThere task settled run n) → (run.most ≡ 0 → other ≡ node)
-    → Counts task settled run nodes → Counts task settled run (set nodes n other)
-counts_set task settled run nodes n node other at low value ends plain counts =
+    → (other.ends ≡ true → EndsThere task assigned run n) → (run.most ≡ 0 → other ≡ node)
+    → Counts task assigned run nodes → Counts task assigned run (set nodes n other)
+counts_set task assigned run nodes n node other at low value ends plain counts =
     let within : n < length nodes = omega (arith, low, counts.all) in
     record {
       all = length-set nodes n other ∙ counts.all;
@@ -136,20 +142,20 @@ counts_set task settled run nodes n node other at low value ends plain counts =
         | inr same ↦ ap value_in same ∙ counts.value spot
       ];
       ends = λ spot told. elim (set_at nodes n spot other within) [
-        | inl here ↦ subst (EndsThere task settled run) here.0 (ends (sym (ap ends_in here.1) ∙ told))
+        | inl here ↦ subst (EndsThere task assigned run) here.0 (ends (sym (ap ends_in here.1) ∙ told))
         | inr same ↦ counts.ends spot (sym (ap ends_in same) ∙ told)
       ];
       plain = λ none. ap (λ (xs : List Node). set xs n other) (counts.plain none)
           ∙ (ap (λ (x : Node). set task.spots.items n x) (plain none) ∙ set_same task.spots.items n node at);
     }
 
-module _ (task : Task) (settled : Settled) (run : PartialRun) (ahead : List Bool) (n : ℕ) (node : Node)
+module _ (task : Task) (assigned : Assigned) (run : PartialRun) (ahead : List Bool) (n : ℕ) (node : Node)
     (at : node_at task n ≡ Some node) (placed : n < length task.spots.items) (small : node.value ≤ 80)
     (free : get_or ahead n false ≡ false) (low : n < length ahead) (old new : Worth)
-    (has : HasWorth task settled run ahead old) where
+    (has : HasWorth task assigned run ahead old) where
   -- a run may pass one stop more
   pub has_passing : ends_in (node_at task n) ≡ false → HasPassed node.value old new
-      → CountsAsPassed task settled run n (set ahead n true) new
+      → CountsAsPassed task assigned run n (set ahead n true) new
   has_passing passes adds =
       let passed : node.ends ≡ false = sym (ap ends_in at) ∙ passes in
       let here : slice_get (set has.nodes n node) n ≡ Some node =
@@ -157,8 +163,8 @@ module _ (task : Task) (settled : Settled) (run : PartialRun) (ahead : List Bool
       record {
         has = record {
           nodes = set has.nodes n node;
-          counts = counts_set task settled run has.nodes n node node at placed refl
-              (λ ending. absurd (not_free node.ends ending passed)) (λ none. refl) has.counts;
+          counts = counts_set task assigned run has.nodes n node node at placed refl
+              (λ ending. absurd (not_both node.ends ending passed)) (λ none. refl) has.counts;
           known = worth_passed (set has.nodes n node) ahead n node old new here passed free low adds
               (worth_free has.nodes ahead n node old free has.known);
         };
@@ -167,11 +173,11 @@ module _ (task : Task) (settled : Settled) (run : PartialRun) (ahead : List Bool
 
   -- all runs end at one
   pub has_ended : ends_in (node_at task n) ≡ true → HasRanked node.value old new
-      → HasWorth task settled run (set ahead n true) new
+      → HasWorth task assigned run (set ahead n true) new
   has_ended ends ranks =
       record {
         nodes = set has.nodes n node;
-        counts = counts_set task settled run has.nodes n node node at placed refl (λ told. inl ends) (λ none. refl)
+        counts = counts_set task assigned run has.nodes n node node at placed refl (λ told. inl ends) (λ none. refl)
             has.counts;
         known = worth_ended (set has.nodes n node) ahead n node old new
             (set_here has.nodes n node (omega (arith, placed, has.counts.all))) (sym (ap ends_in at) ∙ ends) small
@@ -183,14 +189,14 @@ beyond_turned : (level : ℕ) (nodes : List Node) (ahead : List Bool) (n : ℕ) 
     → get_or ahead n false ≡ true → n < length nodes → ends_in (slice_get nodes n) ≡ false → other.ends ≡ true
     → beyond level (set nodes n other) ahead + (value_in (slice_get nodes n) - level) ≡ beyond level nodes ahead
 beyond_turned level [] ahead n other lies low passed ending = absurd (omega arith)
-beyond_turned level (node ∷ nodes) [] n other lies low passed ending = absurd (not_free false lies refl)
+beyond_turned level (node ∷ nodes) [] n other lies low passed ending = absurd (not_both false lies refl)
 beyond_turned level (node ∷ nodes) (true ∷ ahead) zero other lies low passed ending =
     let none : if_passed other.ends (other.value - level) ≡ 0 =
     ap (λ (b : Bool). if_passed b (other.value - level)) ending in
     let all : if_passed node.ends (node.value - level) ≡ node.value - level =
     ap (λ (b : Bool). if_passed b (node.value - level)) passed in
     omega (arith, none, all)
-beyond_turned level (node ∷ nodes) (false ∷ ahead) zero other lies low passed ending = absurd (not_free false lies refl)
+beyond_turned level (node ∷ nodes) (false ∷ ahead) zero other lies low passed ending = absurd (not_both false lies refl)
 beyond_turned level (node ∷ nodes) (true ∷ ahead) (suc n) other lies low passed ending =
     omega (arith, beyond_turned level nodes ahead n other lies (omega arith) passed ending)
 beyond_turned level (node ∷ nodes) (false ∷ ahead) (suc n) other lies low passed ending =
@@ -268,27 +274,27 @@ worth_turned nodes ahead n other old middle new lies low passed ending value sma
 none_most : (most : ℕ) → 0 < most → most ≡ 0 → ⊥
 none_most most some none = omega (arith, some, none)
 
-pub turned_ends : (task : Task) (settled : Settled) (run : PartialRun) (ahead : List Bool) (n : ℕ) (node : Node)
+pub turned_ends : (task : Task) (assigned : Assigned) (run : PartialRun) (ahead : List Bool) (n : ℕ) (node : Node)
     → node_at task n ≡ Some node → n < length task.spots.items → node.value ≤ 80 → get_or ahead n false ≡ true
-    → (old middle new : Worth) → CountsAsPassed task settled run n ahead old
-    → (0 < run.most) × IsLast task settled.used n → HasTakenBack node.value old middle
-    → HasRanked node.value middle new → HasWorth task settled run ahead new
-turned_ends task settled run ahead n node at placed small lies old middle new counted last back ranks =
+    → (old middle new : Worth) → CountsAsPassed task assigned run n ahead old
+    → (0 < run.most) × IsLast task assigned.used n → HasTakenBack node.value old middle
+    → HasRanked node.value middle new → HasWorth task assigned run ahead new
+turned_ends task assigned run ahead n node at placed small lies old middle new counted last back ranks =
     let has = counted.has in
     let other : Node = record node { ends = true } in
     let value : value_in (slice_get has.nodes n) ≡ node.value = has.counts.value n ∙ ap value_in at in
     record {
       nodes = set has.nodes n other;
-      counts = counts_set task settled run has.nodes n node other at placed refl (λ told. inr last)
+      counts = counts_set task assigned run has.nodes n node other at placed refl (λ told. inr last)
           (λ none. absurd (none_most run.most last.0 none)) has.counts;
       known = worth_turned has.nodes ahead n other old middle new lies (omega (arith, placed, has.counts.all))
           counted.passed refl value small back ranks has.known;
     }
 
 -- stops that are worth at most 80 dollars each
-pub has_most : (task : Task) → IsFit task → (settled : Settled) (run : PartialRun) (ahead : List Bool) (worth : Worth)
-    → HasWorth task settled run ahead worth → (place : ℕ) → place < worth.levels → get_or worth.beyond place 0 ≤ 59520
-has_most task fit settled run ahead worth has place small =
+pub has_most : (task : Task) → IsFit task → (assigned : Assigned) (run : PartialRun) (ahead : List Bool) (worth : Worth)
+    → HasWorth task assigned run ahead worth → (place : ℕ) → place < worth.levels → get_or worth.beyond place 0 ≤ 59520
+has_most task fit assigned run ahead worth has place small =
     omega (
       arith,
       fit.all,
@@ -304,9 +310,9 @@ has_most task fit settled run ahead worth has place small =
         omega (arith, same, value_low task fit n)
 
 -- what is known of the stops ahead bounds what a run may earn there
-pub earns_ahead : (task : Task) (settled : Settled) (run : PartialRun) (ahead : List Bool) (worth : Worth)
-    (on back : Bool) (most : ℕ) → HasWorth task settled run ahead worth → goes_on task run ≡ on
-    → goes_back task run ≡ back → IsLeast worth run.left on back most → EarnsAhead task settled run ahead most
-earns_ahead task settled run ahead worth on back most has is_on is_back least =
+pub earns_ahead : (task : Task) (assigned : Assigned) (run : PartialRun) (ahead : List Bool) (worth : Worth)
+    (on back : Bool) (most : ℕ) → HasWorth task assigned run ahead worth → goes_on task run ≡ on
+    → goes_back task run ≡ back → IsLeast worth run.left on back most → EarnsAhead task assigned run ahead most
+earns_ahead task assigned run ahead worth on back most has is_on is_back least =
     let found = level_ahead task has.nodes run ahead worth on back most has.known is_on is_back least in
     record { nodes = has.nodes; counts = has.counts; level = found.0; low = found.1 }

@@ -1,49 +1,44 @@
 -- Ways to the end from a state are ways to the end from one that is alike: neither the run begun nor one to come crosses a
 -- border in which they differ.
-use Rattle.std.proofs.Common.{◌≡◌, ℕ, zero, suc, ◌+◌, ◌<◌, ◌≤◌, Bool, true, false, not, ◌&&◌, ◌||◌, nat_lt, ◌⊎◌, inl, inr, Option, Some, None, List, [], ◌∷◌, length, get_or, set, slice_get, replicate, refl, sym, ap, subst, ◌∙◌, arith, get_or-set_same, length-set}
+use Rattle.std.proofs.Common.{◌≡◌, ℕ, zero, suc, ◌+◌, ◌<◌, ◌≤◌, Bool, true, false, not, ◌&&◌, ◌||◌, nat_lt, ◌⊎◌, inl}
+use Rattle.std.proofs.Common.{inr, Option, Some, None, List, [], ◌∷◌, length, get_or, set, slice_get, replicate, refl}
+use Rattle.std.proofs.Common.{sym, ap, subst, ◌∙◌, arith, get_or-set_same, length-set}
 use Rattle.std.proofs.lemmas.Option.{slice_get_within}
 use Rattle.reach.proofs.Collected.{none_marked}
 use Rattle.reach.proofs.Marking.{set_cases, set_keeps}
 use Rattle.reach.specs.Position.{IsAmong}
 use Rattle.best_run.specs.declared.search_state.SearchState.{SearchState}
-use Rattle.best_run.specs.declared.state.Settled.{Settled}
+use Rattle.best_run.specs.declared.state.Assigned.{Assigned}
 use Rattle.best_run.specs.declared.state.PartialRun.{PartialRun}
-use Rattle.best_run.specs.declared.task.Departures.{Departures}
-use Rattle.best_run.specs.declared.task.Node.{Node}
-use Rattle.best_run.specs.declared.task.Segment.{Segment}
-use Rattle.best_run.specs.declared.task.Task.{Task}
-use Rattle.best_run.specs.declared.task.Leg.{Leg}
+use Rattle.search_task.specs.declared.task.Departures.{Departures}
+use Rattle.search_task.specs.declared.task.Node.{Node}
+use Rattle.search_task.specs.declared.task.Segment.{Segment}
+use Rattle.search_task.specs.declared.task.Task.{Task}
+use Rattle.search_task.specs.declared.task.Leg.{Leg}
 use Rattle.best_run.specs.Ahead.{LiesAhead, WidensBelow}
-use Rattle.best_run.specs.Canonical.{AllLead, AreHeld, AreOpen, AreOpenBelow, Holds, IsCanonical, IsInReach, IsRunCanonical, IsShut, IsShutBelow, MayGoOn, Opens, ReachesBelow, ReachesPast, SetsOut, WidensTo, anywhere, cleared_all, sets_out}
-use Rattle.best_run.specs.Fit.{BordersFit, IsFit, SegmentFits}
-use Rattle.best_run.specs.Kept.{Freer}
-use Rattle.best_run.specs.Moves.{Completes, LeadsFrom, LeadsToAtMost, Move, State, along, begin, begun, between, can_take, ends_in, go, marked_all, marked_if, may_come, misses, node_at, own_before, own_in, pass, passed, settle, with_run_settled, partial, state_at, state_by, stop_in, total_after, turn, turned_back, using}
-use Rattle.best_run.specs.Legs.{AreReady, AreLegsOf, IsListed, IsStop, legs_at, legs_in}
-use Rattle.best_run.specs.Marks.{IsMarked}
-use Rattle.best_run.proofs.Advance.{free_misses, marks_more, misses_free}
-use Rattle.best_run.proofs.Ahead.{falsely}
-use Rattle.best_run.proofs.Along.{BySegments, ByLeg, by_segments, by_leg, leg_fits}
-use Rattle.best_run.proofs.Departing.{none_at}
-use Rattle.best_run.proofs.Described.{among_place}
+use Rattle.best_run.specs.Canonical.{AllLead, AreHeld, AreOpen, AreOpenBelow, Holds, IsCanonical, IsInReach}
+use Rattle.best_run.specs.Canonical.{IsRunCanonical, IsShut, IsShutBelow, MayGoOn, Opens, ReachesBelow, ReachesAt}
+use Rattle.best_run.specs.Canonical.{SetsOut, WidensTo, anywhere, sets_out}
+use Rattle.search_task.specs.Crossed.{cleared_all, marked_all, misses}
+use Rattle.search_task.specs.Fit.{BordersFit, IsFit, SegmentFits}
+use Rattle.search_task.specs.Marks.{Freer, IsMarked}
+use Rattle.best_run.specs.Moves.{Completes, LeadsToAtMost, Move, State, along, begin, begun, between, can_take, go}
+use Rattle.best_run.specs.Moves.{marked_if, may_come, own_before, partial, pass, passed, finish, state_at, state_by}
+use Rattle.best_run.specs.Moves.{total_after, turn, turned_back, using, with_run_finished}
+use Rattle.search_task.specs.Spots.{LeadsFrom, ends_in, node_at, own_in, stop_in}
+use Rattle.search_task.specs.Legs.{AreLegsOf, AreReady, IsListed, IsStop, legs_at, legs_in}
+use Rattle.search_task.proofs.Marked.{cleared_fewer, cleared_here, free_misses, marks_more, misses_free}
+use Rattle.best_run.proofs.Along.{ByLeg, BySegments, by_leg, by_segments, leg_fits}
+use Rattle.search_task.proofs.Departing.{is_stop, legs_of, none_at}
+use Rattle.search_task.proofs.Described.{among_place}
 use Rattle.best_run.proofs.Eased.{Eased, ease, freer_length}
 use Rattle.best_run.proofs.Freed.{Freed, Frees, free}
 use Rattle.best_run.proofs.Hopeless.{mark_length}
 use Rattle.best_run.proofs.Split.{own_length}
-use Rattle.best_run.proofs.Words.{freer_from}
-use Rattle.best_run.proofs.Marks.{length_marked}
-use Rattle.best_run.proofs.Places.{below_next}
-
-both_first : (a b : Bool) → (a && b) ≡ true → a ≡ true
-both_first true b is = refl
-both_first false b is = absurd cc
-
-both_second : (a b : Bool) → (a && b) ≡ true → b ≡ true
-both_second true b is = is
-both_second false b is = absurd cc
-
-both_are : (a b : Bool) → a ≡ true → b ≡ true → (a && b) ≡ true
-both_are true b first second = second
-both_are false b first second = absurd cc
+use Rattle.search_task.proofs.Words.{freer_from}
+use Rattle.search_task.proofs.Marks.{length_marked}
+use Rattle.search_task.proofs.Places.{below_next, one_leg}
+use Rattle.search_task.proofs.Booleans.{both_are, both_first, both_second, not_both}
 
 -- a run that has visited nothing takes each piece whose borders are not used
 takes_free : (task : Task) (used : List Bool) (segment : Segment)
@@ -93,19 +88,19 @@ reach_none task used =
     record {
       own = λ spot listed. absurd (let low = listed.1 in omega arith);
       held = λ spot listed. absurd (let low = listed.1 in omega arith);
-      all = λ spot lies. absurd (falsely (get_or (replicate 744 false) spot false) lies (none_marked 744 spot));
+      all = λ spot lies. absurd (not_both (get_or (replicate 744 false) spot false) lies (none_marked 744 spot));
     }
 
-pub widens_all : (task : Task) (settled : Settled) (spot : ℕ) (legs : List Leg) (count : ℕ) (old new : List Bool)
-    → legs_at task spot ≡ legs → length legs ≤ count → WidensBelow task settled anywhere spot count old new
-    → WidensTo task settled spot old new
-widens_all task settled spot legs count old new there all below =
+pub widens_all : (task : Task) (assigned : Assigned) (spot : ℕ) (legs : List Leg) (count : ℕ) (old new : List Bool)
+    → legs_at task spot ≡ legs → length legs ≤ count → WidensBelow task assigned anywhere spot count old new
+    → WidensTo task assigned spot old new
+widens_all task assigned spot legs count old new there all below =
     record {
       widens = below.widens;
       here = λ place leg at free.
           let low : place < length legs = slice_get_within legs place leg
           (ap (λ ws. slice_get ws place) (sym there) ∙ at) in
-          below.leads place leg (omega (arith, low, all)) at (takes_free task settled.used leg.segment ∙ free);
+          below.leads place leg (omega (arith, low, all)) at (takes_free task assigned.used leg.segment ∙ free);
     }
 
 -- a stop lay in reach before, or does so now
@@ -120,15 +115,15 @@ holds_more stop reach low =
       lies = get_or-set_same reach stop true false low;
     }
 
-pub reach_more : (task : Task) (settled : Settled) (place stop : ℕ) (old middle new : List Bool)
-    → slice_get task.stops.items place ≡ Some stop → ReachesBelow task settled.used place old → Holds stop old middle
-    → WidensTo task settled stop middle new → ReachesBelow task settled.used (place + 1) new
-reach_more task settled place stop old middle new at before holds more =
+pub reach_more : (task : Task) (assigned : Assigned) (place stop : ℕ) (old middle new : List Bool)
+    → slice_get task.stops.items place ≡ Some stop → ReachesBelow task assigned.used place old → Holds stop old middle
+    → WidensTo task assigned stop middle new → ReachesBelow task assigned.used (place + 1) new
+reach_more task assigned place stop old middle new at before holds more =
     record {
       own = λ spot listed own. elim (next_listed task.stops.items place stop spot at listed) [
         | inl less ↦ λ index leg stands free. more.widens.kept leg.segment.to
             (holds.kept leg.segment.to (before.own spot less own index leg stands free))
-        | inr same ↦ subst (AllLead task settled.used new) same more.here
+        | inr same ↦ subst (AllLead task assigned.used new) same more.here
       ];
       held = λ spot listed own. elim (next_listed task.stops.items place stop spot at listed) [
         | inl less ↦ more.widens.kept spot (holds.kept spot (before.held spot less own))
@@ -138,9 +133,9 @@ reach_more task settled place stop old middle new at before holds more =
         | inl known ↦ elim (holds.over spot known) [
           | inl was ↦ more.widens.kept leg.segment.to (holds.kept leg.segment.to
               (before.all spot was passes index leg stands free))
-          | inr same ↦ subst (AllLead task settled.used new) same more.here index leg stands free
+          | inr same ↦ subst (AllLead task assigned.used new) same more.here index leg stands free
         ]
-        | inr over ↦ over passes index leg stands (takes_free task settled.used leg.segment ∙ free)
+        | inr over ↦ over passes index leg stands (takes_free task assigned.used leg.segment ∙ free)
       ];
     }
 
@@ -151,12 +146,12 @@ reach_same task used place stop reach at other before =
     record {
       own = λ spot listed own. elim (next_listed task.stops.items place stop spot at listed) [
         | inl less ↦ before.own spot less own
-        | inr same ↦ absurd (falsely (own_in (node_at task spot)) own
+        | inr same ↦ absurd (not_both (own_in (node_at task spot)) own
             (ap (λ (n : ℕ). own_in (node_at task n)) (sym same) ∙ other))
       ];
       held = λ spot listed own. elim (next_listed task.stops.items place stop spot at listed) [
         | inl less ↦ before.held spot less own
-        | inr same ↦ absurd (falsely (own_in (node_at task spot)) own
+        | inr same ↦ absurd (not_both (own_in (node_at task spot)) own
             (ap (λ (n : ℕ). own_in (node_at task n)) (sym same) ∙ other))
       ];
       all = before.all;
@@ -184,36 +179,6 @@ held_all task ready used most reach all below =
       all = below.all;
     }
 
--- a mark that is taken away
-unset_here : (marks : List Bool) (n : ℕ) → get_or (set marks n false) n false ≡ false
-unset_here [] n = refl
-unset_here (mark ∷ marks) zero = refl
-unset_here (mark ∷ marks) (suc n) = unset_here marks n
-
-unset_fewer : (marks : List Bool) (n m : ℕ) → IsMarked (set marks n false) m → IsMarked marks m
-unset_fewer [] n m is = is
-unset_fewer (mark ∷ marks) zero zero is = absurd (let wrong : false ≡ true = is in cc)
-unset_fewer (mark ∷ marks) zero (suc m) is = is
-unset_fewer (mark ∷ marks) (suc n) zero is = is
-unset_fewer (mark ∷ marks) (suc n) (suc m) is = unset_fewer marks n m is
-
-pub cleared_fewer : (borders : List ℕ) (marks : List Bool) (m : ℕ) → IsMarked (cleared_all marks borders) m
-    → IsMarked marks m
-cleared_fewer [] marks m is = is
-cleared_fewer (border ∷ borders) marks m is = unset_fewer marks border m
-    (cleared_fewer borders (set marks border false) m is)
-
-pub cleared_here : (borders : List ℕ) (marks : List Bool) (border : ℕ) → IsAmong border borders
-    → IsMarked (cleared_all marks borders) border → ⊥
-cleared_here [] marks border among is = absurd among
-cleared_here (first ∷ borders) marks border among is =
-    elim among [
-      | inl here ↦ falsely (get_or (set marks first false) border false)
-          (cleared_fewer borders (set marks first false) border is)
-          (ap (λ (n : ℕ). get_or (set marks first false) n false) (sym here) ∙ unset_here marks first)
-      | inr later ↦ cleared_here borders (set marks first false) border later is
-    ]
-
 freer_unset : (marks used : List Bool) (n : ℕ) → Freer marks used → (IsMarked used n → ⊥)
     → Freer (set marks n false) used
 freer_unset [] [] n freer none = tt
@@ -232,15 +197,6 @@ freer_cleared (border ∷ borders) marks used freer none =
 pub freer_full : (used : List Bool) → Freer (replicate (length used) true) used
 freer_full [] = tt
 freer_full (mark ∷ used) = ((λ is. refl), freer_full used)
-
--- no way is open yet, one more is, one is not since a border of it is used, and all are
-pub opens_none : (used shut : List Bool) → Opens used shut shut
-opens_none used shut = record { fewer = λ borders free. free; kept = λ freer. freer }
-
-one_leg : (legs : List Leg) (place other : ℕ) (leg found : Leg) → slice_get legs place ≡ Some leg
-    → slice_get legs other ≡ Some found → other ≡ place → leg ≡ found
-one_leg legs place other leg found at finds same =
-    let e : Some leg ≡ Some found = sym at ∙ (ap (λ i. slice_get legs i) (sym same) ∙ finds) in cc
 
 cleared_open : (marks : List Bool) (borders others : List ℕ) → misses marks others ≡ true
     → misses (cleared_all marks borders) others ≡ true
@@ -278,7 +234,7 @@ open_same task used spot place leg shut here met before other found low at misse
       | inl less ↦ before other found less at missed
       | inr same ↦
           let is : leg ≡ found = one_leg (legs_at task spot) place other leg found here at same in
-          absurd (falsely (misses used found.segment.borders.items) missed
+          absurd (not_both (misses used found.segment.borders.items) missed
           (ap (λ (w : Leg). misses used w.segment.borders.items) (sym is) ∙ met))
     ]
 
@@ -343,21 +299,21 @@ shut_same task used reach place stop shut is at none before =
       kept = before.kept;
       open_legs = λ spot listed out. elim (next_listed task.stops.items place stop spot at listed) [
         | inl less ↦ before.open_legs spot less out
-        | inr same ↦ absurd (falsely (sets_out task reach stop)
+        | inr same ↦ absurd (not_both (sets_out task reach stop)
             (does_set_out task reach stop is.1 (subst (SetsOut task reach) (sym same) out)) none)
       ];
     }
 
 -- the same state with other borders used
-abbrev with_used : Settled → List Bool → Settled
-with_used settled used = record settled { used = used }
+abbrev with_used : Assigned → List Bool → Assigned
+with_used assigned used = record assigned { used = used }
 
 abbrev with_marks : PartialRun → List Bool → PartialRun
 with_marks run marks = record run { visited = marks }
 
 abbrev state_with : State → List Bool → List Bool → State
-state_with (between settled) used marks = between (with_used settled used)
-state_with (partial settled run) used marks = partial (with_used settled used) (with_marks run marks)
+state_with (between assigned) used marks = between (with_used assigned used)
+state_with (partial assigned run) used marks = partial (with_used assigned used) (with_marks run marks)
 
 module _ (task : Task) (fit : IsFit task) (ready : AreReady task) (first reach shut : List Bool)
     (reaches : IsInReach task first reach) (shuts : IsShut task first reach shut) where
@@ -389,8 +345,8 @@ module _ (task : Task) (fit : IsFit task) (ready : AreReady task) (first reach s
   Sees run marks = (spot : ℕ) → LiesAhead reach spot → IsMarked marks spot → IsMarked run.visited spot
 
   -- a run that goes on
-  record Goes (settled : Settled) (run : PartialRun) (others marks : List Bool) : Type 0 where
-    pub shares : Shares settled.used others
+  record Goes (assigned : Assigned) (run : PartialRun) (others marks : List Bool) : Type 0 where
+    pub shares : Shares assigned.used others
     pub sees : Sees run marks
     pub spots : length run.visited ≡ 744
     pub stands : IsStop task run.head
@@ -399,23 +355,8 @@ module _ (task : Task) (fit : IsFit task) (ready : AreReady task) (first reach s
     pub home : ends_in (node_at task run.home) ≡ false → SetsOut task reach run.home
 
   abbrev GoesOn : State → List Bool → List Bool → Type 0
-  GoesOn (between settled) others marks = Shares settled.used others
-  GoesOn (partial settled run) others marks = Goes settled run others marks
-
-  legs_of : (stop : ℕ) → IsStop task stop → AreLegsOf task stop (legs_at task stop)
-  legs_of stop is = by_from (slice_get task.departures.items stop) refl
-    where
-      by_from : (found : Option Departures) → slice_get task.departures.items stop ≡ found
-          → AreLegsOf task stop (legs_in found)
-      by_from None at = absurd (none_at task.departures.items stop at (omega (arith, is.0, ready.long)))
-      by_from (Some from) at = ready.each stop from at is.1
-
-  is_stop : (spot : ℕ) → stop_in (node_at task spot) ≡ true → IsStop task spot
-  is_stop spot stops = (by_node (node_at task spot) refl stops, stops)
-    where
-      by_node : (node : Option Node) → node_at task spot ≡ node → stop_in node ≡ true → spot < 744
-      by_node None at is = absurd (let wrong : false ≡ true = is in cc)
-      by_node (Some node) at is = omega (arith, fit.all, slice_get_within task.spots.items spot node at)
+  GoesOn (between assigned) others marks = Shares assigned.used others
+  GoesOn (partial assigned run) others marks = Goes assigned run others marks
 
   -- the next way
   record Takes_it (others marks : List Bool) (run : PartialRun) (leg : Leg) : Type 0 where
@@ -454,7 +395,7 @@ module _ (task : Task) (fit : IsFit task) (ready : AreReady task) (first reach s
       let before : misses first borders ≡ true = free_misses first borders
       (λ border among marked. misses_free used borders free border among (shares.still border marked)) in
       let open_leg : misses shut borders ≡ true = shuts.open_legs spot is out place leg at before in
-      let fits = leg_fits task fit spot (legs_at task spot) (legs_of spot is) is.1 leg
+      let fits = leg_fits task fit spot (legs_at task spot) (legs_of task ready spot is) is.1 leg
       (among_place (legs_at task spot) place leg at) in
       record {
         can = both_are (may_come (stop_in (node_at task leg.segment.to)) (with_marks run marks) leg.segment.to)
@@ -479,15 +420,15 @@ module _ (task : Task) (fit : IsFit task) (ready : AreReady task) (first reach s
       ]
   sees_next false visited marks to low sees spot lies is = sees spot lies is
 
-  goes_next : (settled : Settled) (run : PartialRun) (others marks : List Bool) → Shares settled.used others
+  goes_next : (assigned : Assigned) (run : PartialRun) (others marks : List Bool) → Shares assigned.used others
       → Sees run marks → length run.visited ≡ 744 → IsStop task run.home
       → (ends_in (node_at task run.home) ≡ false → SetsOut task reach run.home) → (leg : Leg)
-      → Takes_it others marks run leg → Goes (using settled leg.segment) (along task run leg.segment)
+      → Takes_it others marks run leg → Goes (using assigned leg.segment) (along task run leg.segment)
       (marked_all others leg.segment.borders.items) (marked_if (stop_in (node_at task leg.segment.to)) marks
       leg.segment.to)
-  goes_next settled run others marks shares sees spots begins home leg takes =
+  goes_next assigned run others marks shares sees spots begins home leg takes =
       record {
-        shares = shares_more settled.used others leg.segment.borders.items takes.fits.borders shares;
+        shares = shares_more assigned.used others leg.segment.borders.items takes.fits.borders shares;
         sees = sees_next (stop_in (node_at task leg.segment.to)) run.visited marks leg.segment.to
             (omega (arith, spots, takes.fits.to)) sees;
         spots = mark_length (stop_in (node_at task leg.segment.to)) run.visited leg.segment.to ∙ spots;
@@ -506,40 +447,43 @@ module _ (task : Task) (fit : IsFit task) (ready : AreReady task) (first reach s
   move_by : (fuel : ℕ) (moves : List Move) → length moves ≤ fuel → (state : State) (others marks : List Bool)
       → GoesOn state others marks → Completes task state moves
       → Moved (state_with state others marks) (total_after task state moves)
-  move_by fuel [] enough (between settled) others marks goes completes =
+  move_by fuel [] enough (between assigned) others marks goes completes =
       record { moves = []; completes = completes; same = refl }
-  move_by fuel [] enough (partial settled run) others marks goes completes = absurd completes
+  move_by fuel [] enough (partial assigned run) others marks goes completes = absurd completes
   move_by zero (move ∷ moves) enough state others marks goes completes = absurd (omega (arith, enough))
-  move_by (suc fuel) (pass ∷ moves) enough (between settled) others marks goes completes =
-      let rest : Moved (between (with_used (passed settled) others))
-      (total_after task (between (passed settled)) moves) =
-      move_by fuel moves (omega (arith, enough)) (between (passed settled)) others marks goes completes.1 in
+  move_by (suc fuel) (pass ∷ moves) enough (between assigned) others marks goes completes =
+      let rest : Moved (between (with_used (passed assigned) others))
+      (total_after task (between (passed assigned)) moves) =
+      move_by fuel moves (omega (arith, enough)) (between (passed assigned)) others marks goes completes.1 in
       record { moves = pass ∷ rest.moves; completes = (completes.0, rest.completes); same = rest.same }
-  move_by (suc fuel) (pass ∷ moves) enough (partial settled run) others marks goes completes = absurd completes.0
-  move_by (suc fuel) (begin stop index segment ∷ moves) enough (between settled) others marks goes completes =
+  move_by (suc fuel) (pass ∷ moves) enough (partial assigned run) others marks goes completes = absurd completes.0
+  move_by (suc fuel) (begin stop index segment ∷ moves) enough (between assigned) others marks goes completes =
       let may = completes.0 in
-      let is : IsStop task stop = is_stop stop may.begins in
-      let run = begun task settled stop index in
-      let by : ByLeg task fit stop may.begins (legs_at task stop) (legs_of stop is) settled run index segment moves =
-      by_leg task fit stop may.begins (legs_at task stop) (legs_of stop is) settled run goes.whole index segment
+      let is : IsStop task stop = is_stop task fit stop may.begins in
+      let run = begun task assigned stop index in
+      let by : ByLeg task fit stop may.begins (legs_at task stop) (legs_of task ready stop is) assigned run index
+      segment moves =
+      by_leg task fit stop may.begins (legs_at task stop) (legs_of task ready stop is) assigned run goes.whole index
+      segment
       moves may.leads may.taken completes.1 in
       let marks = run.visited in
       let spots : length marks ≡ 744 = length-set (own_before task stop) stop true ∙ own_length task stop in
       let takes : Takes_it others marks run by.leg =
-      takes_it settled.used others goes stop is (inl may.token) by.place_of by.leg by.stands run marks
+      takes_it assigned.used others goes stop is (inl may.token) by.place_of by.leg by.stands run marks
       (λ spot lies was. was) by.can in
-      let rest : Moved (partial (using (with_used settled others) by.leg.segment)
+      let rest : Moved (partial (using (with_used assigned others) by.leg.segment)
       (along task (with_marks run marks) by.leg.segment))
-      (total_after task (partial (using settled by.leg.segment) (along task run by.leg.segment)) by.later) =
+      (total_after task (partial (using assigned by.leg.segment) (along task run by.leg.segment)) by.later) =
       move_by fuel by.later (omega (arith, by.shorter, enough))
-      (partial (using settled by.leg.segment) (along task run by.leg.segment))
+      (partial (using assigned by.leg.segment) (along task run by.leg.segment))
       (marked_all others by.leg.segment.borders.items)
       (marked_if (stop_in (node_at task by.leg.segment.to)) marks by.leg.segment.to)
-      (goes_next settled run others marks goes (λ spot lies was. was) spots is (λ passes. inl may.token) by.leg
+      (goes_next assigned run others marks goes (λ spot lies was. was) spots is (λ passes. inl may.token) by.leg
       takes) by.completes in
-      let back : BySegments task fit stop may.begins (legs_at task stop) (legs_of stop is) (with_used settled others)
+      let back : BySegments task fit stop may.begins (legs_at task stop) (legs_of task ready stop is)
+      (with_used assigned others)
       (with_marks run marks) by.leg rest.moves = by_segments task fit stop may.begins (legs_at task stop)
-      (legs_of stop is) (with_used settled others) (with_marks run marks) by.leg
+      (legs_of task ready stop is) (with_used assigned others) (with_marks run marks) by.leg
       (among_place (legs_at task stop) by.place_of by.leg by.stands) takes.can rest.moves rest.completes in
       record {
         moves = begin stop index back.segment ∷ back.moves;
@@ -556,70 +500,76 @@ module _ (task : Task) (fit : IsFit task) (ready : AreReady task) (first reach s
         );
         same = back.total ∙ (rest.same ∙ sym by.total);
       }
-  move_by (suc fuel) (begin stop index segment ∷ moves) enough (partial settled run) others marks goes completes =
+  move_by (suc fuel) (begin stop index segment ∷ moves) enough (partial assigned run) others marks goes completes =
       absurd completes.0
-  move_by (suc fuel) (go index segment ∷ moves) enough (between settled) others marks goes completes =
+  move_by (suc fuel) (go index segment ∷ moves) enough (between assigned) others marks goes completes =
       absurd completes.0
-  move_by (suc fuel) (go index segment ∷ moves) enough (partial settled run) others marks goes completes =
+  move_by (suc fuel) (go index segment ∷ moves) enough (partial assigned run) others marks goes completes =
       let may = completes.0 in
       let stop = run.head in
       let is : IsStop task stop = goes.stands in
-      let by : ByLeg task fit stop is.1 (legs_at task stop) (legs_of stop is) settled run index segment moves =
-      by_leg task fit stop is.1 (legs_at task stop) (legs_of stop is) settled run goes.shares.whole index segment
+      let by : ByLeg task fit stop is.1 (legs_at task stop) (legs_of task ready stop is) assigned run index segment
+      moves =
+      by_leg task fit stop is.1 (legs_at task stop) (legs_of task ready stop is) assigned run goes.shares.whole index
+      segment
       moves may.leads may.taken completes.1 in
       let takes : Takes_it others marks run by.leg =
-      takes_it settled.used others goes.shares stop is (goes.head may.passes) by.place_of by.leg by.stands run
+      takes_it assigned.used others goes.shares stop is (goes.head may.passes) by.place_of by.leg by.stands run
       marks goes.sees by.can in
-      let rest : Moved (partial (using (with_used settled others) by.leg.segment)
+      let rest : Moved (partial (using (with_used assigned others) by.leg.segment)
       (along task (with_marks run marks) by.leg.segment))
-      (total_after task (partial (using settled by.leg.segment) (along task run by.leg.segment)) by.later) =
+      (total_after task (partial (using assigned by.leg.segment) (along task run by.leg.segment)) by.later) =
       move_by fuel by.later (omega (arith, by.shorter, enough))
-      (partial (using settled by.leg.segment) (along task run by.leg.segment))
+      (partial (using assigned by.leg.segment) (along task run by.leg.segment))
       (marked_all others by.leg.segment.borders.items)
       (marked_if (stop_in (node_at task by.leg.segment.to)) marks by.leg.segment.to)
-      (goes_next settled run others marks goes.shares goes.sees goes.spots goes.begins goes.home by.leg takes)
+      (goes_next assigned run others marks goes.shares goes.sees goes.spots goes.begins goes.home by.leg takes)
       by.completes in
-      let back : BySegments task fit stop is.1 (legs_at task stop) (legs_of stop is) (with_used settled others)
+      let back : BySegments task fit stop is.1 (legs_at task stop) (legs_of task ready stop is)
+      (with_used assigned others)
       (with_marks run marks) by.leg rest.moves = by_segments task fit stop is.1 (legs_at task stop)
-      (legs_of stop is) (with_used settled others) (with_marks run marks) by.leg
+      (legs_of task ready stop is) (with_used assigned others) (with_marks run marks) by.leg
       (among_place (legs_at task stop) by.place_of by.leg by.stands) takes.can rest.moves rest.completes in
       record {
         moves = go by.leg.first back.segment ∷ back.moves;
         completes = (record { passes = may.passes; leads = back.leads; taken = back.can }, back.completes);
         same = back.total ∙ (rest.same ∙ sym by.total);
       }
-  move_by (suc fuel) (turn index segment ∷ moves) enough (between settled) others marks goes completes =
+  move_by (suc fuel) (turn index segment ∷ moves) enough (between assigned) others marks goes completes =
       absurd completes.0
-  move_by (suc fuel) (turn index segment ∷ moves) enough (partial settled ran) others marks goes completes =
+  move_by (suc fuel) (turn index segment ∷ moves) enough (partial assigned ran) others marks goes completes =
       let may = completes.0 in
       let run = turned_back ran in
       let stop = ran.home in
       let is : IsStop task stop = goes.begins in
-      let by : ByLeg task fit stop is.1 (legs_at task stop) (legs_of stop is) settled run index segment moves =
-      by_leg task fit stop is.1 (legs_at task stop) (legs_of stop is) settled run goes.shares.whole index segment
+      let by : ByLeg task fit stop is.1 (legs_at task stop) (legs_of task ready stop is) assigned run index segment
+      moves =
+      by_leg task fit stop is.1 (legs_at task stop) (legs_of task ready stop is) assigned run goes.shares.whole index
+      segment
       moves may.leads may.taken completes.1 in
       let takes : Takes_it others marks run by.leg =
-      takes_it settled.used others goes.shares stop is (goes.home may.passes) by.place_of by.leg by.stands run
+      takes_it assigned.used others goes.shares stop is (goes.home may.passes) by.place_of by.leg by.stands run
       marks goes.sees by.can in
-      let rest : Moved (partial (using (with_used settled others) by.leg.segment)
+      let rest : Moved (partial (using (with_used assigned others) by.leg.segment)
       (along task (with_marks run marks) by.leg.segment))
-      (total_after task (partial (using settled by.leg.segment) (along task run by.leg.segment)) by.later) =
+      (total_after task (partial (using assigned by.leg.segment) (along task run by.leg.segment)) by.later) =
       move_by fuel by.later (omega (arith, by.shorter, enough))
-      (partial (using settled by.leg.segment) (along task run by.leg.segment))
+      (partial (using assigned by.leg.segment) (along task run by.leg.segment))
       (marked_all others by.leg.segment.borders.items)
       (marked_if (stop_in (node_at task by.leg.segment.to)) marks by.leg.segment.to)
-      (goes_next settled run others marks goes.shares goes.sees goes.spots goes.begins goes.home by.leg takes)
+      (goes_next assigned run others marks goes.shares goes.sees goes.spots goes.begins goes.home by.leg takes)
       by.completes in
-      let back : BySegments task fit stop is.1 (legs_at task stop) (legs_of stop is) (with_used settled others)
+      let back : BySegments task fit stop is.1 (legs_at task stop) (legs_of task ready stop is)
+      (with_used assigned others)
       (with_marks run marks) by.leg rest.moves = by_segments task fit stop is.1 (legs_at task stop)
-      (legs_of stop is) (with_used settled others) (with_marks run marks) by.leg
+      (legs_of task ready stop is) (with_used assigned others) (with_marks run marks) by.leg
       (among_place (legs_at task stop) by.place_of by.leg by.stands) takes.can rest.moves rest.completes in
       record {
         moves = turn by.leg.first back.segment ∷ back.moves;
         completes = (
           record {
             once = may.once;
-            stands = may.stands;
+            at_stop = may.at_stop;
             later =
                 omega (arith, may.later, by.first);
             passes = may.passes;
@@ -630,18 +580,18 @@ module _ (task : Task) (fit : IsFit task) (ready : AreReady task) (first reach s
         );
         same = back.total ∙ (rest.same ∙ sym by.total);
       }
-  move_by (suc fuel) (settle ∷ moves) enough (between settled) others marks goes completes = absurd completes.0
-  move_by (suc fuel) (settle ∷ moves) enough (partial settled run) others marks goes completes =
-      let rest : Moved (between (with_used (with_run_settled settled run) others))
-      (total_after task (between (with_run_settled settled run)) moves) =
-      move_by fuel moves (omega (arith, enough)) (between (with_run_settled settled run)) others marks goes.shares
+  move_by (suc fuel) (finish ∷ moves) enough (between assigned) others marks goes completes = absurd completes.0
+  move_by (suc fuel) (finish ∷ moves) enough (partial assigned run) others marks goes completes =
+      let rest : Moved (between (with_used (with_run_finished assigned run) others))
+      (total_after task (between (with_run_finished assigned run)) moves) =
+      move_by fuel moves (omega (arith, enough)) (between (with_run_finished assigned run)) others marks goes.shares
       completes.1 in
-      record { moves = settle ∷ rest.moves; completes = (completes.0, rest.completes); same = rest.same }
+      record { moves = finish ∷ rest.moves; completes = (completes.0, rest.completes); same = rest.same }
 
 -- more stops lie in reach
-pub reach_past : (task : Task) (settled : Settled) (stop : ℕ) (old middle new : List Bool) → Holds stop old middle
-    → WidensTo task settled stop middle new → ReachesPast task settled.used stop old new
-reach_past task settled stop old middle new holds more =
+pub reach_at : (task : Task) (assigned : Assigned) (stop : ℕ) (old middle new : List Bool) → Holds stop old middle
+    → WidensTo task assigned stop middle new → ReachesAt task assigned.used stop old new
+reach_at task assigned stop old middle new holds more =
     record {
       kept = λ spot lies. more.widens.kept spot (holds.kept spot lies);
       lies = more.widens.kept stop holds.lies;
@@ -650,77 +600,66 @@ reach_past task settled stop old middle new holds more =
         | inr on ↦ elim (more.widens.over spot on.0) [
           | inl known ↦ elim (holds.over spot known) [
             | inl was ↦ still spot (reaches spot is (inr (was, on.1)))
-            | inr same ↦ subst (AllLead task settled.used new) same more.here
+            | inr same ↦ subst (AllLead task assigned.used new) same more.here
           ]
           | inr over ↦ λ index leg stands free. over on.1 index leg stands
-              (takes_free task settled.used leg.segment ∙ free)
+              (takes_free task assigned.used leg.segment ∙ free)
         ]
       ];
     }
   where
-    still : (spot : ℕ) → AllLead task settled.used old spot → AllLead task settled.used new spot
+    still : (spot : ℕ) → AllLead task assigned.used old spot → AllLead task assigned.used new spot
     still spot leads index leg stands free = more.widens.kept leg.segment.to
         (holds.kept leg.segment.to (leads index leg stands free))
 
--- a run may go on from its head and from its home, as these lie in reach
-pub goes_past : (task : Task) (used : List Bool) (run : PartialRun) (old middle new : List Bool)
-    → IsStop task run.head → IsStop task run.home → length run.visited ≡ 744
-    → ReachesPast task used run.head old middle → ReachesPast task used run.home middle new → MayGoOn task new run
-goes_past task used run old middle new stands begins spots head home =
-    record {
-      head = (stands, λ passes. inr (home.kept run.head head.lies, passes));
-      home = (begins, λ passes. inr (home.lies, passes));
-      spots = spots;
-    }
-
 -- a state that is alike has as many borders
-pub canonical_whole : (task : Task) (settled : Settled) (run : Option PartialRun) (like : SearchState)
-    → length settled.used ≡ 279 → IsCanonical task settled run like → length like.settled.used ≡ 279
-canonical_whole task settled run like whole canonical =
-    freer_length like.settled.used settled.used canonical.off.shut.kept ∙ whole
+pub canonical_whole : (task : Task) (assigned : Assigned) (run : Option PartialRun) (like : SearchState)
+    → length assigned.used ≡ 279 → IsCanonical task assigned run like → length like.assigned.used ≡ 279
+canonical_whole task assigned run like whole canonical =
+    freer_length like.assigned.used assigned.used canonical.off.shut.kept ∙ whole
 
 -- what is earned from a state is earned from one that is alike
 pub low_canonical : (task : Task) → IsFit task → AreReady task
-    → (settled : Settled) (run : Option PartialRun) (like : SearchState) → length settled.used ≡ 279
-    → IsCanonical task settled run like → (most : ℕ) → LeadsToAtMost task (state_at like) most
-    → LeadsToAtMost task (state_by settled run) most
-low_canonical task fit ready settled run like whole canonical most low =
-    by_runs run like.run canonical.begun (subst (λ (s : Settled). LeadsToAtMost task (state_by s like.run) most)
+    → (assigned : Assigned) (run : Option PartialRun) (like : SearchState) → length assigned.used ≡ 279
+    → IsCanonical task assigned run like → (most : ℕ) → LeadsToAtMost task (state_at like) most
+    → LeadsToAtMost task (state_by assigned run) most
+low_canonical task fit ready assigned run like whole canonical most low =
+    by_runs run like.run canonical.begun (subst (λ (s : Assigned). LeadsToAtMost task (state_by s like.run) most)
     canonical.off.same low)
   where
     used : List Bool
-    used = like.settled.used
+    used = like.assigned.used
 
-    shares : Shares task fit ready settled.used canonical.reach used canonical.reaches canonical.off.shut settled.used
+    shares : Shares task fit ready assigned.used canonical.reach used canonical.reaches canonical.off.shut assigned.used
         used
     shares = record {
       still = λ border is. is;
       either = λ border is. inr is;
       whole = whole;
       other_whole =
-          canonical_whole task settled run like whole canonical;
+          canonical_whole task assigned run like whole canonical;
     }
 
-    moved : (state : State) (marks : List Bool) → GoesOn task fit ready settled.used canonical.reach used
+    moved : (state : State) (marks : List Bool) → GoesOn task fit ready assigned.used canonical.reach used
         canonical.reaches canonical.off.shut state used marks → LeadsToAtMost task (state_with state used marks) most
         → LeadsToAtMost task state most
     moved state marks goes low moves completes =
-        let there : Moved task fit ready settled.used canonical.reach used canonical.reaches canonical.off.shut
+        let there : Moved task fit ready assigned.used canonical.reach used canonical.reaches canonical.off.shut
         (state_with state used marks) (total_after task state moves) =
-        move_by task fit ready settled.used canonical.reach used canonical.reaches canonical.off.shut
+        move_by task fit ready assigned.used canonical.reach used canonical.reaches canonical.off.shut
         (length moves) moves (omega arith) state used marks goes completes in
         subst (λ (n : ℕ). n ≤ most) there.same (low there.moves there.completes)
 
     by_runs : (run other : Option PartialRun) → IsRunCanonical task canonical.reach run other
-        → LeadsToAtMost task (state_by (with_used settled used) other) most
-        → LeadsToAtMost task (state_by settled run) most
-    by_runs None None like_it low = moved (between settled) [] shares low
+        → LeadsToAtMost task (state_by (with_used assigned used) other) most
+        → LeadsToAtMost task (state_by assigned run) most
+    by_runs None None like_it low = moved (between assigned) [] shares low
     by_runs None (Some other) like_it low = absurd like_it
     by_runs (Some run) None like_it low = absurd like_it
     by_runs (Some run) (Some other) like_it low =
         let on = like_it.0 in
         let barred = like_it.1 in
-        moved (partial settled run) other.visited
+        moved (partial assigned run) other.visited
         (record {
           shares = shares;
           sees = barred.marks.only;
@@ -731,25 +670,25 @@ low_canonical task fit ready settled run like whole canonical most low =
           head = on.head.1;
           home = on.home.1;
         })
-        (subst (λ (r : PartialRun). LeadsToAtMost task (partial (with_used settled used) r) most) barred.same low)
+        (subst (λ (r : PartialRun). LeadsToAtMost task (partial (with_used assigned used) r) most) barred.same low)
 
 -- and the other way round
-pub low_back : (task : Task) → IsFit task → (settled : Settled) (run : Option PartialRun) (like : SearchState)
-    → length settled.used ≡ 279 → IsCanonical task settled run like → (most : ℕ)
-    → LeadsToAtMost task (state_by settled run) most → LeadsToAtMost task (state_at like) most
-low_back task fit settled run like whole canonical most low =
-    subst (λ (s : Settled). LeadsToAtMost task (state_by s like.run) most) (sym canonical.off.same)
+pub low_back : (task : Task) → IsFit task → (assigned : Assigned) (run : Option PartialRun) (like : SearchState)
+    → length assigned.used ≡ 279 → IsCanonical task assigned run like → (most : ℕ)
+    → LeadsToAtMost task (state_by assigned run) most → LeadsToAtMost task (state_at like) most
+low_back task fit assigned run like whole canonical most low =
+    subst (λ (s : Assigned). LeadsToAtMost task (state_by s like.run) most) (sym canonical.off.same)
     (by_runs run like.run canonical.begun low)
   where
     used : List Bool
-    used = like.settled.used
+    used = like.assigned.used
 
     from_barred : (run : PartialRun) (marks : List Bool) → Freer marks run.visited
-        → LeadsToAtMost task (partial settled run) most
-        → LeadsToAtMost task (partial (with_used settled used) (with_marks run marks)) most
+        → LeadsToAtMost task (partial assigned run) most
+        → LeadsToAtMost task (partial (with_used assigned used) (with_marks run marks)) most
     from_barred run marks freer low moves completes =
-        let frees : Frees (with_used settled used) (with_marks run marks) run.home run.first run.left run.value
-        run.visited settled.used settled.kind settled.cap 0 = record {
+        let frees : Frees (with_used assigned used) (with_marks run marks) run.home run.first run.left run.value
+        run.visited assigned.used assigned.kind assigned.cap 0 = record {
           back = λ once. (refl, refl);
           left_is = inl (omega arith);
           value_is = omega arith;
@@ -758,23 +697,23 @@ low_back task fit settled run like whole canonical most low =
           looser = inr (refl, omega arith);
           whole = whole;
         } in
-        let easy : Freed task (with_used settled used) (with_marks run marks) run settled.used settled.kind
-        settled.cap 0 settled.total moves = free task fit moves (with_used settled used) (with_marks run marks)
-        run.home run.first run.left run.value run.visited settled.used settled.kind settled.cap 0 settled.total
+        let easy : Freed task (with_used assigned used) (with_marks run marks) run assigned.used assigned.kind
+        assigned.cap 0 assigned.total moves = free task fit moves (with_used assigned used) (with_marks run marks)
+        run.home run.first run.left run.value run.visited assigned.used assigned.kind assigned.cap 0 assigned.total
         frees completes in
         omega (arith, easy.earns, low moves easy.completes)
 
     by_runs : (run other : Option PartialRun) → IsRunCanonical task canonical.reach run other
-        → LeadsToAtMost task (state_by settled run) most
-        → LeadsToAtMost task (state_by (with_used settled used) other) most
+        → LeadsToAtMost task (state_by assigned run) most
+        → LeadsToAtMost task (state_by (with_used assigned used) other) most
     by_runs None None like_it low = λ moves completes.
-        let easy : Eased task settled.kind settled.cap (between (with_used settled used)) moves settled.total
-        settled.used = ease task moves settled.kind settled.cap (between (with_used settled used)) settled.total
-        settled.used (inr (refl, omega arith)) canonical.off.shut.kept completes in
+        let easy : Eased task assigned.kind assigned.cap (between (with_used assigned used)) moves assigned.total
+        assigned.used = ease task moves assigned.kind assigned.cap (between (with_used assigned used)) assigned.total
+        assigned.used (inr (refl, omega arith)) canonical.off.shut.kept completes in
         omega (arith, easy.earns, low moves easy.completes)
     by_runs None (Some other) like_it low = absurd like_it
     by_runs (Some run) None like_it low = absurd like_it
     by_runs (Some run) (Some other) like_it low =
-        subst (λ (r : PartialRun). LeadsToAtMost task (partial (with_used settled used) r) most) (sym like_it.1.same)
+        subst (λ (r : PartialRun). LeadsToAtMost task (partial (with_used assigned used) r) most) (sym like_it.1.same)
         (from_barred run other.visited (freer_from other.visited run.visited like_it.1.marks.whole
         like_it.1.marks.kept) low)

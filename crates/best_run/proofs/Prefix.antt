@@ -1,11 +1,12 @@
 -- The beginning of a walk: what holds of a walk holds of each of its beginnings.
-use Rattle.std.proofs.Common.{◌≡◌, ℕ, ◌≤◌, true, inl, inr, List, [], ◌∷◌, ◌++◌, length, refl, sym, ap, subst, ◌∙◌, arith, length-append}
+use Rattle.std.proofs.Common.{◌≡◌, ℕ, ◌≤◌, true, inl, inr, List, [], ◌∷◌, ◌++◌, length, refl, sym, ap, subst, ◌∙◌}
+use Rattle.std.proofs.Common.{arith, length-append}
 use Rattle.reach.specs.Position.{Position, IsAmong, IsFull, is_red}
 use Rattle.reach.specs.Walk.{BeginsAt, IsWalk, PassesOnly, entered_at, left_at, stop_of}
 use Rattle.reach.specs.declared.walk.Step.{Step}
 use Rattle.tables.specs.declared.roster.Company.{Company}
-use Rattle.certificate.specs.Legal.{AreDistinct, border_at, crossed, listed, visited}
-use Rattle.certificate.proofs.Marks.{among_both}
+use Rattle.legal_runs.specs.Legal.{AreDistinct, border_at, crossed, listed, visited}
+use Rattle.legal_runs.proofs.Marks.{among_both}
 
 -- some steps after others, the first of them first
 abbrev pub onto : {A : Type 0} → List A → List A → List A
@@ -15,14 +16,6 @@ onto (step ∷ later) before = onto later (step ∷ before)
 onto_twice : {A : Type 0} (xs ys zs : List A) → onto (onto xs ys) zs ≡ onto ys (xs ++ zs)
 onto_twice [] ys zs = refl
 onto_twice (x ∷ xs) ys zs = onto_twice xs (x ∷ ys) zs
-
-append_none : {A : Type 0} (xs : List A) → xs ++ [] ≡ xs
-append_none [] = refl
-append_none (x ∷ xs) = ap (λ ys. x ∷ ys) (append_none xs)
-
--- steps taken back and forth
-pub onto_back : {A : Type 0} (xs : List A) → onto (onto xs []) [] ≡ xs
-onto_back xs = onto_twice xs [] [] ∙ append_none xs
 
 -- what a list of distinct things has behind some of them is distinct, and apart from them
 pub distinct_right : {A : Type 0} (first second : List A) → AreDistinct (first ++ second) → AreDistinct second

@@ -1,25 +1,27 @@
 -- A run from its first step on, and all runs of a set, one train after another.
-use Rattle.std.proofs.Common.{◌≡◌, ℕ, zero, suc, ◌+◌, ◌<◌, ◌≤◌, true, inl, inr, List, [], ◌∷◌, ◌++◌, length, get_or, set, drop, sym, ap, subst, ◌∙◌, arith, add-one}
+use Rattle.std.proofs.Common.{◌≡◌, ℕ, zero, suc, ◌+◌, ◌<◌, ◌≤◌, true, inl, inr, List, [], ◌∷◌, ◌++◌, length, get_or}
+use Rattle.std.proofs.Common.{set, drop, sym, ap, subst, ◌∙◌, arith, add-one}
 use Rattle.std.specs.List.{AllByRecursion}
 use Rattle.reach.specs.Position.{Position}
 use Rattle.reach.specs.Lawful.{IsLawful}
 use Rattle.tables.specs.Train.{stops_of}
 use Rattle.tables.specs.declared.rolling_stock.Kind.{Kind}
 use Rattle.tables.specs.declared.roster.Company.{Company}
-use Rattle.certificate.specs.Legal.{AreAtMost, crossed, earned, visited}
-use Rattle.certificate.specs.Set.{AreApart, RunsLegally, ShareNoBorder, TrainRun, revenue_of}
-use Rattle.certificate.proofs.Marks.{among_both}
-use Rattle.best_run.specs.declared.task.Task.{Task}
-use Rattle.best_run.specs.declared.state.Settled.{Settled}
-use Rattle.best_run.specs.Described.{Describes, most_of, most_of_all}
+use Rattle.legal_runs.specs.Legal.{AreAtMost, crossed, earned, visited}
+use Rattle.legal_runs.specs.Set.{AreApart, RunsLegally, ShareNoBorder, TrainRun, revenue_of}
+use Rattle.legal_runs.proofs.Marks.{among_both}
+use Rattle.search_task.specs.declared.task.Task.{Task}
+use Rattle.best_run.specs.declared.state.Assigned.{Assigned}
+use Rattle.search_task.specs.Described.{Describes, most_of, most_of_all}
 use Rattle.best_run.specs.Moves.{between, may_earn, pass, passed}
-use Rattle.best_run.proofs.Arms.{Used, run_by}
+use Rattle.best_run.proofs.Branches.{Used, run_by}
 use Rattle.best_run.proofs.Complete.{CanFinish}
 use Rattle.best_run.proofs.Few.{few_stops}
 use Rattle.best_run.proofs.Prefix.{Holds}
-use Rattle.best_run.proofs.Sets.{Avoids, IsBelow, IsSetFor, IsWithin, all_out, apart_out, find_greatest, may_by, none_left, one_kind, revenue_out, with_first, without_first}
+use Rattle.best_run.proofs.Sets.{Avoids, IsBelow, IsSetFor, IsWithin, all_out, apart_out, find_greatest, may_by}
+use Rattle.best_run.proofs.Sets.{none_left, one_kind, revenue_out, with_first, without_first}
 
--- of a list from a place on, what stands there, and what comes after it
+-- of a list from a place on, what is there, and what comes after it
 drop_suc : (xs : List ℕ) (n x : ℕ) (later : List ℕ) → drop n xs ≡ x ∷ later
     → (n < length xs) × (get_or xs n 0 ≡ x) × (drop (suc n) xs ≡ later)
 drop_suc [] zero x later is = cc
@@ -75,70 +77,70 @@ module _ (position : Position) (company : Company) (kinds : List Kind) (task : T
       [ inl own ↦ share border own here | inr used ↦ avoids border here used ]
 
   -- a run of the next train, step by step
-  run_first : IsLawful position → (kind : Kind) (others : List ℕ) (settled : Settled) → Used others settled
-      → (total : ℕ) → settled.next < length task.trains.items
-      → get_or task.trains.items settled.next 0 ≡ most_of (stops_of kind) → (run : TrainRun)
+  run_first : IsLawful position → (kind : Kind) (others : List ℕ) (assigned : Assigned) → Used others assigned
+      → (total : ℕ) → assigned.next < length task.trains.items
+      → get_or task.trains.items assigned.next 0 ≡ most_of (stops_of kind) → (run : TrainRun)
       → RunsLegally position company run → run.kind ≡ kind → Avoids others run
-      → may_earn settled.kind settled.cap (most_of (stops_of kind)) (earned position run.steps) ≡ true
-      → ((after : Settled) → after.next ≡ settled.next + 1 → after.total ≡ settled.total + earned position run.steps
+      → may_earn assigned.kind assigned.cap (most_of (stops_of kind)) (earned position run.steps) ≡ true
+      → ((after : Assigned) → after.next ≡ assigned.next + 1 → after.total ≡ assigned.total + earned position run.steps
       → after.kind ≡ most_of (stops_of kind) → after.cap ≡ earned position run.steps
       → Used (crossed run.steps ++ others) after → CanFinish task (between after) total)
-      → CanFinish task (between settled) total
-  run_first lawful kind others settled used total train most_is run legal is avoids may done =
-      run_by position company lawful kinds task describes others settled used (most_of (stops_of kind)) train most_is
+      → CanFinish task (between assigned) total
+  run_first lawful kind others assigned used total train most_is run legal is avoids may done =
+      run_by position company lawful kinds task describes others assigned used (most_of (stops_of kind)) train most_is
       total run.steps
       (legal_holds lawful kind others run legal is avoids) legal.ends legal.own_token may done
 
   -- all runs of a set, train by train
-  pub finish_set : IsLawful position → (left : List Kind) (runs : List TrainRun) (others : List ℕ) (settled : Settled)
-      → Used others settled → drop settled.next task.trains.items ≡ most_of_all left
-      → IsSetFor position company left others runs → AllByRecursion (IsWithin position settled.kind settled.cap) runs
-      → CanFinish task (between settled) (settled.total + revenue_of position runs)
-  finish_set lawful [] runs others settled used trains set within =
+  pub finish_set : IsLawful position → (left : List Kind) (runs : List TrainRun) (others : List ℕ) (assigned : Assigned)
+      → Used others assigned → drop assigned.next task.trains.items ≡ most_of_all left
+      → IsSetFor position company left others runs → AllByRecursion (IsWithin position assigned.kind assigned.cap) runs
+      → CanFinish task (between assigned) (assigned.total + revenue_of position runs)
+  finish_set lawful [] runs others assigned used trains set within =
       let none : runs ≡ [] = none_left runs set.each_once in
       let earns : revenue_of position runs ≡ 0 = ap (revenue_of position) none in
-      ([], drop_none task.trains.items settled.next trains, omega arith)
-  finish_set lawful (kind ∷ left) runs others settled used trains set within =
-      let next : (settled.next < length task.trains.items)
-      × (get_or task.trains.items settled.next 0 ≡ most_of (stops_of kind))
-      × (drop (settled.next + 1) task.trains.items ≡ most_of_all left) =
-      drop_first task.trains.items settled.next (most_of (stops_of kind)) (most_of_all left) trains in
+      ([], drop_none task.trains.items assigned.next trains, omega arith)
+  finish_set lawful (kind ∷ left) runs others assigned used trains set within =
+      let next : (assigned.next < length task.trains.items)
+      × (get_or task.trains.items assigned.next 0 ≡ most_of (stops_of kind))
+      × (drop (assigned.next + 1) task.trains.items ≡ most_of_all left) =
+      drop_first task.trains.items assigned.next (most_of (stops_of kind)) (most_of_all left) trains in
       elim (find_greatest position kind runs) [
         | inl has ↦
-            let whole : IsSetFor position company (kind ∷ left) others (has.front ++ has.run ∷ has.later) =
+            let whole : IsSetFor position company (kind ∷ left) others (has.prefix ++ has.run ∷ has.later) =
             subst (IsSetFor position company (kind ∷ left) others) has.is set in
             let legal : RunsLegally position company has.run
-            × AllByRecursion (RunsLegally position company) (has.front ++ has.later) =
-            all_out (RunsLegally position company) has.front has.run has.later whole.legal in
-            let avoid : Avoids others has.run × AllByRecursion (Avoids others) (has.front ++ has.later) =
-            all_out (Avoids others) has.front has.run has.later whole.avoid in
-            let apart : AllByRecursion (λ other. ShareNoBorder has.run.steps other.steps) (has.front ++ has.later)
-            × AreApart (has.front ++ has.later) = apart_out has.front has.run has.later whole.apart in
-            let low : IsWithin position settled.kind settled.cap has.run
-            × AllByRecursion (IsWithin position settled.kind settled.cap) (has.front ++ has.later) =
-            all_out (IsWithin position settled.kind settled.cap) has.front has.run has.later
-            (subst (AllByRecursion (IsWithin position settled.kind settled.cap)) has.is within) in
+            × AllByRecursion (RunsLegally position company) (has.prefix ++ has.later) =
+            all_out (RunsLegally position company) has.prefix has.run has.later whole.legal in
+            let avoid : Avoids others has.run × AllByRecursion (Avoids others) (has.prefix ++ has.later) =
+            all_out (Avoids others) has.prefix has.run has.later whole.avoid in
+            let apart : AllByRecursion (λ other. ShareNoBorder has.run.steps other.steps) (has.prefix ++ has.later)
+            × AreApart (has.prefix ++ has.later) = apart_out has.prefix has.run has.later whole.apart in
+            let low : IsWithin position assigned.kind assigned.cap has.run
+            × AllByRecursion (IsWithin position assigned.kind assigned.cap) (has.prefix ++ has.later) =
+            all_out (IsWithin position assigned.kind assigned.cap) has.prefix has.run has.later
+            (subst (AllByRecursion (IsWithin position assigned.kind assigned.cap)) has.is within) in
             let below : IsBelow position kind has.run has.run
-            × AllByRecursion (IsBelow position kind has.run) (has.front ++ has.later) =
-            all_out (IsBelow position kind has.run) has.front has.run has.later
+            × AllByRecursion (IsBelow position kind has.run) (has.prefix ++ has.later) =
+            all_out (IsBelow position kind has.run) has.prefix has.run has.later
             (subst (AllByRecursion (IsBelow position kind has.run)) has.is has.greatest) in
             let earns : revenue_of position runs ≡ earned position has.run.steps
-            + revenue_of position (has.front ++ has.later) =
-            ap (revenue_of position) has.is ∙ revenue_out position has.front has.run has.later in
-            run_first lawful kind others settled used (settled.total + revenue_of position runs) next.0 next.1 has.run
+            + revenue_of position (has.prefix ++ has.later) =
+            ap (revenue_of position) has.is ∙ revenue_out position has.prefix has.run has.later in
+            run_first lawful kind others assigned used (assigned.total + revenue_of position runs) next.0 next.1 has.run
             legal.0 has.kind_is avoid.0
-            (may_by settled.kind settled.cap (most_of (stops_of kind)) (earned position has.run.steps)
+            (may_by assigned.kind assigned.cap (most_of (stops_of kind)) (earned position has.run.steps)
             (λ same. low.0 (same ∙ ap (λ (k : Kind). most_of (stops_of k)) (sym has.kind_is))))
             (λ after next_is total_is kind_is cap_is used_after.
-            let rest : CanFinish task (between after) (after.total + revenue_of position (has.front ++ has.later)) =
-            finish_set lawful left (has.front ++ has.later) (crossed has.run.steps ++ others) after used_after
+            let rest : CanFinish task (between after) (after.total + revenue_of position (has.prefix ++ has.later)) =
+            finish_set lawful left (has.prefix ++ has.later) (crossed has.run.steps ++ others) after used_after
             (ap (λ n. drop n task.trains.items) next_is ∙ next.2)
             (record {
               legal = legal.1;
-              each_once = with_first kind left has.front has.run has.later has.kind_is whole.each_once;
+              each_once = with_first kind left has.prefix has.run has.later has.kind_is whole.each_once;
               apart = apart.1;
               avoid = all_both (λ other. ShareNoBorder has.run.steps other.steps) (Avoids others)
-                  (Avoids (crossed has.run.steps ++ others)) (avoid_both others has.run) (has.front ++ has.later)
+                  (Avoids (crossed has.run.steps ++ others)) (avoid_both others has.run) (has.prefix ++ has.later)
                   apart.0 avoid.1;
             })
             (all_both (IsBelow position kind has.run) (IsBelow position kind has.run)
@@ -149,11 +151,12 @@ module _ (position : Position) (company : Company) (kinds : List Kind) (task : T
               under
                   (sym (one_kind kind other.kind (sym kind_is ∙ same))),
             ))
-            (has.front ++ has.later) below.1 below.1)
+            (has.prefix ++ has.later) below.1 below.1)
             in (rest.0, rest.1, let total = rest.2 in omega arith))
         | inr none ↦
-            let rest : CanFinish task (between (passed settled)) (settled.total + revenue_of position runs) =
-            finish_set lawful left runs others (passed settled) (record { used = used.used; whole = used.whole }) next.2
+            let rest : CanFinish task (between (passed assigned)) (assigned.total + revenue_of position runs) =
+            finish_set lawful left runs others (passed assigned) (record { used = used.used; whole = used.whole })
+            next.2
             (record {
               legal = set.legal;
               each_once = without_first kind left runs none set.each_once;

@@ -1,5 +1,6 @@
 -- Sets of runs: a run of a kind taken out of a set, and what is left for the other trains.
-use Rattle.std.proofs.Common.{◌≡◌, ℕ, zero, suc, ◌+◌, ◌-◌, ◌≤◌, ◌==◌, Bool, true, false, not, ◌||◌, nat_le, if◌then◌else◌, ◌⊎◌, inl, inr, List, [], ◌∷◌, ◌++◌, refl, sym, ap, ◌∙◌, arith, le_trans}
+use Rattle.std.proofs.Common.{◌≡◌, ℕ, zero, suc, ◌+◌, ◌-◌, ◌≤◌, ◌==◌, Bool, true, false, not, ◌||◌, nat_le}
+use Rattle.std.proofs.Common.{if◌then◌else◌, ◌⊎◌, inl, inr, List, [], ◌∷◌, ◌++◌, refl, sym, ap, ◌∙◌, arith, le_trans}
 use Rattle.std.specs.List.{AllByRecursion}
 use Rattle.std.proofs.lemmas.Bool.{eqb-true, eq-eqb, le-leb}
 use Rattle.reach.specs.Position.{Position, IsAmong}
@@ -7,10 +8,11 @@ use Rattle.tables.specs.Train.{place_of_kind, same_kind, stops_of}
 use Rattle.tables.specs.declared.rolling_stock.Kind.{Kind}
 use Rattle.tables.specs.declared.rolling_stock.Kind.TheVariants.{Two, Three, Four, Five, Six, Diesel}
 use Rattle.tables.specs.declared.roster.Company.{Company}
-use Rattle.certificate.specs.Legal.{crossed, earned}
-use Rattle.best_run.specs.Described.{most_of}
+use Rattle.legal_runs.specs.Legal.{crossed, earned}
 use Rattle.best_run.specs.Moves.{may_earn}
-use Rattle.certificate.specs.Set.{AreApart, AreTakenFrom, RunsLegally, ShareNoBorder, TrainRun, in_number, revenue_of, trains_that_run}
+use Rattle.legal_runs.specs.Set.{AreApart, AreTakenFrom, RunsLegally, ShareNoBorder, TrainRun, in_number, revenue_of}
+use Rattle.legal_runs.specs.Set.{trains_that_run}
+use Rattle.search_task.specs.Described.{most_of}
 
 -- a kind is one of six
 abbrev kind_at : ℕ → Kind
@@ -48,35 +50,36 @@ pub record IsSetFor (position : Position) (company : Company) (trains : List Kin
   pub avoid : AllByRecursion (Avoids others) runs
 
 -- all but one of some runs
-pub all_out : (P : TrainRun → Type 0) (front : List TrainRun) (run : TrainRun) (later : List TrainRun)
-    → AllByRecursion P (front ++ run ∷ later) → P run × AllByRecursion P (front ++ later)
+pub all_out : (P : TrainRun → Type 0) (prefix : List TrainRun) (run : TrainRun) (later : List TrainRun)
+    → AllByRecursion P (prefix ++ run ∷ later) → P run × AllByRecursion P (prefix ++ later)
 all_out P [] run later all = all
-all_out P (first ∷ front) run later all =
-    let rest : P run × AllByRecursion P (front ++ later) = all_out P front run later all.1 in (rest.0, (all.0, rest.1))
+all_out P (first ∷ prefix) run later all =
+    let rest : P run × AllByRecursion P (prefix ++ later) = all_out P prefix run later all.1 in
+    (rest.0, (all.0, rest.1))
 
-pub revenue_out : (position : Position) (front : List TrainRun) (run : TrainRun) (later : List TrainRun)
-    → revenue_of position (front ++ run ∷ later) ≡ earned position run.steps + revenue_of position (front ++ later)
+pub revenue_out : (position : Position) (prefix : List TrainRun) (run : TrainRun) (later : List TrainRun)
+    → revenue_of position (prefix ++ run ∷ later) ≡ earned position run.steps + revenue_of position (prefix ++ later)
 revenue_out position [] run later = refl
-revenue_out position (first ∷ front) run later = omega (arith, revenue_out position front run later)
+revenue_out position (first ∷ prefix) run later = omega (arith, revenue_out position prefix run later)
 
-pub number_out : (kind : Kind) (front : List TrainRun) (run : TrainRun) (later : List TrainRun)
-    → in_number kind (trains_that_run (front ++ run ∷ later))
-    ≡ in_number kind (run.kind ∷ trains_that_run (front ++ later))
+pub number_out : (kind : Kind) (prefix : List TrainRun) (run : TrainRun) (later : List TrainRun)
+    → in_number kind (trains_that_run (prefix ++ run ∷ later))
+    ≡ in_number kind (run.kind ∷ trains_that_run (prefix ++ later))
 number_out kind [] run later = refl
-number_out kind (first ∷ front) run later = let rest = number_out kind front run later in omega arith
+number_out kind (first ∷ prefix) run later = let rest = number_out kind prefix run later in omega arith
 
 share_back : (first second : TrainRun) → ShareNoBorder first.steps second.steps → ShareNoBorder second.steps first.steps
 share_back first second share border here there = share border there here
 
-pub apart_out : (front : List TrainRun) (run : TrainRun) (later : List TrainRun) → AreApart (front ++ run ∷ later)
-    → AllByRecursion (λ other. ShareNoBorder run.steps other.steps) (front ++ later) × AreApart (front ++ later)
+pub apart_out : (prefix : List TrainRun) (run : TrainRun) (later : List TrainRun) → AreApart (prefix ++ run ∷ later)
+    → AllByRecursion (λ other. ShareNoBorder run.steps other.steps) (prefix ++ later) × AreApart (prefix ++ later)
 apart_out [] run later apart = apart
-apart_out (first ∷ front) run later apart =
-    let rest : AllByRecursion (λ other. ShareNoBorder run.steps other.steps) (front ++ later)
-    × AreApart (front ++ later) = apart_out front run later apart.1 in
+apart_out (first ∷ prefix) run later apart =
+    let rest : AllByRecursion (λ other. ShareNoBorder run.steps other.steps) (prefix ++ later)
+    × AreApart (prefix ++ later) = apart_out prefix run later apart.1 in
     let shares : ShareNoBorder first.steps run.steps
-    × AllByRecursion (λ other. ShareNoBorder first.steps other.steps) (front ++ later) =
-    all_out (λ other. ShareNoBorder first.steps other.steps) front run later apart.0 in
+    × AllByRecursion (λ other. ShareNoBorder first.steps other.steps) (prefix ++ later) =
+    all_out (λ other. ShareNoBorder first.steps other.steps) prefix run later apart.0 in
     ((share_back first run shares.0, rest.0), (shares.1, rest.1))
 
 in_order : (a b : ℕ) → (a ≤ b) ⊎ (b ≤ a)
@@ -117,10 +120,10 @@ IsBelow position kind run other = other.kind ≡ kind → earned position other.
 
 -- a run of a kind that earns the most of those of its kind, among others
 pub record HasGreatest (position : Position) (kind : Kind) (runs : List TrainRun) : Type 0 where
-  pub front : List TrainRun
+  pub prefix : List TrainRun
   pub run : TrainRun
   pub later : List TrainRun
-  pub is : runs ≡ front ++ run ∷ later
+  pub is : runs ≡ prefix ++ run ∷ later
   pub kind_is : run.kind ≡ kind
   pub greatest : AllByRecursion (IsBelow position kind run) runs
 
@@ -163,7 +166,7 @@ find_greatest position kind (first ∷ runs) = by_test (find_greatest position k
         ⊎ (in_number kind (trains_that_run (first ∷ runs)) ≡ 0)
     by_rest fails (inl has) =
         inl (record {
-          front = first ∷ has.front;
+          prefix = first ∷ has.prefix;
           run = has.run;
           later = has.later;
           is = ap (λ rs. first ∷ rs) has.is;
@@ -182,7 +185,7 @@ find_greatest position kind (first ∷ runs) = by_test (find_greatest position k
         ⊎ (earned position first.steps ≤ earned position has.run.steps) → HasGreatest position kind (first ∷ runs)
     by_order is has (inl more) =
         record {
-          front = [];
+          prefix = [];
           run = first;
           later = runs;
           is = refl;
@@ -191,7 +194,7 @@ find_greatest position kind (first ∷ runs) = by_test (find_greatest position k
         }
     by_order is has (inr less) =
         record {
-          front = first ∷ has.front;
+          prefix = first ∷ has.prefix;
           run = has.run;
           later = has.later;
           is = ap (λ rs. first ∷ rs) has.is;
@@ -204,7 +207,7 @@ find_greatest position kind (first ∷ runs) = by_test (find_greatest position k
     by_found is (inl has) = by_order is has (in_order (earned position has.run.steps) (earned position first.steps))
     by_found is (inr none) =
         record {
-          front = [];
+          prefix = [];
           run = first;
           later = runs;
           is = refl;
@@ -248,13 +251,13 @@ without_first kind trains runs none taken other =
     (λ same. ap (λ k. in_number k (trains_that_run runs)) (sym (kind_is kind other same)) ∙ none) (taken other)
 
 -- a run of the first train taken out leaves a set for the others
-pub with_first : (kind : Kind) (trains : List Kind) (front : List TrainRun) (run : TrainRun) (later : List TrainRun)
-    → run.kind ≡ kind → AreTakenFrom (kind ∷ trains) (trains_that_run (front ++ run ∷ later))
-    → AreTakenFrom trains (trains_that_run (front ++ later))
-with_first kind trains front run later is taken other =
-    one_less (in_number other (trains_that_run (front ++ run ∷ later))) (if same_kind run.kind other then 1 else 0)
-    (if same_kind kind other then 1 else 0) (in_number other (trains_that_run (front ++ later)))
+pub with_first : (kind : Kind) (trains : List Kind) (prefix : List TrainRun) (run : TrainRun) (later : List TrainRun)
+    → run.kind ≡ kind → AreTakenFrom (kind ∷ trains) (trains_that_run (prefix ++ run ∷ later))
+    → AreTakenFrom trains (trains_that_run (prefix ++ later))
+with_first kind trains prefix run later is taken other =
+    one_less (in_number other (trains_that_run (prefix ++ run ∷ later))) (if same_kind run.kind other then 1 else 0)
+    (if same_kind kind other then 1 else 0) (in_number other (trains_that_run (prefix ++ later)))
     (in_number other trains)
-    (number_out other front run later)
+    (number_out other prefix run later)
     (ap (λ k. if same_kind k other then 1 else 0) is)
     (taken other)

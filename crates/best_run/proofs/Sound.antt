@@ -1,5 +1,7 @@
 -- Whatever moves lead to the end, the runs that their marks tell are a legal set, and earn what the moves earn.
-use Rattle.std.proofs.Common.{◌≡◌, ◌↔◌, ℕ, ◌+◌, ◌<◌, ◌≤◌, Bool, true, false, not, ◌&&◌, ltb, ◌⊎◌, inl, inr, Option, Some, None, IfSome, List, [], ◌∷◌, ◌++◌, length, get_or, drop, map, refl, sym, ap, subst, ◌∙◌, arith, length-append}
+use Rattle.std.proofs.Common.{◌≡◌, ◌↔◌, ℕ, ◌+◌, ◌<◌, ◌≤◌, Bool, true, false, not, ◌&&◌, ltb, ◌⊎◌, inl, inr, Option}
+use Rattle.std.proofs.Common.{Some, None, IfSome, List, [], ◌∷◌, ◌++◌, length, get_or, drop, map, refl, sym, ap, subst}
+use Rattle.std.proofs.Common.{◌∙◌, arith, length-append}
 use mathlib.Core.List.{reverse_aux}
 use Rattle.std.specs.List.{AllByRecursion}
 use Rattle.std.proofs.lemmas.Bool.{ltb-true}
@@ -18,42 +20,43 @@ use Rattle.tables.specs.Train.{stops_of}
 use Rattle.tables.specs.declared.rolling_stock.Kind.{Kind}
 use Rattle.tables.specs.declared.rolling_stock.Kind.TheVariants.{Two, Three, Four, Five, Six, Diesel}
 use Rattle.tables.specs.declared.roster.Company.{Company}
-use Rattle.certificate.specs.Legal.{AreAtMost, AreDistinct, EndsAtStop, HasSuch, border_at, border_of, crossed, earned, first_stop, listed, visited}
-use Rattle.certificate.specs.Set.{RunsLegally, ShareNoBorder, TrainRun, revenue_of}
-use Rattle.certificate.proofs.Marks.{among_both}
-use Rattle.certificate.proofs.TwoTrain.{returning}
-use Rattle.best_run.specs.declared.task.Segment.{Segment}
-use Rattle.best_run.specs.declared.task.Task.{Task}
-use Rattle.best_run.specs.declared.state.Settled.{Settled}
+use Rattle.legal_runs.specs.Legal.{AreAtMost, AreDistinct, EndsAtStop, HasSuch, border_at, border_of, crossed, earned}
+use Rattle.legal_runs.specs.Legal.{first_stop, listed, visited}
+use Rattle.legal_runs.specs.Set.{RunsLegally, ShareNoBorder, TrainRun, revenue_of}
+use Rattle.legal_runs.proofs.Marks.{among_both}
+use Rattle.legal_runs.proofs.TwoTrain.{returning}
+use Rattle.search_task.specs.declared.task.Segment.{Segment}
+use Rattle.search_task.specs.declared.task.Task.{Task}
+use Rattle.best_run.specs.declared.state.Assigned.{Assigned}
 use Rattle.best_run.specs.declared.state.PartialRun.{PartialRun}
 use Rattle.best_run.specs.declared.move_path.Mark.{Mark}
-use Rattle.best_run.specs.declared.move_path.Mark.TheVariants.{Pass, Go, Turn, Settle}
+use Rattle.best_run.specs.declared.move_path.Mark.TheVariants.{Go, Pass, Finish, Turn}
 use Rattle.best_run.specs.MovePath.{runs_told, turned_about, turned_step}
-use Rattle.best_run.specs.Described.{Describes, IsSegmentOf, IsSideNode, IsStepFrom, IsStopNode, most_of, most_of_all}
-use Rattle.best_run.specs.Moves.{Allows, Completes, Move, State, along, begin, begun, between, can_take, ends_in, go, marks_of, may_come, may_earn, misses, node_at, pass, passed, settle, with_run_settled, partial, stop_in, total_after, turn, turned_back, using}
-use Rattle.best_run.specs.Marks.{IsMarked}
-use Rattle.best_run.proofs.Advance.{Tells, misses_free, node_left, one_number, to_home, to_side, to_stop}
+use Rattle.search_task.specs.Described.{Describes, IsSegmentOf, IsSideNode, IsStepFrom, IsStopNode, most_of}
+use Rattle.search_task.specs.Described.{most_of_all}
+use Rattle.best_run.specs.Moves.{Allows, Completes, Move, State, along, begin, begun, between, can_take, go, marks_of}
+use Rattle.best_run.specs.Moves.{may_come, may_earn, partial, pass, passed, finish, total_after, turn, turned_back}
+use Rattle.best_run.specs.Moves.{using, with_run_finished}
+use Rattle.search_task.specs.Spots.{ends_in, node_at, stop_in}
+use Rattle.search_task.specs.Crossed.{misses}
+use Rattle.search_task.specs.Marks.{IsMarked}
+use Rattle.best_run.proofs.Advance.{Tells, node_left, to_home, to_side, to_stop}
+use Rattle.search_task.proofs.Marked.{misses_free}
+use Rattle.search_task.proofs.Described.{one_number}
 use Rattle.best_run.proofs.Complete.{next_stop}
 use Rattle.best_run.proofs.Prefix.{Holds, onto}
-use Rattle.best_run.proofs.Arms.{AreOne, Used, begun_tells, one_turned}
+use Rattle.best_run.proofs.Branches.{AreOne, Used, begun_tells, one_turned}
 use Rattle.best_run.proofs.Backwards.{Turned, walk_turned}
 use Rattle.best_run.proofs.Split.{such_canonical, such_later}
 use Rattle.best_run.proofs.Runs.{drop_first, drop_none}
 use Rattle.best_run.proofs.Sets.{Avoids, IsSetFor}
-
-first_true : (a b : Bool) → (a && b) ≡ true → a ≡ true
-first_true true b is = refl
-first_true false b is = absurd cc
-
-second_true : (a b : Bool) → (a && b) ≡ true → b ≡ true
-second_true true b is = is
-second_true false b is = absurd cc
+use Rattle.search_task.proofs.Booleans.{both_first, both_second}
 
 not_set : (b : Bool) → not b ≡ true → b ≡ true → ⊥
 not_set true fails is = let wrong : false ≡ true = fails in cc
 not_set false fails is = cc
 
--- one border at most stands at an end
+-- one border at most is at an end
 end_once : (hex : Hex) (end : End) → AreDistinct (border_at hex end ++ [])
 end_once hex (AtSide side) = ((λ none. none), tt)
 end_once hex (AtStop number) = tt
@@ -104,14 +107,14 @@ turned_walk steps = all_turned steps []
 
 module _ (position : Position) (company : Company) (lawful : IsLawful position) (kinds : List Kind) (task : Task)
     (describes : Describes position company kinds task) where
-  abbrev Told : ℕ → List ℕ → Spot → List Stop → List ℕ → Settled → PartialRun → Type 0
-  Told most others at stops borders settled run = Tells task position company most others at stops borders settled run
+  abbrev Told : ℕ → List ℕ → Spot → List Stop → List ℕ → Assigned → PartialRun → Type 0
+  Told most others at stops borders assigned run = Tells task position company most others at stops borders assigned run
 
   -- what a piece that is taken tells of its step
-  record Went (most : ℕ) (others : List ℕ) (stops : List Stop) (borders : List ℕ) (settled : Settled)
+  record Went (most : ℕ) (others : List ℕ) (stops : List Stop) (borders : List ℕ) (assigned : Assigned)
       (run : PartialRun) (step : Step) (segment : Segment) : Type 0 where
     pub told : Told most others (left_at step) (listed (stop_of (left_at step)) ++ stops)
-        (border_at (entered_at step).hex (entered_at step).end ++ borders) (using settled segment)
+        (border_at (entered_at step).hex (entered_at step).end ++ borders) (using assigned segment)
         (along task run segment)
     pub stops_once : AreDistinct stops → AreDistinct (listed (stop_of (left_at step)) ++ stops)
     pub few : length (listed (stop_of (left_at step)) ++ stops) ≤ most
@@ -120,48 +123,48 @@ module _ (position : Position) (company : Company) (lawful : IsLawful position) 
     pub free : (border : ℕ) → IsAmong border (border_at (entered_at step).hex (entered_at step).end)
         → ¬ IsAmong border others
 
-  went_by : (most : ℕ) (others : List ℕ) (at : Spot) (stops : List Stop) (borders : List ℕ) (settled : Settled)
-      (run : PartialRun) → Told most others at stops borders settled run → (step : Step) (segment : Segment)
-      → IsSegmentOf step segment → can_take task run settled.used segment ≡ true → (found : Option Stop)
-      → stop_of (left_at step) ≡ found → Went most others stops borders settled run step segment
-  went_by most others at stops borders settled run tells step segment is taken None side =
-      let free : misses settled.used segment.borders.items ≡ true =
-      second_true (may_come (stop_in (node_at task segment.to)) run segment.to)
-      (misses settled.used segment.borders.items) taken in
+  went_by : (most : ℕ) (others : List ℕ) (at : Spot) (stops : List Stop) (borders : List ℕ) (assigned : Assigned)
+      (run : PartialRun) → Told most others at stops borders assigned run → (step : Step) (segment : Segment)
+      → IsSegmentOf step segment → can_take task run assigned.used segment ≡ true → (found : Option Stop)
+      → stop_of (left_at step) ≡ found → Went most others stops borders assigned run step segment
+  went_by most others at stops borders assigned run tells step segment is taken None side =
+      let free : misses assigned.used segment.borders.items ≡ true =
+      both_second (may_come (stop_in (node_at task segment.to)) run segment.to)
+      (misses assigned.used segment.borders.items) taken in
       record {
         told = subst (λ o. Told most others (left_at step) (listed o ++ stops)
-            (border_at (entered_at step).hex (entered_at step).end ++ borders) (using settled segment)
+            (border_at (entered_at step).hex (entered_at step).end ++ borders) (using assigned segment)
             (along task run segment)) (sym side)
-            (to_side position company kinds task describes most others at stops borders settled run tells step segment
+            (to_side position company kinds task describes most others at stops borders assigned run tells step segment
             is side);
         stops_once = λ once. subst (λ o. AreDistinct (listed o ++ stops)) (sym side) once;
         few = subst (λ o. length (listed o ++ stops) ≤ most) (sym side) (omega (arith, tells.left));
-        new = λ border here before. misses_free settled.used segment.borders.items free border
+        new = λ border here before. misses_free assigned.used segment.borders.items free border
             (subst (IsAmong border) (sym is.borders) here) ((tells.used border).1 (inl before));
-        free = λ border here other. misses_free settled.used segment.borders.items free border
+        free = λ border here other. misses_free assigned.used segment.borders.items free border
             (subst (IsAmong border) (sym is.borders) here) ((tells.used border).1 (inr other));
       }
-  went_by most others at stops borders settled run tells step segment is taken (Some stop) there =
+  went_by most others at stops borders assigned run tells step segment is taken (Some stop) there =
       let node : IsStopNode position company stop (node_at task segment.to) =
       subst (λ (n : ℕ). IsStopNode position company stop (node_at task n)) (sym is.to)
       (node_left position company kinds task describes (left_at step) (Some stop) there) in
-      let free : misses settled.used segment.borders.items ≡ true =
-      second_true (may_come (stop_in (node_at task segment.to)) run segment.to)
-      (misses settled.used segment.borders.items) taken in
+      let free : misses assigned.used segment.borders.items ≡ true =
+      both_second (may_come (stop_in (node_at task segment.to)) run segment.to)
+      (misses assigned.used segment.borders.items) taken in
       let come : may_come true run segment.to ≡ true =
       ap (λ b. may_come b run segment.to) (sym node.stops)
-      ∙ first_true (may_come (stop_in (node_at task segment.to)) run segment.to)
-      (misses settled.used segment.borders.items) taken in
-      let left : 0 < run.left = ltb-true 0 run.left (first_true (ltb 0 run.left)
+      ∙ both_first (may_come (stop_in (node_at task segment.to)) run segment.to)
+      (misses assigned.used segment.borders.items) taken in
+      let left : 0 < run.left = ltb-true 0 run.left (both_first (ltb 0 run.left)
       (not (get_or run.visited segment.to false)) come) in
       let fresh : IsMarked run.visited segment.to → ⊥ =
-      not_set (get_or run.visited segment.to false) (second_true (ltb 0 run.left)
+      not_set (get_or run.visited segment.to false) (both_second (ltb 0 run.left)
       (not (get_or run.visited segment.to false)) come) in
       record {
         told = subst (λ o. Told most others (left_at step) (listed o ++ stops)
-            (border_at (entered_at step).hex (entered_at step).end ++ borders) (using settled segment)
+            (border_at (entered_at step).hex (entered_at step).end ++ borders) (using assigned segment)
             (along task run segment)) (sym there)
-            (to_stop position company kinds task describes most others at stops borders settled run tells step segment
+            (to_stop position company kinds task describes most others at stops borders assigned run tells step segment
             is stop there left);
         stops_once = λ once. subst (λ o. AreDistinct (listed o ++ stops)) (sym there) (
           (λ among. fresh (subst (IsMarked run.visited) (sym is.to)
@@ -169,9 +172,9 @@ module _ (position : Position) (company : Company) (lawful : IsLawful position) 
           once,
         );
         few = subst (λ o. length (listed o ++ stops) ≤ most) (sym there) (omega (arith, tells.left));
-        new = λ border here before. misses_free settled.used segment.borders.items free border
+        new = λ border here before. misses_free assigned.used segment.borders.items free border
             (subst (IsAmong border) (sym is.borders) here) ((tells.used border).1 (inl before));
-        free = λ border here other. misses_free settled.used segment.borders.items free border
+        free = λ border here other. misses_free assigned.used segment.borders.items free border
             (subst (IsAmong border) (sym is.borders) here) ((tells.used border).1 (inr other));
       }
 
@@ -211,28 +214,28 @@ module _ (position : Position) (company : Company) (lawful : IsLawful position) 
       ]
 
   -- some runs are a set for the trains that are left, and earn what is earned from a state on
-  pub record RunsTold (others : List ℕ) (left : List Kind) (settled : Settled) (total : ℕ)
+  pub record RunsTold (others : List ℕ) (left : List Kind) (assigned : Assigned) (total : ℕ)
       (runs : List TrainRun) : Type 0 where
     pub set : IsSetFor position company left others runs
-    pub earns : settled.total + revenue_of position runs ≡ total
+    pub earns : assigned.total + revenue_of position runs ≡ total
 
   -- the first of some runs is that of the next train
-  pub record RunTold (others : List ℕ) (kind : Kind) (left : List Kind) (settled : Settled) (total : ℕ)
+  pub record RunTold (others : List ℕ) (kind : Kind) (left : List Kind) (assigned : Assigned) (total : ℕ)
       (told : List TrainRun) : Type 0 where
     pub steps : List Step
     pub legal : RunsLegally position company (record { kind = kind; steps = steps })
     pub avoids : Avoids others (record { kind = kind; steps = steps })
     pub runs : List TrainRun
     pub set : IsSetFor position company left (crossed steps ++ others) runs
-    pub earns : settled.total + (earned position steps + revenue_of position runs) ≡ total
+    pub earns : assigned.total + (earned position steps + revenue_of position runs) ≡ total
     pub are : told ≡ record { kind = kind; steps = steps } ∷ runs
 
   -- the borders of a piece change nothing in what the others earn
-  keep_settled :
-      (others : List ℕ) (kind : Kind) (left : List Kind) (settled : Settled) (segment : Segment) (total : ℕ)
+  keep_assigned :
+      (others : List ℕ) (kind : Kind) (left : List Kind) (assigned : Assigned) (segment : Segment) (total : ℕ)
       (runs : List TrainRun) →
-      RunTold others kind left (using settled segment) total runs → RunTold others kind left settled total runs
-  keep_settled others kind left settled segment total runs told =
+      RunTold others kind left (using assigned segment) total runs → RunTold others kind left assigned total runs
+  keep_assigned others kind left assigned segment total runs told =
       record {
         steps = told.steps;
         legal = told.legal;
@@ -250,43 +253,44 @@ module _ (position : Position) (company : Company) (lawful : IsLawful position) 
 
   -- from a state on some marks tell such runs
   abbrev pub SoundFrom : State → ℕ → List Mark → Type 0
-  SoundFrom (between settled) total marks =
-      (others : List ℕ) (left : List Kind) → Used others settled
-      → drop settled.next task.trains.items ≡ most_of_all left
-      → RunsTold others left settled total (runs_told left [] marks)
-  SoundFrom (partial settled run) total marks =
+  SoundFrom (between assigned) total marks =
+      (others : List ℕ) (left : List Kind) → Used others assigned
+      → drop assigned.next task.trains.items ≡ most_of_all left
+      → RunsTold others left assigned total (runs_told left [] marks)
+  SoundFrom (partial assigned run) total marks =
       (others : List ℕ) (kind : Kind) (left : List Kind) (step : Step) (before : List Step)
       → Told (most_of (stops_of kind)) others (left_at step) (visited (step ∷ before)) (crossed (step ∷ before))
-      settled run → Holds position company (most_of (stops_of kind)) others (step ∷ before)
+      assigned run → Holds position company (most_of (stops_of kind)) others (step ∷ before)
       → HasSuch (λ stop. HasToken position stop company) (visited (step ∷ before)) → BeginsHome run step before
-      → drop (settled.next + 1) task.trains.items ≡ most_of_all left
-      → RunTold others kind left settled total (runs_told (kind ∷ left) (step ∷ before) marks)
+      → drop (assigned.next + 1) task.trains.items ≡ most_of_all left
+      → RunTold others kind left assigned total (runs_told (kind ∷ left) (step ∷ before) marks)
 
-  -- the end: all trains are settled
-  at_end : (settled : Settled) → length task.trains.items ≤ settled.next → SoundFrom (between settled) settled.total []
-  at_end settled over others [] used trains =
+  -- the end: all trains are assigned
+  at_end : (assigned : Assigned) → length task.trains.items ≤ assigned.next
+      → SoundFrom (between assigned) assigned.total []
+  at_end assigned over others [] used trains =
       record {
         set = record { legal = tt; each_once = λ kind. omega arith; apart = tt; avoid = tt };
         earns =
             omega arith;
       }
-  at_end settled over others (kind ∷ left) used trains =
+  at_end assigned over others (kind ∷ left) used trains =
       absurd (omega (
         arith,
-        (drop_first task.trains.items settled.next (most_of (stops_of kind)) (most_of_all left)
+        (drop_first task.trains.items assigned.next (most_of (stops_of kind)) (most_of_all left)
             trains).0,
       ))
 
   -- the next train does not run
   has_passed :
-      (settled : Settled) (total : ℕ) (marks : List Mark) → settled.next < length task.trains.items
-      → SoundFrom (between (passed settled)) total marks →
-      SoundFrom (between settled) total (Pass ∷ marks)
-  has_passed settled total marks before rest others [] used trains =
-      absurd (omega (arith, drop_none task.trains.items settled.next trains))
-  has_passed settled total marks before rest others (kind ∷ left) used trains =
-      let next = drop_first task.trains.items settled.next (most_of (stops_of kind)) (most_of_all left) trains in
-      let told : RunsTold others left (passed settled) total (runs_told left [] marks) =
+      (assigned : Assigned) (total : ℕ) (marks : List Mark) → assigned.next < length task.trains.items
+      → SoundFrom (between (passed assigned)) total marks →
+      SoundFrom (between assigned) total (Pass ∷ marks)
+  has_passed assigned total marks before rest others [] used trains =
+      absurd (omega (arith, drop_none task.trains.items assigned.next trains))
+  has_passed assigned total marks before rest others (kind ∷ left) used trains =
+      let next = drop_first task.trains.items assigned.next (most_of (stops_of kind)) (most_of_all left) trains in
+      let told : RunsTold others left (passed assigned) total (runs_told left [] marks) =
       rest others left (record { used = used.used; whole = used.whole }) next.2 in
       record {
         set = record {
@@ -299,17 +303,18 @@ module _ (position : Position) (company : Company) (lawful : IsLawful position) 
         earns = told.earns;
       }
 
-  -- a run is settled
-  has_settled :
-      (settled : Settled) (run : PartialRun) (total : ℕ) (marks : List Mark) → stop_in (node_at task run.head) ≡ true →
-      SoundFrom (between (with_run_settled settled run)) total marks
-      → SoundFrom (partial settled run) total (Settle ∷ marks)
-  has_settled settled run total marks may rest others kind left step before tells holds own home trains =
+  -- a run is finished
+  has_assigned :
+      (assigned : Assigned) (run : PartialRun) (total : ℕ) (marks : List Mark) →
+      stop_in (node_at task run.head) ≡ true →
+      SoundFrom (between (with_run_finished assigned run)) total marks
+      → SoundFrom (partial assigned run) total (Finish ∷ marks)
+  has_assigned assigned run total marks may rest others kind left step before tells holds own home trains =
       ends_by (stop_of (left_at step)) refl
     where
       ends_by :
           (found : Option Stop) → stop_of (left_at step) ≡ found →
-          RunTold others kind left settled total (runs_told (kind ∷ left) (step ∷ before) (Settle ∷ marks))
+          RunTold others kind left assigned total (runs_told (kind ∷ left) (step ∷ before) (Finish ∷ marks))
       ends_by None side =
           let node : IsSideNode (node_at task (spot_number (left_at step))) =
           node_left position company kinds task describes (left_at step) None side in
@@ -317,7 +322,7 @@ module _ (position : Position) (company : Company) (lawful : IsLawful position) 
           subst (λ (n : ℕ). stop_in (node_at task n) ≡ true) tells.head may in
           absurd (let wrong : true ≡ false = sym stops ∙ node.stops in cc)
       ends_by (Some stop) there =
-          let told : RunsTold (crossed (step ∷ before) ++ others) left (with_run_settled settled run) total
+          let told : RunsTold (crossed (step ∷ before) ++ others) left (with_run_finished assigned run) total
           (runs_told left [] marks) =
           rest (crossed (step ∷ before) ++ others) left
           (record {
@@ -359,23 +364,23 @@ module _ (position : Position) (company : Company) (lawful : IsLawful position) 
 
   -- a run goes on
   has_gone :
-      (settled : Settled) (run : PartialRun) (index : ℕ) (segment : Segment) (total : ℕ) (marks : List Mark) →
-      Allows task (partial settled run) (go index segment)
-      → SoundFrom (partial (using settled segment) (along task run segment)) total marks →
-      SoundFrom (partial settled run) total (Go segment.step ∷ marks)
-  has_gone settled run index segment total marks may rest others kind left step before tells holds own home trains =
+      (assigned : Assigned) (run : PartialRun) (index : ℕ) (segment : Segment) (total : ℕ) (marks : List Mark) →
+      Allows task (partial assigned run) (go index segment)
+      → SoundFrom (partial (using assigned segment) (along task run segment)) total marks →
+      SoundFrom (partial assigned run) total (Go segment.step ∷ marks)
+  has_gone assigned run index segment total marks may rest others kind left step before tells holds own home trains =
       let from : IsStepFrom position run.head segment = describes.sound run.head index segment may.leads in
       let next = from.step in
       let joined : AreJoined (left_at step) (entered_at next) =
       joined_here (left_at step) run.head tells.head from.goes.spot (entered_at next) from.goes.number_is
       from.goes.joined in
-      let went : Went (most_of (stops_of kind)) others (visited (step ∷ before)) (crossed (step ∷ before)) settled run
+      let went : Went (most_of (stops_of kind)) others (visited (step ∷ before)) (crossed (step ∷ before)) assigned run
       next segment = went_by (most_of (stops_of kind)) others (left_at step) (visited (step ∷ before))
-      (crossed (step ∷ before)) settled run tells next segment from.segment_is may.taken (stop_of (left_at next))
+      (crossed (step ∷ before)) assigned run tells next segment from.segment_is may.taken (stop_of (left_at next))
       refl in
       let passes = may_pass (left_at step) (stop_of (left_at step)) refl (entered_at next) joined
       (subst (λ (n : ℕ). ends_in (node_at task n) ≡ false) tells.head may.passes) in
-      let told : RunTold others kind left (using settled segment) total
+      let told : RunTold others kind left (using assigned segment) total
       (runs_told (kind ∷ left) (next ∷ step ∷ before) marks) =
       rest others kind left next (step ∷ before) went.told
       (record {
@@ -394,11 +399,11 @@ module _ (position : Position) (company : Company) (lawful : IsLawful position) 
       own) home trains
       in
       let runs : Step → List TrainRun = λ last. runs_told (kind ∷ left) (last ∷ step ∷ before) marks in
-      keep_settled others kind left settled segment total (runs segment.step)
-      (subst (λ (last : Step). RunTold others kind left (using settled segment) total (runs last))
+      keep_assigned others kind left assigned segment total (runs segment.step)
+      (subst (λ (last : Step). RunTold others kind left (using assigned segment) total (runs last))
       (sym from.segment_is.step_is) told)
 
-  -- where a run stands at a stop, its walk ends at one
+  -- where a run is at a stop, its walk ends at one
   ends_there : (step : Step) (before : List Step) (number : ℕ) → number ≡ spot_number (left_at step)
       → stop_in (node_at task number) ≡ true → (found : Option Stop) → stop_of (left_at step) ≡ found
       → EndsAtStop (step ∷ before)
@@ -411,13 +416,13 @@ module _ (position : Position) (company : Company) (lawful : IsLawful position) 
 
   -- a run turns back: its walk is turned about, and goes on where it began
   has_turned :
-      (settled : Settled) (run : PartialRun) (index : ℕ) (segment : Segment) (total : ℕ) (marks : List Mark) →
-      Allows task (partial settled run) (turn index segment)
-      → SoundFrom (partial (using settled segment) (along task (turned_back run) segment)) total marks →
-      SoundFrom (partial settled run) total (Turn ∷ Go segment.step ∷ marks)
-  has_turned settled run index segment total marks may rest others kind left step before tells holds own home trains =
+      (assigned : Assigned) (run : PartialRun) (index : ℕ) (segment : Segment) (total : ℕ) (marks : List Mark) →
+      Allows task (partial assigned run) (turn index segment)
+      → SoundFrom (partial (using assigned segment) (along task (turned_back run) segment)) total marks →
+      SoundFrom (partial assigned run) total (Turn ∷ Go segment.step ∷ marks)
+  has_turned assigned run index segment total marks may rest others kind left step before tells holds own home trains =
       let most = most_of (stops_of kind) in
-      let ends : EndsAtStop (step ∷ before) = ends_there step before run.head tells.head may.stands
+      let ends : EndsAtStop (step ∷ before) = ends_there step before run.head tells.head may.at_stop
       (stop_of (left_at step)) refl in
       let turned : Turned position lawful company most others step before =
       walk_turned position lawful company most others step before holds ends in
@@ -425,14 +430,14 @@ module _ (position : Position) (company : Company) (lawful : IsLawful position) 
       let one : AreOne position (step ∷ before) walk =
       one_turned position company lawful kinds task describes most others step before turned in
       let at_home : run.home ≡ spot_number (left_at turned.last) = home may.once ∙ ap spot_number (sym turned.stands) in
-      let tells_back : Told most others (left_at turned.last) (visited walk) (crossed walk) settled
+      let tells_back : Told most others (left_at turned.last) (visited walk) (crossed walk) assigned
       (turned_back run) = to_home position company kinds task describes most others (left_at step)
-      (visited (step ∷ before)) (crossed (step ∷ before)) settled run tells (left_at turned.last) (visited walk)
+      (visited (step ∷ before)) (crossed (step ∷ before)) assigned run tells (left_at turned.last) (visited walk)
       (crossed walk) at_home one.stops one.worth one.borders in
       let about : turned_about (step ∷ before) ≡ walk = turned_walk (step ∷ before) ∙ turned.is in
-      subst (λ (steps : List Step). RunTold others kind left settled total
+      subst (λ (steps : List Step). RunTold others kind left assigned total
       (runs_told (kind ∷ left) steps (Go segment.step ∷ marks))) (sym about)
-      (has_gone settled (turned_back run) index segment total marks
+      (has_gone assigned (turned_back run) index segment total marks
       (record { passes = may.passes; leads = may.leads; taken = may.taken }) rest others kind left turned.last
       turned.rest tells_back turned.holds
       (such_canonical (λ stop. HasToken position stop company) (visited (step ∷ before)) (visited walk) one.stops own)
@@ -452,10 +457,10 @@ module _ (position : Position) (company : Company) (lawful : IsLawful position) 
       (stop, same, sym number_is ∙ one_number spot next stop there same)
 
   -- the first step of a run holds
-  first_holds : (most : ℕ) (others : List ℕ) (settled : Settled) (run : PartialRun) (step : Step) (segment : Segment)
+  first_holds : (most : ℕ) (others : List ℕ) (assigned : Assigned) (run : PartialRun) (step : Step) (segment : Segment)
       (stop : Stop) → stop_of (entered_at step) ≡ Some stop → IsTrack position step
-      → Went most others (stop ∷ []) [] settled run step segment → Holds position company most others (step ∷ [])
-  first_holds most others settled run step segment stop there track went =
+      → Went most others (stop ∷ []) [] assigned run step segment → Holds position company most others (step ∷ [])
+  first_holds most others assigned run step segment stop there track went =
       let visits : visited (step ∷ []) ≡ listed (stop_of (left_at step)) ++ (stop ∷ []) =
       ap (λ o. listed (stop_of (left_at step)) ++ (listed o ++ [])) there in
       record {
@@ -472,10 +477,10 @@ module _ (position : Position) (company : Company) (lawful : IsLawful position) 
 
   -- a run of the first train before those of the others is a set
   set_more :
-      (others : List ℕ) (kind : Kind) (left : List Kind) (settled : Settled) (total : ℕ) (runs : List TrainRun) →
-      RunTold others kind left settled total runs → RunsTold others (kind ∷ left) settled total runs
-  set_more others kind left settled total runs told =
-      subst (RunsTold others (kind ∷ left) settled total) (sym told.are)
+      (others : List ℕ) (kind : Kind) (left : List Kind) (assigned : Assigned) (total : ℕ) (runs : List TrainRun) →
+      RunTold others kind left assigned total runs → RunsTold others (kind ∷ left) assigned total runs
+  set_more others kind left assigned total runs told =
+      subst (RunsTold others (kind ∷ left) assigned total) (sym told.are)
       (record {
         set = record {
           legal = (told.legal, told.set.legal);
@@ -506,33 +511,33 @@ module _ (position : Position) (company : Company) (lawful : IsLawful position) 
 
   -- a run begins
   has_begun :
-      (settled : Settled) (number index : ℕ) (segment : Segment) (total : ℕ) (marks : List Mark)
-      → Allows task (between settled) (begin number index segment) →
-      SoundFrom (partial (using settled segment) (along task (begun task settled number index) segment)) total marks →
-      SoundFrom (between settled) total (Go segment.step ∷ marks)
-  has_begun settled number index segment total marks may rest others [] used trains =
-      absurd (omega (arith, may.train, drop_none task.trains.items settled.next trains))
-  has_begun settled number index segment total marks may rest others (kind ∷ left) used trains =
+      (assigned : Assigned) (number index : ℕ) (segment : Segment) (total : ℕ) (marks : List Mark)
+      → Allows task (between assigned) (begin number index segment) →
+      SoundFrom (partial (using assigned segment) (along task (begun task assigned number index) segment)) total marks →
+      SoundFrom (between assigned) total (Go segment.step ∷ marks)
+  has_begun assigned number index segment total marks may rest others [] used trains =
+      absurd (omega (arith, may.train, drop_none task.trains.items assigned.next trains))
+  has_begun assigned number index segment total marks may rest others (kind ∷ left) used trains =
       let most = most_of (stops_of kind) in
-      let next = drop_first task.trains.items settled.next most (most_of_all left) trains in
+      let next = drop_first task.trains.items assigned.next most (most_of_all left) trains in
       let from : IsStepFrom position number segment = describes.sound number index segment may.leads in
       let step = from.step in
       let entered = enters_stop number may.begins from.goes.spot (entered_at step) from.goes.number_is
       from.goes.joined (stop_of from.goes.spot) refl in
       let stop = entered.0 in
       let some : 0 < most = two_at_least kind in
-      let tells = begun_tells position company lawful kinds task describes others settled used most index next.1 some
+      let tells = begun_tells position company lawful kinds task describes others assigned used most index next.1 some
       (entered_at step) stop entered.1 in
-      let here : Tells task position company most others (entered_at step) (stop ∷ []) [] settled
-      (begun task settled number index) = subst (λ (n : ℕ). Tells task position company most others
-      (entered_at step) (stop ∷ []) [] settled (begun task settled n index)) (sym entered.2) tells in
-      let went : Went most others (stop ∷ []) [] settled (begun task settled number index) step segment =
-      went_by most others (entered_at step) (stop ∷ []) [] settled (begun task settled number index) here step
+      let here : Tells task position company most others (entered_at step) (stop ∷ []) [] assigned
+      (begun task assigned number index) = subst (λ (n : ℕ). Tells task position company most others
+      (entered_at step) (stop ∷ []) [] assigned (begun task assigned n index)) (sym entered.2) tells in
+      let went : Went most others (stop ∷ []) [] assigned (begun task assigned number index) step segment =
+      went_by most others (entered_at step) (stop ∷ []) [] assigned (begun task assigned number index) here step
       segment from.segment_is may.taken (stop_of (left_at step)) refl in
       let visits : visited (step ∷ []) ≡ listed (stop_of (left_at step)) ++ (stop ∷ []) =
       ap (λ o. listed (stop_of (left_at step)) ++ (listed o ++ [])) entered.1 in
       let told = subst (λ vs. Tells task position company most others (left_at step) vs (crossed (step ∷ []))
-      (using settled segment) (along task (begun task settled number index) segment)) (sym visits) went.told in
+      (using assigned segment) (along task (begun task assigned number index) segment)) (sym visits) went.told in
       let node : IsStopNode position company stop (node_at task number) =
       subst (λ (n : ℕ). IsStopNode position company stop (node_at task n)) (sym entered.2)
       (node_left position company kinds task describes (entered_at step) (Some stop) entered.1) in
@@ -541,39 +546,39 @@ module _ (position : Position) (company : Company) (lawful : IsLawful position) 
       (such_later (λ s. HasToken position s company) (listed (stop_of (left_at step))) (stop ∷ [])
       (inl (node.own.0 may.token))) in
       let runs : Step → List TrainRun = λ first. runs_told (kind ∷ left) (first ∷ []) marks in
-      set_more others kind left settled total (runs segment.step)
-      (keep_settled others kind left settled segment total (runs segment.step)
-      (subst (λ (first : Step). RunTold others kind left (using settled segment) total (runs first))
+      set_more others kind left assigned total (runs segment.step)
+      (keep_assigned others kind left assigned segment total (runs segment.step)
+      (subst (λ (first : Step). RunTold others kind left (using assigned segment) total (runs first))
       (sym from.segment_is.step_is)
-      (rest others kind left step [] told (first_holds most others settled (begun task settled number index) step
+      (rest others kind left step [] told (first_holds most others assigned (begun task assigned number index) step
       segment stop entered.1 from.track went) own (λ once. entered.2) next.2)))
 
   pub sound_from : (moves : List Move) (state : State) → Completes task state moves
       → SoundFrom state (total_after task state moves) (marks_of moves)
-  sound_from [] (between settled) completes = at_end settled completes
-  sound_from [] (partial settled run) completes = absurd completes
-  sound_from (pass ∷ moves) (between settled) completes =
-      has_passed settled (total_after task (between (passed settled)) moves) (marks_of moves) completes.0
-      (sound_from moves (between (passed settled)) completes.1)
-  sound_from (pass ∷ moves) (partial settled run) completes = absurd completes.0
-  sound_from (begin number index segment ∷ moves) (between settled) completes =
-      has_begun settled number index segment (total_after task
-      (partial (using settled segment) (along task (begun task settled number index) segment)) moves)
+  sound_from [] (between assigned) completes = at_end assigned completes
+  sound_from [] (partial assigned run) completes = absurd completes
+  sound_from (pass ∷ moves) (between assigned) completes =
+      has_passed assigned (total_after task (between (passed assigned)) moves) (marks_of moves) completes.0
+      (sound_from moves (between (passed assigned)) completes.1)
+  sound_from (pass ∷ moves) (partial assigned run) completes = absurd completes.0
+  sound_from (begin number index segment ∷ moves) (between assigned) completes =
+      has_begun assigned number index segment (total_after task
+      (partial (using assigned segment) (along task (begun task assigned number index) segment)) moves)
       (marks_of moves) completes.0 (sound_from moves
-      (partial (using settled segment) (along task (begun task settled number index) segment)) completes.1)
-  sound_from (begin number index segment ∷ moves) (partial settled run) completes = absurd completes.0
-  sound_from (go index segment ∷ moves) (between settled) completes = absurd completes.0
-  sound_from (go index segment ∷ moves) (partial settled run) completes =
-      has_gone settled run index segment (total_after task (partial (using settled segment) (along task run segment))
+      (partial (using assigned segment) (along task (begun task assigned number index) segment)) completes.1)
+  sound_from (begin number index segment ∷ moves) (partial assigned run) completes = absurd completes.0
+  sound_from (go index segment ∷ moves) (between assigned) completes = absurd completes.0
+  sound_from (go index segment ∷ moves) (partial assigned run) completes =
+      has_gone assigned run index segment (total_after task (partial (using assigned segment) (along task run segment))
       moves) (marks_of moves) completes.0 (sound_from moves
-      (partial (using settled segment) (along task run segment)) completes.1)
-  sound_from (turn index segment ∷ moves) (between settled) completes = absurd completes.0
-  sound_from (turn index segment ∷ moves) (partial settled run) completes =
-      has_turned settled run index segment (total_after task
-      (partial (using settled segment) (along task (turned_back run) segment)) moves) (marks_of moves) completes.0
-      (sound_from moves (partial (using settled segment) (along task (turned_back run) segment)) completes.1)
-  sound_from (settle ∷ moves) (between settled) completes = absurd completes.0
-  sound_from (settle ∷ moves) (partial settled run) completes =
-      has_settled settled run (total_after task (between (with_run_settled settled run)) moves) (marks_of moves)
-      (first_true (stop_in (node_at task run.head)) (may_earn settled.kind settled.cap run.most run.value)
-      completes.0) (sound_from moves (between (with_run_settled settled run)) completes.1)
+      (partial (using assigned segment) (along task run segment)) completes.1)
+  sound_from (turn index segment ∷ moves) (between assigned) completes = absurd completes.0
+  sound_from (turn index segment ∷ moves) (partial assigned run) completes =
+      has_turned assigned run index segment (total_after task
+      (partial (using assigned segment) (along task (turned_back run) segment)) moves) (marks_of moves) completes.0
+      (sound_from moves (partial (using assigned segment) (along task (turned_back run) segment)) completes.1)
+  sound_from (finish ∷ moves) (between assigned) completes = absurd completes.0
+  sound_from (finish ∷ moves) (partial assigned run) completes =
+      has_assigned assigned run (total_after task (between (with_run_finished assigned run)) moves) (marks_of moves)
+      (both_first (stop_in (node_at task run.head)) (may_earn assigned.kind assigned.cap run.most run.value)
+      completes.0) (sound_from moves (between (with_run_finished assigned run)) completes.1)

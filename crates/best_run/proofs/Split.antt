@@ -1,6 +1,7 @@
 -- Where a run is cut: at the first of the company's tokens that it comes by, in the order of their numbers. What holds of
 -- a walk holds of its part from there on.
-use Rattle.std.proofs.Common.{◌≡◌, ◌↔◌, ℕ, zero, suc, ◌+◌, ◌*◌, ◌<◌, ◌≤◌, Bool, true, false, ◌⊎◌, inl, inr, Some, List, [], ◌∷◌, ◌++◌, length, refl, sym, ap, subst, ◌∙◌, arith, length-append, length-set}
+use Rattle.std.proofs.Common.{◌≡◌, ◌↔◌, ℕ, zero, suc, ◌+◌, ◌*◌, ◌<◌, ◌≤◌, Bool, true, false, ◌⊎◌, inl, inr, Some, List}
+use Rattle.std.proofs.Common.{[], ◌∷◌, ◌++◌, length, refl, sym, ap, subst, ◌∙◌, arith, length-append, length-set}
 use Rattle.map_tables.specs.Hex.{index_of}
 use Rattle.map_tables.specs.Place.{stop_index_of}
 use Rattle.map_tables.specs.declared.place.Stop.{Stop}
@@ -13,18 +14,21 @@ use Rattle.reach.proofs.Collected.{none_marked}
 use Rattle.reach.proofs.Spots.{stop_number}
 use Rattle.tables.specs.declared.rolling_stock.Kind.{Kind}
 use Rattle.tables.specs.declared.roster.Company.{Company}
-use Rattle.certificate.specs.Legal.{AreDistinct, HasSuch, border_at, crossed, first_stop, listed, visited}
-use Rattle.certificate.proofs.Marks.{among_both}
-use Rattle.certificate.proofs.RunReached.{among_listed}
-use Rattle.best_run.specs.declared.task.Task.{Task}
-use Rattle.best_run.specs.Described.{Describes, IsStopNode}
-use Rattle.best_run.specs.Moves.{marked_if, node_at, own_before, own_in}
-use Rattle.best_run.specs.Marks.{IsMarked}
-use Rattle.best_run.proofs.Advance.{mark_more, node_left, spot_low}
+use Rattle.legal_runs.specs.Legal.{AreDistinct, HasSuch, border_at, crossed, first_stop, listed, visited}
+use Rattle.legal_runs.proofs.Marks.{among_both}
+use Rattle.legal_runs.proofs.RunReached.{among_listed}
+use Rattle.best_run.specs.Moves.{marked_if, own_before}
+use Rattle.best_run.proofs.Advance.{node_left}
+use Rattle.search_task.specs.declared.task.Task.{Task}
+use Rattle.search_task.specs.Described.{Describes, IsStopNode}
+use Rattle.search_task.specs.Spots.{node_at, own_in}
+use Rattle.search_task.specs.Marks.{IsMarked}
+use Rattle.search_task.proofs.Marked.{length_replicate, mark_more}
+use Rattle.search_task.proofs.Described.{spot_low}
 use Rattle.best_run.proofs.Backwards.{AreCanonical}
 use Rattle.best_run.proofs.Complete.{AreAhead}
-use Rattle.best_run.proofs.Few.{length_replicate}
 use Rattle.best_run.proofs.Prefix.{Holds, onto}
+use Rattle.search_task.proofs.Copied.{append_together}
 
 -- the number of a stop, which is that of each of its spots
 abbrev pub number_of : Stop → ℕ
@@ -264,10 +268,6 @@ distinct_left : {A : Type 0} (first second : List A) → AreDistinct (first ++ s
 distinct_left [] second distinct = tt
 distinct_left (x ∷ first) second distinct =
     ((λ among. distinct.0 ((among_both x first second).1 (inl among))), distinct_left first second distinct.1)
-
-pub append_together : {A : Type 0} (xs ys zs : List A) → (xs ++ ys) ++ zs ≡ xs ++ (ys ++ zs)
-append_together [] ys zs = refl
-append_together (x ∷ xs) ys zs = ap (λ rest. x ∷ rest) (append_together xs ys zs)
 
 pub onto_put : {A : Type 0} (xs ys zs : List A) → onto xs (ys ++ zs) ≡ onto xs ys ++ zs
 onto_put [] ys zs = refl

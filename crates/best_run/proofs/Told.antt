@@ -1,16 +1,19 @@
--- A trail is read mark by mark and train by train: what all its marks tell is what was read, and what those tell that are left.
-use Rattle.std.proofs.Common.{◌≡◌, ℕ, zero, suc, ◌+◌, ◌<◌, Option, Some, None, Vec, List, [], ◌∷◌, ◌++◌, length, get_or, set, map, reverse, take, drop, refl, sym, ap, subst, ◌∙◌, arith, add-one, drop-cons}
+-- A path is read mark by mark and train by train: what all its marks tell is what was read, and what those tell that
+-- are left.
+use Rattle.std.proofs.Common.{◌≡◌, ℕ, zero, suc, ◌+◌, ◌<◌, Option, Some, None, Vec, List, [], ◌∷◌, ◌++◌, length, get_or}
+use Rattle.std.proofs.Common.{set, map, reverse, take, drop, refl, sym, ap, subst, ◌∙◌, arith, add-one, drop-cons}
 use Rattle.std.specs.Global.{Global}
 use Rattle.std.specs.List.{AllByRecursion}
 use Rattle.std.proofs.lemmas.Grind.{reverse_onto}
 use Rattle.std.proofs.lemmas.List.{append_assoc, map-append, reverse-append}
 use Rattle.reach.specs.declared.walk.Step.{Step}
 use Rattle.tables.specs.declared.rolling_stock.Kind.{Kind}
-use Rattle.certificate.specs.Set.{TrainRun}
-use Rattle.certificate.specs.Written.{places_of}
-use Rattle.certificate.specs.declared.claim.ClaimedRun.{ClaimedRun}
+use Rattle.legal_runs.specs.Set.{TrainRun}
+use Rattle.legal_runs.specs.Written.{places_of}
+use Rattle.legal_runs.specs.declared.claim.ClaimedRun.{ClaimedRun}
 use Rattle.best_run.specs.declared.move_path.Mark.{Mark}
-use Rattle.best_run.specs.MovePath.{CanBeClaimed, IsWalkRead, after_walk, runs_told, steps_of, turned_about, turned_step, walk_told, with_run, written}
+use Rattle.best_run.specs.MovePath.{CanBeClaimed, IsWalkRead, after_walk, runs_told, steps_of, turned_about}
+use Rattle.best_run.specs.MovePath.{turned_step, walk_told, with_run, written}
 
 reversed_map : (xs : List Step) → reverse (map turned_step xs) ≡ map turned_step (reverse xs)
 reversed_map [] = refl
@@ -24,7 +27,7 @@ reversed_map (x ∷ xs) =
 pub about_reversed : (walk : List Step) → reverse (turned_about walk) ≡ turned_about (reverse walk)
 about_reversed walk = reversed_map (reverse walk)
 
--- so many steps of a walk are taken the other way
+-- this many steps of a walk are taken the other way
 abbrev pub turned_before : ℕ → List Step → List Step
 turned_before n steps = map turned_step (take n steps) ++ drop n steps
 
@@ -42,7 +45,7 @@ turned_more all walk i d low is =
     by_place (x ∷ xs) zero less = refl
     by_place (x ∷ xs) (suc n) less = ap (λ steps. turned_step x ∷ steps) (by_place xs n (omega (arith, less)))
 
--- the last mark of a trail is the first one read
+-- the last mark of a path is the first one read
 pub last_read : (all rest : List Mark) (mark : Mark) → all ≡ rest ++ mark ∷ [] → reverse all ≡ mark ∷ reverse rest
 last_read all rest mark is = ap reverse is ∙ reverse-append rest (mark ∷ [])
 

@@ -1,22 +1,31 @@
--- How the best found is earned: while nothing more is found the trail stays, and what is found from a state on is found from
--- one before it, by the marks of the moves between them.
-use Rattle.std.proofs.Common.{◌≡◌, ℕ, ◌<◌, ◌≤◌, true, ◌⊎◌, inl, inr, None, List, ◌++◌, slice_get, refl, sym, ap, subst, ◌∙◌, arith}
+-- How the best found is earned: while nothing more is found the path stays, and what is found from a state on is found
+-- from one before it, by the marks of the moves between them.
+use Rattle.std.proofs.Common.{◌≡◌, ℕ, ◌<◌, ◌≤◌, true, ◌⊎◌, inl, inr, None, List, ◌++◌, slice_get, refl, sym, ap, subst}
+use Rattle.std.proofs.Common.{◌∙◌, arith}
+use Rattle.std.proofs.lemmas.List.{append_assoc}
 use Rattle.best_run.specs.declared.memo.Found.{Found}
 use Rattle.best_run.specs.declared.search_state.SearchState.{SearchState}
-use Rattle.best_run.specs.declared.state.Settled.{Settled}
+use Rattle.best_run.specs.declared.state.Assigned.{Assigned}
 use Rattle.best_run.specs.declared.state.PartialRun.{PartialRun}
-use Rattle.best_run.specs.declared.task.Task.{Task}
-use Rattle.best_run.specs.declared.task.Leg.{Leg}
+use Rattle.search_task.specs.declared.task.Task.{Task}
+use Rattle.search_task.specs.declared.task.Leg.{Leg}
 use Rattle.best_run.specs.declared.move_path.Mark.{Mark}
 use Rattle.best_run.specs.declared.move_path.MovePath.{MovePath}
-use Rattle.best_run.specs.Moves.{AreInMemo, Completes, Earns, Explores, IsAsBefore, IsBetter, IsTraced, Move, State, Takes, Traces, along, can_take, marks_of, partial, total_after, using, LeadsToAtMost, state_at}
+use Rattle.best_run.specs.Moves.{AreInMemo, Completes, Earns, Explores, IsAsBefore, IsBetter, IsTraced, LeadsToAtMost}
+use Rattle.best_run.specs.Moves.{Move, State, Takes, Traces, along, can_take, marks_of, partial, state_at, total_after}
+use Rattle.best_run.specs.Moves.{using}
 use Rattle.best_run.specs.MovePath.{IsWritten, marks_in}
-use Rattle.std.proofs.lemmas.List.{append_assoc}
 
 -- nothing has been found
 pub traced_none : (task : Task) (state : State) (best : Found) → IsTraced task state best best
 traced_none task state best =
     record { refused = λ none. none; told = λ none. inl (record { amount = refl; marks = refl }) }
+
+-- where no way on earns more than what has been found, none need be tried
+pub explores_bounded : (task : Task) (state : State) (best : Found) → LeadsToAtMost task state best.amount
+    → Explores task state best best
+explores_bounded task state best most =
+    record { grows = omega arith; traced = traced_none task state best; known = λ known. known; most = λ known. most }
 
 -- something has been found, and then something more
 pub traced_both :
@@ -50,36 +59,36 @@ traced_both task state old middle new grows more first second =
     by_second none (inr better) = inr (record { more = omega (arith, grows, better.more); earns = better.earns })
 
 -- whatever comes after a state comes after one before it, behind some marks
-pub record ComesBy (task : Task) (from to : State) (front : List Mark) (later : List Move) : Type 0 where
+pub record ComesBy (task : Task) (from to : State) (prefix : List Mark) (later : List Move) : Type 0 where
   pub moves : List Move
   pub completes : Completes task from moves
   pub total : total_after task from moves ≡ total_after task to later
-  pub marks_are : marks_of moves ≡ front ++ marks_of later
+  pub marks_are : marks_of moves ≡ prefix ++ marks_of later
 
 abbrev pub Leads : Task → State → State → List Mark → Type 0
-Leads task from to front = (later : List Move) → Completes task to later → ComesBy task from to front later
+Leads task from to prefix = (later : List Move) → Completes task to later → ComesBy task from to prefix later
 
 -- what is earned from a state on is earned from one before it
 pub earns_by :
-    (task : Task) (from to : State) (front marks : List Mark) (amount : ℕ) → Leads task from to front
+    (task : Task) (from to : State) (prefix marks : List Mark) (amount : ℕ) → Leads task from to prefix
     → Earns task to marks amount →
-    Earns task from (front ++ marks) amount
-earns_by task from to front marks amount leads earns =
-    let by : ComesBy task from to front earns.moves = leads earns.moves earns.completes in
+    Earns task from (prefix ++ marks) amount
+earns_by task from to prefix marks amount leads earns =
+    let by : ComesBy task from to prefix earns.moves = leads earns.moves earns.completes in
     record {
       moves = by.moves;
       completes = by.completes;
       total = by.total ∙ earns.total;
-      marks_are = ap (λ (later : List Mark). front ++ later) earns.marks_are ∙ sym by.marks_are;
+      marks_are = ap (λ (later : List Mark). prefix ++ later) earns.marks_are ∙ sym by.marks_are;
     }
 
 -- what is found from a state on, once the moves that led there are told
 found_before :
-    (task : Task) (from to : State) (front : List Mark) (old middle new : Found) → old.amount ≤ middle.amount →
-    (middle.move_path.refused ≡ None → old.move_path.refused ≡ None) → Traces old.amount front middle new →
+    (task : Task) (from to : State) (prefix : List Mark) (old middle new : Found) → old.amount ≤ middle.amount →
+    (middle.move_path.refused ≡ None → old.move_path.refused ≡ None) → Traces old.amount prefix middle new →
     (middle.move_path.refused ≡ None → IsAsBefore old middle
-    ⊎ (Leads task from to front × IsBetter task to old middle)) → IsTraced task from old new
-found_before task from to front old middle new grows refused traces told =
+    ⊎ (Leads task from to prefix × IsBetter task to old middle)) → IsTraced task from old new
+found_before task from to prefix old middle new grows refused traces told =
     elim (same_or_more grows) [
       | inl same ↦
           let as_before : new.move_path ≡ middle.move_path = traces.as_before (omega arith) in
@@ -95,7 +104,7 @@ found_before task from to front old middle new grows refused traces told =
             ];
           }
       | inr more ↦
-          let written : IsWritten front middle.move_path new.move_path = traces.written more in
+          let written : IsWritten prefix middle.move_path new.move_path = traces.written more in
           record {
             refused = λ none. refused (written.refused none);
             told = λ none. elim (told (written.refused none)) [
@@ -103,8 +112,8 @@ found_before task from to front old middle new grows refused traces told =
               | inr better ↦ inr (record {
                 more = omega (arith, better.1.more, traces.amount);
                 earns = subst (λ (marks : List Mark). Earns task from marks new.amount) (sym (written.marks_are none))
-                    (subst (λ (n : ℕ). Earns task from (front ++ marks_in middle.move_path) n) (sym traces.amount)
-                    (earns_by task from to front (marks_in middle.move_path) middle.amount better.0 better.1.earns));
+                    (subst (λ (n : ℕ). Earns task from (prefix ++ marks_in middle.move_path) n) (sym traces.amount)
+                    (earns_by task from to prefix (marks_in middle.move_path) middle.amount better.0 better.1.earns));
               })
             ];
           }
@@ -113,16 +122,16 @@ found_before task from to front old middle new grows refused traces told =
     same_or_more : old.amount ≤ middle.amount → (middle.amount ≡ old.amount) ⊎ (old.amount < middle.amount)
     same_or_more low = grind arith
 
--- what is kept as explored stays so where the trail alone grows
+-- what is kept as explored stays so where the path alone grows
 known_traced :
-    (task : Task) (least : ℕ) (front : List Mark) (middle new : Found) → Traces least front middle new
+    (task : Task) (least : ℕ) (prefix : List Mark) (middle new : Found) → Traces least prefix middle new
     → AreInMemo task middle →
     AreInMemo task new
-known_traced task least front middle new traces known place entry there =
+known_traced task least prefix middle new traces known place entry there =
     subst (λ (n : ℕ). LeadsToAtMost task (state_at entry) n) (sym traces.amount)
     (known place entry (ap (λ (entries : List SearchState). slice_get entries place) (sym traces.memo) ∙ there))
 
--- all ways from a state on have been tried, and the trail tells of them from one before it
+-- all ways from a state on have been tried, and the path tells of them from one before it
 pub record ExploresFrom (task : Task) (from to : State) (old new : Found) : Type 0 where
   pub grows : old.amount ≤ new.amount
   pub traced : IsTraced task from old new
@@ -130,43 +139,43 @@ pub record ExploresFrom (task : Task) (from to : State) (old new : Found) : Type
   pub most : AreInMemo task old → (moves : List Move) → Completes task to moves → total_after task to moves ≤ new.amount
 
 pub explores_from :
-    (task : Task) (from to : State) (front : List Mark) (old middle new : Found) → Leads task from to front
+    (task : Task) (from to : State) (prefix : List Mark) (old middle new : Found) → Leads task from to prefix
     → Explores task to old middle →
-    Traces old.amount front middle new → ExploresFrom task from to old new
-explores_from task from to front old middle new leads explores traces =
+    Traces old.amount prefix middle new → ExploresFrom task from to old new
+explores_from task from to prefix old middle new leads explores traces =
     record {
       grows = omega (arith, explores.grows, traces.amount);
-      traced = found_before task from to front old middle new explores.grows explores.traced.refused traces
+      traced = found_before task from to prefix old middle new explores.grows explores.traced.refused traces
           (λ none. elim (explores.traced.told none) [ inl before ↦ inl before | inr better ↦ inr (leads, better) ]);
-      known = λ known. known_traced task old.amount front middle new traces (explores.known known);
+      known = λ known. known_traced task old.amount prefix middle new traces (explores.known known);
       most = λ known moves completes. omega (arith, explores.most known moves completes, traces.amount);
     }
 
--- a way has been tried with a run, and the trail tells of it from where it is tried
-pub record TakesFrom (task : Task) (from : State) (settled : Settled) (run : PartialRun) (leg : Leg)
+-- a way has been tried with a run, and the path tells of it from where it is tried
+pub record TakesFrom (task : Task) (from : State) (assigned : Assigned) (run : PartialRun) (leg : Leg)
     (old new : Found) : Type 0 where
   pub grows : old.amount ≤ new.amount
   pub traced : IsTraced task from old new
   pub known : AreInMemo task old → AreInMemo task new
   pub most :
-      AreInMemo task old → can_take task run settled.used leg.segment ≡ true → (moves : List Move) →
-      Completes task (partial (using settled leg.segment) (along task run leg.segment)) moves →
-      total_after task (partial (using settled leg.segment) (along task run leg.segment)) moves ≤ new.amount
+      AreInMemo task old → can_take task run assigned.used leg.segment ≡ true → (moves : List Move) →
+      Completes task (partial (using assigned leg.segment) (along task run leg.segment)) moves →
+      total_after task (partial (using assigned leg.segment) (along task run leg.segment)) moves ≤ new.amount
 
 pub takes_from :
-    (task : Task) (from : State) (settled : Settled) (run : PartialRun) (leg : Leg) (front : List Mark)
+    (task : Task) (from : State) (assigned : Assigned) (run : PartialRun) (leg : Leg) (prefix : List Mark)
     (old middle new : Found) →
-    (can_take task run settled.used leg.segment ≡ true
-    → Leads task from (partial (using settled leg.segment) (along task run leg.segment)) front) →
-    Takes task settled run leg.segment old middle → Traces old.amount front middle new
-    → TakesFrom task from settled run leg old new
-takes_from task from settled run leg front old middle new leads takes traces =
-    let there = partial (using settled leg.segment) (along task run leg.segment) in
+    (can_take task run assigned.used leg.segment ≡ true
+    → Leads task from (partial (using assigned leg.segment) (along task run leg.segment)) prefix) →
+    Takes task assigned run leg.segment old middle → Traces old.amount prefix middle new
+    → TakesFrom task from assigned run leg old new
+takes_from task from assigned run leg prefix old middle new leads takes traces =
+    let there = partial (using assigned leg.segment) (along task run leg.segment) in
     record {
       grows = omega (arith, takes.grows, traces.amount);
-      traced = found_before task from there front old middle new takes.grows takes.refused traces
+      traced = found_before task from there prefix old middle new takes.grows takes.refused traces
           (λ none. elim (takes.told none) [ inl before ↦ inl before | inr better ↦ inr (leads better.0, better.1) ]);
-      known = λ known. known_traced task old.amount front middle new traces (takes.known known);
+      known = λ known. known_traced task old.amount prefix middle new traces (takes.known known);
       most = λ known can moves completes. omega (arith, takes.most known can moves completes, traces.amount);
     }
 

@@ -1,16 +1,20 @@
 -- What has been tried: moves of one sort after those of another, a piece as a move, and all moves of a state.
-use Rattle.std.proofs.Common.{◌≡◌, ℕ, ◌+◌, ◌<◌, ◌≤◌, true, false, ◌⊎◌, inl, inr, Option, Some, None, List, [], ◌∷◌, length, refl, sym, ap, ◌∙◌, arith, le_trans}
+use Rattle.std.proofs.Common.{◌≡◌, ℕ, ◌+◌, ◌<◌, ◌≤◌, true, false, ◌⊎◌, inl, inr, Option, Some, None, List, [], ◌∷◌}
+use Rattle.std.proofs.Common.{length, refl, sym, ap, ◌∙◌, arith, le_trans}
 use Rattle.std.proofs.lemmas.Option.{slice_get_within}
 use Rattle.best_run.specs.declared.memo.Found.{Found}
-use Rattle.best_run.specs.declared.task.Node.{Node}
-use Rattle.best_run.specs.declared.task.Task.{Task}
-use Rattle.best_run.specs.declared.state.Settled.{Settled}
+use Rattle.search_task.specs.declared.task.Node.{Node}
+use Rattle.search_task.specs.declared.task.Task.{Task}
+use Rattle.best_run.specs.declared.state.Assigned.{Assigned}
 use Rattle.best_run.specs.declared.state.PartialRun.{PartialRun}
-use Rattle.best_run.specs.Moves.{Allows, Any, AreInMemo, Below, Completes, Explores, IsBegin, IsBeginAt, IsGo, IsTurn, Move, State, Tries, begin, between, ends_in, go, may_settle, node_at, own_in, pass, passed, settle, with_run_settled, partial, stop_in, total_after, turn}
+use Rattle.best_run.specs.Moves.{Allows, Any, AreInMemo, Below, Completes, Explores, IsBegin, IsBeginAt, IsGo, IsTurn}
+use Rattle.best_run.specs.Moves.{Move, State, Tries, begin, between, go, may_finish, partial, pass, passed, finish}
+use Rattle.best_run.specs.Moves.{total_after, turn, with_run_finished}
+use Rattle.search_task.specs.Spots.{ends_in, node_at, own_in, stop_in}
 use Rattle.best_run.specs.MovePath.{marks_in}
-use Rattle.best_run.specs.declared.move_path.Mark.TheVariants.{Pass, Settle}
+use Rattle.best_run.specs.declared.move_path.Mark.TheVariants.{Pass, Finish}
 use Rattle.best_run.specs.declared.move_path.MovePath.{MovePath}
-use Rattle.best_run.proofs.Places.{below_next}
+use Rattle.search_task.proofs.Places.{below_next}
 use Rattle.best_run.proofs.Traced.{ExploresFrom, Leads, traced_both, traced_none}
 
 -- a move by which a run goes on
@@ -19,7 +23,7 @@ IsOn pass = ⊥
 IsOn (begin stop index segment) = ⊥
 IsOn (go index segment) = Unit {0}
 IsOn (turn index segment) = Unit {0}
-IsOn settle = ⊥
+IsOn finish = ⊥
 
 -- nothing has been tried
 pub tries_none : (task : Task) (state : State) (P : Move → Type 0) (best : Found)
@@ -58,44 +62,24 @@ tries_fewer task state P R old new tries are =
       most = λ known move moves is completes. tries.most known move moves (are move is completes.0) completes;
     }
 
--- no turn is allowed of a run that has turned back, that stands at a side, or that began where none passes
-pub turn_none : (task : Task) (settled : Settled) (run : PartialRun) (best : Found)
-    → ((run.turned ≡ true) ⊎ ((ends_in (node_at task run.home) ≡ true) ⊎ (stop_in (node_at task run.head) ≡ false)))
-    → Tries task (partial settled run) (IsTurn Any) best best
-turn_none task settled run best why = tries_none task (partial settled run) (IsTurn Any) best none
-  where
-    none : (move : Move) → IsTurn Any move → Allows task (partial settled run) move → ⊥
-    none pass is may = is
-    none (begin token i found) is may = is
-    none (go i found) is may = is
-    none (turn i found) is may =
-        elim why [
-          | inl turned ↦ let wrong : true ≡ false = sym turned ∙ may.once in cc
-          | inr other ↦ elim other [
-            | inl ends ↦ let wrong : true ≡ false = sym ends ∙ may.passes in cc
-            | inr side ↦ let wrong : false ≡ true = sym side ∙ may.stands in cc
-          ]
-        ]
-    none settle is may = is
-
--- all trains are settled, and the best is kept
-pub over_most : (task : Task) (settled : Settled) (new : ℕ) → length task.trains.items ≤ settled.next
-    → settled.total ≤ new → (moves : List Move) → Completes task (between settled) moves
-    → total_after task (between settled) moves ≤ new
-over_most task settled new over low [] completes = low
-over_most task settled new over low (pass ∷ moves) completes = let before : settled.next < length task.trains.items =
+-- all trains are assigned, and the best is kept
+pub over_most : (task : Task) (assigned : Assigned) (new : ℕ) → length task.trains.items ≤ assigned.next
+    → assigned.total ≤ new → (moves : List Move) → Completes task (between assigned) moves
+    → total_after task (between assigned) moves ≤ new
+over_most task assigned new over low [] completes = low
+over_most task assigned new over low (pass ∷ moves) completes = let before : assigned.next < length task.trains.items =
     completes.0 in absurd (omega arith)
-over_most task settled new over low (begin token i found ∷ moves) completes = absurd (omega (arith, completes.0.train))
-over_most task settled new over low (go i found ∷ moves) completes = absurd completes.0
-over_most task settled new over low (turn i found ∷ moves) completes = absurd completes.0
-over_most task settled new over low (settle ∷ moves) completes = absurd completes.0
+over_most task assigned new over low (begin token i found ∷ moves) completes = absurd (omega (arith, completes.0.train))
+over_most task assigned new over low (go i found ∷ moves) completes = absurd completes.0
+over_most task assigned new over low (turn i found ∷ moves) completes = absurd completes.0
+over_most task assigned new over low (finish ∷ moves) completes = absurd completes.0
 
 pub over_better :
-    (task : Task) (settled : Settled) (old : Found) (move_path : MovePath) → length task.trains.items ≤ settled.next
-    → old.amount < settled.total →
+    (task : Task) (assigned : Assigned) (old : Found) (move_path : MovePath) → length task.trains.items ≤ assigned.next
+    → old.amount < assigned.total →
     marks_in move_path ≡ [] → move_path.refused ≡ old.move_path.refused
-    → Explores task (between settled) old (record old { amount = settled.total; move_path = move_path })
-over_better task settled old move_path over low empty same =
+    → Explores task (between assigned) old (record old { amount = assigned.total; move_path = move_path })
+over_better task assigned old move_path over low empty same =
     record {
       grows = omega (arith, low);
       traced = record {
@@ -108,86 +92,88 @@ over_better task settled old move_path over low empty same =
       };
       known = λ known place entry there moves completes. le_trans (known place entry there moves completes)
           (omega (arith, low));
-      most = λ known. over_most task settled settled.total over (omega arith);
+      most = λ known. over_most task assigned assigned.total over (omega arith);
     }
 
-pub over_no_better : (task : Task) (settled : Settled) (old : Found) → length task.trains.items ≤ settled.next
-    → settled.total ≤ old.amount → Explores task (between settled) old old
-over_no_better task settled old over low =
+pub over_no_better : (task : Task) (assigned : Assigned) (old : Found) → length task.trains.items ≤ assigned.next
+    → assigned.total ≤ old.amount → Explores task (between assigned) old old
+over_no_better task assigned old over low =
     record {
       grows = omega arith;
-      traced = traced_none task (between settled) old;
+      traced = traced_none task (between assigned) old;
       known = λ known. known;
-      most = λ known. over_most task settled old.amount over low;
+      most = λ known. over_most task assigned old.amount over low;
     }
 
--- a train passes, and a run is settled
+-- a train passes, and a run is finished
 pub leads_pass :
-    (task : Task) (settled : Settled) → settled.next < length task.trains.items
-    → Leads task (between settled) (between (passed settled)) (Pass ∷ [])
-leads_pass task settled before later completes =
+    (task : Task) (assigned : Assigned) → assigned.next < length task.trains.items
+    → Leads task (between assigned) (between (passed assigned)) (Pass ∷ [])
+leads_pass task assigned before later completes =
     record { moves = pass ∷ later; completes = (before, completes); total = refl; marks_are = refl }
 
-pub leads_settle :
-    (task : Task) (settled : Settled) (run : PartialRun) → may_settle task settled run ≡ true →
-    Leads task (partial settled run) (between (with_run_settled settled run)) (Settle ∷ [])
-leads_settle task settled run may later completes =
-    record { moves = settle ∷ later; completes = (may, completes); total = refl; marks_are = refl }
+pub leads_finish :
+    (task : Task) (assigned : Assigned) (run : PartialRun) → may_finish task assigned run ≡ true →
+    Leads task (partial assigned run) (between (with_run_finished assigned run)) (Finish ∷ [])
+leads_finish task assigned run may later completes =
+    record { moves = finish ∷ later; completes = (may, completes); total = refl; marks_are = refl }
 
 -- the next train has begun all its runs, and has passed
 pub explores_between :
-    (task : Task) (settled : Settled) (old middle new : Found) → Tries task (between settled) (IsBegin Any) old middle →
-    ExploresFrom task (between settled) (between (passed settled)) middle new
-    → settled.next < length task.trains.items → Explores task (between settled) old new
-explores_between task settled old middle new first second before =
+    (task : Task) (assigned : Assigned) (old middle new : Found) → Tries task (between assigned) (IsBegin Any)
+    old middle →
+    ExploresFrom task (between assigned) (between (passed assigned)) middle new
+    → assigned.next < length task.trains.items → Explores task (between assigned) old new
+explores_between task assigned old middle new first second before =
     record {
       grows = le_trans first.grows second.grows;
-      traced = traced_both task (between settled) old middle new first.grows second.grows first.traced second.traced;
+      traced = traced_both task (between assigned) old middle new first.grows second.grows first.traced second.traced;
       known = λ known. second.known (first.known known);
       most = by_moves;
     }
   where
-    by_moves : AreInMemo task old → (moves : List Move) → Completes task (between settled) moves
-        → total_after task (between settled) moves ≤ new.amount
-    by_moves known [] completes = absurd (let over : length task.trains.items ≤ settled.next = completes in omega arith)
+    by_moves : AreInMemo task old → (moves : List Move) → Completes task (between assigned) moves
+        → total_after task (between assigned) moves ≤ new.amount
+    by_moves known [] completes =
+        absurd (let over : length task.trains.items ≤ assigned.next = completes in omega arith)
     by_moves known (pass ∷ moves) completes = second.most (first.known known) moves completes.1
     by_moves known (begin token i found ∷ moves) completes =
         le_trans (first.most known (begin token i found) moves tt completes) second.grows
     by_moves known (go i found ∷ moves) completes = absurd completes.0
     by_moves known (turn i found ∷ moves) completes = absurd completes.0
-    by_moves known (settle ∷ moves) completes = absurd completes.0
+    by_moves known (finish ∷ moves) completes = absurd completes.0
 
--- the run has gone on from where it stands, and then from where it began
-pub tries_on : (task : Task) (settled : Settled) (run : PartialRun) (old middle new : Found)
-    → Tries task (partial settled run) (IsGo Any) old middle
-    → Tries task (partial settled run) (IsTurn Any) middle new → Tries task (partial settled run) IsOn old new
-tries_on task settled run old middle new first second =
-    tries_both task (partial settled run) (IsGo Any) (IsTurn Any) IsOn old middle new first second either
+-- the run has gone on from where it is, and then from where it began
+pub tries_on : (task : Task) (assigned : Assigned) (run : PartialRun) (old middle new : Found)
+    → Tries task (partial assigned run) (IsGo Any) old middle
+    → Tries task (partial assigned run) (IsTurn Any) middle new → Tries task (partial assigned run) IsOn old new
+tries_on task assigned run old middle new first second =
+    tries_both task (partial assigned run) (IsGo Any) (IsTurn Any) IsOn old middle new first second either
   where
-    either : (move : Move) → IsOn move → Allows task (partial settled run) move → IsGo Any move ⊎ IsTurn Any move
+    either : (move : Move) → IsOn move → Allows task (partial assigned run) move → IsGo Any move ⊎ IsTurn Any move
     either pass is may = absurd is
     either (begin stop i found) is may = absurd is
     either (go i found) is may = inl tt
     either (turn i found) is may = inr tt
-    either settle is may = absurd is
+    either finish is may = absurd is
 
--- the run has gone on, and has been settled, if it may be
+-- the run has gone on, and has been finished, if it may be
 pub explores_partial :
-    (task : Task) (settled : Settled) (run : PartialRun) (old middle new : Found) →
-    Tries task (partial settled run) IsOn old middle
-    → ExploresFrom task (partial settled run) (between (with_run_settled settled run)) middle new →
-    Explores task (partial settled run) old new
-explores_partial task settled run old middle new first second =
+    (task : Task) (assigned : Assigned) (run : PartialRun) (old middle new : Found) →
+    Tries task (partial assigned run) IsOn old middle
+    → ExploresFrom task (partial assigned run) (between (with_run_finished assigned run)) middle new →
+    Explores task (partial assigned run) old new
+explores_partial task assigned run old middle new first second =
     record {
       grows = le_trans first.grows second.grows;
-      traced = traced_both task (partial settled run) old middle new first.grows second.grows first.traced
+      traced = traced_both task (partial assigned run) old middle new first.grows second.grows first.traced
           second.traced;
       known = λ known. second.known (first.known known);
       most = by_moves;
     }
   where
-    by_moves : AreInMemo task old → (moves : List Move) → Completes task (partial settled run) moves
-        → total_after task (partial settled run) moves ≤ new.amount
+    by_moves : AreInMemo task old → (moves : List Move) → Completes task (partial assigned run) moves
+        → total_after task (partial assigned run) moves ≤ new.amount
     by_moves known [] completes = absurd completes
     by_moves known (pass ∷ moves) completes = absurd completes.0
     by_moves known (begin stop i found ∷ moves) completes = absurd completes.0
@@ -195,12 +181,12 @@ explores_partial task settled run old middle new first second =
         le_trans (first.most known (go i found) moves tt completes) second.grows
     by_moves known (turn i found ∷ moves) completes =
         le_trans (first.most known (turn i found) moves tt completes) second.grows
-    by_moves known (settle ∷ moves) completes = second.most (first.known known) moves completes.1
+    by_moves known (finish ∷ moves) completes = second.most (first.known known) moves completes.1
 
-pub explores_on : (task : Task) (settled : Settled) (run : PartialRun) (old new : Found)
-    → may_settle task settled run ≡ false → Tries task (partial settled run) IsOn old new
-    → Explores task (partial settled run) old new
-explores_on task settled run old new none second =
+pub explores_on : (task : Task) (assigned : Assigned) (run : PartialRun) (old new : Found)
+    → may_finish task assigned run ≡ false → Tries task (partial assigned run) IsOn old new
+    → Explores task (partial assigned run) old new
+explores_on task assigned run old new none second =
     record {
       grows = second.grows;
       traced = second.traced;
@@ -208,52 +194,52 @@ explores_on task settled run old new none second =
       most = by_moves;
     }
   where
-    by_moves : AreInMemo task old → (moves : List Move) → Completes task (partial settled run) moves
-        → total_after task (partial settled run) moves ≤ new.amount
+    by_moves : AreInMemo task old → (moves : List Move) → Completes task (partial assigned run) moves
+        → total_after task (partial assigned run) moves ≤ new.amount
     by_moves known [] completes = absurd completes
     by_moves known (pass ∷ moves) completes = absurd completes.0
     by_moves known (begin stop i found ∷ moves) completes = absurd completes.0
     by_moves known (go i found ∷ moves) completes = second.most known (go i found) moves tt completes
     by_moves known (turn i found ∷ moves) completes = second.most known (turn i found) moves tt completes
-    by_moves known (settle ∷ moves) completes = absurd (let wrong : true ≡ false = sym completes.0 ∙ none in cc)
+    by_moves known (finish ∷ moves) completes = absurd (let wrong : true ≡ false = sym completes.0 ∙ none in cc)
 
 -- no run begins before the first stop
-pub begin_first : (task : Task) (settled : Settled) (best : Found)
-    → Tries task (between settled) (IsBegin (Below 0)) best best
-begin_first task settled best = tries_none task (between settled) (IsBegin (Below 0)) best none
+pub begin_first : (task : Task) (assigned : Assigned) (best : Found)
+    → Tries task (between assigned) (IsBegin (Below 0)) best best
+begin_first task assigned best = tries_none task (between assigned) (IsBegin (Below 0)) best none
   where
-    none : (move : Move) → IsBegin (Below 0) move → Allows task (between settled) move → ⊥
+    none : (move : Move) → IsBegin (Below 0) move → Allows task (between assigned) move → ⊥
     none pass is may = is
     none (begin there i found) is may = let low : there < 0 = is in omega arith
     none (go i found) is may = is
     none (turn i found) is may = is
-    none settle is may = is
+    none finish is may = is
 
 -- all runs from the stops before one have been tried, and then those from there
-pub begin_more : (task : Task) (settled : Settled) (stop : ℕ) (old middle new : Found)
-    → Tries task (between settled) (IsBegin (Below stop)) old middle
-    → Tries task (between settled) (IsBeginAt stop Any) middle new
-    → Tries task (between settled) (IsBegin (Below (stop + 1))) old new
-begin_more task settled stop old middle new first second =
-    tries_both task (between settled) (IsBegin (Below stop)) (IsBeginAt stop Any) (IsBegin (Below (stop + 1))) old
+pub begin_more : (task : Task) (assigned : Assigned) (stop : ℕ) (old middle new : Found)
+    → Tries task (between assigned) (IsBegin (Below stop)) old middle
+    → Tries task (between assigned) (IsBeginAt stop Any) middle new
+    → Tries task (between assigned) (IsBegin (Below (stop + 1))) old new
+begin_more task assigned stop old middle new first second =
+    tries_both task (between assigned) (IsBegin (Below stop)) (IsBeginAt stop Any) (IsBegin (Below (stop + 1))) old
     middle new first second either
   where
-    either : (move : Move) → IsBegin (Below (stop + 1)) move → Allows task (between settled) move
+    either : (move : Move) → IsBegin (Below (stop + 1)) move → Allows task (between assigned) move
         → IsBegin (Below stop) move ⊎ IsBeginAt stop Any move
     either pass is may = absurd is
     either (begin there i found) is may = elim (below_next there stop is)
         [ inl less ↦ inl less | inr same ↦ inr (same, tt) ]
     either (go i found) is may = absurd is
     either (turn i found) is may = absurd is
-    either settle is may = absurd is
+    either finish is may = absurd is
 
 -- none begins where the company has no token
-pub begin_none : (task : Task) (settled : Settled) (stop : ℕ) (best : Found)
+pub begin_none : (task : Task) (assigned : Assigned) (stop : ℕ) (best : Found)
     → ((stop_in (node_at task stop) ≡ false) ⊎ (own_in (node_at task stop) ≡ false))
-    → Tries task (between settled) (IsBeginAt stop Any) best best
-begin_none task settled stop best why = tries_none task (between settled) (IsBeginAt stop Any) best none
+    → Tries task (between assigned) (IsBeginAt stop Any) best best
+begin_none task assigned stop best why = tries_none task (between assigned) (IsBeginAt stop Any) best none
   where
-    none : (move : Move) → IsBeginAt stop Any move → Allows task (between settled) move → ⊥
+    none : (move : Move) → IsBeginAt stop Any move → Allows task (between assigned) move → ⊥
     none pass is may = is
     none (begin there i found) is may =
         elim why [
@@ -264,22 +250,23 @@ begin_none task settled stop best why = tries_none task (between settled) (IsBeg
         ]
     none (go i found) is may = is
     none (turn i found) is may = is
-    none settle is may = is
+    none finish is may = is
 
 -- there is no stop beyond the last one
-pub begin_every : (task : Task) (settled : Settled) (count : ℕ) (old new : Found) → length task.spots.items ≤ count
-    → Tries task (between settled) (IsBegin (Below count)) old new → Tries task (between settled) (IsBegin Any) old new
-begin_every task settled count old new all tries =
-    tries_fewer task (between settled) (IsBegin (Below count)) (IsBegin Any) old new tries within
+pub begin_every : (task : Task) (assigned : Assigned) (count : ℕ) (old new : Found) → length task.spots.items ≤ count
+    → Tries task (between assigned) (IsBegin (Below count)) old new → Tries task (between assigned) (IsBegin Any) old
+    new
+begin_every task assigned count old new all tries =
+    tries_fewer task (between assigned) (IsBegin (Below count)) (IsBegin Any) old new tries within
   where
     is_there : (there : ℕ) (node : Option Node) → node_at task there ≡ node → stop_in node ≡ true → there < count
     is_there there None is stops = absurd (let wrong : false ≡ true = stops in cc)
     is_there there (Some node) is stops = let low : there < length task.spots.items =
         slice_get_within task.spots.items there node is in omega arith
 
-    within : (move : Move) → IsBegin Any move → Allows task (between settled) move → IsBegin (Below count) move
+    within : (move : Move) → IsBegin Any move → Allows task (between assigned) move → IsBegin (Below count) move
     within pass is may = absurd is
     within (begin there i found) is may = is_there there (node_at task there) refl may.begins
     within (go i found) is may = absurd is
     within (turn i found) is may = absurd is
-    within settle is may = absurd is
+    within finish is may = absurd is

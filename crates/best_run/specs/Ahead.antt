@@ -1,88 +1,91 @@
--- What may lie ahead of a run that has begun: the stops that it may still come to, if it may take each leg that it may take
--- now. With a level, so many dollars, each stop to come is worth at most the level and what it is
--- worth beyond: so the run earns at most the level for each stop that is left, and what the stops ahead are worth
--- beyond it. Of the stops at which runs end, red or full, it may come to one from where it stands and to one from where it
--- began, so only those count that are worth most.
-use Rattle.std.specs.Prelude.{◌≡◌, ℕ, ◌+◌, ◌-◌, ◌*◌, ◌<◌, ◌≤◌, max, Bool, true, false, not, ◌&&◌, ◌⊎◌, Some, List, [], ◌∷◌, get_or, slice_get}
-use Rattle.best_run.specs.declared.task.Node.{Node}
-use Rattle.best_run.specs.declared.task.Segment.{Segment}
-use Rattle.best_run.specs.declared.task.Task.{Task}
-use Rattle.best_run.specs.declared.task.Leg.{Leg}
-use Rattle.best_run.specs.declared.state.Settled.{Settled}
+-- What may lie ahead of a run that has begun: the stops that it may still come to, if it may take each leg that it may
+-- take now. With a level, this many dollars, each stop to come is worth at most the level and what it is worth beyond:
+-- so the run earns at most the level for each stop that is left, and what the stops ahead are worth beyond it. Of the
+-- stops at which runs end, red or full, it may come to one from where it is and to one from where it began, so only
+-- those count that are worth most.
+use Rattle.std.specs.Prelude.{◌≡◌, ℕ, ◌+◌, ◌-◌, ◌*◌, ◌<◌, ◌≤◌, max, Bool, true, false, not, ◌&&◌, ◌⊎◌, Some, List, []}
+use Rattle.std.specs.Prelude.{◌∷◌, get_or, slice_get}
+use Rattle.search_task.specs.declared.task.Node.{Node}
+use Rattle.search_task.specs.declared.task.Segment.{Segment}
+use Rattle.search_task.specs.declared.task.Task.{Task}
+use Rattle.search_task.specs.declared.task.Leg.{Leg}
+use Rattle.best_run.specs.declared.state.Assigned.{Assigned}
 use Rattle.best_run.specs.declared.state.PartialRun.{PartialRun}
 use Rattle.best_run.specs.declared.worth.Worth.{Worth}
-use Rattle.best_run.specs.Fit.{unused}
-use Rattle.best_run.specs.Legs.{legs_at}
-use Rattle.best_run.specs.Moves.{LeadsToAtMost, can_take, ends_in, node_at, partial}
+use Rattle.search_task.specs.Fit.{unused}
+use Rattle.search_task.specs.Legs.{legs_at}
+use Rattle.best_run.specs.Moves.{LeadsToAtMost, can_take, partial}
+use Rattle.search_task.specs.Spots.{ends_in, node_at}
 
 -- a stop lies ahead, by its number
 abbrev pub LiesAhead : List Bool → ℕ → Type 0
 LiesAhead ahead spot = get_or ahead spot false ≡ true
 
 -- each leg that a run may take from a stop, if it may pass the stop, leads to one that lies ahead
-abbrev pub IsGoneOver : Task → Settled → PartialRun → List Bool → ℕ → Type 0
-IsGoneOver task settled run ahead spot =
+abbrev pub IsGoneOver : Task → Assigned → PartialRun → List Bool → ℕ → Type 0
+IsGoneOver task assigned run ahead spot =
     ends_in (node_at task spot) ≡ false → (place : ℕ) (leg : Leg) → slice_get (legs_at task spot) place ≡ Some leg
-    → can_take task run settled.used leg.segment ≡ true → LiesAhead ahead leg.segment.to
+    → can_take task run assigned.used leg.segment ≡ true → LiesAhead ahead leg.segment.to
 
--- the same for those legs alone of which the first segment does not stand before a place
-abbrev pub IsGoneOverFrom : Task → Settled → PartialRun → ℕ → List Bool → ℕ → Type 0
-IsGoneOverFrom task settled run least ahead spot =
+-- the same for those legs alone of which the first segment is not before a place
+abbrev pub IsGoneOverFrom : Task → Assigned → PartialRun → ℕ → List Bool → ℕ → Type 0
+IsGoneOverFrom task assigned run least ahead spot =
     ends_in (node_at task spot) ≡ false → (place : ℕ) (leg : Leg) → slice_get (legs_at task spot) place ≡ Some leg
-    → least ≤ leg.first → can_take task run settled.used leg.segment ≡ true → LiesAhead ahead leg.segment.to
+    → least ≤ leg.first → can_take task run assigned.used leg.segment ≡ true → LiesAhead ahead leg.segment.to
 
 -- more stops lie ahead, and each new one is gone over
-pub record Widens (task : Task) (settled : Settled) (run : PartialRun) (old new : List Bool) : Type 0 where
+pub record Widens (task : Task) (assigned : Assigned) (run : PartialRun) (old new : List Bool) : Type 0 where
   pub kept : (spot : ℕ) → LiesAhead old spot → LiesAhead new spot
-  pub over : (spot : ℕ) → LiesAhead new spot → LiesAhead old spot ⊎ IsGoneOver task settled run new spot
+  pub over : (spot : ℕ) → LiesAhead new spot → LiesAhead old spot ⊎ IsGoneOver task assigned run new spot
   pub fewer : unused new ≤ unused old
 
 -- a stop is gone over
-pub record WidensFrom (task : Task) (settled : Settled) (run : PartialRun) (spot : ℕ) (old new : List Bool) : Type
+pub record WidensFrom (task : Task) (assigned : Assigned) (run : PartialRun) (spot : ℕ) (old new : List Bool) : Type
     0 where
-  pub widens : Widens task settled run old new
-  pub here : IsGoneOver task settled run new spot
+  pub widens : Widens task assigned run old new
+  pub here : IsGoneOver task assigned run new spot
 
 -- a stop lies ahead, and is gone over
-pub record WidensPast (task : Task) (settled : Settled) (run : PartialRun) (spot : ℕ) (old new : List Bool) : Type
+pub record WidensAt (task : Task) (assigned : Assigned) (run : PartialRun) (spot : ℕ) (old new : List Bool) : Type
     0 where
-  pub widens : Widens task settled run old new
+  pub widens : Widens task assigned run old new
   pub lies : LiesAhead new spot
 
 -- a run may come by a segment to a stop that does not lie ahead
-abbrev pub leads_on : Task → Settled → PartialRun → List Bool → Segment → Bool
-leads_on task settled run ahead segment = not (get_or ahead segment.to false) && can_take task run settled.used segment
+abbrev pub leads_on : Task → Assigned → PartialRun → List Bool → Segment → Bool
+leads_on task assigned run ahead segment = not (get_or ahead segment.to false) && can_take task run assigned.used
+    segment
 
 -- a segment leads to a stop that lies ahead, if the run may take it
-pub record WidensBy (task : Task) (settled : Settled) (run : PartialRun) (segment : Segment)
+pub record WidensBy (task : Task) (assigned : Assigned) (run : PartialRun) (segment : Segment)
     (old new : List Bool) : Type 0 where
-  pub widens : Widens task settled run old new
-  pub leads : can_take task run settled.used segment ≡ true → LiesAhead new segment.to
+  pub widens : Widens task assigned run old new
+  pub leads : can_take task run assigned.used segment ≡ true → LiesAhead new segment.to
 
 -- the legs from a stop before one of them are gone over
-pub record WidensBelow (task : Task) (settled : Settled) (run : PartialRun) (spot most : ℕ)
+pub record WidensBelow (task : Task) (assigned : Assigned) (run : PartialRun) (spot most : ℕ)
     (old new : List Bool) : Type 0 where
-  pub widens : Widens task settled run old new
+  pub widens : Widens task assigned run old new
   pub leads : (place : ℕ) (leg : Leg) → place < most → slice_get (legs_at task spot) place ≡ Some leg
-      → can_take task run settled.used leg.segment ≡ true → LiesAhead new leg.segment.to
+      → can_take task run assigned.used leg.segment ≡ true → LiesAhead new leg.segment.to
 
 -- the stop where a run began is gone over, as far as the run may turn back
-pub record WidensBack (task : Task) (settled : Settled) (run : PartialRun) (old new : List Bool) : Type 0 where
-  pub widens : Widens task settled run old new
-  pub here : IsGoneOverFrom task settled run run.first new run.home
+pub record WidensBack (task : Task) (assigned : Assigned) (run : PartialRun) (old new : List Bool) : Type 0 where
+  pub widens : Widens task assigned run old new
+  pub here : IsGoneOverFrom task assigned run run.first new run.home
 
 -- the legs from there before one of them are gone over
-pub record WidensBackBelow (task : Task) (settled : Settled) (run : PartialRun) (most : ℕ)
+pub record WidensBackBelow (task : Task) (assigned : Assigned) (run : PartialRun) (most : ℕ)
     (old new : List Bool) : Type 0 where
-  pub widens : Widens task settled run old new
+  pub widens : Widens task assigned run old new
   pub leads : (place : ℕ) (leg : Leg) → place < most → slice_get (legs_at task run.home) place ≡ Some leg
-      → run.first ≤ leg.first → can_take task run settled.used leg.segment ≡ true → LiesAhead new leg.segment.to
+      → run.first ≤ leg.first → can_take task run assigned.used leg.segment ≡ true → LiesAhead new leg.segment.to
 
 -- all stops that a run may still come to lie ahead
-pub record IsOutlook (task : Task) (settled : Settled) (run : PartialRun) (ahead : List Bool) : Type 0 where
-  pub head : IsGoneOver task settled run ahead run.head
-  pub home : run.turned ≡ false → IsGoneOverFrom task settled run run.first ahead run.home
-  pub all : (spot : ℕ) → LiesAhead ahead spot → IsGoneOver task settled run ahead spot
+pub record IsOutlook (task : Task) (assigned : Assigned) (run : PartialRun) (ahead : List Bool) : Type 0 where
+  pub head : IsGoneOver task assigned run ahead run.head
+  pub home : run.turned ≡ false → IsGoneOverFrom task assigned run run.first ahead run.home
+  pub all : (spot : ℕ) → LiesAhead ahead spot → IsGoneOver task assigned run ahead spot
 
 -- what counts of a stop that may be passed, and of one at which runs end
 abbrev pub if_passed : Bool → ℕ → ℕ
@@ -114,7 +117,7 @@ two_ends level (node ∷ nodes) (true ∷ ahead) =
     max (two_ends level nodes ahead) (if_ending node.ends (node.value - level) + one_end level nodes ahead)
 two_ends level (node ∷ nodes) (false ∷ ahead) = two_ends level nodes ahead
 
--- what counts of these, if a run may go on from where it stands, and from where it began: at a stop at which it ends it goes
+-- what counts of these, if a run may go on from where it is, and from where it began: at a stop at which it ends it goes
 -- on from neither
 abbrev pub ends_by : Bool → Bool → ℕ → ℕ → ℕ
 ends_by true true one two = two
@@ -181,5 +184,5 @@ abbrev pub IsLeast : Worth → ℕ → Bool → Bool → ℕ → Type 0
 IsLeast worth left on back least = (place : ℕ) × (place < worth.levels) × (at_level worth place left on back ≤ least)
 
 -- all ways on from a run earn at most so much
-abbrev pub EndsAtMost : Task → Settled → PartialRun → ℕ → Type 0
-EndsAtMost task settled run most = LeadsToAtMost task (partial settled run) most
+abbrev pub EndsAtMost : Task → Assigned → PartialRun → ℕ → Type 0
+EndsAtMost task assigned run most = LeadsToAtMost task (partial assigned run) most

@@ -1,11 +1,11 @@
--- What the search finds for some trains, greatest first: the greatest revenue, with a trail that tells the runs of a legal
--- set that earns it. All of these can be written out, and their places name them. It is under 50,000 dollars.
+-- What the search finds for some trains, greatest first: the greatest revenue, with a path that tells the runs of a
+-- legal set that earns it. All of these can be written out, and their places name them. It is under 50,000 dollars.
 use Rattle.std.specs.Prelude.{◌≡◌, ◌<◌, List}
 use Rattle.reach.specs.Position.{Position}
 use Rattle.tables.specs.declared.rolling_stock.Kind.{Kind}
 use Rattle.tables.specs.declared.roster.Company.{Company}
-use Rattle.certificate.specs.Claim.{NameRuns}
-use Rattle.certificate.specs.Set.{IsGreatest, IsLegalSet, revenue_of}
+use Rattle.legal_runs.specs.Claim.{NameRuns}
+use Rattle.legal_runs.specs.Set.{IsGreatest, IsLegalSet, revenue_of}
 use Rattle.best_run.specs.declared.memo.Found.{Found}
 use Rattle.best_run.specs.MovePath.{CanBeRead, runs_in, written}
 

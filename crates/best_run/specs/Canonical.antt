@@ -1,15 +1,18 @@
 -- What the trains that are left can come to: the borders that no leg from there crosses make no difference to them, so two
 -- states that differ in such borders alone are alike: between runs, or with the same run begun.
-use Rattle.std.specs.Prelude.{◌≡◌, ℕ, ◌<◌, Bool, true, false, not, ◌&&◌, ◌||◌, ◌⊎◌, Option, Some, None, List, [], ◌∷◌, length, get_or, replicate, set, slice_get}
+use Rattle.std.specs.Prelude.{◌≡◌, ℕ, ◌<◌, Bool, true, false, not, ◌&&◌, ◌||◌, ◌⊎◌, Option, Some, None, List, []}
+use Rattle.std.specs.Prelude.{length, get_or, replicate, slice_get}
 use Rattle.best_run.specs.declared.search_state.SearchState.{SearchState}
-use Rattle.best_run.specs.declared.state.Settled.{Settled}
+use Rattle.best_run.specs.declared.state.Assigned.{Assigned}
 use Rattle.best_run.specs.declared.state.PartialRun.{PartialRun}
-use Rattle.best_run.specs.declared.task.Task.{Task}
-use Rattle.best_run.specs.declared.task.Leg.{Leg}
+use Rattle.search_task.specs.declared.task.Task.{Task}
+use Rattle.search_task.specs.declared.task.Leg.{Leg}
 use Rattle.best_run.specs.Ahead.{LiesAhead, Widens}
-use Rattle.best_run.specs.Kept.{Freer, IsBarred}
-use Rattle.best_run.specs.Moves.{ends_in, misses, node_at, own_in, stop_in}
-use Rattle.best_run.specs.Legs.{IsListed, IsStop, legs_at}
+use Rattle.search_task.specs.Marks.{Freer}
+use Rattle.best_run.specs.Kept.{IsBarred}
+use Rattle.search_task.specs.Spots.{ends_in, node_at, own_in, stop_in}
+use Rattle.search_task.specs.Crossed.{misses}
+use Rattle.search_task.specs.Legs.{IsListed, IsStop, legs_at}
 
 -- each leg from a stop that crosses no used border leads to a stop in reach
 abbrev pub AllLead : Task → List Bool → List Bool → ℕ → Type 0
@@ -66,14 +69,9 @@ anywhere =
     }
 
 -- more stops lie in reach, and all to which a leg from a stop leads
-pub record WidensTo (task : Task) (settled : Settled) (spot : ℕ) (old new : List Bool) : Type 0 where
-  pub widens : Widens task settled anywhere old new
-  pub here : AllLead task settled.used new spot
-
--- the marks of some borders are taken away
-abbrev pub cleared_all : List Bool → List ℕ → List Bool
-cleared_all marks [] = marks
-cleared_all marks (border ∷ borders) = cleared_all (set marks border false) borders
+pub record WidensTo (task : Task) (assigned : Assigned) (spot : ℕ) (old new : List Bool) : Type 0 where
+  pub widens : Widens task assigned anywhere old new
+  pub here : AllLead task assigned.used new spot
 
 -- each leg from a stop before a place that crosses no used border crosses none of the shut ones
 abbrev pub AreOpenBelow : Task → List Bool → ℕ → ℕ → List Bool → Type 0
@@ -103,17 +101,17 @@ pub record IsShut (task : Task) (used reach shut : List Bool) : Type 0 where
   pub open_legs : (spot : ℕ) → IsStop task spot → SetsOut task reach spot → AreOpen task used spot shut
 
 -- more stops lie in reach, a stop among them, and so do all to which a run may come from there
-pub record ReachesPast (task : Task) (used : List Bool) (spot : ℕ) (old new : List Bool) : Type 0 where
+pub record ReachesAt (task : Task) (used : List Bool) (spot : ℕ) (old new : List Bool) : Type 0 where
   pub kept : (other : ℕ) → LiesAhead old other → LiesAhead new other
   pub lies : LiesAhead new spot
   pub reaches : IsInReach task used old → IsInReach task used new
 
 -- only the borders used are others: those that are shut
-pub record IsShutOff (task : Task) (settled : Settled) (reach : List Bool) (like : Settled) : Type 0 where
-  pub same : like ≡ record settled { used = like.used }
-  pub shut : IsShut task settled.used reach like.used
+pub record IsShutOff (task : Task) (assigned : Assigned) (reach : List Bool) (like : Assigned) : Type 0 where
+  pub same : like ≡ record assigned { used = like.used }
+  pub shut : IsShut task assigned.used reach like.used
 
--- a run may set out from where it stands, and from where it began, if it may pass these stops
+-- a run may set out from where it is, and from where it began, if it may pass these stops
 abbrev pub PassesFrom : Task → List Bool → ℕ → Type 0
 PassesFrom task reach spot = IsStop task spot × (ends_in (node_at task spot) ≡ false → SetsOut task reach spot)
 
@@ -131,8 +129,8 @@ IsRunCanonical task reach (Some run) (Some like) = MayGoOn task reach run × IsB
 
 -- a state differs from another only in borders that neither the run begun, if any, nor one to come can cross, and in stops
 -- to which they cannot come
-pub record IsCanonical (task : Task) (settled : Settled) (run : Option PartialRun) (like : SearchState) : Type 0 where
+pub record IsCanonical (task : Task) (assigned : Assigned) (run : Option PartialRun) (like : SearchState) : Type 0 where
   pub reach : List Bool
-  pub reaches : IsInReach task settled.used reach
-  pub off : IsShutOff task settled reach like.settled
+  pub reaches : IsInReach task assigned.used reach
+  pub off : IsShutOff task assigned reach like.assigned
   pub begun : IsRunCanonical task reach run like.run

@@ -5,7 +5,7 @@ use Rattle.std.specs.Prelude.{◌≡◌, ◌<◌, ℤ, pos, List, [], ◌∷◌,
 use Rattle.certificate.specs.Filled.{IsAcceptedFilled}
 use Rattle.certificate.specs.Holding.{IsAccepted}
 use Rattle.certificate.specs.declared.group.Group.{Group}
-use Rattle.certificate.specs.declared.runner.RunnerFault.{RunnerFault}
+use Rattle.legal_runs.specs.declared.runner.RunnerFault.{RunnerFault}
 use Rattle.reach.specs.Position.{Position}
 use Rattle.tables.specs.declared.rolling_stock.Kind.{Kind}
 use Rattle.tables.specs.declared.roster.Company.{Company}

@@ -1,23 +1,16 @@
 -- States that have been explored, and are kept: another state from which no more can be earned need not be.
-use Rattle.std.specs.Prelude.{◌≡◌, ℕ, ◌≤◌, Bool, true, false, ◌⊎◌, Option, Some, None, Result, Ok, Err, List, [], ◌∷◌, slice_get}
+use Rattle.std.specs.Prelude.{◌≡◌, ℕ, ◌≤◌, Bool, false, ◌⊎◌, Option, Some, None, Result, Ok, Err, List, [], slice_get}
 use Rattle.std.specs.declared.alloc.AllocError.{AllocError}
 use Rattle.best_run.specs.declared.memo.Found.{Found}
 use Rattle.best_run.specs.declared.search_state.SearchState.{SearchState}
-use Rattle.best_run.specs.declared.state.Settled.{Settled}
+use Rattle.best_run.specs.declared.state.Assigned.{Assigned}
 use Rattle.best_run.specs.declared.state.PartialRun.{PartialRun}
-use Rattle.best_run.specs.Marks.{AreBarred}
+use Rattle.search_task.specs.Marks.{AreBarred, Freer}
 use Rattle.best_run.specs.MovePath.{marks_in}
 
--- what is marked in the second is marked in the first
-abbrev pub Freer : List Bool → List Bool → Type 0
-Freer [] [] = Unit {0}
-Freer [] (mark ∷ marks) = ⊥
-Freer (mark ∷ marks) [] = ⊥
-Freer (mark ∷ marks) (other ∷ others) = (other ≡ true → mark ≡ true) × Freer marks others
-
--- the same trains are left in two states, with the same kind of train before them; the first has no less settled, no lower cap
+-- the same trains are left in two states, with the same kind of train before them; the first has no less assigned, no lower cap
 -- and no border used that the second has not
-pub record Dominates (first second : Settled) : Type 0 where
+pub record Dominates (first second : Assigned) : Type 0 where
   pub next : first.next ≡ second.next
   pub kind : first.kind ≡ second.kind
   pub cap : second.cap ≤ first.cap
@@ -28,7 +21,7 @@ pub record Dominates (first second : Settled) : Type 0 where
 abbrev pub TurnsAs : PartialRun → PartialRun → Type 0
 TurnsAs first second = second.turned ≡ false → (first.home ≡ second.home) × (first.first ≡ second.first)
 
--- two runs stand at one stop; the first has visited no stop that the second has not, and earns no less; it may visit as many
+-- two runs are at one stop; the first has visited no stop that the second has not, and earns no less; it may visit as many
 -- more, or more than there are borders
 pub record DominatesRun (first second : PartialRun) : Type 0 where
   pub head : first.head ≡ second.head
@@ -47,8 +40,8 @@ DominatesAny kind (Some first) None = ⊥
 DominatesAny kind (Some first) (Some second) = (kind ≡ 0) × DominatesRun first second
 
 pub record DominatesStage (first second : SearchState) : Type 0 where
-  pub settled : Dominates first.settled second.settled
-  pub run : DominatesAny first.settled.kind first.run second.run
+  pub assigned : Dominates first.assigned second.assigned
+  pub run : DominatesAny first.assigned.kind first.run second.run
 
 -- to a run all stops are as visited that are not in reach
 pub record IsBarred (reach : List Bool) (run barred : PartialRun) : Type 0 where
@@ -56,17 +49,17 @@ pub record IsBarred (reach : List Bool) (run barred : PartialRun) : Type 0 where
   pub marks : AreBarred run.visited reach barred.visited
 
 -- a state that is kept covers another
-pub record IsCovered (found : Found) (search_state : SearchState) : Type 0 where
+pub record IsDominated (found : Found) (search_state : SearchState) : Type 0 where
   pub place : ℕ
   pub entry : SearchState
   pub there : slice_get found.memo.items place ≡ Some entry
   pub dominates : DominatesStage entry search_state
 
--- a state stands at some place
+-- a state is at some place
 abbrev pub IsHeld : Found → SearchState → Type 0
 IsHeld found entry = (place : ℕ) × (slice_get found.memo.items place ≡ Some entry)
 
--- a state is kept, if at all; the others that are kept are among those that were, and an earlier refusal of memory stands
+-- a state is kept, if at all; the others that are kept are among those that were, and an earlier refusal of memory stays
 pub record IsKept (search_state : SearchState) (old new : Found) : Type 0 where
   pub amount : new.amount ≡ old.amount
   pub marks : marks_in new.move_path ≡ marks_in old.move_path

@@ -1,18 +1,19 @@
--- The trail: the marks of the moves that earn the best found, and the runs that they tell. Train by train, greatest
--- first, a train passes or has a run: steps, one behind the other, that may be turned about once, and are settled.
-use Rattle.std.specs.Prelude.{◌≡◌, ◌≤◌, not, Option, Some, None, Vec, option_map, List, [], ◌∷◌, ◌++◌, length, map, reverse}
+-- The path: the marks of the moves that earn the best found, and the runs that they tell. Train by train, greatest
+-- first, a train passes or has a run: steps, one behind the other, that may be turned about once, and are finished.
+use Rattle.std.specs.Prelude.{◌≡◌, ◌≤◌, not, Option, Some, None, Vec, option_map, List, [], ◌∷◌, ◌++◌, length, map}
+use Rattle.std.specs.Prelude.{reverse}
 use Rattle.std.specs.Global.{Global}
 use Rattle.std.specs.List.{AllByRecursion}
 use Rattle.reach.specs.declared.walk.Step.{Step}
 use Rattle.tables.specs.declared.rolling_stock.Kind.{Kind}
-use Rattle.certificate.specs.Set.{TrainRun}
-use Rattle.certificate.specs.Written.{places_of}
-use Rattle.certificate.specs.declared.claim.ClaimedRun.{ClaimedRun}
+use Rattle.legal_runs.specs.Set.{TrainRun}
+use Rattle.legal_runs.specs.Written.{places_of}
+use Rattle.legal_runs.specs.declared.claim.ClaimedRun.{ClaimedRun}
 use Rattle.best_run.specs.declared.move_path.Mark.{Mark}
-use Rattle.best_run.specs.declared.move_path.Mark.TheVariants.{Pass, Go, Turn, Settle}
+use Rattle.best_run.specs.declared.move_path.Mark.TheVariants.{Go, Pass, Finish, Turn}
 use Rattle.best_run.specs.declared.move_path.MovePath.{MovePath}
 
--- the marks of a trail, from the first to the last
+-- the marks of a path, from the first to the last
 abbrev pub marks_in : MovePath → List Mark
 marks_in move_path = reverse move_path.marks.items
 
@@ -39,7 +40,7 @@ walk_told walk [] = None
 walk_told walk (Pass ∷ marks) = None
 walk_told walk (Go step ∷ marks) = walk_told (step ∷ walk) marks
 walk_told walk (Turn ∷ marks) = walk_told (turned_about walk) marks
-walk_told walk (Settle ∷ marks) = Some walk
+walk_told walk (Finish ∷ marks) = Some walk
 
 -- the marks after those of the next train
 abbrev pub after_walk : List Mark → List Mark
@@ -47,7 +48,7 @@ after_walk [] = []
 after_walk (Pass ∷ marks) = marks
 after_walk (Go step ∷ marks) = after_walk marks
 after_walk (Turn ∷ marks) = after_walk marks
-after_walk (Settle ∷ marks) = marks
+after_walk (Finish ∷ marks) = marks
 
 -- a train's run, if it runs, before those of others
 abbrev pub with_run : Kind → Option (List Step) → List TrainRun → List TrainRun
@@ -70,7 +71,7 @@ pub record CanBeClaimed (run : TrainRun) : Type 0 where
   pub least : 2 ≤ length (places_of run.steps)
   pub most : length (places_of run.steps) ≤ 280
 
--- the runs that a trail tells of some trains
+-- the runs that a path tells of some trains
 abbrev pub runs_in : List Kind → MovePath → List TrainRun
 runs_in kinds move_path = runs_told kinds [] (marks_in move_path)
 

@@ -1,60 +1,24 @@
--- What the search goes over: from nothing settled, move by move, to all trains settled. The next train passes, or
--- begins a run at a token of the company by a segment of plain track; a run that has begun goes on from where it stands;
+-- What the search goes over: from nothing assigned, move by move, to all trains assigned. The next train passes, or
+-- begins a run at a token of the company by a segment of plain track; a run that has begun goes on from where it is;
 -- once, it may turn back to the token, and go on from there by a segment that is not before the one by which it began;
--- and it may be settled at a stop. So each run is met once: from the first of its tokens, by their numbers, since the
+-- and it may be finished at a stop. So each run is met once: from the first of its tokens, by their numbers, since the
 -- tokens before that one are passed over, and not from both its ends.
-use Rattle.std.specs.Prelude.{◌≡◌, ℕ, zero, suc, ◌+◌, ◌-◌, ◌<◌, ◌≤◌, Bool, true, false, not, ◌&&◌, ◌||◌, nat_lt, nat_le, ◌==◌, ◌⊎◌, Option, Some, None, List, [], ◌∷◌, length, get_or, set, slice_get, replicate}
-use Rattle.std.specs.List.{list_any}
-use Rattle.best_run.specs.declared.task.Node.{Node}
-use Rattle.best_run.specs.declared.task.Segment.{Segment}
-use Rattle.best_run.specs.declared.task.Task.{Task}
+use Rattle.std.specs.Prelude.{◌≡◌, ℕ, zero, suc, ◌+◌, ◌-◌, ◌<◌, ◌≤◌, Bool, true, false, not, ◌&&◌, ◌||◌, nat_lt, nat_le}
+use Rattle.std.specs.Prelude.{◌==◌, ◌⊎◌, Option, Some, None, List, [], ◌∷◌, length, get_or, set, slice_get, replicate}
+use Rattle.search_task.specs.declared.task.Segment.{Segment}
+use Rattle.search_task.specs.declared.task.Task.{Task}
 use Rattle.best_run.specs.declared.memo.Found.{Found}
 use Rattle.best_run.specs.declared.search_state.SearchState.{SearchState}
-use Rattle.best_run.specs.declared.state.Settled.{Settled}
+use Rattle.best_run.specs.declared.state.Assigned.{Assigned}
 use Rattle.best_run.specs.declared.state.PartialRun.{PartialRun}
 use Rattle.best_run.specs.declared.move_path.Mark.{Mark}
-use Rattle.best_run.specs.declared.move_path.Mark.TheVariants.{Pass, Go, Turn, Settle}
-use Rattle.best_run.specs.Segments.{segments_from}
+use Rattle.best_run.specs.declared.move_path.Mark.TheVariants.{Go, Pass, Finish, Turn}
 use Rattle.best_run.specs.MovePath.{IsWritten, marks_in}
+use Rattle.search_task.specs.declared.task.Leg.{Leg}
+use Rattle.search_task.specs.Crossed.{marked_all, misses}
+use Rattle.search_task.specs.Spots.{LeadsFrom, ends_in, node_at, own_in, stop_in, value_in}
 
--- what is known of a spot, by its number
-abbrev pub value_in : Option Node → ℕ
-value_in (Some node) = node.value
-value_in None = 0
-
-abbrev pub own_in : Option Node → Bool
-own_in (Some node) = node.own
-own_in None = false
-
-abbrev pub ends_in : Option Node → Bool
-ends_in (Some node) = node.ends
-ends_in None = true
-
-abbrev pub stop_in : Option Node → Bool
-stop_in (Some node) = node.stop
-stop_in None = false
-
-abbrev pub node_at : Task → ℕ → Option Node
-node_at task stop = slice_get task.spots.items stop
-
--- the segments that lead from a spot
-abbrev pub segments_at : Task → ℕ → List Segment
-segments_at task spot = segments_from spot task.segments
-
--- a segment leads from a stop, at a place among its segments
-abbrev pub LeadsFrom : Task → ℕ → ℕ → Segment → Type 0
-LeadsFrom task stop index segment = slice_get (segments_at task stop) index ≡ Some segment
-
--- no border of some is used
-abbrev pub misses : List Bool → List ℕ → Bool
-misses used borders = not (list_any (λ border. get_or used border false) borders)
-
--- the used borders, with more
-abbrev pub marked_all : List Bool → List ℕ → List Bool
-marked_all used [] = used
-marked_all used (border ∷ borders) = marked_all (set used border true) borders
-
--- a run may come to a spot: it is no stop, or one that it has not visited, and it may visit one more
+-- a run may reach a spot: it is no stop, or one that it has not visited, and it may visit one more
 abbrev pub may_come : Bool → PartialRun → ℕ → Bool
 may_come true run spot = nat_lt 0 run.left && not (get_or run.visited spot false)
 may_come false run spot = true
@@ -78,16 +42,16 @@ abbrev pub own_before : Task → ℕ → List Bool
 own_before task zero = replicate 744 false
 own_before task (suc number) = marked_if (own_in (node_at task number)) (own_before task number) number
 
--- a run that stands at the token where it begins, by the segment at a place; the tokens before that one are passed over
-abbrev pub begun : Task → Settled → ℕ → ℕ → PartialRun
-begun task settled stop first =
+-- a run that is at the token where it begins, by the segment at a place; the tokens before that one are passed over
+abbrev pub begun : Task → Assigned → ℕ → ℕ → PartialRun
+begun task assigned stop first =
     record {
       home = stop;
       first = first;
       turned = false;
       head = stop;
-      most = get_or task.trains.items settled.next 0;
-      left = get_or task.trains.items settled.next 0 - 1;
+      most = get_or task.trains.items assigned.next 0;
+      left = get_or task.trains.items assigned.next 0 - 1;
       value = value_in (node_at task stop);
       visited = set (own_before task stop) stop true;
     }
@@ -111,32 +75,32 @@ along task run segment =
     }
 
 -- the borders of a segment are used
-abbrev pub using : Settled → Segment → Settled
-using settled segment = record settled { used = marked_all settled.used segment.borders.items }
+abbrev pub using : Assigned → Segment → Assigned
+using assigned segment = record assigned { used = marked_all assigned.used segment.borders.items }
 
 -- the next train does not run
-abbrev pub passed : Settled → Settled
-passed settled = record settled { next = settled.next + 1 }
+abbrev pub passed : Assigned → Assigned
+passed assigned = record assigned { next = assigned.next + 1 }
 
--- the run begun is settled
-abbrev pub with_run_settled : Settled → PartialRun → Settled
-with_run_settled settled run =
-    record settled { next = settled.next + 1; total = settled.total + run.value; kind = run.most; cap = run.value }
+-- the run begun is finished
+abbrev pub with_run_finished : Assigned → PartialRun → Assigned
+with_run_finished assigned run =
+    record assigned { next = assigned.next + 1; total = assigned.total + run.value; kind = run.most; cap = run.value }
 
 -- Equal trains may change their runs, so only such ways are gone that none of them earns more than the one before:
 -- a run earns no more than the last one, if that is of a train of the same kind.
 abbrev pub may_earn : ℕ → ℕ → ℕ → ℕ → Bool
 may_earn kind cap most value = (kind == 0 || not (kind == most)) || nat_le value cap
 
--- a run may be settled: it stands at a stop, and earns no more than it may
-abbrev pub may_settle : Task → Settled → PartialRun → Bool
-may_settle task settled run =
-    stop_in (node_at task run.head) && may_earn settled.kind settled.cap run.most run.value
+-- a run may be finished: it is at a stop, and earns no more than it may
+abbrev pub may_finish : Task → Assigned → PartialRun → Bool
+may_finish task assigned run =
+    stop_in (node_at task run.head) && may_earn assigned.kind assigned.cap run.most run.value
 
 -- a state of the search
 pub data State : Type 0 where
-  between : Settled → State
-  partial : Settled → PartialRun → State
+  between : Assigned → State
+  partial : Assigned → PartialRun → State
 
 -- a move
 pub data Move : Type 0 where
@@ -144,77 +108,77 @@ pub data Move : Type 0 where
   begin : ℕ → ℕ → Segment → Move
   go : ℕ → Segment → Move
   turn : ℕ → Segment → Move
-  settle : Move
+  finish : Move
 
-pub record MayBegin (task : Task) (settled : Settled) (stop index : ℕ) (segment : Segment) : Type 0 where
-  pub train : settled.next < length task.trains.items
+pub record MayBegin (task : Task) (assigned : Assigned) (stop index : ℕ) (segment : Segment) : Type 0 where
+  pub train : assigned.next < length task.trains.items
   pub begins : stop_in (node_at task stop) ≡ true
   pub token : own_in (node_at task stop) ≡ true
   pub leads : LeadsFrom task stop index segment
-  pub taken : can_take task (begun task settled stop index) settled.used segment ≡ true
+  pub taken : can_take task (begun task assigned stop index) assigned.used segment ≡ true
 
-pub record MayGo (task : Task) (settled : Settled) (run : PartialRun) (index : ℕ) (segment : Segment) : Type 0 where
+pub record MayGo (task : Task) (assigned : Assigned) (run : PartialRun) (index : ℕ) (segment : Segment) : Type 0 where
   pub passes : ends_in (node_at task run.head) ≡ false
   pub leads : LeadsFrom task run.head index segment
-  pub taken : can_take task run settled.used segment ≡ true
+  pub taken : can_take task run assigned.used segment ≡ true
 
-pub record MayTurn (task : Task) (settled : Settled) (run : PartialRun) (index : ℕ) (segment : Segment) : Type 0 where
+pub record MayTurn (task : Task) (assigned : Assigned) (run : PartialRun) (index : ℕ) (segment : Segment) : Type 0 where
   pub once : run.turned ≡ false
-  pub stands : stop_in (node_at task run.head) ≡ true
+  pub at_stop : stop_in (node_at task run.head) ≡ true
   pub later : run.first ≤ index
   pub passes : ends_in (node_at task run.home) ≡ false
   pub leads : LeadsFrom task run.home index segment
-  pub taken : can_take task (turned_back run) settled.used segment ≡ true
+  pub taken : can_take task (turned_back run) assigned.used segment ≡ true
 
 -- a move may be made in a state
 abbrev pub Allows : Task → State → Move → Type 0
-Allows task (between settled) pass = settled.next < length task.trains.items
-Allows task (between settled) (begin stop index segment) = MayBegin task settled stop index segment
-Allows task (between settled) (go index segment) = ⊥
-Allows task (between settled) (turn index segment) = ⊥
-Allows task (between settled) settle = ⊥
-Allows task (partial settled run) pass = ⊥
-Allows task (partial settled run) (begin stop index segment) = ⊥
-Allows task (partial settled run) (go index segment) = MayGo task settled run index segment
-Allows task (partial settled run) (turn index segment) = MayTurn task settled run index segment
-Allows task (partial settled run) settle = may_settle task settled run ≡ true
+Allows task (between assigned) pass = assigned.next < length task.trains.items
+Allows task (between assigned) (begin stop index segment) = MayBegin task assigned stop index segment
+Allows task (between assigned) (go index segment) = ⊥
+Allows task (between assigned) (turn index segment) = ⊥
+Allows task (between assigned) finish = ⊥
+Allows task (partial assigned run) pass = ⊥
+Allows task (partial assigned run) (begin stop index segment) = ⊥
+Allows task (partial assigned run) (go index segment) = MayGo task assigned run index segment
+Allows task (partial assigned run) (turn index segment) = MayTurn task assigned run index segment
+Allows task (partial assigned run) finish = may_finish task assigned run ≡ true
 
 -- the state after a move
 abbrev pub after : Task → State → Move → State
-after task (between settled) pass = between (passed settled)
-after task (between settled) (begin stop index segment) =
-    partial (using settled segment) (along task (begun task settled stop index) segment)
-after task (between settled) (go index segment) = between settled
-after task (between settled) (turn index segment) = between settled
-after task (between settled) settle = between settled
-after task (partial settled run) pass = between settled
-after task (partial settled run) (begin stop index segment) = between settled
-after task (partial settled run) (go index segment) = partial (using settled segment) (along task run segment)
-after task (partial settled run) (turn index segment) =
-    partial (using settled segment) (along task (turned_back run) segment)
-after task (partial settled run) settle = between (with_run_settled settled run)
+after task (between assigned) pass = between (passed assigned)
+after task (between assigned) (begin stop index segment) =
+    partial (using assigned segment) (along task (begun task assigned stop index) segment)
+after task (between assigned) (go index segment) = between assigned
+after task (between assigned) (turn index segment) = between assigned
+after task (between assigned) finish = between assigned
+after task (partial assigned run) pass = between assigned
+after task (partial assigned run) (begin stop index segment) = between assigned
+after task (partial assigned run) (go index segment) = partial (using assigned segment) (along task run segment)
+after task (partial assigned run) (turn index segment) =
+    partial (using assigned segment) (along task (turned_back run) segment)
+after task (partial assigned run) finish = between (with_run_finished assigned run)
 
--- all trains are settled
+-- all trains are assigned
 abbrev pub IsOver : Task → State → Type 0
-IsOver task (between settled) = length task.trains.items ≤ settled.next
-IsOver task (partial settled run) = ⊥
+IsOver task (between assigned) = length task.trains.items ≤ assigned.next
+IsOver task (partial assigned run) = ⊥
 
 -- these moves lead from a state to the end
 abbrev pub Completes : Task → State → List Move → Type 0
 Completes task state [] = IsOver task state
 Completes task state (move ∷ moves) = Allows task state move × Completes task (after task state move) moves
 
--- what the settled runs of a state earn, in dollars
+-- what the finished runs of a state earn, in dollars
 abbrev pub total_of : State → ℕ
-total_of (between settled) = settled.total
-total_of (partial settled run) = settled.total
+total_of (between assigned) = assigned.total
+total_of (partial assigned run) = assigned.total
 
 -- what they earn at the end of some moves
 abbrev pub total_after : Task → State → List Move → ℕ
 total_after task state [] = total_of state
 total_after task state (move ∷ moves) = total_after task (after task state move) moves
 
--- nothing is settled
+-- nothing is assigned
 abbrev pub start : State
 start = between (record { next = 0; total = 0; kind = 0; cap = 0; used = replicate 279 false })
 
@@ -225,7 +189,7 @@ marks_of (pass ∷ moves) = Pass ∷ marks_of moves
 marks_of (begin stop index segment ∷ moves) = Go segment.step ∷ marks_of moves
 marks_of (go index segment ∷ moves) = Go segment.step ∷ marks_of moves
 marks_of (turn index segment ∷ moves) = Turn ∷ Go segment.step ∷ marks_of moves
-marks_of (settle ∷ moves) = Settle ∷ marks_of moves
+marks_of (finish ∷ moves) = Finish ∷ marks_of moves
 
 -- some marks are those of moves that lead from a state to the end, and earn so much
 pub record Earns (task : Task) (state : State) (marks : List Mark) (amount : ℕ) : Type 0 where
@@ -234,22 +198,23 @@ pub record Earns (task : Task) (state : State) (marks : List Mark) (amount : ℕ
   pub total : total_after task state moves ≡ amount
   pub marks_are : marks ≡ marks_of moves
 
--- no more has been found, and the trail is as it was
+-- no more has been found, and the path is as it was
 pub record IsAsBefore (old new : Found) : Type 0 where
   pub amount : new.amount ≡ old.amount
   pub marks : marks_in new.move_path ≡ marks_in old.move_path
 
--- more has been found, and the trail tells how it is earned from a state on
+-- more has been found, and the path tells how it is earned from a state on
 pub record IsBetter (task : Task) (state : State) (old new : Found) : Type 0 where
   pub more : old.amount < new.amount
   pub earns : Earns task state (marks_in new.move_path) new.amount
 
--- where no memory has been refused, the trail tells how what is found is earned from a state on, if it is more than before
+-- where no memory has been refused, the path tells how what is found is earned from a state on, if it is more than
+-- before
 pub record IsTraced (task : Task) (state : State) (old new : Found) : Type 0 where
   pub refused : new.move_path.refused ≡ None → old.move_path.refused ≡ None
   pub told : new.move_path.refused ≡ None → IsAsBefore old new ⊎ IsBetter task state old new
 
--- if more has been found than so much, some marks are written in front of the trail; nothing else changes
+-- if more has been found than so much, some marks are written in front of the path; nothing else changes
 pub record Traces (least : ℕ) (marks : List Mark) (old new : Found) : Type 0 where
   pub amount : new.amount ≡ old.amount
   pub memo : new.memo.items ≡ old.memo.items
@@ -261,16 +226,16 @@ abbrev pub LeadsToAtMost : Task → State → ℕ → Type 0
 LeadsToAtMost task state most = (moves : List Move) → Completes task state moves → total_after task state moves ≤ most
 
 -- all ways from a state between runs
-abbrev pub EarnsAtMost : Task → Settled → ℕ → Type 0
-EarnsAtMost task settled most = LeadsToAtMost task (between settled) most
+abbrev pub EarnsAtMost : Task → Assigned → ℕ → Type 0
+EarnsAtMost task assigned most = LeadsToAtMost task (between assigned) most
 
 -- the state that is meant: between runs, unless one has begun
-abbrev pub state_by : Settled → Option PartialRun → State
-state_by settled None = between settled
-state_by settled (Some run) = partial settled run
+abbrev pub state_by : Assigned → Option PartialRun → State
+state_by assigned None = between assigned
+state_by assigned (Some run) = partial assigned run
 
 abbrev pub state_at : SearchState → State
-state_at search_state = state_by search_state.settled search_state.run
+state_at search_state = state_by search_state.assigned search_state.run
 
 -- from no state that is kept as explored more is earned than the best found
 abbrev pub AreInMemo : Task → Found → Type 0
@@ -278,7 +243,7 @@ AreInMemo task found =
     (place : ℕ) (search_state : SearchState) → slice_get found.memo.items place ≡ Some search_state
     → LeadsToAtMost task (state_at search_state) found.amount
 
--- moves that begin with such a move have been tried in a state: the best found grows at most, the trail tells how it is
+-- moves that begin with such a move have been tried in a state: the best found grows at most, the path tells how it is
 -- earned, and those that have been tried earn at most that, if what is kept as explored is
 pub record Tries (task : Task) (state : State) (P : Move → Type 0) (old new : Found) : Type 0 where
   pub grows : old.amount ≤ new.amount
@@ -295,18 +260,18 @@ pub record Explores (task : Task) (state : State) (old new : Found) : Type 0 whe
   pub most : AreInMemo task old → (moves : List Move) → Completes task state moves
       → total_after task state moves ≤ new.amount
 
--- a segment has been tried with a run that stands before it: if the run may take it, all ways on have been tried
-pub record Takes (task : Task) (settled : Settled) (run : PartialRun) (segment : Segment) (old new : Found) : Type
+-- a segment has been tried with a run that is before it: if the run may take it, all ways on have been tried
+pub record Takes (task : Task) (assigned : Assigned) (run : PartialRun) (segment : Segment) (old new : Found) : Type
     0 where
   pub grows : old.amount ≤ new.amount
   pub refused : new.move_path.refused ≡ None → old.move_path.refused ≡ None
   pub told : new.move_path.refused ≡ None → IsAsBefore old new
-      ⊎ ((can_take task run settled.used segment ≡ true)
-      × IsBetter task (partial (using settled segment) (along task run segment)) old new)
+      ⊎ ((can_take task run assigned.used segment ≡ true)
+      × IsBetter task (partial (using assigned segment) (along task run segment)) old new)
   pub known : AreInMemo task old → AreInMemo task new
-  pub most : AreInMemo task old → can_take task run settled.used segment ≡ true → (moves : List Move)
-      → Completes task (partial (using settled segment) (along task run segment)) moves
-      → total_after task (partial (using settled segment) (along task run segment)) moves ≤ new.amount
+  pub most : AreInMemo task old → can_take task run assigned.used segment ≡ true → (moves : List Move)
+      → Completes task (partial (using assigned segment) (along task run segment)) moves
+      → total_after task (partial (using assigned segment) (along task run segment)) moves ≤ new.amount
 
 -- moves by their sort
 abbrev pub IsBegin : (ℕ → Type 0) → Move → Type 0
@@ -314,28 +279,28 @@ IsBegin P pass = ⊥
 IsBegin P (begin stop index segment) = P stop
 IsBegin P (go index segment) = ⊥
 IsBegin P (turn index segment) = ⊥
-IsBegin P settle = ⊥
+IsBegin P finish = ⊥
 
 abbrev pub IsBeginAt : ℕ → (ℕ → Type 0) → Move → Type 0
 IsBeginAt there P pass = ⊥
 IsBeginAt there P (begin stop index segment) = (stop ≡ there) × P index
 IsBeginAt there P (go index segment) = ⊥
 IsBeginAt there P (turn index segment) = ⊥
-IsBeginAt there P settle = ⊥
+IsBeginAt there P finish = ⊥
 
 abbrev pub IsGo : (ℕ → Type 0) → Move → Type 0
 IsGo P pass = ⊥
 IsGo P (begin stop index segment) = ⊥
 IsGo P (go index segment) = P index
 IsGo P (turn index segment) = ⊥
-IsGo P settle = ⊥
+IsGo P finish = ⊥
 
 abbrev pub IsTurn : (ℕ → Type 0) → Move → Type 0
 IsTurn P pass = ⊥
 IsTurn P (begin stop index segment) = ⊥
 IsTurn P (go index segment) = ⊥
 IsTurn P (turn index segment) = P index
-IsTurn P settle = ⊥
+IsTurn P finish = ⊥
 
 -- any number
 abbrev pub Any : ℕ → Type 0
@@ -344,3 +309,15 @@ Any number = Unit {0}
 -- a number below another
 abbrev pub Below : ℕ → ℕ → Type 0
 Below most number = number < most
+
+-- such ways have been tried, each with its run: the best found grows at most, the path tells how it is earned from
+-- where the legs are tried, and whatever comes after one of them earns at most that
+pub record TriesLegs (task : Task) (from : State) (assigned : Assigned) (runs : Leg → PartialRun) (P : Leg → Type 0)
+    (old new : Found) : Type 0 where
+  pub grows : old.amount ≤ new.amount
+  pub traced : IsTraced task from old new
+  pub known : AreInMemo task old → AreInMemo task new
+  pub most : AreInMemo task old → (leg : Leg) → P leg → can_take task (runs leg) assigned.used leg.segment ≡ true
+      → (moves : List Move) → Completes task (partial (using assigned leg.segment) (along task (runs leg) leg.segment))
+      moves → total_after task (partial (using assigned leg.segment) (along task (runs leg) leg.segment)) moves
+      ≤ new.amount

@@ -1,14 +1,15 @@
 -- What the last trains earn by themselves, where no border is used: none of them earns more behind other trains. Of
 -- equal trains none earns more than the one before.
-use Rattle.std.specs.Prelude.{◌≡◌, ℕ, ◌+◌, ◌-◌, ◌*◌, ◌<◌, ◌≤◌, false, Some, None, List, length, get_or, slice_get, replicate}
-use Rattle.best_run.specs.declared.task.Task.{Task}
+use Rattle.std.specs.Prelude.{◌≡◌, ℕ, ◌+◌, ◌-◌, ◌*◌, ◌<◌, ◌≤◌, false, Some, None, List, length, get_or, slice_get}
+use Rattle.std.specs.Prelude.{replicate}
+use Rattle.search_task.specs.declared.task.Task.{Task}
 use Rattle.best_run.specs.declared.memo.Found.{Found}
-use Rattle.best_run.specs.declared.state.Settled.{Settled}
+use Rattle.best_run.specs.declared.state.Assigned.{Assigned}
 use Rattle.best_run.specs.MovePath.{marks_in}
 use Rattle.best_run.specs.Moves.{AreInMemo, Completes, Earns, Move, between, start, total_after}
 
 -- the trains before one do not run, and nothing is used
-abbrev pub nothing_before : ℕ → Settled
+abbrev pub nothing_before : ℕ → Assigned
 nothing_before next = record { next = next; total = 0; kind = 0; cap = 0; used = replicate 279 false }
 
 -- the trains from one on earn at most so much
@@ -23,18 +24,18 @@ AreBounds task bounds =
     (count bound next : ℕ) → slice_get bounds count ≡ Some bound → next + count ≡ length task.trains.items
     → EarnAtMost task next bound
 
--- with what is settled, the trains that are left can earn no more than has been found
-abbrev pub FallShort : Task → List ℕ → Settled → ℕ → Type 0
-FallShort task bounds settled best =
-    (bound : ℕ) × (slice_get bounds (length task.trains.items - settled.next) ≡ Some bound)
-    × (settled.total + bound ≤ best)
+-- with what is assigned, the trains that are left can earn no more than has been found
+abbrev pub ArePrunedBySuffix : Task → List ℕ → Assigned → ℕ → Type 0
+ArePrunedBySuffix task bounds assigned best =
+    (bound : ℕ) × (slice_get bounds (length task.trains.items - assigned.next) ≡ Some bound)
+    × (assigned.total + bound ≤ best)
 
--- so many trains from one on may visit so many stops
+-- this many trains from one on may visit this many stops
 abbrev pub AreEqual : Task → ℕ → ℕ → ℕ → Type 0
 AreEqual task next count most = (train : ℕ) → train < count → get_or task.trains.items (next + train) 0 ≡ most
 
 -- some trains from one on are of the kind that ran last, and each of them earns no more than the cap: with what is
--- settled, they and the others that are left can earn no more than has been found
+-- assigned, they and the others that are left can earn no more than has been found
 pub record ArePrunedByCap (task : Task) (next kind cap total best : ℕ) : Type 0 where
   pub some : 0 < kind
   pub equal : ℕ
@@ -43,8 +44,8 @@ pub record ArePrunedByCap (task : Task) (next kind cap total best : ℕ) : Type 
   pub rest : EarnAtMost task (next + equal) bound
   pub short : total + (equal * cap + bound) ≤ best
 
--- no train, the last one, the last two, .., so many in all, are solved for by themselves: what is found bounds what
--- they earn, and the trail tells how the last ones earn it
+-- no train, the last one, the last two, .., this many in all, are solved for by themselves: what is found bounds what
+-- they earn, and the path tells how the last ones earn it
 pub record IsSolved (task : Task) (count : ℕ) (bounds : List ℕ) (found : Found) : Type 0 where
   pub all : length bounds ≡ count
   pub true_bounds : AreBounds task bounds
@@ -52,7 +53,7 @@ pub record IsSolved (task : Task) (count : ℕ) (bounds : List ℕ) (found : Fou
   pub earns : found.move_path.refused ≡ None → Earns task
       (between (nothing_before (length task.trains.items - count))) (marks_in found.move_path) found.amount
 
--- what is found is the most that any moves from the start earn, and the trail tells how
+-- what is found is the most that any moves from the start earn, and the path tells how
 pub record IsTop (task : Task) (found : Found) : Type 0 where
   pub earns : Earns task start (marks_in found.move_path) found.amount
   pub most : (moves : List Move) → Completes task start moves → total_after task start moves ≤ found.amount

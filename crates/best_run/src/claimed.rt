@@ -1,9 +1,9 @@
-//! The runs that a trail tells, written out by their places.
+//! The runs that a path tells, written out by their places.
 ghost use Rattle.std.specs.Prelude.{◌≡◌, IfOk};
 ghost use Rattle.best_run.specs.MovePath.{CanBeRead, IsRead, IsWalkRead, turned_about, turned_step};
 
 use crate::move_path::{Mark, MovePath};
-use certificate::{ClaimedRun, ClaimedRuns, write_run};
+use legal_runs::{ClaimedRun, ClaimedRuns, write_run};
 use reach::Step;
 use std::alloc::{AllocError, Global};
 use tables::Kind;
@@ -29,7 +29,7 @@ fn turn_about(walk: &mut [Step])
 }
 
 /// Reads the marks of the next train, and takes them away: the walk that it runs, the latest step in
-/// front, or `None` where it does not run. The only error is want of memory.
+/// front, or `None` where it does not run. It fails only if memory is refused.
 fn read_walk(alloc: Global, marks: &mut Vec<Mark>) -> Result<Option<Vec<Step>>, AllocError>
     ensures { IfOk result (IsWalkRead marks.old.items marks.new.items) }
 {
@@ -39,7 +39,7 @@ fn read_walk(alloc: Global, marks: &mut Vec<Mark>) -> Result<Option<Vec<Step>>, 
             Mark::Pass => return Ok(None),
             Mark::Go(step) => walk.push(step)?,
             Mark::Turn => turn_about(&mut walk),
-            Mark::Settle => {
+            Mark::Finish => {
                 walk.reverse();
                 return Ok(Some(walk));
             }
@@ -48,7 +48,7 @@ fn read_walk(alloc: Global, marks: &mut Vec<Mark>) -> Result<Option<Vec<Step>>, 
     Ok(None)
 }
 
-/// The runs that a trail tells of some trains. The only error is want of memory.
+/// The runs that a path tells of some trains. It fails only if memory is refused.
 pub(crate) fn claimed_runs(
     alloc: Global,
     kinds: &[Kind],

@@ -1,6 +1,6 @@
 ghost use Rattle.std.specs.Prelude.{◌≡◌, [], false, IfOk, OnErr};
 ghost use Rattle.best_run.specs.Keeping.{KeepsBest, KeepsOne};
-ghost use Rattle.certificate.specs.Set.{IsGreatestMoney};
+ghost use Rattle.legal_runs.specs.Set.{IsGreatestMoney};
 
 use crate::revenue::best;
 use certificate::{Group, Runner, RunnerFault};

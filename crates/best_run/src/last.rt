@@ -2,124 +2,122 @@
 //! which it comes.
 ghost use Rattle.std.specs.Prelude.{◌≡◌, ℕ, ◌<◌, ◌≤◌, IsTrue, Some, false, get_or, length, set, true};
 ghost use Rattle.best_run.specs.Ahead.{IsWorth};
-ghost use Rattle.best_run.specs.Fit.{IsFit};
+ghost use Rattle.search_task.specs.Fit.{IsFit};
 ghost use Rattle.best_run.specs.Last.{CountsAsPassed, CrossIt, HasWorth, IsLast};
-ghost use Rattle.best_run.specs.Moves.{ends_in, node_at};
-ghost use Rattle.best_run.specs.Legs.{AreReady, legs_at};
+ghost use Rattle.search_task.specs.Spots.{ends_in, node_at};
+ghost use Rattle.search_task.specs.Legs.{AreReady, legs_at};
 
 use crate::outlook::Outlook;
-use crate::state::{PartialRun, Settled};
-use crate::task::Task;
+use crate::state::{Assigned, PartialRun};
+use search_task::Task;
 
-impl Task {
-    /// A border that the first two legs from a stop cross of those that cross no used border; one of the only such leg
-    /// where there is one. `None` where these two share none, or there is no such leg.
-    fn exit(&self, settled: &Settled, spot: usize) -> Option<usize>
-        requires ready { AreReady self.now }
-        requires spot { spot < 744 }
-        ensures { (border : ℕ) → result ≡ Some border → border < 279 }
-    {
-        let from = &self.departures[spot];
-        let mut first = None;
-        for index in 0..from.legs.len() {
-            let borders = &from.legs[index].segment.borders;
-            if borders.misses(&settled.used) {
-                match first {
-                    None => first = Some(borders),
-                    Some(other) => return borders.shared(other),
-                }
+/// A border that the first two legs from a stop cross of those that cross no used border; one of the only such leg
+/// where there is one. `None` where these two share none, or there is no such leg.
+fn exit(task: &Task, assigned: &Assigned, spot: usize) -> Option<usize>
+    requires ready { AreReady task.now }
+    requires spot { spot < 744 }
+    ensures { (border : ℕ) → result ≡ Some border → border < 279 }
+{
+    let from = &task.departures[spot];
+    let mut first = None;
+    for index in 0..from.legs.len() {
+        let borders = &from.legs[index].segment.borders;
+        if borders.misses(&assigned.used) {
+            match first {
+                None => first = Some(borders),
+                Some(other) => return borders.shared(other),
             }
         }
-        match first {
-            None => None,
-            Some(only) => only.shared(only),
-        }
     }
-
-    /// Whether all legs from a stop that cross no used border cross another one.
-    fn cross_it(&self, settled: &Settled, spot: usize, border: usize) -> bool
-        requires ready { AreReady self.now }
-        requires spot { spot < 744 }
-        requires border { border < 279 }
-        ensures { IsTrue result → CrossIt self.now settled.now.used spot border }
-    {
-        let from = &self.departures[spot];
-        for index in 0..from.legs.len() {
-            let borders = &from.legs[index].segment.borders;
-            if borders.misses(&settled.used) && !borders.crosses(border) {
-                return false;
-            }
-        }
-        true
+    match first {
+        None => None,
+        Some(only) => only.shared(only),
     }
+}
 
-    /// Whether a run that comes to a stop ahead ends there, since all its legs that cross no used border cross the
-    /// one by which it comes. It is not told of all such stops, and of none to a run that visits no stops.
-    fn is_last(&self, settled: &Settled, run: &PartialRun, spot: usize) -> bool
-        requires ready { AreReady self.now }
-        requires spot { spot < 744 }
-        ensures { IsTrue result → (0 < run.now.most) × IsLast self.now settled.now.used spot }
-    {
-        if !self.mirrored || run.most == 0 {
+/// Whether all legs from a stop that cross no used border cross another one.
+fn cross_it(task: &Task, assigned: &Assigned, spot: usize, border: usize) -> bool
+    requires ready { AreReady task.now }
+    requires spot { spot < 744 }
+    requires border { border < 279 }
+    ensures { IsTrue result → CrossIt task.now assigned.now.used spot border }
+{
+    let from = &task.departures[spot];
+    for index in 0..from.legs.len() {
+        let borders = &from.legs[index].segment.borders;
+        if borders.misses(&assigned.used) && !borders.crosses(border) {
             return false;
         }
-        match self.exit(settled, spot) {
-            Some(border) => self.cross_it(settled, spot, border),
-            None => false,
-        }
     }
+    true
+}
 
-    /// One stop more lies ahead, which the run may pass, or at which all runs end.
-    pub(crate) fn count(
-        &self,
-        settled: &Settled,
-        run: &PartialRun,
-        spot: usize,
-        outlook: &mut Outlook,
-    )
-        requires fit { IsFit self.now }
-        requires spot { spot < 744 }
-        requires free { get_or outlook.old.ahead spot false ≡ false }
-        requires known { HasWorth self.now settled.now run.now outlook.old.ahead outlook.old.worth }
-        ensures marked { outlook.new.ahead ≡ set outlook.old.ahead spot true }
-        ensures known { HasWorth self.now settled.now run.now outlook.new.ahead outlook.new.worth }
-        ensures passed { ends_in (node_at self.now spot) ≡ false
-            → CountsAsPassed self.now settled.now run.now spot outlook.new.ahead outlook.new.worth }
-    {
-        let node = &self.spots[spot];
-        outlook.ahead.is_whole();
-        outlook.ahead.mark(spot);
-        outlook.stops = outlook.stops.wrapping_add(1);
-        if node.ends {
-            outlook.worth.end(node.value);
-        } else {
-            outlook.worth.pass(node.value);
-        }
+/// Whether a run that reaches a stop ahead ends there, since all its legs that cross no used border cross the
+/// one by which it comes. It may be false where that holds, and is false for a run that visits no stops.
+fn is_last(task: &Task, assigned: &Assigned, run: &PartialRun, spot: usize) -> bool
+    requires ready { AreReady task.now }
+    requires spot { spot < 744 }
+    ensures { IsTrue result → (0 < run.now.most) × IsLast task.now assigned.now.used spot }
+{
+    if !task.mirrored || run.most == 0 {
+        return false;
     }
+    match exit(task, assigned, spot) {
+        Some(border) => cross_it(task, assigned, spot, border),
+        None => false,
+    }
+}
 
-    /// A stop ahead that counts as one that may be passed counts as one at which the run ends, if it is last. (It is
-    /// kept out of line, so that the way to it stays short.)
-    #[inline(never)]
-    pub(crate) fn end_at(
-        &self,
-        settled: &Settled,
-        run: &PartialRun,
-        spot: usize,
-        outlook: &mut Outlook,
-    )
-        requires fit { IsFit self.now }
-        requires ready { AreReady self.now }
-        requires spot { spot < 744 }
-        requires lies { get_or outlook.old.ahead spot false ≡ true }
-        requires passed { CountsAsPassed self.now settled.now run.now spot outlook.old.ahead
-            outlook.old.worth }
-        ensures same { outlook.new.ahead ≡ outlook.old.ahead }
-        ensures known { HasWorth self.now settled.now run.now outlook.new.ahead outlook.new.worth }
-    {
-        let node = &self.spots[spot];
-        if self.is_last(settled, run, spot) {
-            outlook.worth.take_back(node.value);
-            outlook.worth.end(node.value);
-        }
+/// One stop more lies ahead, which the run may pass, or at which all runs end.
+pub(crate) fn count(
+    task: &Task,
+    assigned: &Assigned,
+    run: &PartialRun,
+    spot: usize,
+    outlook: &mut Outlook,
+)
+    requires fit { IsFit task.now }
+    requires spot { spot < 744 }
+    requires free { get_or outlook.old.ahead spot false ≡ false }
+    requires known { HasWorth task.now assigned.now run.now outlook.old.ahead outlook.old.worth }
+    ensures marked { outlook.new.ahead ≡ set outlook.old.ahead spot true }
+    ensures known { HasWorth task.now assigned.now run.now outlook.new.ahead outlook.new.worth }
+    ensures passed { ends_in (node_at task.now spot) ≡ false
+        → CountsAsPassed task.now assigned.now run.now spot outlook.new.ahead outlook.new.worth }
+{
+    let node = &task.spots[spot];
+    outlook.ahead.is_whole();
+    outlook.ahead.mark(spot);
+    outlook.stops = outlook.stops.wrapping_add(1);
+    if node.ends {
+        outlook.worth.end(node.value);
+    } else {
+        outlook.worth.pass(node.value);
+    }
+}
+
+/// A stop ahead that counts as one that may be passed counts as one at which the run ends, if it is last. (It is
+/// kept out of line, so that the way to it stays short.)
+#[inline(never)]
+pub(crate) fn end_at(
+    task: &Task,
+    assigned: &Assigned,
+    run: &PartialRun,
+    spot: usize,
+    outlook: &mut Outlook,
+)
+    requires fit { IsFit task.now }
+    requires ready { AreReady task.now }
+    requires spot { spot < 744 }
+    requires lies { get_or outlook.old.ahead spot false ≡ true }
+    requires passed { CountsAsPassed task.now assigned.now run.now spot outlook.old.ahead
+        outlook.old.worth }
+    ensures same { outlook.new.ahead ≡ outlook.old.ahead }
+    ensures known { HasWorth task.now assigned.now run.now outlook.new.ahead outlook.new.worth }
+{
+    let node = &task.spots[spot];
+    if is_last(task, assigned, run, spot) {
+        outlook.worth.take_back(node.value);
+        outlook.worth.end(node.value);
     }
 }

@@ -1,13 +1,13 @@
 //! What has been found, and which states have been explored: a state from which no more can be earned than from one of
 //! these is not explored again.
 ghost use Rattle.std.specs.Prelude.{◌≡◌, ◌<◌, [], ◌∷◌, IsOk, IsTrue, None, length};
-ghost use Rattle.best_run.specs.Kept.{IsCovered, IsHeld, IsKept, IsNothing, unless_refused};
+ghost use Rattle.best_run.specs.Kept.{IsDominated, IsHeld, IsKept, IsNothing, unless_refused};
 ghost use Rattle.best_run.specs.Moves.{Traces};
 ghost use Rattle.best_run.specs.MovePath.{go_along};
 
 use crate::move_path::{Mark, MovePath};
 use crate::search_state::SearchState;
-use crate::steps::Steps;
+use search_task::Steps;
 use std::alloc::{AllocError, Global};
 use tables::Amount;
 
@@ -25,8 +25,8 @@ pub(crate) struct Found {
     pub(crate) amount: Amount,
     /// The moves that earn it.
     pub(crate) move_path: MovePath,
-    /// States that have been explored: no way on from there earns more. Each stands at one
-    /// place, in place of the one that stood there. There are no places at first, and twice as many each time
+    /// States that have been explored: no way on from there earns more. Each is at one
+    /// place, in place of the one that was there. There are no places at first, and twice as many each time
     /// that there are too few.
     pub(crate) memo: Vec<SearchState>,
     /// How often a state has been kept.
@@ -74,10 +74,10 @@ impl Found {
         }
     }
 
-    /// Whether a state that was explored is known to earn no less than another. It is not told of
-    /// all of them.
+    /// Whether a state that was explored is known to earn no less than another. It may be false
+    /// where that holds.
     pub(crate) fn dominates(&self, search_state: &SearchState) -> bool
-        ensures { IsTrue result → IsCovered self.now search_state.now }
+        ensures { IsTrue result → IsDominated self.now search_state.now }
     {
         let places = self.memo.len();
         if places == 0 {
@@ -86,9 +86,9 @@ impl Found {
         self.memo[search_state.place() % places].dominates(search_state)
     }
 
-    /// Makes the places twice as many; the states that stand in the first half stand in the other half, too,
-    /// where those are looked for whose place was the same. Before the first place there is the given state. The
-    /// only error is want of memory.
+    /// Makes the places twice as many; the states of the first half are in the other half, too, where those are
+    /// looked for whose place was the same. Before the first place there is the given state. It fails only if
+    /// memory is refused.
     fn widen(&mut self, search_state: &SearchState) -> Result<(), AllocError>
         ensures kept { IsKept search_state.now self.old self.new }
         ensures places { IsOk result → 0 < length self.new.memo.items }

@@ -1,4 +1,4 @@
-//! The trail: how the best found is earned. The moves that earn it are told by their marks, which are
+//! The path: how the best found is earned. The moves that earn it are told by their marks, which are
 //! written on the way back from the end, the last one first.
 ghost use Rattle.std.specs.Prelude.{◌≡◌, [], ◌∷◌, ◌++◌, None, Some};
 ghost use Rattle.best_run.specs.MovePath.{IsWritten, go_along, marks_in};
@@ -15,8 +15,8 @@ pub(crate) enum Mark {
     Go(Step),
     /// It turns back to where it began.
     Turn,
-    /// It is settled.
-    Settle,
+    /// It is finished.
+    Finish,
 }
 
 /// The marks of the moves that earn what has been found.

@@ -1,8 +1,8 @@
 ghost use Rattle.std.specs.Prelude.{◌≡◌, IfOk, false};
-ghost use Rattle.certificate.specs.Set.{IsGreatestMoney};
+ghost use Rattle.legal_runs.specs.Set.{IsGreatestMoney};
 
 use crate::revenue::greatest_revenue;
-use certificate::{Runner, RunnerFault};
+use legal_runs::{Runner, RunnerFault};
 use reach::Network;
 use std::alloc::{AllocError, Global};
 use tables::{Company, Kind, Money, Round};

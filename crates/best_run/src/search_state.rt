@@ -2,14 +2,14 @@
 ghost use Rattle.std.specs.Prelude.{◌≡◌, IsTrue};
 ghost use Rattle.best_run.specs.Kept.{DominatesAny, DominatesStage};
 
-use crate::bits::mixed_with;
-use crate::state::{PartialRun, Settled};
+use crate::state::{Assigned, PartialRun};
+use search_task::mixed_with;
 
 /// A state of the search: between runs, or with a run begun.
 #[derive(Drop)]
 pub(crate) struct SearchState {
-    /// The trains settled so far.
-    pub(crate) settled: Settled,
+    /// The trains assigned so far.
+    pub(crate) assigned: Assigned,
     /// The run that has begun; `None` between runs.
     pub(crate) run: Option<PartialRun>,
 }
@@ -38,28 +38,28 @@ impl SearchState {
             Some(run) => Some(run.copy()),
         };
         SearchState {
-            settled: self.settled.copy(),
+            assigned: self.assigned.copy(),
             run,
         }
     }
 
     /// Whether whatever may come after another state may come after this one as well, and as much is
-    /// earned. It is not told of all such states.
+    /// earned. It may be false where that holds.
     pub(crate) fn dominates(&self, other: &SearchState) -> bool
         ensures { IsTrue result → DominatesStage self.now other.now }
     {
-        self.settled.dominates(&other.settled)
-            && dominates_run(self.settled.kind, &self.run, &other.run)
+        self.assigned.dominates(&other.assigned)
+            && dominates_run(self.assigned.kind, &self.run, &other.run)
     }
 
     /// The place at which the state is kept. Any place would do: states that use the same borders and have visited the
     /// same stops share one.
     pub(crate) fn place(&self) -> usize {
         let mut sum = self
-            .settled
+            .assigned
             .used
-            .mixed()
-            .wrapping_add(self.settled.next as u64);
+            .mixed(0)
+            .wrapping_add(self.assigned.next as u64);
         if let Some(run) = &self.run {
             sum = run.visited.mixed(sum).wrapping_add(run.head as u64);
         }

@@ -1,16 +1,19 @@
 ghost use Rattle.std.specs.Prelude.{◌≡◌, ◌+◌, ◌-◌, ◌*◌, ◌^◌, ◌<◌, ◌≤◌, IsTrue, false, length, true};
-ghost use Rattle.best_run.specs.Fit.{BordersFit, IsFit};
-ghost use Rattle.best_run.specs.Kept.{Dominates, DominatesRun, Freer, IsBarred, TurnsAs};
-ghost use Rattle.best_run.specs.Moves.{along, begun, begun_by, can_take, left_after, marked_all, may_come, may_earn, may_settle, misses, node_at, own_before, passed, with_run_settled, stop_in, turned_back, using};
+ghost use Rattle.search_task.specs.Fit.{BordersFit, IsFit};
+ghost use Rattle.best_run.specs.Kept.{Dominates, DominatesRun, IsBarred, TurnsAs};
+ghost use Rattle.search_task.specs.Marks.{Freer};
+ghost use Rattle.best_run.specs.Moves.{along, begun, begun_by, can_take, left_after, may_come, may_earn, may_finish};
+ghost use Rattle.best_run.specs.Moves.{own_before, passed, with_run_finished, turned_back, using};
+ghost use Rattle.search_task.specs.Crossed.{marked_all, misses};
+ghost use Rattle.search_task.specs.Spots.{node_at, stop_in};
 
-use crate::bits::{BORDERS, Borders, Spots};
-use crate::task::{Segment, Task};
+use search_task::{BORDERS, Borders, Segment, Spots, Task};
 use tables::Amount;
 
-/// The trains settled so far.
+/// The trains assigned so far.
 #[derive(Drop)]
-pub(crate) struct Settled {
-    /// The first train that is not settled.
+pub(crate) struct Assigned {
+    /// The first train that is not assigned.
     pub(crate) next: usize,
     /// What the runs so far earn, in dollars.
     pub(crate) total: Amount,
@@ -31,7 +34,7 @@ pub(crate) struct PartialRun {
     pub(crate) first: usize,
     /// It has turned back to where it began, and goes on from there.
     pub(crate) turned: bool,
-    /// Where it stands.
+    /// Where it is.
     pub(crate) head: usize,
     /// The most stops of its train.
     pub(crate) most: usize,
@@ -43,7 +46,7 @@ pub(crate) struct PartialRun {
     pub(crate) visited: Spots,
 }
 
-impl Settled {
+impl Assigned {
     /// A law, which does nothing when it runs: each border has its mark.
     pub(crate) fn marks_all_borders(&self)
         ensures { length self.now.used ≡ 279 }
@@ -52,10 +55,10 @@ impl Settled {
     }
 
     /// The same state.
-    pub(crate) fn copy(&self) -> Settled
+    pub(crate) fn copy(&self) -> Assigned
         ensures { result ≡ self.now }
     {
-        Settled {
+        Assigned {
             next: self.next,
             total: self.total,
             kind: self.kind,
@@ -65,8 +68,8 @@ impl Settled {
     }
 
     /// Whether each run that may come after another state may come after this one as well, and as much
-    /// is earned. It is not told of all such states.
-    pub(crate) fn dominates(&self, other: &Settled) -> bool
+    /// is earned. It may be false where that holds.
+    pub(crate) fn dominates(&self, other: &Assigned) -> bool
         ensures { IsTrue result → Dominates self.now other.now }
     {
         self.next == other.next
@@ -77,11 +80,11 @@ impl Settled {
     }
 
     /// The next train does not run.
-    pub(crate) fn passed(&self) -> Settled
+    pub(crate) fn passed(&self) -> Assigned
         requires { self.now.next < 2 ^ 63 }
         ensures { result ≡ passed self.now }
     {
-        Settled {
+        Assigned {
             next: self.next + 1,
             total: self.total,
             kind: self.kind,
@@ -97,13 +100,13 @@ impl Settled {
         self.kind == 0 || self.kind != run.most || run.value <= self.cap
     }
 
-    /// The run begun is settled.
-    pub(crate) fn with_run_settled(&self, run: &PartialRun) -> Settled
+    /// The run begun is finished.
+    pub(crate) fn with_run_finished(&self, run: &PartialRun) -> Assigned
         requires next { self.now.next < 2 ^ 63 }
         requires room { self.now.total + run.now.value ≤ 44640 }
-        ensures { result ≡ with_run_settled self.now run.now }
+        ensures { result ≡ with_run_finished self.now run.now }
     {
-        Settled {
+        Assigned {
             next: self.next + 1,
             total: self.total + run.value,
             kind: run.most,
@@ -113,12 +116,12 @@ impl Settled {
     }
 
     /// The borders of a segment are used.
-    pub(crate) fn using(&self, segment: &Segment) -> Settled
+    pub(crate) fn using(&self, segment: &Segment) -> Assigned
         ensures using { result ≡ using self.now segment.now }
         ensures whole { length self.now.used ≡ 279 }
     {
         self.used.is_whole();
-        Settled {
+        Assigned {
             next: self.next,
             total: self.total,
             kind: self.kind,
@@ -136,7 +139,8 @@ impl PartialRun {
         self.by(self.first)
     }
 
-    /// Whether the run may go on as another one may, and earns no less then. It is not told of all such runs.
+    /// Whether the run may go on as another one may, and earns no less then. It may be false where that
+    /// holds.
     pub(crate) fn dominates(&self, other: &PartialRun) -> bool
         ensures { IsTrue result → DominatesRun self.now other.now }
     {
@@ -204,7 +208,7 @@ impl PartialRun {
         }
     }
 
-    /// Whether the run may come to a stop.
+    /// Whether the run may reach a stop.
     fn may_come(&self, stop: usize) -> bool
         requires { stop < 744 }
         ensures { result ≡ may_come true self.now stop }
@@ -220,87 +224,90 @@ fn left_after(stop: bool, left: usize) -> usize
     if stop { left.saturating_sub(1) } else { left }
 }
 
-impl Task {
-    /// Whether a run may take a segment to a stop.
-    pub(crate) fn can_take(&self, run: &PartialRun, settled: &Settled, segment: &Segment) -> bool
-        requires to { segment.now.to < 744 }
-        requires stop { stop_in (node_at self.now segment.now.to) ≡ true }
-        ensures { result ≡ can_take self.now run.now settled.now.used segment.now }
-    {
-        run.may_come(segment.to) && segment.borders.misses(&settled.used)
-    }
+/// Whether a run may take a segment to a stop.
+pub(crate) fn can_take(
+    task: &Task,
+    run: &PartialRun,
+    assigned: &Assigned,
+    segment: &Segment,
+) -> bool
+    requires to { segment.now.to < 744 }
+    requires stop { stop_in (node_at task.now segment.now.to) ≡ true }
+    ensures { result ≡ can_take task.now run.now assigned.now.used segment.now }
+{
+    run.may_come(segment.to) && segment.borders.misses(&assigned.used)
+}
 
-    /// Marks a spot behind those before it, if the company has a token there.
-    pub(crate) fn mark_own(&self, number: usize, marks: &mut Spots)
-        requires fit { IsFit self.now }
-        requires number { number < 744 }
-        requires before { marks.old ≡ own_before self.now number }
-        ensures { marks.new ≡ own_before self.now (number + 1) }
-    {
-        if self.spots[number].own {
-            marks.mark(number);
-        }
+/// Marks a spot behind those before it, if the company has a token there.
+pub(crate) fn mark_own(task: &Task, number: usize, marks: &mut Spots)
+    requires fit { IsFit task.now }
+    requires number { number < 744 }
+    requires before { marks.old ≡ own_before task.now number }
+    ensures { marks.new ≡ own_before task.now (number + 1) }
+{
+    if task.spots[number].own {
+        marks.mark(number);
     }
+}
 
-    /// A run that stands at the token where it begins, by the segment at a place. The tokens before that one
-    /// are given.
-    pub(crate) fn begun(
-        &self,
-        settled: &Settled,
-        stop: usize,
-        first: usize,
-        before: &Spots,
-    ) -> PartialRun
-        requires fit { IsFit self.now }
-        requires stop { stop < 744 }
-        requires next { settled.now.next < length self.now.trains.items }
-        requires before { before.now ≡ own_before self.now stop }
-        ensures { result ≡ begun self.now settled.now stop first }
-    {
-        let mut visited = before.copy();
-        visited.mark(stop);
-        PartialRun {
-            home: stop,
-            first,
-            turned: false,
-            head: stop,
-            most: self.trains[settled.next],
-            left: self.trains[settled.next].saturating_sub(1),
-            value: self.spots[stop].value,
-            visited,
-        }
+/// A run that is at the token where it begins, by the segment at a place. The tokens before that one
+/// are given.
+pub(crate) fn begun(
+    task: &Task,
+    assigned: &Assigned,
+    stop: usize,
+    first: usize,
+    before: &Spots,
+) -> PartialRun
+    requires fit { IsFit task.now }
+    requires stop { stop < 744 }
+    requires next { assigned.now.next < length task.now.trains.items }
+    requires before { before.now ≡ own_before task.now stop }
+    ensures { result ≡ begun task.now assigned.now stop first }
+{
+    let mut visited = before.copy();
+    visited.mark(stop);
+    PartialRun {
+        home: stop,
+        first,
+        turned: false,
+        head: stop,
+        most: task.trains[assigned.next],
+        left: task.trains[assigned.next].saturating_sub(1),
+        value: task.spots[stop].value,
+        visited,
     }
+}
 
-    /// Whether a run may be settled.
-    pub(crate) fn may_settle(&self, settled: &Settled, run: &PartialRun) -> bool
-        requires fit { IsFit self.now }
-        requires head { run.now.head < 744 }
-        ensures { result ≡ may_settle self.now settled.now run.now }
-    {
-        self.spots[run.head].stop && settled.may_earn(run)
+/// Whether a run may be finished.
+pub(crate) fn may_finish(task: &Task, assigned: &Assigned, run: &PartialRun) -> bool
+    requires fit { IsFit task.now }
+    requires head { run.now.head < 744 }
+    ensures { result ≡ may_finish task.now assigned.now run.now }
+{
+    task.spots[run.head].stop && assigned.may_earn(run)
+}
+
+/// A run after a segment.
+pub(crate) fn along(task: &Task, run: &PartialRun, segment: &Segment) -> PartialRun
+    requires fit { IsFit task.now }
+    requires to { segment.now.to < 744 }
+    requires room { run.now.value ≤ 50000 }
+    ensures { result ≡ along task.now run.now segment.now }
+{
+    let node = &task.spots[segment.to];
+    let mut visited = run.visited.copy();
+    if node.stop {
+        visited.mark(segment.to);
     }
-
-    /// A run after a segment.
-    pub(crate) fn along(&self, run: &PartialRun, segment: &Segment) -> PartialRun
-        requires fit { IsFit self.now }
-        requires to { segment.now.to < 744 }
-        requires room { run.now.value ≤ 50000 }
-        ensures { result ≡ along self.now run.now segment.now }
-    {
-        let node = &self.spots[segment.to];
-        let mut visited = run.visited.copy();
-        if node.stop {
-            visited.mark(segment.to);
-        }
-        PartialRun {
-            home: run.home,
-            first: run.first,
-            turned: run.turned,
-            head: segment.to,
-            most: run.most,
-            left: left_after(node.stop, run.left),
-            value: run.value + node.value,
-            visited,
-        }
+    PartialRun {
+        home: run.home,
+        first: run.first,
+        turned: run.turned,
+        head: segment.to,
+        most: run.most,
+        left: left_after(node.stop, run.left),
+        value: run.value + node.value,
+        visited,
     }
 }

@@ -24,7 +24,7 @@ pub(crate) struct Worth {
 }
 
 impl Worth {
-    /// That of no stop, for so many levels.
+    /// That of no stop, for this many levels.
     pub(crate) fn nothing(levels: usize) -> Worth
         ensures levels { result.levels ≡ levels }
         ensures beyond { (place : ℕ) → get_or result.beyond place 0 ≡ 0 }
@@ -79,7 +79,7 @@ impl Worth {
     }
 
     /// What the stops at which runs end are worth at most beyond a level, in dollars, to a run that may go on from
-    /// where it stands, and from where it began.
+    /// where it is, and from where it began.
     fn ends(&self, level: Amount, on: bool, back: bool) -> Amount
         requires first { self.now.first ≤ 80 }
         requires second { self.now.second ≤ self.now.first }
@@ -94,8 +94,8 @@ impl Worth {
         if on || back { first } else { 0 }
     }
 
-    /// What a run may earn at most by the level at a place, in dollars: with so many stops left, if it may go on from
-    /// where it stands, and from where it began.
+    /// What a run may earn at most by the level at a place, in dollars: with this many stops left, if it may go on
+    /// from where it is, and from where it began.
     fn at_level(&self, place: usize, left: Amount, on: bool, back: bool) -> Amount
         requires place { place < self.now.levels }
         requires few { self.now.levels ≤ 9 }

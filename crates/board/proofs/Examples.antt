@@ -2,11 +2,13 @@
 use Rattle.std.proofs.Common.{◌≡◌, refl, inl, inr, true, false, [], ◌∷◌, Some, pos, Ok, Err}
 use Rattle.board.specs.Example.{WorkedExamples, beginner, city_beside, erie_at_home, pennsylvania_at_home, tile_59}
 use Rattle.map_tables.specs.Fit.{has_bad_side, is_wrong_kind}
-use Rattle.board.specs.MapState.{position_of, with_lay}
+use Rattle.board_state.specs.MapState.{position_of, with_lay}
 use Rattle.map_tables.specs.OnMap.{tile_on}
-use Rattle.board.specs.LayRules.{IsConnected, cost_or, map_rules, is_blocked, is_colour_closed, is_lay_used, is_none_left, is_wrong_colour, lay_cost_of, lay_rules, loses_track, on_map_of}
+use Rattle.board.specs.LayRules.{IsConnected, cost_or, map_rules, is_blocked, is_colour_closed, is_lay_used}
+use Rattle.board.specs.LayRules.{is_none_left, is_wrong_colour, lay_cost_of, lay_rules, loses_track, on_map_of}
 use Rattle.board.specs.Powers.{is_cs_lay, is_dh_lay, is_dh_token}
-use Rattle.board.specs.TokenRules.{IsReachedPlace, has_none_left, has_token_in, is_no_free_slot, is_token_used, kept_at, laid_by, token_cost_of, token_rules}
+use Rattle.board.specs.TokenRules.{IsReachedPlace, has_none_left, has_token_in, is_no_free_slot, is_token_used, kept_at}
+use Rattle.board.specs.TokenRules.{laid_by, token_cost_of, token_rules}
 use Rattle.map_tables.specs.declared.rules.LayRule.TheVariants.{ColourClosed}
 use Rattle.map_tables.specs.declared.rules.TokenRule.TheVariants.{CashTooSmall}
 use Rattle.board.proofs.LayAnswers.{broken_before}
@@ -45,7 +47,7 @@ connected : IsConnected (position_of (with_lay (erie_at_home Three) (tile_59 tru
 unfolding position_of tile_on index_of groups plain_hexes print_of printed hexes
 connected = record { piece = inr (First, inl (refl, inl refl)) }
 
--- the Pennsylvania leaves its home to the west, and comes to the city from the east
+-- the Pennsylvania leaves its home to the west, and reaches the city from the east
 out_of_home : Step
 out_of_home = record { link = record { hex = H12; a = AtSide West; b = AtStop First }; turned = true }
 

@@ -1,15 +1,17 @@
 -- What keeps what lies fit.
-use Rattle.std.proofs.Common.{◌≡◌, ◌∙◌, ap, sym, subst, refl, ◌+◌, ◌≤◌, inl, inr, true, false, cond, List, [], ◌∷◌, ◌++◌, Some, None, arith}
+use Rattle.std.proofs.Common.{◌≡◌, ◌∙◌, ap, sym, subst, refl, ◌+◌, ◌≤◌, inl, inr, true, false, cond, List, [], ◌∷◌}
+use Rattle.std.proofs.Common.{◌++◌, Some, None, arith}
 use Rattle.std.proofs.lemmas.Bool.{or_parts}
 use Rattle.std.proofs.lemmas.List.Sums.{sum_by_push}
-use Rattle.board.specs.MapState.{MapState, with_lay, with_token}
+use Rattle.board_state.specs.MapState.{MapState, with_lay, with_token}
 use Rattle.board.specs.Homes.{Fits, FitsWithoutHomes, HomeKeepsFit, LayKeepsFit, TokenKeepsFit}
 use Rattle.board.specs.LayRules.{map_rules, is_wrong_colour}
 use Rattle.board.specs.TokenRules.{is_full_at, is_no_free_slot, kept_at, slot_rules}
 use Rattle.board.specs.declared.asker.Asker.{Asker}
-use Rattle.board.proofs.Fitting.{named, no_fault, none_push, room, slots_for_all}
+use Rattle.board_state.proofs.Fitting.{named, no_fault, none_push, room, slots_for_all}
 use Rattle.board.proofs.Growing.{stop_grows}
-use Rattle.board.proofs.KeptHomes.{among_append, among_first, free_where, home_named, home_takes_kept, home_there, homes_take, homes_take_no_more, kept_less, place_named}
+use Rattle.board.proofs.KeptHomes.{among_append, among_first, free_where, home_named, home_takes_kept, home_there}
+use Rattle.board.proofs.KeptHomes.{homes_take, homes_take_no_more, kept_less, place_named}
 use Rattle.map_tables.specs.Fit.{AreFit, has_bad_side, is_wrong_kind, home_token, homes_to_come}
 use Rattle.map_tables.specs.Home.{home_of}
 use Rattle.map_tables.specs.OnMap.{names, slots_at, taken_at}

@@ -1,5 +1,6 @@
 -- The slots of a city never become fewer by a tile of its kind and next colour.
-use Rattle.std.proofs.Common.{◌≡◌, ◌∙◌, ap, sym, subst, refl, ℕ, ◌+◌, ◌≤◌, ◌||◌, Bool, true, false, not, cond, leb, List, [], ◌∷◌, ◌++◌, get_or, reverse, Some, None, arith}
+use Rattle.std.proofs.Common.{◌≡◌, ◌∙◌, ap, sym, subst, refl, ℕ, ◌+◌, ◌≤◌, ◌||◌, Bool, true, false, not, cond, leb}
+use Rattle.std.proofs.Common.{List, [], ◌∷◌, ◌++◌, get_or, reverse, Some, None, arith}
 use Rattle.std.proofs.lemmas.Bool.{eqb-true, leb-true, le-leb, or_parts}
 use Rattle.std.proofs.lemmas.List.Sorted.{IsPermutation-reverse, list_any-IsPermutation}
 use Rattle.std.specs.List.{find, list_any}
@@ -7,8 +8,7 @@ use Rattle.std.specs.Prelude.{◌==◌}
 use Rattle.map_tables.specs.Fit.{is_wrong_kind, place_of_tile_kind, takes}
 use Rattle.map_tables.specs.OnMap.{by_tile, colour_on, is_stop, slots_at, slots_on, tile_on}
 use Rattle.board.specs.LayRules.{is_wrong_colour, place_of_colour}
-use Rattle.board.proofs.Same.{hex_is}
-use Rattle.board.proofs.Tiles.{last_lies, lies_there}
+use Rattle.board_state.proofs.Tiles.{last_lies, lies_there}
 use Rattle.map_tables.specs.Hex.{index_of, same_hex}
 use Rattle.map_tables.specs.Place.{joined_stop_of}
 use Rattle.map_tables.specs.Print.{Print, groups, plain_hexes, print_of}
@@ -25,6 +25,7 @@ use Rattle.map_tables.specs.declared.tiles.TileKind.{TileKind}
 use Rattle.map_tables.specs.declared.tiles.TileKind.TheVariants.{Plain, Town, TwoTowns, City, CityB, CitiesNY, CitiesOO}
 use Rattle.map_tables.specs.declared.tiles.TileNo.{TileNo}
 use Rattle.map_tables.specs.declared.tiles.TileNo.TheVariants.{T1}
+use Rattle.map_tables.proofs.HexTables.{same_hex-true}
 
 -- the slots of a city by its colour
 city_slots : Colour → ℕ
@@ -128,7 +129,7 @@ slots_are lays hex kind open_kind right =
       | None ↦ λ e. eqb-true (print_of hex).slots (slots_by kind (print_of hex).colour)
           (ap (λ k. as_printed k (print_of hex)) (sym open_kind) ∙ of_print hex)
       | Some lay ↦ λ e.
-          let there : lay.hex ≡ hex = hex_is lay.hex hex (lies_there lays hex lay e) in
+          let there : lay.hex ≡ hex = same_hex-true lay.hex hex (lies_there lays hex lay e) in
           let own = kind_is lay (on_map_right lays hex lay right e) in
           let same : Open (entry_of lay.tile).kind ≡ Open kind =
           sym own ∙ ap (λ (h : Hex). (print_of h).kind) there ∙ open_kind in
@@ -204,7 +205,7 @@ hex_grows lays lay hex right own next =
     subst (λ on_map. slots_on lays hex ≤ slots on_map) (sym (last_lies lays lay hex)) (
     (elim (same_hex lay.hex hex) as (λ b. same_hex lay.hex hex ≡ b
     → slots_on lays hex ≤ slots (cond b (Some lay) (tile_on lays hex))) [
-      | true ↦ λ same. subst (λ (h : Hex). slots_on lays h ≤ (entry_of lay.tile).slots) (hex_is lay.hex hex same)
+      | true ↦ λ same. subst (λ (h : Hex). slots_on lays h ≤ (entry_of lay.tile).slots) (same_hex-true lay.hex hex same)
           (grows lays lay right own next)
       | false ↦ λ other. omega arith
     ]) refl

@@ -1,11 +1,13 @@
--- The index of a board tells what lies, and goes on to do so as tiles and tokens are laid.
-use Rattle.std.proofs.Common.{◌≡◌, ◌∙◌, ◌≢◌, ap, sym, subst, refl, ℕ, zero, suc, ◌+◌, ◌<◌, ◌≤◌, ◌&&◌, ◌||◌, Bool, true, false, cond, List, [], ◌∷◌, ◌++◌, Option, Some, None, length, map, get_or, set, replicate, arith, get_or-set_same, get_or-set_other}
-use Rattle.std.proofs.lemmas.Bool.{eq-eqb, eqb-true, eqb-false}
+-- The index of a board has what lies, and goes on to have it as tiles and tokens are laid.
+use Rattle.std.proofs.Common.{◌≡◌, ◌∙◌, ◌≢◌, ap, sym, subst, refl, ℕ, zero, suc, ◌+◌, ◌<◌, ◌≤◌, ◌&&◌, ◌||◌, Bool, true}
+use Rattle.std.proofs.Common.{false, cond, List, [], ◌∷◌, ◌++◌, Option, Some, None, length, map, get_or, set, replicate}
+use Rattle.std.proofs.Common.{arith, get_or-set_same, get_or-set_other}
+use Rattle.std.proofs.lemmas.Bool.{and_parts, eq-eqb, eqb-true, eqb-false}
 use Rattle.std.proofs.lemmas.List.Folds.{list_any-append}
 use Rattle.std.proofs.lemmas.List.Sums.{sum_by-append, count_by-le-length}
 use Rattle.std.specs.List.{count_by, list_any}
-use Rattle.board.proofs.Same.{stop_is, stop_is_same}
-use Rattle.board.proofs.Tiles.{last_lies}
+use Rattle.board_state.proofs.Same.{or_true, stop_is, stop_is_same}
+use Rattle.board_state.proofs.Tiles.{last_lies}
 use Rattle.board.specs.Index.{IsIndex, counting, holding, holder_order}
 use Rattle.map_tables.specs.Hex.{index_of, same_hex}
 use Rattle.map_tables.specs.Lay.{laid_links_of}
@@ -29,12 +31,12 @@ all_one zero i x = refl
 all_one (suc n) zero x = refl
 all_one (suc n) (suc i) x = all_one n i x
 
--- and so has what is told of it
-pub all_told : {A B : Type 0} (tell : A → B) (n : ℕ) (x : A) (y : B) → tell x ≡ y
-    → map tell (replicate n x) ≡ replicate n y
-all_told tell zero x y is = refl
-all_told tell (suc n) x y is = ap (λ told. tell x ∷ told) (all_told tell n x y is)
-    ∙ ap (λ told. told ∷ replicate n y) is
+-- and so has what each thing is mapped to
+pub all_mapped : {A B : Type 0} (f : A → B) (n : ℕ) (x : A) (y : B) → f x ≡ y
+    → map f (replicate n x) ≡ replicate n y
+all_mapped f zero x y is = refl
+all_mapped f (suc n) x y is = ap (λ items. f x ∷ items) (all_mapped f n x y is)
+    ∙ ap (λ items. items ∷ replicate n y) is
 
 -- before anything is laid
 pub index_of_none : (tiles : List (Option Lay)) (links : List (List Link)) (counts : List ℕ) (holders : List Bool)
@@ -134,14 +136,6 @@ holder_apart a b of other apart same =
     let company : same_company of other ≡ true = eq-eqb (place_of_company of) (place_of_company other) places in
     let wrong : true ≡ false = sym (ap (λ s. s && same_company of other) alike ∙ company) ∙ apart in cc
 
-both_true : (x y : Bool) → (x && y) ≡ true → (x ≡ true) × (y ≡ true)
-both_true true y is = (refl, is)
-both_true false y is = cc
-
-or_one : (x : Bool) → (x || true) ≡ true
-or_one true = refl
-or_one false = refl
-
 or_none : (x : Bool) → (x || false) ≡ x
 or_none true = refl
 or_none false = refl
@@ -153,13 +147,13 @@ holder_next : (holders : List Bool) (part : Stop) (of : Company) (stop : Stop) (
     → get_or (holding (Some part) of holders) (holder_order stop company) false
     ≡ (get_or holders (holder_order stop company) false || same)
 holder_next holders part of stop company low true is =
-    let both : (same_stop (joined_stop_of part) stop ≡ true) × (same_company of company ≡ true) = both_true _ _ is in
+    let both : (same_stop (joined_stop_of part) stop ≡ true) × (same_company of company ≡ true) = and_parts _ _ is in
     subst (λ (s : Stop). get_or (holding (Some part) of holders) (holder_order s company) false
     ≡ (get_or holders (holder_order s company) false || true)) (stop_is (joined_stop_of part) stop both.0)
     (subst (λ (c : Company). get_or (holding (Some part) of holders) (holder_order (joined_stop_of part) c) false
     ≡ (get_or holders (holder_order (joined_stop_of part) c) false || true)) (company_is of company both.1)
     (get_or-set_same holders (holder_order (joined_stop_of part) of) true false low
-    ∙ sym (or_one (get_or holders (holder_order (joined_stop_of part) of) false))))
+    ∙ sym (or_true (get_or holders (holder_order (joined_stop_of part) of) false))))
 holder_next holders part of stop company low false is =
     get_or-set_other holders (holder_order (joined_stop_of part) of) (holder_order stop company) true false
     (holder_apart (joined_stop_of part) stop of company is)

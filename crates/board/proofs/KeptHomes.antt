@@ -1,14 +1,15 @@
 -- Home tokens that are still to come take the slots that are kept.
-use Rattle.std.proofs.Common.{◌≡◌, ◌∙◌, ap, sym, subst, refl, ◌+◌, ◌<◌, ◌≤◌, ◌⊎◌, inl, inr, ◌&&◌, ◌||◌, Bool, true, false, not, cond, List, [], ◌∷◌, ◌++◌, map, Option, Some, None, arith}
+use Rattle.std.proofs.Common.{◌≡◌, ◌∙◌, ap, sym, subst, refl, ◌+◌, ◌<◌, ◌≤◌, ◌⊎◌, inl, inr, ◌&&◌, ◌||◌, Bool, true}
+use Rattle.std.proofs.Common.{false, not, cond, List, [], ◌∷◌, ◌++◌, map, Option, Some, None, arith}
 use Rattle.std.proofs.lemmas.Bool.{and_parts, leb-false}
 use Rattle.std.proofs.lemmas.List.Folds.{list_any-append}
 use Rattle.std.proofs.lemmas.List.Sums.{sum_by-append, sum_by-cons, sum_by-le-sum_by}
 use Rattle.std.specs.List.{count_by, filter, list_any}
-use Rattle.board.specs.MapState.{MapState}
+use Rattle.board_state.specs.MapState.{MapState}
 use Rattle.map_tables.specs.OnMap.{has_token, is_part_of, is_stop, names, same_stop, slots_at, slots_on, taken_at}
 use Rattle.map_tables.specs.Fit.{home_token, homes_to_come}
 use Rattle.board.specs.TokenRules.{is_full_at, is_kept_for, kept_at}
-use Rattle.board.proofs.Same.{or_true, stop_is, stop_is_same}
+use Rattle.board_state.proofs.Same.{or_true, stop_is, stop_is_same}
 use Rattle.map_tables.specs.Home.{home_of}
 use Rattle.map_tables.specs.Place.{joined_stop_of, stop_of}
 use Rattle.map_tables.specs.declared.place.Place.{Place}
@@ -17,7 +18,8 @@ use Rattle.reach.specs.Position.{IsAmong}
 use Rattle.tables.proofs.Companies.{company_is_same}
 use Rattle.tables.specs.Roster.{companies, same_company}
 use Rattle.tables.specs.declared.roster.Company.{Company}
-use Rattle.tables.specs.declared.roster.Company.TheVariants.{Pennsylvania, NewYorkCentral, CanadianPacific, BaltimoreOhio, ChesapeakeOhio, Erie, NewHaven, BostonMaine}
+use Rattle.tables.specs.declared.roster.Company.TheVariants.{Pennsylvania, NewYorkCentral, CanadianPacific}
+use Rattle.tables.specs.declared.roster.Company.TheVariants.{BaltimoreOhio, ChesapeakeOhio, Erie, NewHaven, BostonMaine}
 
 -- an element of two lists joined
 pub among_append : {A : Type 0} (xs ys : List A) (x : A) → IsAmong x (xs ++ ys) → IsAmong x xs ⊎ IsAmong x ys

@@ -1,6 +1,6 @@
 -- The answer to a lay that breaks a rule.
 use Rattle.std.proofs.Common.{◌≡◌, ◌∙◌, ap, sym, true, Some, None, Err}
-use Rattle.board.specs.MapState.{MapState}
+use Rattle.board_state.specs.MapState.{MapState}
 use Rattle.board.specs.LayRules.{IsLayAnswer, cost_or, map_rules, lay_cost_of, reach_rules}
 use Rattle.board.specs.declared.asker.Asker.{Asker}
 use Rattle.board.proofs.RuleTables.{earlier}
@@ -8,7 +8,7 @@ use Rattle.map_tables.specs.declared.lay.Lay.{Lay}
 use Rattle.map_tables.specs.declared.rules.LayRule.{LayRule}
 use Rattle.tables.specs.Rules.{first_broken}
 
--- a rule that stands before what is reached
+-- a rule that comes before what is reached
 pub broken_before : (laid : MapState) (asker : Asker) (lay : Lay) (rule : LayRule)
     → Some rule ≡ first_broken (map_rules laid asker lay) → IsLayAnswer laid asker lay (Err rule)
 broken_before laid asker lay rule e =

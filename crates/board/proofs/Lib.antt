@@ -1,17 +1,10 @@
-pub mod Same
-pub mod Positions
-pub mod Tokens
-pub mod Tiles
 pub mod Indexed
-pub mod Lawfulness
 pub mod Searches
 pub mod Connected
 pub mod RuleTables
 pub mod LayAnswers
-pub mod Fitting
 pub mod Growing
 pub mod FitLaws
 pub mod KeptHomes
 pub mod Stocked
-pub mod Parts
 pub mod Examples

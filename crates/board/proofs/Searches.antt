@@ -1,13 +1,15 @@
 -- Searches through a list, one element after another, for one of which something holds.
-use Rattle.std.proofs.Common.{◌≡◌, sym, subst, ℕ, ◌+◌, ◌<◌, ◌≤◌, inl, inr, true, false, List, length, take, get_or, refl}
+use Rattle.std.proofs.Common.{◌≡◌, sym, subst, ℕ, ◌+◌, ◌<◌, ◌≤◌, inl, inr, true, false, List, length, take, get_or}
+use Rattle.std.proofs.Common.{refl}
 use Rattle.std.proofs.lemmas.List.{take_all}
 use Rattle.map_tables.specs.OnMap.{same_stop}
 use Rattle.board.specs.LayRules.{HaveStopIn}
-use Rattle.board.proofs.Same.{hex_is, hex_is_same, stop_is, stop_is_same}
+use Rattle.board_state.proofs.Same.{stop_is, stop_is_same}
 use Rattle.map_tables.specs.Hex.{same_hex}
 use Rattle.map_tables.specs.Place.{stop_at}
 use Rattle.map_tables.specs.declared.hex.Hex.{Hex}
 use Rattle.map_tables.specs.declared.place.Stop.{Stop}
+use Rattle.map_tables.proofs.HexTables.{same_hex-same, same_hex-true}
 use Rattle.reach.proofs.Lists.{among_at, among_next}
 use Rattle.reach.specs.Position.{IsAmong}
 
@@ -23,13 +25,13 @@ pub none_all : {A : Type 0} (P : A → Type 0) (xs : List A) (i : ℕ) → lengt
     → ((x : A) → IsAmong x (take i xs) → P x → ⊥) → (x : A) → IsAmong x xs → P x → ⊥
 none_all P xs i over none x among holds = none x (subst (λ ys. IsAmong x ys) (sym (take_all i xs over)) among) holds
 
--- a stop in the hex stands at an index
+-- a stop in the hex has an index
 pub hex_found : (stops : List Stop) (i : ℕ) (d : Stop) (hex : Hex) → i < length stops
     → same_hex (get_or stops i d).hex hex ≡ true → HaveStopIn hex stops
 hex_found stops i d hex low same =
     let stop = get_or stops i d in (
       stop.number,
-      subst (λ (h : Hex). IsAmong (stop_at h stop.number) stops) (hex_is stop.hex hex same)
+      subst (λ (h : Hex). IsAmong (stop_at h stop.number) stops) (same_hex-true stop.hex hex same)
           (among_at stops i d low),
     )
 
@@ -39,7 +41,7 @@ pub hex_next : (stops : List Stop) (i : ℕ) (d : Stop) (hex : Hex) → i < leng
     → (stop : Stop) → IsAmong stop (take (i + 1) stops) → stop.hex ≡ hex → ⊥
 hex_next stops i d hex low none other =
     none_next (λ (stop : Stop). stop.hex ≡ hex) stops i d low none
-    (λ is. let same : same_hex (get_or stops i d).hex hex ≡ true = hex_is_same (get_or stops i d).hex hex is in cc)
+    (λ is. let same : same_hex (get_or stops i d).hex hex ≡ true = same_hex-same (get_or stops i d).hex hex is in cc)
 
 -- no stop is in the hex
 pub hex_none : (stops : List Stop) (i : ℕ) (hex : Hex) → length stops ≤ i

@@ -1,5 +1,6 @@
 -- A lay takes one tile from the stock at most.
-use Rattle.std.proofs.Common.{◌≡◌, ◌∙◌, ap, sym, subst, refl, ◌+◌, ◌≤◌, ◌⊎◌, inl, inr, Bool, true, false, cond, List, [], ◌∷◌, ◌++◌, get_or, Some, arith}
+use Rattle.std.proofs.Common.{◌≡◌, ◌∙◌, ap, sym, subst, refl, ◌+◌, ◌≤◌, ◌⊎◌, inl, inr, Bool, true, false, cond, List}
+use Rattle.std.proofs.Common.{[], ◌∷◌, ◌++◌, get_or, Some, arith}
 use Rattle.std.proofs.lemmas.Bool.{eqb-true, leb-false}
 use Rattle.std.proofs.lemmas.List.Sums.{sum_by-cons}
 use Rattle.std.specs.List.{count_by}
@@ -8,7 +9,7 @@ use Rattle.map_tables.specs.OnMap.{tile_on}
 use Rattle.board.specs.LayRules.{map_rules, is_none_left, is_tile, on_map_of}
 use Rattle.board.specs.Stock.{LayKeepsStock}
 use Rattle.board.proofs.KeptHomes.{count_le}
-use Rattle.board.proofs.Tiles.{last_lies}
+use Rattle.board_state.proofs.Tiles.{last_lies}
 use Rattle.map_tables.specs.Hex.{hexes, index_of, same_hex}
 use Rattle.map_tables.specs.Tile.{entry_of, tile_index_of, tiles}
 use Rattle.map_tables.specs.declared.hex.Hex.{Hex}
@@ -18,7 +19,7 @@ use Rattle.map_tables.specs.declared.tiles.TileNo.{TileNo}
 use Rattle.map_tables.specs.declared.tiles.TileNo.TheVariants.{T1}
 use Rattle.tables.proofs.Rules.{none_broken}
 
--- a tile stands at its place
+-- a tile is at its place
 at_place : (tile : TileNo) → get_or tiles (tile_index_of tile) T1 ≡ tile
 unfolding tiles tile_index_of
 at_place T1 = refl

@@ -3,7 +3,7 @@
 -- token is reached. The Pennsylvania has its token at home in H12, and a yellow city lies on H10 beside it.
 -- A token there costs 40: with 39 it can't be placed, with 40 it can.
 use Rattle.std.specs.Prelude.{Bool, true, false, [], ◌∷◌, Some, Ok, Err, ℤ, pos, replicate}
-use Rattle.board.specs.MapState.{MapState, map_state_of}
+use Rattle.board_state.specs.MapState.{MapState, map_state_of}
 use Rattle.board.specs.LayRules.{IsLayAnswer}
 use Rattle.board.specs.TokenRules.{IsTokenAnswer}
 use Rattle.board.specs.declared.asker.Asker.{Asker}

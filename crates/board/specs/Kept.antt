@@ -1,4 +1,4 @@
--- The links of a hex that are kept as a value: so many of those that stand there.
+-- The links of a hex that are kept as a value: a number of them, the first of those in it.
 use Rattle.std.specs.Prelude.{List, take}
 use Rattle.board.specs.declared.kept.KeptLinks.{KeptLinks}
 use Rattle.map_tables.specs.declared.track.Link.{Link}

@@ -4,11 +4,12 @@
 -- hex; no bad side; a hex of no private that a player owns; some piece of the tile reached in the position after
 -- the lay, which CS's lay and DH's do not need; and the cash for the terrain, which is paid with the first tile
 -- of a hex.
-use Rattle.std.specs.Prelude.{◌≡◌, ℕ, ◌+◌, ◌==◌, ◌&&◌, ◌||◌, ◌⊎◌, ◌↔◌, Bool, false, not, nat_lt, nat_le, IsTrue, List, [], ◌∷◌, ◌++◌, Option, Some, None, Result, Ok, Err, ℤ, pos, slice_index_or, count_by}
+use Rattle.std.specs.Prelude.{◌≡◌, ℕ, ◌+◌, ◌==◌, ◌&&◌, ◌||◌, ◌⊎◌, ◌↔◌, Bool, false, not, nat_lt, nat_le, IsTrue, List}
+use Rattle.std.specs.Prelude.{[], ◌∷◌, ◌++◌, Option, Some, None, Result, Ok, Err, ℤ, pos, slice_index_or, count_by}
 use Rattle.std.specs.Int.Signed.{lt_z}
 use Rattle.std.specs.List.{list_any}
 use Rattle.map_tables.specs.Fit.{has_bad_side, is_open, is_wrong_kind}
-use Rattle.board.specs.MapState.{MapState, position_of, with_lay}
+use Rattle.board_state.specs.MapState.{MapState, position_of, with_lay}
 use Rattle.map_tables.specs.OnMap.{by_tile, colour_on, links_on, tile_on}
 use Rattle.board.specs.Powers.{is_cs_lay, is_dh_lay}
 use Rattle.board.specs.Turn.{place_of_step}
@@ -42,7 +43,7 @@ use Rattle.tables.specs.declared.roster.Company.{Company}
 use Rattle.tables.specs.declared.rolling_stock.Kind.{Kind}
 use Rattle.tables.specs.declared.rolling_stock.Kind.TheVariants.{Three, Five}
 
--- whether the turn is past its lay, or its lay is used, which CS's lay does not ask
+-- whether the step of the lay is over, or its lay is used, which CS's lay does not ask
 unfoldable pub is_lay_used : List Lay → Asker → Hex → Bool
 is_lay_used lays asker hex =
     not (place_of_step asker.pointer == place_of_step step.Lay) || (asker.lay_used && not (is_cs_lay lays asker hex))
@@ -155,7 +156,7 @@ pub record IsLayAnswer (laid : MapState) (asker : Asker) (lay : Lay) (answer : R
       → IsTrue reached ↔ IsConnected (position_of (with_lay laid lay)) asker.company lay
   pub given : answer ≡ lay_answer_of laid asker lay reached
 
--- the outcome of a call for a lay: that answer; or want of memory, where the rules before what is reached are kept
+-- the outcome of a call for a lay: that answer; or memory is refused, where the rules before what is reached are kept
 abbrev pub IsLayOutcome : MapState → Asker → Lay → Result ℤ LayFault → Type 0
 IsLayOutcome laid asker lay (Ok cost) = IsLayAnswer laid asker lay (Ok cost)
 IsLayOutcome laid asker lay (Err (fault.Rule rule)) = IsLayAnswer laid asker lay (Err rule)

@@ -1,7 +1,5 @@
-pub mod MapState
 pub mod Index
 pub mod Kept
-pub mod Fit
 pub mod Turn
 pub mod Powers
 pub mod LayRules

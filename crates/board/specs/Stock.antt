@@ -1,7 +1,7 @@
 -- The stock: of each tile those of the manifest that do not lie on the map. A lay by the rules takes one
 -- from it and returns the tile that it replaces, so no more tiles of a number ever lie than there are.
 use Rattle.std.specs.Prelude.{◌≡◌, ◌≤◌, List, [], ◌∷◌, ◌++◌, None}
-use Rattle.board.specs.MapState.{MapState}
+use Rattle.board_state.specs.MapState.{MapState}
 use Rattle.board.specs.LayRules.{map_rules, on_map_of}
 use Rattle.board.specs.declared.asker.Asker.{Asker}
 use Rattle.map_tables.specs.Tile.{entry_of}

@@ -1,11 +1,13 @@
 -- The rules of a token. It needs the second step of the turn or the first; a token that the company has not
 -- placed; a free slot of a city, where a slot that is kept for a company counts as taken; a hex without a
 -- token of the company; a stop that is reached, which DH's token does not need; and its price, which goes by how
--- many tokens of the company lie, and is nothing for DH's. One slot of each company's home is kept for it until its token lies there.
-use Rattle.std.specs.Prelude.{◌≡◌, ℕ, ◌+◌, ◌&&◌, ◌||◌, if◌then◌else◌, ◌↔◌, Bool, true, not, nat_lt, nat_le, IsTrue, List, [], ◌∷◌, ◌++◌, Option, Some, None, Result, Ok, Err, ℤ, pos, count_by}
+-- many tokens of the company lie, and is nothing for DH's. One slot of each company's home is kept for it until its
+-- token lies there.
+use Rattle.std.specs.Prelude.{◌≡◌, ℕ, ◌+◌, ◌&&◌, ◌||◌, if◌then◌else◌, ◌↔◌, Bool, true, not, nat_lt, nat_le, IsTrue}
+use Rattle.std.specs.Prelude.{List, [], ◌∷◌, ◌++◌, Option, Some, None, Result, Ok, Err, ℤ, pos, count_by}
 use Rattle.std.specs.Int.Signed.{lt_z}
 use Rattle.std.specs.List.{list_any}
-use Rattle.board.specs.MapState.{MapState, position_of}
+use Rattle.board_state.specs.MapState.{MapState, position_of}
 use Rattle.map_tables.specs.OnMap.{has_token, same_stop, slots_at, taken_at}
 use Rattle.board.specs.LayRules.{cost_or}
 use Rattle.board.specs.Powers.{is_dh_token}
@@ -28,7 +30,7 @@ use Rattle.tables.specs.Roster.{companies, same_company, token_price_of, token_s
 use Rattle.tables.specs.Rules.{Rule, first_broken}
 use Rattle.tables.specs.declared.roster.Company.{Company}
 
--- whether the turn is past its token
+-- whether the step of the token is over
 unfoldable pub is_token_used : Asker → Bool
 is_token_used asker = nat_lt (place_of_step step.Token) (place_of_step asker.pointer)
 
@@ -104,7 +106,7 @@ pub record IsTokenAnswer (laid : MapState) (asker : Asker) (place : Place) (answ
       → IsTrue reached ↔ IsReachedPlace (position_of laid) asker.company place
   pub given : answer ≡ token_answer_of laid asker place reached
 
--- the outcome of a call for a token: that answer; or want of memory, where the rules before what is reached are kept
+-- the outcome of a call for a token: that answer; or memory is refused, where the rules before what is reached are kept
 abbrev pub IsTokenOutcome : MapState → Asker → Place → Result ℤ TokenFault → Type 0
 IsTokenOutcome laid asker place (Ok cost) = IsTokenAnswer laid asker place (Ok cost)
 IsTokenOutcome laid asker place (Err (fault.Rule rule)) = IsTokenAnswer laid asker place (Err rule)

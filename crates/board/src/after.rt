@@ -1,8 +1,7 @@
-ghost use Rattle.board.specs.MapState.{with_lay};
+ghost use Rattle.board_state.specs.MapState.{with_lay};
 
 use crate::board::Board;
-use crate::on_map::OnMap;
-use crate::shown::same_hex;
+use board_state::{OnMap, same_hex};
 use map_tables::{Hex, Lay, Links, Stop, laid_links};
 use tables::{Company, Kind};
 

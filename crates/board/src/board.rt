@@ -1,11 +1,9 @@
 ghost use Rattle.std.specs.Prelude.{◌≡◌, [], None, IfErr, IfOk, IsOk, OnErr, OnOk, length, unwrap_or};
-ghost use Rattle.board.specs.Fit.{board_fault_of};
-ghost use Rattle.board.specs.MapState.{map_state_of, with_lay, with_token};
+ghost use Rattle.board_state.specs.Fit.{board_fault_of};
+ghost use Rattle.board_state.specs.MapState.{map_state_of, with_lay, with_token};
 
-use crate::fault::BoardFault;
-use crate::fit::fault_of;
 use crate::index::Index;
-use crate::on_map::OnMap;
+use board_state::{BoardFault, OnMap, fault_of};
 use map_tables::{Hex, Lay, Links, Place, Stop, printed_links};
 use smallvec::SmallVec;
 use std::alloc::{AllocError, Global};
@@ -21,14 +19,14 @@ const TOKENS: usize = 25;
 #[derive(Drop)]
 pub struct Board {
     pub(crate) lays: Vec<Lay>,
-    /// No more than `TOKENS` lie in a game: those stand in the value.
+    /// No more than `TOKENS` lie in a game: those are in the value itself.
     pub(crate) tokens: SmallVec<(Place, Company), TOKENS>,
     phase: Kind,
     index: Index,
 }
 
 impl Model for Board {
-    ghost use Rattle.board.specs.MapState.{MapState};
+    ghost use Rattle.board_state.specs.MapState.{MapState};
     ghost use Rattle.board.specs.Index.{IsIndex};
     ghost use Rattle.board.specs.Kept.{held};
     ghost use Rattle.std.specs.Prelude.{map};

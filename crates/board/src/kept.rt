@@ -4,7 +4,7 @@ ghost use Rattle.board.specs.Kept.{held};
 
 use map_tables::{LINKS_MOST, Link, Links};
 
-/// Links of a hex, at most six: so many of these.
+/// Links of a hex, at most six: this many of these.
 #[derive(Clone, Copy)]
 pub(crate) struct KeptLinks {
     links: [Link; LINKS_MOST],

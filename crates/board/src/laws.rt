@@ -1,13 +1,7 @@
 //! Laws of the definitions, each the contract of a function that does nothing.
 ghost use Rattle.board.specs.Example.{WorkedExamples};
-ghost use Rattle.board.specs.Fit.{FaultlessAreFit};
 ghost use Rattle.board.specs.Homes.{FitsWithoutHomes, HomeKeepsFit, LayKeepsFit, TokenKeepsFit};
 ghost use Rattle.board.specs.Stock.{LayKeepsStock};
-
-/// What lies is not refused as a board exactly where it is fit.
-pub fn faultless_are_fit()
-    ensures { FaultlessAreFit }
-{}
 
 /// What fits with the home tokens that are still to come is not refused as a board.
 pub fn fits_without_homes()

@@ -1,8 +1,11 @@
 ghost use Rattle.std.specs.Prelude.{◌≡◌, ◌⊎◌, ◌↔◌, ◌≤◌, ◌<◌, Err, None, IfOk, IsTrue, count_by};
 ghost use Rattle.std.specs.List.{list_any};
-ghost use Rattle.board.specs.MapState.{position_of, with_lay};
+ghost use Rattle.board_state.specs.MapState.{position_of, with_lay};
 ghost use Rattle.map_tables.specs.OnMap.{colour_on, tile_on};
-ghost use Rattle.board.specs.LayRules.{HaveStopIn, IsConnected, IsLayOutcome, ShareLink, map_rules, is_blocked, is_colour_closed, is_kept, is_lay_used, is_none_left, is_tile, is_wrong_colour, lay_answer_of, lay_cost_of, loses_track, on_map_of, needs_no_track, place_of_colour};
+ghost use Rattle.board.specs.LayRules.{HaveStopIn, IsConnected, IsLayOutcome, ShareLink, map_rules, is_blocked};
+ghost use Rattle.board.specs.LayRules.{is_colour_closed, is_kept, is_lay_used, is_none_left, is_tile, is_wrong_colour};
+ghost use Rattle.board.specs.LayRules.{lay_answer_of, lay_cost_of, loses_track, on_map_of, needs_no_track};
+ghost use Rattle.board.specs.LayRules.{place_of_colour};
 ghost use Rattle.map_tables.specs.Hex.{same_hex};
 ghost use Rattle.map_tables.specs.Laws.{link_order};
 ghost use Rattle.map_tables.specs.Track.{end_order};
@@ -14,10 +17,8 @@ use crate::after::After;
 use crate::asker::{Asker, TurnStep};
 use crate::board::Board;
 use crate::fault::LayFault;
-use crate::fit::{has_bad_side, is_open, is_wrong_kind};
-use crate::on_map::OnMap;
 use crate::powers::is_dh_lay;
-use crate::shown::same_hex;
+use board_state::{OnMap, has_bad_side, is_open, is_wrong_kind, same_hex};
 use map_tables::{
     Colour, End, Hex, Lay, LayRule, Link, Stop, TileNo, hex_kind, laid_links, printed_colour,
     private_hexes, terrain_cost, tile,
@@ -126,7 +127,7 @@ impl Board {
         }
     }
 
-    /// Whether the turn is past its lay, or its lay is used, which CS's lay does not ask.
+    /// Whether the step of the lay is over, or its lay is used, which CS's lay does not ask.
     #[tactic(auto, unfolding(crate::specs::LayRules::is_lay_used))]
     fn is_lay_used(&self, asker: &Asker, hex: Hex) -> bool
         ensures { result ≡ is_lay_used self.now.lays asker.now hex }
@@ -154,7 +155,7 @@ impl Board {
     fn on_map_of(&self, number: TileNo) -> usize
         ensures { result ≡ on_map_of self.now.lays number }
     {
-        map_tables::laws::hexes_stand_once();
+        map_tables::laws::hexes_are_listed_once();
         self.count_of(number, &Hex::ALL)
     }
 

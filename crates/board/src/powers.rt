@@ -1,16 +1,15 @@
-//! The powers of CS and DH, in the hands of a company that is_owner them.
+//! The powers of CS and DH, in the hands of a company that owns them.
 ghost use Rattle.std.specs.Prelude.{◌≡◌};
 ghost use Rattle.board.specs.Powers.{has_no_tile, is_cs_lay, is_dh_lay, is_dh_token, is_owner};
 
 use crate::asker::Asker;
 use crate::board::Board;
-use crate::on_map::OnMap;
-use crate::shown::same_hex;
+use board_state::{OnMap, same_hex};
 use map_tables::{Hex, Lay, TileNo};
 use tables::Private;
 
 impl Board {
-    /// Whether a lay on a hex is CS's: the company that is_owner CS lays on B20, while no tile lies
+    /// Whether a lay on a hex is CS's: the company that owns CS lays on B20, while no tile lies
     /// there. Such a lay does not use the lay of the turn, and needs no connection.
     #[tactic(auto, unfolding(crate::specs::Powers::is_cs_lay))]
     pub fn is_cs_lay(&self, asker: &Asker, hex: Hex) -> bool
@@ -32,7 +31,7 @@ impl Board {
     }
 }
 
-/// Whether a lay is DH's: the company that is_owner DH lays 57 on F16. It needs no connection, and
+/// Whether a lay is DH's: the company that owns DH lays 57 on F16. It needs no connection, and
 /// neither does a token there in the same turn, which costs nothing.
 #[tactic(auto, unfolding(crate::specs::Powers::is_dh_lay))]
 pub fn is_dh_lay(asker: &Asker, lay: Lay) -> bool
@@ -51,7 +50,7 @@ pub(crate) fn is_dh_token(asker: &Asker, hex: Hex) -> bool
     asker.dh_laid && same_hex(hex, Hex::F16)
 }
 
-/// Whether the company that asks is_owner a private.
+/// Whether the company that asks owns a private.
 fn is_owner(asker: &Asker, private: Private) -> bool
     ensures { result ≡ is_owner asker.now private }
 {

@@ -1,15 +1,16 @@
 ghost use Rattle.std.specs.Prelude.{◌≡◌, ◌⊎◌, ◌↔◌, Err, None, Some, IfOk, IsTrue};
-ghost use Rattle.board.specs.MapState.{position_of};
-ghost use Rattle.board.specs.TokenRules.{IsReachedPlace, IsTokenOutcome, has_none_left, has_token_in, is_full_at, is_kept_for, is_no_free_slot, is_token_used, kept_at, laid_by, slot_rules, token_answer_of, token_cost_of};
+ghost use Rattle.board_state.specs.MapState.{position_of};
+ghost use Rattle.board.specs.TokenRules.{IsReachedPlace, IsTokenOutcome, has_none_left, has_token_in, is_full_at};
+ghost use Rattle.board.specs.TokenRules.{is_kept_for, is_no_free_slot, is_token_used, kept_at, laid_by, slot_rules};
+ghost use Rattle.board.specs.TokenRules.{token_answer_of, token_cost_of};
 ghost use Rattle.reach.specs.Position.{IsAmong};
 ghost use Rattle.tables.specs.Rules.{first_broken};
 
 use crate::asker::{Asker, TurnStep};
 use crate::board::Board;
 use crate::fault::TokenFault;
-use crate::on_map::{OnMap, slots};
 use crate::powers::is_dh_token;
-use crate::shown::{same_company, same_hex, same_stop};
+use board_state::{OnMap, same_company, same_hex, same_stop, slots};
 use map_tables::{Hex, Place, Stop, TokenRule, home, joined_stop};
 use std::alloc::AllocError;
 use tables::{Amount, Company, Money, token_price, tokens};
@@ -154,7 +155,7 @@ impl Board {
     }
 }
 
-/// Whether the turn is past its token.
+/// Whether the step of the token is over.
 #[tactic(auto, unfolding(crate::specs::TokenRules::is_token_used))]
 fn is_token_used(asker: &Asker) -> bool
     ensures { result ≡ is_token_used asker.now }

@@ -114,7 +114,7 @@ impl Game {
     }
 }
 
-/// Appends an item. The only error is want of memory.
+/// Appends an item. It fails only if memory is refused.
 fn push<T: Drop>(items: &mut Vec<T>, item: T) -> Result<(), AllocError> {
     items.push(item)?;
     Ok(())

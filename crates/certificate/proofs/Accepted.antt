@@ -1,21 +1,22 @@
 -- A claim that is accepted has the greatest revenue: a leaf below a node at which marks hold earns no more than is
 -- claimed, and each legal set is the runs of a leaf. Marks that are written for the greatest revenue hold.
-use Rattle.std.proofs.Common.{◌≡◌, ℕ, ◌<◌, ◌≤◌, Bool, true, false, ◌⊎◌, inl, inr, Some, List, [], ◌∷◌, ◌++◌, append-nil, refl, ap, sym, ◌∙◌, subst, arith}
+use Rattle.std.proofs.Common.{◌≡◌, ℕ, ◌<◌, ◌≤◌, Bool, true, false, ◌⊎◌, inl, inr, Some, List, [], ◌∷◌, ◌++◌, append-nil}
+use Rattle.std.proofs.Common.{refl, ap, sym, ◌∙◌, subst, arith}
 use Rattle.std.specs.List.{AllByRecursion}
 use Rattle.map_tables.specs.Place.{joined_stop_of}
 use Rattle.map_tables.specs.declared.place.Stop.{Stop}
 use Rattle.reach.specs.Lawful.{IsLawful}
 use Rattle.reach.specs.Position.{Position, IsAmong}
-use Rattle.reach.specs.Reached.{StandInOrder, stop_order}
+use Rattle.reach.specs.Reached.{AreSortedBy, stop_order}
 use Rattle.tables.specs.declared.rolling_stock.Kind.{Kind}
 use Rattle.tables.specs.declared.roster.Company.{Company}
 use Rattle.certificate.specs.Holding.{AreMarks, AreReached, Hold, HoldInTurn, Writes, cut, left_over, more, none, split}
 use Rattle.certificate.specs.HoldingLaws.{AcceptedIsGreatest, MarksAreRead, WrittenMarksHold}
-use Rattle.certificate.specs.Set.{IsLegalSet, TrainRun, revenue_of}
+use Rattle.legal_runs.specs.Set.{IsLegalSet, TrainRun, revenue_of}
 use Rattle.certificate.specs.Tree.{IsBelow, IsLeaf, IsWayDown, Node, bound, children, may_come, root_of}
 use Rattle.certificate.proofs.Holding.{held_at, read_cut, read_split, read_whole}
 use Rattle.certificate.proofs.Leaves.{good_below, good_set, reached_named, root_good}
-use Rattle.certificate.proofs.Marks.{among_both}
+use Rattle.legal_runs.proofs.Marks.{among_both}
 use Rattle.certificate.proofs.Nodes.{IsGoodChoice, IsGoodNode, choice_good}
 use Rattle.certificate.proofs.SetBelow.{set_is_leaf}
 
@@ -28,8 +29,8 @@ module _ {A : Type 0} (order : A → ℕ) where
   earlier thing other (next ∷ things) later (inr among) = earlier thing other things later.1 among
 
   first_is :
-      (thing other : A) (things others : List A) → StandInOrder order (thing ∷ things)
-      → StandInOrder order (other ∷ others) →
+      (thing other : A) (things others : List A) → AreSortedBy order (thing ∷ things)
+      → AreSortedBy order (other ∷ others) →
       IsAmong thing (other ∷ others) → IsAmong other (thing ∷ things) → thing ≡ other
   first_is thing other things others first second (inl is) among = sym is
   first_is thing other things others first second (inr later) (inl is) = is
@@ -39,7 +40,7 @@ module _ {A : Type 0} (order : A → ℕ) where
       absurd (omega arith)
 
   without_first :
-      (thing : A) (things others : List A) → StandInOrder order (thing ∷ things) →
+      (thing : A) (things others : List A) → AreSortedBy order (thing ∷ things) →
       ((one : A) → IsAmong one (thing ∷ things) → IsAmong one (thing ∷ others)) → (one : A) → IsAmong one things
       → IsAmong one others
   without_first thing things others first each one among =
@@ -50,7 +51,7 @@ module _ {A : Type 0} (order : A → ℕ) where
       ]
 
   pub one_order :
-      (things others : List A) → StandInOrder order things → StandInOrder order others →
+      (things others : List A) → AreSortedBy order things → AreSortedBy order others →
       ((one : A) → IsAmong one things → IsAmong one others) → ((one : A) → IsAmong one others → IsAmong one things)
       → things ≡ others
   one_order [] [] first second each back = refl

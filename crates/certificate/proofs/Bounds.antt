@@ -1,14 +1,15 @@
 -- How the bound of a node falls: the values of reached stops that are still to come are fewer by the stop that a run
 -- visits next.
-use Rattle.std.proofs.Common.{◌≡◌, ℕ, zero, suc, ◌+◌, ◌-◌, ◌≤◌, ◌==◌, Bool, true, false, ◌||◌, inl, inr, Option, Some, None, if◌then◌else◌, List, [], ◌∷◌, length, refl, sym, subst, arith}
+use Rattle.std.proofs.Common.{◌≡◌, ℕ, zero, suc, ◌+◌, ◌-◌, ◌≤◌, ◌==◌, Bool, true, false, ◌||◌, inl, inr, Option, Some}
+use Rattle.std.proofs.Common.{None, if◌then◌else◌, List, [], ◌∷◌, length, refl, sym, subst, arith}
 use Rattle.std.proofs.lemmas.Bool.{eq-eqb}
 use Rattle.map_tables.specs.declared.place.Stop.{Stop}
 use Rattle.reach.specs.Position.{Position, IsAmong, value_of}
 use Rattle.reach.specs.Reached.{stop_order}
 use Rattle.tables.specs.Train.{stops_of}
 use Rattle.tables.specs.declared.rolling_stock.Kind.{Kind}
-use Rattle.certificate.specs.Fault.{has_stop}
-use Rattle.certificate.specs.Legal.{AreAtMost}
+use Rattle.legal_runs.specs.Fault.{has_stop}
+use Rattle.legal_runs.specs.Legal.{AreAtMost}
 use Rattle.certificate.specs.Tree.{greatest_sum, may_earn, new_values, still_to_come, total}
 
 -- these values sum up to no more than those, however many are taken

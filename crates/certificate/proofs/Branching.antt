@@ -1,5 +1,6 @@
 -- What the choices at a node are: steps that enter a link where the head is, and that pass a test.
-use Rattle.std.proofs.Common.{◌≡◌, ℕ, ◌==◌, Bool, true, false, not, ◌&&◌, inl, inr, Option, Some, None, is_some, option_map, if◌then◌else◌, List, [], ◌∷◌, refl, ap, sym, ◌∙◌, subst, arith}
+use Rattle.std.proofs.Common.{◌≡◌, ℕ, ◌==◌, Bool, true, false, not, ◌&&◌, inl, inr, Option, Some, None, is_some}
+use Rattle.std.proofs.Common.{option_map, if◌then◌else◌, List, [], ◌∷◌, refl, ap, sym, ◌∙◌, subst, arith}
 use Rattle.std.proofs.lemmas.Bool.{eq-eqb, eqb-true}
 use Rattle.map_tables.specs.Border.{neighbour_of}
 use Rattle.map_tables.specs.Place.{joined_hex, joined_stop_of, stop_at}
@@ -18,13 +19,15 @@ use Rattle.reach.specs.Walk.{IsTrack, across, entered_at, spot_at, stop_at_end, 
 use Rattle.reach.specs.declared.walk.Spot.{Spot}
 use Rattle.reach.specs.declared.walk.Step.{Step}
 use Rattle.reach.proofs.Collected.{lies_there, own_hex}
-use Rattle.certificate.specs.Fault.{has_border}
-use Rattle.certificate.specs.Legal.{border_at, border_of}
-use Rattle.certificate.specs.Tree.{Node, for_each, hexes_of, is_free_end, node_if, ways_at, ways_by, ways_from, with_step, with_steps}
-use Rattle.certificate.proofs.Borders.{faced}
-use Rattle.certificate.proofs.Marks.{among_both, among_is, eqb_not}
-use Rattle.certificate.proofs.Named.{same_end}
-use Rattle.certificate.proofs.Written.{Ordered, ordered}
+use Rattle.legal_runs.specs.Fault.{has_border}
+use Rattle.legal_runs.specs.Legal.{border_at, border_of}
+use Rattle.certificate.specs.Tree.{Node, for_each, hexes_of, is_free_end, node_if, ways_at, ways_by, ways_from}
+use Rattle.certificate.specs.Tree.{with_step, with_steps}
+use Rattle.legal_runs.proofs.Borders.{faced}
+use Rattle.legal_runs.proofs.Marks.{among_both, among_is, eqb_not}
+use Rattle.legal_runs.proofs.Named.{same_end}
+use Rattle.legal_runs.proofs.Written.{Ordered, ordered}
+use Rattle.legal_runs.proofs.Tests.{to_not}
 
 module _ {A B : Type 0} (make : A → List B) where
   pub among_for_each : (things : List A) (thing : A) (made : B) → IsAmong thing things → IsAmong made (make thing)
@@ -178,17 +181,13 @@ leads_over borders hex (AtSide side) is =
     }
 leads_over borders hex (AtStop number) is = absurd cc
 
-not_false : (b : Bool) → (b ≡ true → ⊥) → not b ≡ true
-not_false true none = absurd (none refl)
-not_false false none = refl
-
 pub over_leads : (borders : List ℕ) (hex : Hex) (end : End) → LeadsOver borders hex end
     → is_free_end borders hex end ≡ true
 over_leads borders hex end over =
     subst (λ (e : End). is_free_end borders hex e ≡ true) (sym over.at_side)
     (true_both (is_some (neighbour_of hex over.side)) (not (has_border (border_of hex over.side) borders))
     (ap is_some over.beside)
-    (not_false (has_border (border_of hex over.side) borders)
+    (to_not (has_border (border_of hex over.side) borders)
     (λ has. over.free ((among_is (border_of hex over.side) borders).0 has))))
 
 -- a border is that of both its sides
@@ -208,11 +207,6 @@ border_both position lawful hex (AtSide side) spot is = by_next (neighbour_of he
         let there : spot_at next (AtSide (facing_of side)) ≡ spot = cc in
         ap (λ n. n ∷ []) (faced hex next side beside (lawful.borders_pair hex side next beside))
         ∙ ap (λ (s : Spot). border_at s.hex s.end) there
-
--- at a stop there is none
-pub no_border : (hex : Hex) (end : End) (stop : Stop) → stop_at_end hex end ≡ Some stop → border_at hex end ≡ []
-no_border hex (AtSide side) stop is = absurd cc
-no_border hex (AtStop number) stop is = refl
 
 module _ (position : Position) (lawful : IsLawful position) where
   -- a step that enters a link at an end in a hex

@@ -1,5 +1,7 @@
 -- How bits are kept and printed: the bits of a number, one more at its end, and the digits of four bits after four.
-use Rattle.std.proofs.Common.{◌≡◌, ℕ, zero, suc, ◌+◌, ◌-◌, ◌*◌, ◌/◌, ◌%◌, ◌^◌, ◌<◌, Bool, true, false, nat_eq, List, [], ◌∷◌, ◌++◌, length, take, drop, get_or, append_assoc, append-nil, refl, ap, sym, ◌∙◌, arith}
+use Rattle.std.proofs.Common.{◌≡◌, ℕ, zero, suc, ◌+◌, ◌-◌, ◌*◌, ◌/◌, ◌%◌, ◌^◌, ◌<◌, Bool, true, false, nat_eq, List, []}
+use Rattle.std.proofs.Common.{◌∷◌, ◌++◌, length, take, drop, get_or, append_assoc, append-nil, refl, ap, sym, ◌∙◌}
+use Rattle.std.proofs.Common.{arith}
 use Rattle.std.proofs.lemmas.Grind.{flat_map-append}
 use Rattle.std.proofs.lemmas.List.{length-append}
 use Rattle.std.proofs.lemmas.Nat.Bits.{bit_at-suc, bit_at_lowest}
@@ -117,9 +119,9 @@ open_last left opened [] count last old none is before =
 open_last left opened (byte ∷ bytes) count last old none is before = absurd (omega arith)
 
 -- no bit is left exactly where there is none in hand, no byte, and none behind the bytes
-so_many : (count number : ℕ) → length (bits_of count number) ≡ count
-so_many zero number = refl
-so_many (suc count) number = ap suc (so_many count number)
+bits_counted : (count number : ℕ) → length (bits_of count number) ≡ count
+bits_counted zero number = refl
+bits_counted (suc count) number = ap suc (bits_counted count number)
 
 pub some_in_hand : (count number : ℕ) (rest : List Bool) → 0 < count → ¬ (bits_of count number ++ rest ≡ [])
 some_in_hand zero number rest some is = absurd (omega arith)
@@ -135,7 +137,7 @@ some_behind bits bytes count number some is =
     let later : length (bits_of_bytes bytes ++ bits_of count number)
     ≡ length (bits_of_bytes bytes) + length (bits_of count number) =
     length-append (bits_of_bytes bytes) (bits_of count number) in
-    omega (arith, so_many count number)
+    omega (arith, bits_counted count number)
 
 pub some_bytes : (left opened : ℕ) (bytes : List ℕ) (rest : List Bool) → left ≡ 0
     → bits_of left opened ++ (bits_of_bytes bytes ++ rest) ≡ [] → length bytes ≡ 0
@@ -215,7 +217,7 @@ drop_split count (a ∷ b ∷ []) = sym (drop_none count)
 drop_split count (a ∷ b ∷ c ∷ []) = sym (drop_none count)
 drop_split count (a ∷ b ∷ c ∷ d ∷ bits) = refl
 
--- what is printed of bits, and left of them, so many digits on
+-- what is printed of bits, and left of them, this many digits on
 abbrev pub Prints : List ℕ → List Bool → ℕ → List ℕ → List Bool → Type 0
 Prints text bits count whole left = (text ++ digits_of (take (4 * count) bits) ≡ whole) × (drop (4 * count) bits ≡ left)
 

@@ -1,7 +1,8 @@
 -- A walk over the children of a node, group by group, and down the nodes at which no run is begun.
-use Rattle.std.proofs.Common.{◌≡◌, ℕ, suc, ◌+◌, ◌-◌, ◌<◌, ◌≤◌, Bool, true, false, inl, Option, Some, None, List, [], ◌∷◌, ◌++◌, length, get_or, drop, refl, ap, sym, ◌∙◌, subst, arith, append-nil, append_assoc}
+use Rattle.std.proofs.Common.{◌≡◌, ℕ, suc, ◌+◌, ◌-◌, ◌<◌, ◌≤◌, Bool, true, false, inl, Option, Some, None, List, []}
+use Rattle.std.proofs.Common.{◌∷◌, ◌++◌, length, get_or, drop, refl, ap, sym, ◌∙◌, subst, arith, append-nil}
+use Rattle.std.proofs.Common.{append_assoc}
 use Rattle.std.proofs.lemmas.List.{drop_all, drop_more}
-use Rattle.map_tables.specs.Place.{joined_hex}
 use Rattle.map_tables.specs.declared.hex.Hex.{Hex}
 use Rattle.map_tables.specs.declared.hex.Hex.TheVariants.{A9, A11, I1, J2}
 use Rattle.map_tables.specs.declared.place.Stop.{Stop}
@@ -15,12 +16,14 @@ use Rattle.reach.specs.declared.walk.Spot.{Spot}
 use Rattle.reach.specs.declared.walk.Step.{Step}
 use Rattle.tables.specs.declared.rolling_stock.Kind.{Kind}
 use Rattle.tables.specs.declared.rolling_stock.Kind.TheVariants.{Two}
-use Rattle.certificate.specs.Legal.{listed}
-use Rattle.certificate.specs.Set.{TrainRun}
-use Rattle.certificate.specs.Tree.{Node, bound, children, choices_at, for_each, hexes_of, may_all_earn, may_come, node_if, node_of, setting_out, ways_at, ways_by, ways_from, with_step, with_steps}
+use Rattle.legal_runs.specs.Legal.{listed}
+use Rattle.legal_runs.specs.Set.{TrainRun}
+use Rattle.certificate.specs.Tree.{Node, bound, children, choices_at, for_each, hexes_of, may_all_earn, may_come}
+use Rattle.certificate.specs.Tree.{node_if, node_of, setting_out, ways_at, ways_by, ways_from, with_step, with_steps}
 use Rattle.certificate.specs.Walked.{at_end, capped, cuts, ends, has_no_train, splits}
 use Rattle.reach.specs.Search.{twin_of}
-use Rattle.certificate.specs.Walking.{LeavesOver, StandsBetween, WalksOver, earned_from, node_from, reached_in, set_outs, trains_of_tree}
+use Rattle.certificate.specs.Walking.{LeavesOver, IsBetweenRuns, WalksOver, earned_from, node_from, reached_in}
+use Rattle.certificate.specs.Walking.{set_outs, trains_of_tree}
 use Rattle.certificate.specs.declared.decider.Decision.{Decision}
 use Rattle.certificate.specs.declared.decider.Decision.TheVariants.{Cut, Split, Stop as Ends}
 use Rattle.certificate.specs.declared.tree.Tree.{Tree}
@@ -100,11 +103,6 @@ hexes_steps position test node stop other is =
     ap (with_steps test node) (two_hexes position stop other is)
     ∙ steps_both test node (ways_at position other (AtStop stop.number))
     (ways_at position stop.hex (AtStop stop.number))
-
-pub other_named : (hex other : Hex) → twin_of hex ≡ Some other → joined_hex other ≡ hex
-other_named J2 other is = let same : I1 ≡ other = cc in ap joined_hex (sym same)
-other_named A11 other is = let same : A9 ≡ other = cc in ap joined_hex (sym same)
-other_named hex other is = absurd cc
 
 module _ {S : Type 0} (decides : S → ℕ → Bool → Decision → S → Type 0) (position : Position) (tree : Tree) where
   abbrev Over : S → List Node → Bool → S → Type 0
@@ -191,20 +189,20 @@ module _ {S : Type 0} (decides : S → ℕ → Bool → Decision → S → Type 
   come_is [] = refl
   come_is (kind ∷ later) = omega arith
 
-  module _ (value : ℕ) (settled : List TrainRun) (stands : StandsBetween position tree value settled) where
+  module _ (value : ℕ) (settled : List TrainRun) (at_node : IsBetweenRuns position tree value settled) where
     pub bound_from : (place : ℕ) → capped (value + capped (earned_from tree.groups place))
         ≡ capped (bound position (reached_in tree) (node_from tree settled place))
     bound_from place =
         let come = come_is (drop place (trains_of_tree tree)) in
-        let all = earned_is position (reached_in tree) tree.groups stands.told.earnings place in
-        omega (arith, stands.earns, come, all)
+        let all = earned_is position (reached_in tree) tree.groups at_node.tree_is.earnings place in
+        omega (arith, at_node.earns, come, all)
 
     pub leaf_bound : (place : ℕ) → length (trains_of_tree tree) ≤ place
         → value ≡ capped (bound position (reached_in tree) (node_from tree settled place))
     leaf_bound place high =
         let none : may_come position (reached_in tree) [] (drop place (trains_of_tree tree)) ≡ 0 =
         ap (may_come position (reached_in tree) []) (drop_all place (trains_of_tree tree) high) in
-        omega (arith, stands.earns, none)
+        omega (arith, at_node.earns, none)
 
     pub is_no_leaf : (place : ℕ) (trains : List Kind) (kind : Kind)
         → trains ≡ kind ∷ drop (place + 1) (trains_of_tree tree) → has_no_train trains ≡ false
@@ -268,35 +266,35 @@ module _ {S : Type 0} (decides : S → ℕ → Bool → Decision → S → Type 
         subst (λ (l : List Node). Over u (l ++ rest) whole last) (sym (children_from place before))
         (subst (λ (l : List Node). Over u (node_from tree settled (place + 1) ∷ l) whole last)
         (one_out first place low) walk) in
-        ahead whole last (splits t u last node rest whole (told place false Split t u (inner place before) decided)
+        ahead whole last (splits t u last node rest whole (asked place false Split t u (inner place before) decided)
         walked)
       where
-        told : (at : ℕ) (leaf : Bool) (decision : Decision) (before after : S)
+        asked : (at : ℕ) (leaf : Bool) (decision : Decision) (before after : S)
             → has_no_train (drop at (trains_of_tree tree)) ≡ leaf
             → decides before (capped (value + capped (earned_from tree.groups at))) leaf decision after
             → decides before (capped (bound position (reached_in tree) (node_from tree settled at)))
             (has_no_train (drop at (trains_of_tree tree))) decision after
-        told at leaf decision before after is decided =
+        asked at leaf decision before after is decided =
             subst (λ (n : ℕ). decides before n (has_no_train (drop at (trains_of_tree tree))) decision after)
             (bound_from at)
             (subst (λ (b : Bool). decides before (capped (value + capped (earned_from tree.groups at))) b decision
             after) (sym is) decided)
 
-    told_inner : (at : ℕ) (decision : Decision) (before after : S) → at < length (trains_of_tree tree)
+    asked_inner : (at : ℕ) (decision : Decision) (before after : S) → at < length (trains_of_tree tree)
         → decides before (capped (value + capped (earned_from tree.groups at))) false decision after
         → decides before (capped (bound position (reached_in tree) (node_from tree settled at)))
         (has_no_train (drop at (trains_of_tree tree))) decision after
-    told_inner at decision before after low decided =
+    asked_inner at decision before after low decided =
         subst (λ (n : ℕ). decides before n (has_no_train (drop at (trains_of_tree tree))) decision after)
         (bound_from at)
         (subst (λ (b : Bool). decides before (capped (value + capped (earned_from tree.groups at))) b decision after)
         (sym (inner at low)) decided)
 
-    told_outer : (at : ℕ) (decision : Decision) (before after : S) → length (trains_of_tree tree) ≤ at
+    asked_outer : (at : ℕ) (decision : Decision) (before after : S) → length (trains_of_tree tree) ≤ at
         → decides before value true decision after → decides before
         (capped (bound position (reached_in tree) (node_from tree settled at)))
         (has_no_train (drop at (trains_of_tree tree))) decision after
-    told_outer at decision before after high decided =
+    asked_outer at decision before after high decided =
         subst (λ (n : ℕ). decides before n (has_no_train (drop at (trains_of_tree tree))) decision after)
         (leaf_bound at high)
         (subst (λ (b : Bool). decides before value b decision after) (sym (outer at high)) decided)
@@ -309,7 +307,7 @@ module _ {S : Type 0} (decides : S → ℕ → Bool → Decision → S → Type 
         Ahead s (node_from tree settled first ∷ []) u (set_outs position tree settled first (place - first))
     down_cut s t u first place before ahead decided whole last walk =
         ahead whole last (cuts t u last (node_from tree settled place)
-        (set_outs position tree settled first (place - first)) whole (told_inner place Cut t u before decided) walk)
+        (set_outs position tree settled first (place - first)) whole (asked_inner place Cut t u before decided) walk)
 
     pub down_end :
         (s t u : S) (first place : ℕ) → place < length (trains_of_tree tree) →
@@ -319,7 +317,7 @@ module _ {S : Type 0} (decides : S → ℕ → Bool → Decision → S → Type 
         Over s (node_from tree settled first ∷ []) false u
     down_end s t u first place before ahead decided =
         ahead false u (ends t u (node_from tree settled place) (set_outs position tree settled first (place - first))
-        (told_inner place Ends t u before decided))
+        (asked_inner place Ends t u before decided))
 
     pub leaf_cut :
         (s t u : S) (first place : ℕ) → length (trains_of_tree tree) ≤ place →
@@ -329,7 +327,7 @@ module _ {S : Type 0} (decides : S → ℕ → Bool → Decision → S → Type 
         (set_outs position tree settled first (place - first))
     leaf_cut s t u first place high ahead decided whole last walk =
         ahead whole last (cuts t u last (node_from tree settled place)
-        (set_outs position tree settled first (place - first)) whole (told_outer place Cut t u high decided) walk)
+        (set_outs position tree settled first (place - first)) whole (asked_outer place Cut t u high decided) walk)
 
     pub leaf_split :
         (s t u : S) (first place : ℕ) → length (trains_of_tree tree) ≤ place →
@@ -340,7 +338,7 @@ module _ {S : Type 0} (decides : S → ℕ → Bool → Decision → S → Type 
     leaf_split s t u first place high ahead decided whole last walk =
         let rest : List Node = set_outs position tree settled first (place - first) in
         ahead whole last (splits t u last (node_from tree settled place) rest whole
-        (told_outer place Split t u high decided)
+        (asked_outer place Split t u high decided)
         (subst (λ (l : List Node). Over u (l ++ rest) whole last) (sym (no_children place high)) walk))
 
     pub leaf_end :
@@ -350,7 +348,7 @@ module _ {S : Type 0} (decides : S → ℕ → Bool → Decision → S → Type 
         decides t value true Ends u → Over s (node_from tree settled first ∷ []) false u
     leaf_end s t u first place high ahead decided =
         ahead false u (ends t u (node_from tree settled place) (set_outs position tree settled first (place - first))
-        (told_outer place Ends t u high decided))
+        (asked_outer place Ends t u high decided))
 
     -- up again
     last_out : (first place : ℕ) → first < place → set_outs position tree settled first (place - first)

@@ -1,5 +1,5 @@
--- Down the tree what holds at a node keeps holding, and the bound never grows; so the settled runs of a leaf are a legal
--- set, which earns no more than the bound of any node above it.
+-- Down the tree what holds at a node keeps holding, and the bound never grows; so the settled runs of a leaf are a
+-- legal set, which earns no more than the bound of any node above it.
 use Rattle.std.proofs.Common.{◌≡◌, ◌+◌, ◌≤◌, inl, inr, if◌then◌else◌, List, [], ◌∷◌, ◌++◌, refl, ap, subst, arith}
 use Rattle.map_tables.specs.Place.{joined_stop_of}
 use Rattle.map_tables.specs.declared.place.Stop.{Stop}
@@ -13,7 +13,7 @@ use Rattle.tables.specs.Train.{same_kind}
 use Rattle.tables.specs.declared.rolling_stock.Kind.{Kind}
 use Rattle.tables.specs.declared.rolling_stock.Kind.TheVariants.{Two, Three, Four, Five, Six, Diesel}
 use Rattle.tables.specs.declared.roster.Company.{Company}
-use Rattle.certificate.specs.Set.{IsLegalSet, in_number, revenue_of}
+use Rattle.legal_runs.specs.Set.{IsLegalSet, in_number, revenue_of}
 use Rattle.certificate.specs.Tree.{IsBelow, IsWayDown, Node, bound, end_of, for_each, greatest_first, may_come, root_of}
 use Rattle.certificate.specs.TreeLaws.{BoundsFall, IsInTree, LeavesAreLegalSets, LeavesEarnTheirBounds, NoLeafEarnsMore}
 use Rattle.certificate.proofs.Nodes.{IsGoodChoice, IsGoodNode, choice_good, none_begun}
@@ -54,7 +54,7 @@ same_number k trains =
     ++ (only Three trains ++ (only Two trains ++ []))))) in
     omega (arith, two, three, four, five, six, diesel, kind_by_kind k trains)
 
--- a stop that is touched stands under its own name
+-- a stop that is touched has its own name
 touched_named : (stop : Stop) (steps : List Step) → TouchesStop stop steps → joined_stop_of stop ≡ stop
 touched_named stop [] touches = absurd touches
 touched_named stop (step ∷ before) (inl (inl is)) = names_itself (entered_at step) stop is

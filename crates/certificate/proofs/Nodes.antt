@@ -1,7 +1,9 @@
 -- What holds at each node of the choice tree: its settled runs are legal and share no border, the run begun could be
 -- finished as a legal one, and the trains that ran and those to come are no more than there are. Each choice keeps it,
 -- and has no greater bound.
-use Rattle.std.proofs.Common.{◌≡◌, ℕ, suc, ◌+◌, ◌<◌, ◌≤◌, Bool, true, false, not, ltb, ◌&&◌, ◌||◌, ◌⊎◌, inl, inr, Option, Some, None, IfSome, if◌then◌else◌, List, [], ◌∷◌, ◌++◌, length, refl, ap, sym, ◌∙◌, subst, arith}
+use Rattle.std.proofs.Common.{◌≡◌, ℕ, suc, ◌+◌, ◌<◌, ◌≤◌, Bool, true, false, not, ltb, ◌&&◌, ◌||◌, ◌⊎◌, inl, inr}
+use Rattle.std.proofs.Common.{Option, Some, None, IfSome, if◌then◌else◌, List, [], ◌∷◌, ◌++◌, length, refl, ap, sym}
+use Rattle.std.proofs.Common.{◌∙◌, subst, arith}
 use Rattle.std.specs.List.{AllByRecursion, list_any}
 use Rattle.std.proofs.lemmas.Bool.{ltb-true, ltb-false}
 use Rattle.map_tables.specs.Place.{joined_stop_of}
@@ -11,7 +13,8 @@ use Rattle.map_tables.specs.declared.track.End.{End}
 use Rattle.map_tables.specs.declared.track.End.TheVariants.{Side as AtSide, Stop as AtStop}
 use Rattle.reach.specs.Lawful.{IsLawful}
 use Rattle.reach.specs.Position.{Position, HasToken, IsAmong, IsFull, is_red}
-use Rattle.reach.specs.Walk.{AreJoined, BeginsAt, IsTrack, IsWalk, PassesOnly, across, entered_at, left_at, stop_at_end, stop_of}
+use Rattle.reach.specs.Walk.{AreJoined, BeginsAt, IsTrack, IsWalk, PassesOnly, across, entered_at, left_at, stop_at_end}
+use Rattle.reach.specs.Walk.{stop_of}
 use Rattle.reach.specs.declared.walk.Spot.{Spot}
 use Rattle.reach.specs.declared.walk.Step.{Step}
 use Rattle.reach.proofs.Spots.{back, names_itself}
@@ -19,17 +22,22 @@ use Rattle.tables.specs.Train.{stops_of}
 use Rattle.tables.specs.declared.rolling_stock.Kind.{Kind}
 use Rattle.tables.specs.declared.rolling_stock.Kind.TheVariants.{Two, Three, Four, Five, Six, Diesel}
 use Rattle.tables.specs.declared.roster.Company.{Company}
-use Rattle.certificate.specs.Fault.{has_stop, has_token, is_full}
-use Rattle.certificate.specs.Legal.{AreAtMost, AreDistinct, border_at, border_of, crossed, listed, visited, worth}
-use Rattle.certificate.specs.Set.{AreApart, RunsLegally, ShareNoBorder, TrainRun, in_number, revenue_of, trains_that_run}
-use Rattle.certificate.specs.Tree.{Node, bound, with_steps, choices_at, finishing, from_border, from_head, from_stop, goes_over, gone_over, is_finished, is_last_stop, is_new_stop, is_used_up, leads_on, may_all_earn, may_come, may_earn, node_of, run_borders, setting_out, taken_borders, ways_at, ways_from, for_each}
+use Rattle.legal_runs.specs.Fault.{has_stop, has_token, is_full}
+use Rattle.legal_runs.specs.Legal.{AreAtMost, AreDistinct, border_at, border_of, crossed, listed, visited, worth}
+use Rattle.legal_runs.specs.Set.{AreApart, RunsLegally, ShareNoBorder, TrainRun, in_number, revenue_of, trains_that_run}
+use Rattle.certificate.specs.Tree.{Node, bound, with_steps, choices_at, finishing, from_border, from_head, from_stop}
+use Rattle.certificate.specs.Tree.{goes_over, gone_over, is_finished, is_last_stop, is_new_stop, is_used_up, leads_on}
+use Rattle.certificate.specs.Tree.{may_all_earn, may_come, may_earn, node_of, run_borders, setting_out, taken_borders}
+use Rattle.certificate.specs.Tree.{ways_at, ways_from, for_each}
 use Rattle.certificate.proofs.Bounds.{one_stop_more}
-use Rattle.certificate.proofs.Branching.{IsWay, LeadsOver, Leaves, border_both, for_each_among, leads_over, leaves_stop, no_border, node_if_among, not_true, way_is, with_steps_among}
-use Rattle.certificate.proofs.Joined.{fails, has_stop_is, has_such}
-use Rattle.certificate.proofs.Marks.{among_both}
-use Rattle.certificate.proofs.Tests.{has_token_is, is_full_is}
+use Rattle.certificate.proofs.Branching.{IsWay, LeadsOver, Leaves, border_both, for_each_among, leads_over, leaves_stop}
+use Rattle.certificate.proofs.Branching.{node_if_among, not_true, way_is, with_steps_among}
+use Rattle.legal_runs.proofs.Joined.{fails, has_stop_is, has_such}
+use Rattle.legal_runs.proofs.Marks.{among_both}
+use Rattle.legal_runs.proofs.Tests.{has_token_is, is_full_is}
+use Rattle.legal_runs.proofs.TwoTrain.{no_border}
 
--- a train that has visited so many stops has room: for one more where its head is at a border
+-- a train that has visited this many stops has room: for one more where its head is at a border
 abbrev pub HasRoom : Kind → ℕ → End → Type 0
 HasRoom kind count (AtSide side) = AreAtMost (stops_of kind) (suc count)
 HasRoom kind count (AtStop number) = AreAtMost (stops_of kind) count
@@ -287,8 +295,8 @@ module _ (position : Position) (lawful : IsLawful position) (company : Company) 
         track : IsTrack position next
         joined : AreJoined (left_at step) (entered_at next)
         over : crossed (next ∷ run) ≡ gone_over run
-        past_red : IfSome (stop_of (entered_at next)) (λ stop. ¬ (is_red position stop ≡ true))
-        past_full : IfSome (stop_of (entered_at next)) (λ stop. ¬ IsFull position stop company)
+        through_no_red : IfSome (stop_of (entered_at next)) (λ stop. ¬ (is_red position stop ≡ true))
+        through_no_full : IfSome (stop_of (entered_at next)) (λ stop. ¬ IsFull position stop company)
         room : AreAtMost (stops_of kind) (suc (length (visited run)))
 
       -- over a border
@@ -319,8 +327,8 @@ module _ (position : Position) (lawful : IsLawful position) (company : Company) 
                       (λ here. over.free (parts.1 (inr here)))
                   | inr earlier ↦ so_far.free border earlier
                 ];
-                no_red = (on.past_red, so_far.no_red);
-                no_full = (on.past_full, so_far.no_full);
+                no_red = (on.through_no_red, so_far.no_red);
+                no_full = (on.through_no_full, so_far.no_full);
                 room = subst (λ (l : List Stop). HasRoom kind (length l) (left_at next).end) (sym stops)
                     (room_over kind (length (visited run)) (left_at next).hex (left_at next).end _ over on.room);
               };
@@ -357,8 +365,8 @@ module _ (position : Position) (lawful : IsLawful position) (company : Company) 
                 );
                 once = subst (λ (l : List ℕ). AreDistinct l) (sym gone) so_far.once;
                 free = λ border among. so_far.free border (subst (λ (l : List ℕ). IsAmong border l) gone among);
-                no_red = (on.past_red, so_far.no_red);
-                no_full = (on.past_full, so_far.no_full);
+                no_red = (on.through_no_red, so_far.no_red);
+                no_full = (on.through_no_full, so_far.no_full);
                 room = subst (λ (l : List Stop). HasRoom kind (length l) (left_at next).end) (sym stops)
                     (room_at_stop kind (suc (length (visited run))) (left_at next).hex (left_at next).end stop is
                     on.room);
@@ -386,8 +394,10 @@ module _ (position : Position) (lawful : IsLawful position) (company : Company) 
                 ap (λ (s : Spot). border_at s.hex s.end ++ crossed run) way.enters
                 ∙ ap (λ (l : List ℕ). l ++ crossed run) (sym (border_both position lawful (left_at step).hex
                 (left_at step).end spot is));
-            past_red = subst (λ (s : Option Stop). IfSome s (λ stop. ¬ (is_red position stop ≡ true))) (sym no_stop) tt;
-            past_full = subst (λ (s : Option Stop). IfSome s (λ stop. ¬ IsFull position stop company)) (sym no_stop) tt;
+            through_no_red = subst (λ (s : Option Stop). IfSome s (λ stop. ¬ (is_red position stop ≡ true)))
+                (sym no_stop) tt;
+            through_no_full = subst (λ (s : Option Stop). IfSome s (λ stop. ¬ IsFull position stop company))
+                (sym no_stop) tt;
             room = side_had_room kind (length (visited run)) (left_at step).hex (left_at step).end none so_far.room;
           }
 
@@ -411,12 +421,12 @@ module _ (position : Position) (lawful : IsLawful position) (company : Company) 
           ])
 
       -- from a stop
-      past_stop :
+      through_stop :
           (stop : Stop) → stop_of (left_at step) ≡ Some stop → is_red position stop ≡ false
           → is_full position company stop ≡ false →
           is_used_up (stops_of kind) (length (visited run)) ≡ false → (next : Step) → Leaves position lawful stop next
           → GoesFurther next
-      past_stop stop is not_red not_full used next leaves =
+      through_stop stop is not_red not_full used next leaves =
           record {
             track = leaves.track;
             joined = inl (stop, is, leaves.from_stop);
@@ -424,9 +434,9 @@ module _ (position : Position) (lawful : IsLawful position) (company : Company) 
                 ap (λ (l : List ℕ). l ++ crossed run) (no_border (entered_at next).hex (entered_at next).end stop
                 leaves.from_stop)
                 ∙ ap (λ (l : List ℕ). l ++ crossed run) (sym (no_border (left_at step).hex (left_at step).end stop is));
-            past_red = subst (λ (s : Option Stop). IfSome s (λ stop. ¬ (is_red position stop ≡ true)))
+            through_no_red = subst (λ (s : Option Stop). IfSome s (λ stop. ¬ (is_red position stop ≡ true)))
                 (sym leaves.from_stop) (λ red. let wrong : false ≡ true = sym not_red ∙ red in absurd cc);
-            past_full = subst (λ (s : Option Stop). IfSome s (λ stop. ¬ IsFull position stop company))
+            through_no_full = subst (λ (s : Option Stop). IfSome s (λ stop. ¬ IsFull position stop company))
                 (sym leaves.from_stop) ((fails (is_full position company stop) (is_full_is position company stop)).0
                 not_full);
             room = room_left (stops_of kind) (length (visited run)) used;
@@ -451,7 +461,7 @@ module _ (position : Position) (lawful : IsLawful position) (company : Company) 
           || is_used_up (stops_of kind) (length (visited run))) last in
           let second = neither (is_full position company stop) (is_used_up (stops_of kind) (length (visited run)))
           first.1 in
-          let on : GoesFurther found.0 = past_stop stop is first.0 second.0 second.1 found.0
+          let on : GoesFurther found.0 = through_stop stop is first.0 second.0 second.1 found.0
           (leaves_stop position lawful stop (names_itself (left_at step) stop is) found.0 found.1) in
           subst (IsGoodChoice settled run (kind ∷ later)) found.3
           (went_over found.0 on (leads_over (gone_over run ++ run_borders settled) (left_at found.0).hex

@@ -1,5 +1,7 @@
 -- The trains in their order, by how many there are of each kind.
-use Rattle.std.proofs.Common.{◌≡◌, ℕ, zero, suc, ◌+◌, ◌-◌, ◌*◌, ◌<◌, ◌≤◌, nat_lt, Bool, true, false, Some, None, if◌then◌else◌, List, [], ◌∷◌, ◌++◌, length, get_or, drop, replicate, cond, count_by, refl, ap, sym, ◌∙◌, arith}
+use Rattle.std.proofs.Common.{◌≡◌, ℕ, zero, suc, ◌+◌, ◌-◌, ◌*◌, ◌<◌, ◌≤◌, nat_lt, Bool, true, false, Some, None}
+use Rattle.std.proofs.Common.{if◌then◌else◌, List, [], ◌∷◌, ◌++◌, length, get_or, drop, replicate, cond, count_by, refl}
+use Rattle.std.proofs.Common.{ap, sym, ◌∙◌, arith}
 use Rattle.std.proofs.lemmas.Bool.{ltb-false, ltb-true}
 use Rattle.std.proofs.lemmas.List.{drop_more, get_or-replicate, get_or_append_left, length-append, length-replicate}
 use Rattle.std.proofs.lemmas.List.Recursion.{is_sum_by}
@@ -8,20 +10,20 @@ use Rattle.reach.specs.Position.{Position}
 use Rattle.tables.specs.Train.{same_kind}
 use Rattle.tables.specs.declared.rolling_stock.Kind.{Kind}
 use Rattle.tables.specs.declared.rolling_stock.Kind.TheVariants.{Diesel, Five, Four, Six, Three, Two}
-use Rattle.certificate.specs.Set.{in_number}
+use Rattle.legal_runs.specs.Set.{in_number}
 use Rattle.certificate.specs.Tree.{for_each, greatest_first, may_all_earn, may_earn}
-use Rattle.certificate.specs.Walking.{TellEarnings, earned_from, kind_from, trains_in}
+use Rattle.certificate.specs.Walking.{HaveEarnings, earned_from, kind_from, trains_in}
 use Rattle.certificate.specs.declared.tree.Group.{Group}
-use Rattle.certificate.proofs.Relabelled.{kind_is as same_kind_is}
+use Rattle.legal_runs.proofs.Relabelled.{kind_is as same_kind_is}
 
--- behind so many things
-drop_past : {A : Type 0} (thing : A) (rest : List A) (count place : ℕ) → count ≤ place
+-- behind this many things
+drop_behind : {A : Type 0} (thing : A) (rest : List A) (count place : ℕ) → count ≤ place
     → drop place (replicate count thing ++ rest) ≡ drop (place - count) rest
-drop_past thing rest zero place low = let e : place ≡ place - 0 = omega arith in ap (λ (n : ℕ). drop n rest) e
-drop_past thing rest (suc count) zero low = absurd (omega arith)
-drop_past thing rest (suc count) (suc place) low =
+drop_behind thing rest zero place low = let e : place ≡ place - 0 = omega arith in ap (λ (n : ℕ). drop n rest) e
+drop_behind thing rest (suc count) zero low = absurd (omega arith)
+drop_behind thing rest (suc count) (suc place) low =
     let e : place - count ≡ suc place - suc count = omega arith in
-    drop_past thing rest count place (omega arith) ∙ ap (λ (n : ℕ). drop n rest) e
+    drop_behind thing rest count place (omega arith) ∙ ap (λ (n : ℕ). drop n rest) e
 
 among_first : (kind other : Kind) (rest : List Kind) (count place : ℕ) → place < count
     → drop place (replicate count kind ++ rest) ≡ kind ∷ drop (place + 1) (replicate count kind ++ rest)
@@ -53,15 +55,15 @@ kind_is (group ∷ groups) place kind is = by_test (kind_is groups (place - grou
         among_first group.kind kind (trains_in groups) group.count place (ltb-true place group.count low)
         ∙ ap (λ (k : Kind). k ∷ drop (place + 1) (trains_in (group ∷ groups))) same
     by_test later false high found =
-        let past : group.count ≤ place = ltb-false place group.count high in
+        let behind : group.count ≤ place = ltb-false place group.count high in
         let e : (place - group.count) + 1 ≡ (place + 1) - group.count = omega arith in
-        drop_past group.kind (trains_in groups) group.count place past
+        drop_behind group.kind (trains_in groups) group.count place behind
         ∙ (later found
         ∙ (ap (λ (n : ℕ). kind ∷ drop n (trains_in groups)) e
-        ∙ ap (λ (l : List Kind). kind ∷ l) (sym (drop_past group.kind (trains_in groups) group.count (place + 1)
+        ∙ ap (λ (l : List Kind). kind ∷ l) (sym (drop_behind group.kind (trains_in groups) group.count (place + 1)
         (omega arith)))))
 
--- past the last train there is none
+-- behind the last train there is none
 pub none_is : (groups : List Group) (place : ℕ) → kind_from groups place ≡ None → length (trains_in groups) ≤ place
 none_is [] place is = omega arith
 none_is (group ∷ groups) place is = by_test (none_is groups (place - group.count)) (nat_lt place group.count) refl is
@@ -73,7 +75,7 @@ none_is (group ∷ groups) place is = by_test (none_is groups (place - group.cou
         length (trains_in (group ∷ groups)) ≤ place
     by_test later true low found = absurd cc
     by_test later false high found =
-        let past : group.count ≤ place = ltb-false place group.count high in
+        let behind : group.count ≤ place = ltb-false place group.count high in
         let rest = later found in
         omega (
           arith,
@@ -119,13 +121,13 @@ module _ (position : Position) (reached : List Stop) where
       ∙ ap (λ (n : ℕ). (suc count - suc place) * amount + earn (drop n rest)) f)
 
   -- what the trains from a place on may earn
-  pub earned_is : (groups : List Group) → TellEarnings position reached groups → (place : ℕ)
+  pub earned_is : (groups : List Group) → HaveEarnings position reached groups → (place : ℕ)
       → earn (drop place (trains_in groups)) ≡ earned_from groups place
-  earned_is [] told zero = refl
-  earned_is [] told (suc place) = refl
-  earned_is (group ∷ groups) told place =
-      from_place group.kind (trains_in groups) group.may_earn group.count place told.0
-      ∙ ap (λ (n : ℕ). (group.count - place) * group.may_earn + n) (earned_is groups told.1 (place - group.count))
+  earned_is [] earnings zero = refl
+  earned_is [] earnings (suc place) = refl
+  earned_is (group ∷ groups) earnings place =
+      from_place group.kind (trains_in groups) group.may_earn group.count place earnings.0
+      ∙ ap (λ (n : ℕ). (group.count - place) * group.may_earn + n) (earned_is groups earnings.1 (place - group.count))
 
 -- the trains of a kind among some
 one_more : (n : ℕ) → suc n ≡ 1 + n

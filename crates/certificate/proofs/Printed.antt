@@ -1,14 +1,11 @@
 -- What is printed is read again, and what was read is printed again.
-use Rattle.std.proofs.Common.{◌≡◌, ℕ, ◌+◌, ◌*◌, ◌<◌, ◌≤◌, Bool, true, false, inl, inr, List, [], ◌∷◌, ◌++◌, refl, ap, ◌∙◌, subst, arith}
+use Rattle.std.proofs.Common.{◌≡◌, ℕ, ◌+◌, ◌*◌, ◌<◌, ◌≤◌, Bool, true, false, List, [], ◌∷◌, ◌++◌, refl, ap, ◌∙◌, arith}
 use Rattle.std.specs.List.{AllByRecursion}
 use Rattle.reach.specs.Position.{IsAmong}
 use Rattle.reach.proofs.Lists.{among_at}
-use Rattle.certificate.specs.Digits.{PrintsInLowerCase, PrintsWhatWasRead, ReadsWhatWasPrinted, bit_number, bits_of_digit, bits_of_digits, digit_of, digits_of, lower_digits}
-
-each_among : (P : ℕ → Type 0) (things : List ℕ) → AllByRecursion P things → (thing : ℕ) → IsAmong thing things → P thing
-each_among P [] each thing among = absurd among
-each_among P (first ∷ things) each thing (inl is) = subst P is each.0
-each_among P (first ∷ things) each thing (inr later) = each_among P things each.1 thing later
+use Rattle.certificate.specs.Digits.{PrintsInLowerCase, PrintsWhatWasRead, ReadsWhatWasPrinted, bit_number}
+use Rattle.certificate.specs.Digits.{bits_of_digit, bits_of_digits, digit_of, digits_of, lower_digits}
+use Rattle.legal_runs.proofs.InTurn.{all_among}
 
 -- a digit in lower case is printed again
 abbrev IsPrinted : ℕ → Type 0
@@ -53,7 +50,7 @@ each_printed = (
 pub prints_what_was_read : PrintsWhatWasRead
 prints_what_was_read [] lower = refl
 prints_what_was_read (byte ∷ text) lower =
-    each_among IsPrinted lower_digits each_printed byte lower.0 (bits_of_digits text)
+    all_among IsPrinted lower_digits each_printed byte lower.0 (bits_of_digits text)
     ∙ ap (λ (t : List ℕ). byte ∷ t) (prints_what_was_read text lower.1)
 
 bit_low : (bit : Bool) → bit_number bit ≤ 1
@@ -73,7 +70,7 @@ prints_in_lower_case (a ∷ b ∷ []) = (digit_lower a b false false, tt)
 prints_in_lower_case (a ∷ b ∷ c ∷ []) = (digit_lower a b c false, tt)
 prints_in_lower_case (a ∷ b ∷ c ∷ d ∷ bits) = (digit_lower a b c d, prints_in_lower_case bits)
 
--- the digit of four bits stands for them
+-- the digit of four bits has them as its bits
 read_back : (a b c d : Bool) → bits_of_digit (digit_of a b c d) ≡ a ∷ b ∷ c ∷ d ∷ []
 read_back true true true true = refl
 read_back true true true false = refl

@@ -1,5 +1,7 @@
 -- A walk by marks reads them over the nodes ahead; a walk that writes marks writes those of the nodes ahead.
-use Rattle.std.proofs.Common.{◌≡◌, ◌↔◌, ℕ, ◌-◌, ◌<◌, ◌≤◌, length, Bool, true, false, inl, inr, Option, Some, None, if◌then◌else◌, List, [], ◌∷◌, ◌++◌, append_assoc, append-nil, refl, ap, sym, ◌∙◌, subst, arith}
+use Rattle.std.proofs.Common.{◌≡◌, ◌↔◌, ℕ, ◌-◌, ◌<◌, ◌≤◌, length, Bool, true, false, inl, inr, Option, Some, None}
+use Rattle.std.proofs.Common.{if◌then◌else◌, List, [], ◌∷◌, ◌++◌, append_assoc, append-nil, refl, ap, sym, ◌∙◌, subst}
+use Rattle.std.proofs.Common.{arith}
 use Rattle.std.proofs.lemmas.Bool.{le-leb, lt-leb}
 use Rattle.map_tables.specs.declared.place.Stop.{Stop}
 use Rattle.reach.specs.Position.{Position}
@@ -10,7 +12,7 @@ use Rattle.certificate.specs.Holding.{AreReached, Writes, is_leaf, left_over}
 use Rattle.certificate.specs.Read.{AreZeros, IsRead, IsWritten}
 use Rattle.certificate.specs.Tree.{Node, bound, children, greatest_first, node_of, root_of}
 use Rattle.certificate.specs.Walked.{Walks, at_end, capped, cuts, ends, has_no_train, splits}
-use Rattle.certificate.specs.Walking.{IsTree, StandsBetween, node_from, trains_of_tree}
+use Rattle.certificate.specs.Walking.{IsTree, IsBetweenRuns, node_from, trains_of_tree}
 use Rattle.certificate.specs.declared.tree.Tree.{Tree}
 use Rattle.certificate.specs.declared.decider.Decision.{Decision}
 use Rattle.certificate.specs.declared.decider.Decision.TheVariants.{Stop as End}
@@ -30,11 +32,11 @@ low_bound amount revenue low is = omega arith
 high_bound : (amount revenue : ℕ) → revenue < capped amount → revenue < amount
 high_bound amount revenue is = omega arith
 
-module _ {S : Type 0} (left : S → List Bool) (told : S → ℕ) (position : Position) (company : Company)
+module _ {S : Type 0} (left : S → List Bool) (revenue_in : S → ℕ) (position : Position) (company : Company)
     (reached : List Stop) (revenue : ℕ) (low : revenue ≤ 4294967295) where
   abbrev decided : S → ℕ → Bool → Decision → S → Type 0
-  decided old amount leaf decision new = IsRead (left old) (told old) amount leaf decision (left new)
-      × (told new ≡ told old)
+  decided old amount leaf decision new = IsRead (left old) (revenue_in old) amount leaf decision (left new)
+      × (revenue_in new ≡ revenue_in old)
 
   abbrev over : List Node → List Bool → Option (List Bool)
   over nodes marks = left_over position company reached revenue nodes marks
@@ -46,8 +48,8 @@ module _ {S : Type 0} (left : S → List Bool) (told : S → ℕ) (position : Po
 
   read_over : (node : Node) (nodes : List Node) (marks : List Bool) → revenue < bound position reached node
       → over (node ∷ nodes) (false ∷ marks) ≡ None
-  read_over node nodes marks past =
-      ap (λ (b : Bool). if b then over nodes marks else None) (lt-leb (bound position reached node) revenue past)
+  read_over node nodes marks above =
+      ap (λ (b : Bool). if b then over nodes marks else None) (lt-leb (bound position reached node) revenue above)
 
   read_split : (node : Node) (nodes : List Node) (marks : List Bool) → has_no_train node.trains ≡ false
       → over (node ∷ nodes) (true ∷ marks) ≡ over (children position company reached node ++ nodes) marks
@@ -62,7 +64,7 @@ module _ {S : Type 0} (left : S → List Bool) (told : S → ℕ) (position : Po
       (same_leaf node.trains ∙ outer)
 
   -- a walk by marks reads them
-  pub walk_reads : (s t : S) (nodes : List Node) (whole : Bool) → told s ≡ revenue
+  pub walk_reads : (s t : S) (nodes : List Node) (whole : Bool) → revenue_in s ≡ revenue
       → Walks decided position company reached s nodes whole t → over nodes (left s) ≡ if_whole whole (left t)
   walk_reads s _ _ _ is (at_end _) = refl
   walk_reads s t _ _ is (cuts _ middle _ node nodes whole made walk) =
@@ -76,19 +78,20 @@ module _ {S : Type 0} (left : S → List Bool) (told : S → ℕ) (position : Po
       ∙ walk_reads middle t (children position company reached node ++ nodes) whole (made.1 ∙ is) walk)
   walk_reads s _ _ _ is (ends _ middle node nodes made) = refused made.0
     where
-      refused : IsRead (left s) (told s) (capped (bound position reached node)) (has_no_train node.trains) End
+      refused : IsRead (left s) (revenue_in s) (capped (bound position reached node)) (has_no_train node.trains) End
           (left middle) → over (node ∷ nodes) (left s) ≡ None
       refused (inl none) = ap (over (node ∷ nodes)) none
-      refused (inr (inl past)) =
-          ap (over (node ∷ nodes)) past.0 ∙ read_over node nodes (left middle)
-          (high_bound (bound position reached node) revenue (omega (arith, past.1, is)))
+      refused (inr (inl above)) =
+          ap (over (node ∷ nodes)) above.0 ∙ read_over node nodes (left middle)
+          (high_bound (bound position reached node) revenue (omega (arith, above.1, is)))
       refused (inr (inr leaf)) = ap (over (node ∷ nodes)) leaf.0 ∙ read_leaf node nodes (left middle) leaf.1
 
-module _ {S : Type 0} (written : S → List Bool) (told : S → ℕ) (failed : S → Bool) (position : Position)
+module _ {S : Type 0} (written : S → List Bool) (revenue_in : S → ℕ) (failed : S → Bool) (position : Position)
     (company : Company) (reached : List Stop) (revenue : ℕ) (low : revenue ≤ 4294967295) where
   abbrev writing : S → ℕ → Bool → Decision → S → Type 0
-  writing old amount leaf decision new = IsWritten (written old) (told old) amount decision (written new) (failed new)
-      × (told new ≡ told old)
+  writing old amount leaf decision new = IsWritten (written old) (revenue_in old) amount decision (written new)
+      (failed new)
+      × (revenue_in new ≡ revenue_in old)
 
   -- what is written over the nodes ahead, behind what was written
   abbrev pub IsWrittenOver : S → List Node → S → Type 0
@@ -114,7 +117,7 @@ module _ {S : Type 0} (written : S → List Bool) (told : S → ℕ) (failed : S
   after false s middle t nodes all mark is more later = later
 
   -- a walk that writes marks
-  pub walk_writes : (s t : S) (nodes : List Node) (whole : Bool) → told s ≡ revenue
+  pub walk_writes : (s t : S) (nodes : List Node) (whole : Bool) → revenue_in s ≡ revenue
       → Walks writing position company reached s nodes whole t → IfWhole whole s nodes t
   walk_writes s _ _ _ is (at_end _) = ([], tt, sym (append-nil (written s)))
   walk_writes s t _ _ is (cuts _ middle _ node nodes whole made walk) =
@@ -123,10 +126,10 @@ module _ {S : Type 0} (written : S → List Bool) (told : S → ℕ) (failed : S
       after whole s middle t nodes (node ∷ nodes) false made.0.0 (λ marks writes. (within, writes))
       (walk_writes middle t nodes whole (made.1 ∙ is) walk)
   walk_writes s t _ _ is (splits _ middle _ node nodes whole made walk) =
-      let past : revenue < bound position reached node =
+      let above : revenue < bound position reached node =
       high_bound (bound position reached node) revenue (omega (arith, made.0.1, is)) in
       let ahead : List Node = children position company reached node ++ nodes in
-      after whole s middle t ahead (node ∷ nodes) true made.0.0 (λ marks writes. (past, writes))
+      after whole s middle t ahead (node ∷ nodes) true made.0.0 (λ marks writes. (above, writes))
       (walk_writes middle t ahead whole (made.1 ∙ is) walk)
   walk_writes s _ _ _ is (ends _ middle node nodes made) = made.0
 
@@ -147,8 +150,8 @@ pub root_is : (tree : Tree) (trains : List Kind) → trains_of_tree tree ≡ gre
     → node_from tree [] 0 ≡ root_of trains
 root_is tree trains is = ap (node_of [] []) is
 
-pub root_stands : (position : Position) (tree : Tree) → IsTree position tree → StandsBetween position tree 0 []
-root_stands position tree told = record { told = told; earns = refl }
+pub root_is_between : (position : Position) (tree : Tree) → IsTree position tree → IsBetweenRuns position tree 0 []
+root_is_between position tree tree_is = record { tree_is = tree_is; earns = refl }
 
 -- bits that fill up a digit
 pub zeros_none : (most : ℕ) (bits : List Bool) → bits ≡ [] → AreZeros most bits
@@ -159,8 +162,8 @@ zeros_one most bits rest is zeros =
     let first : AreZeros most (true ∷ rest) = subst (λ (l : List Bool). AreZeros most l) is zeros in
     let wrong : true ≡ false = first.1.0 in cc
 
-pub zeros_past : (bits rest : List Bool) → bits ≡ false ∷ rest → AreZeros 0 bits → ⊥
-zeros_past bits rest is zeros = omega (arith, ap length is, zeros.0)
+pub zeros_over : (bits rest : List Bool) → bits ≡ false ∷ rest → AreZeros 0 bits → ⊥
+zeros_over bits rest is zeros = omega (arith, ap length is, zeros.0)
 
 pub zeros_more : (most : ℕ) (bits rest : List Bool) → bits ≡ false ∷ rest → 0 < most
     → AreZeros (most - 1) rest ↔ AreZeros most bits

@@ -1,8 +1,9 @@
 -- A legal run whose borders are free is a way down the tree: from where nothing is begun, step by step, to where it is
 -- settled.
-use Rattle.std.proofs.Common.{◌≡◌, ℕ, suc, Bool, true, false, not, ltb, ◌||◌, ◌⊎◌, inl, inr, Option, Some, None, IfSome, if◌then◌else◌, List, [], ◌∷◌, ◌++◌, length, refl, ap, sym, ◌∙◌, subst, arith}
+use Rattle.std.proofs.Common.{◌≡◌, ℕ, suc, Bool, true, false, not, ltb, ◌||◌, ◌⊎◌, inl, inr, Option, Some, None, IfSome}
+use Rattle.std.proofs.Common.{if◌then◌else◌, List, [], ◌∷◌, ◌++◌, length, refl, ap, sym, ◌∙◌, subst, arith}
 use Rattle.std.specs.List.{list_any}
-use Rattle.std.proofs.lemmas.Bool.{lt-ltb}
+use Rattle.std.proofs.lemmas.Bool.{false_from_ne_true, lt-ltb, or_left}
 use Rattle.map_tables.specs.Border.{neighbour_of}
 use Rattle.map_tables.specs.declared.hex.Hex.{Hex}
 use Rattle.map_tables.specs.declared.place.Stop.{Stop}
@@ -19,17 +20,21 @@ use Rattle.reach.proofs.Spots.{back}
 use Rattle.tables.specs.Train.{stops_of}
 use Rattle.tables.specs.declared.rolling_stock.Kind.{Kind}
 use Rattle.tables.specs.declared.roster.Company.{Company}
-use Rattle.certificate.specs.Fault.{has_stop, has_token, is_full}
-use Rattle.certificate.specs.Legal.{AreAtMost, AreDistinct, IsLegalRun, border_at, border_of, crossed, listed, visited}
-use Rattle.certificate.specs.Set.{TrainRun}
-use Rattle.certificate.specs.Tree.{IsBelow, Node, children, finishing, for_each, from_border, from_head, from_stop, goes_over, gone_over, is_finished, is_last_stop, is_new_stop, is_used_up, leads_on, node_of, run_borders, taken_borders, ways_at, ways_from, with_steps}
-use Rattle.certificate.proofs.Branching.{LeadsOver, among_for_each, among_node_if, among_with_steps, border_both, no_border, over_leads, stop_left, true_both, way_there}
-use Rattle.certificate.proofs.Joined.{fails, has_stop_is, not_less, such_has}
-use Rattle.certificate.proofs.Marks.{among_both}
+use Rattle.legal_runs.specs.Fault.{has_stop, has_token, is_full}
+use Rattle.legal_runs.specs.Legal.{AreAtMost, AreDistinct, IsLegalRun, border_at, border_of, crossed, listed, visited}
+use Rattle.legal_runs.specs.Set.{TrainRun}
+use Rattle.certificate.specs.Tree.{IsBelow, Node, children, finishing, for_each, from_border, from_head, from_stop}
+use Rattle.certificate.specs.Tree.{goes_over, gone_over, is_finished, is_last_stop, is_new_stop, is_used_up, leads_on}
+use Rattle.certificate.specs.Tree.{node_of, run_borders, taken_borders, ways_at, ways_from, with_steps}
+use Rattle.certificate.proofs.Branching.{LeadsOver, among_for_each, among_node_if, among_with_steps, border_both}
+use Rattle.certificate.proofs.Branching.{over_leads, stop_left, true_both, way_there}
+use Rattle.legal_runs.proofs.Joined.{fails, has_stop_is, not_less, such_has}
+use Rattle.legal_runs.proofs.Marks.{among_both}
 use Rattle.certificate.proofs.Nodes.{HasRoom, IsRunBegun, fewer_fit}
-use Rattle.certificate.proofs.RunReached.{all_reached}
-use Rattle.certificate.proofs.Tests.{has_token_is, is_full_is}
-use Rattle.certificate.proofs.Written.{ordered, stop_to_stop}
+use Rattle.legal_runs.proofs.RunReached.{all_reached}
+use Rattle.legal_runs.proofs.Tests.{has_token_is, is_full_is}
+use Rattle.legal_runs.proofs.Written.{ordered, stop_to_stop}
+use Rattle.legal_runs.proofs.TwoTrain.{no_border, others_distinct}
 
 -- a child is below what its node is below
 pub one_below :
@@ -49,11 +54,6 @@ one_below position company reached start node child below among = (
 distinct_after : (found : Option Stop) (stops : List Stop) → AreDistinct (listed found ++ stops) → AreDistinct stops
 distinct_after None stops distinct = distinct
 distinct_after (Some stop) stops distinct = distinct.1
-
-distinct_over : (hex : Hex) (end : End) (borders : List ℕ) → AreDistinct (border_at hex end ++ borders)
-    → AreDistinct borders
-distinct_over hex (AtSide side) borders distinct = distinct.1
-distinct_over hex (AtStop number) borders distinct = distinct
 
 -- a train that has visited a listed stop and others has room for one more than the others
 fit_after :
@@ -76,18 +76,9 @@ all_false true b c p q r = absurd cc
 all_false false true c p q r = absurd cc
 all_false false false c p q r = r
 
-or_left : (a b : Bool) → a ≡ true → (a || b) ≡ true
-or_left true b is = refl
-or_left false b is = absurd cc
-
 or_right : (a b : Bool) → b ≡ true → (a || b) ≡ true
 or_right true b is = refl
 or_right false b is = is
-
--- a test that does not pass fails
-not_passed : (b : Bool) → (b ≡ true → ⊥) → b ≡ false
-not_passed true none = absurd (none refl)
-not_passed false none = refl
 
 module _ (position : Position) (lawful : IsLawful position) (company : Company) (reached : List Stop)
     (settled : List TrainRun) (kind : Kind) (later : List Kind) where
@@ -128,7 +119,7 @@ module _ (position : Position) (lawful : IsLawful position) (company : Company) 
           walk = begun.walk.2;
           begins = begun.begins;
           stops = distinct_after (stop_of (left_at step)) (visited (earlier ∷ more)) begun.stops;
-          once = distinct_over (left_at step).hex (left_at step).end (gone_over (earlier ∷ more))
+          once = others_distinct (left_at step).hex (left_at step).end (gone_over (earlier ∷ more))
               (subst (λ (l : List ℕ). AreDistinct l) gone begun.once);
           free = λ border among. begun.free border (subst (λ (l : List ℕ). IsAmong border l) (sym gone)
               ((among_both border (border_at (left_at step).hex (left_at step).end) (gone_over (earlier ∷ more))).1
@@ -282,13 +273,13 @@ module _ (position : Position) (lawful : IsLawful position) (company : Company) 
         (ways_at position (entered_at step).hex (entered_at step).end) step
         (way_there position lawful step begun.walk.0) (leads_further (stop_of (left_at step)) refl)))
 
-    past_stop :
+    through_stop :
         (stop : Stop) → stop_of (left_at earlier) ≡ Some stop → stop_of (entered_at step) ≡ Some stop →
         IsAmong (at (step ∷ run)) (children position company reached (at run))
-    past_stop stop is enters =
+    through_stop stop is enters =
         let begun = prefix.begun in
         let none : stop_of (left_at step) ≡ None = from_stop_over step begun.walk.0 stop enters in
-        let not_red : is_red position stop ≡ false = not_passed (is_red position stop)
+        let not_red : is_red position stop ≡ false = false_from_ne_true (is_red position stop)
         (subst (λ (s : Option Stop). IfSome s (λ t. ¬ (is_red position t ≡ true))) enters begun.no_red.0) in
         let not_full : is_full position company stop ≡ false =
         (fails (is_full position company stop) (is_full_is position company stop)).1
@@ -312,7 +303,7 @@ module _ (position : Position) (lawful : IsLawful position) (company : Company) 
 
     later_child : AreJoined (left_at earlier) (entered_at step)
         → IsAmong (at (step ∷ run)) (children position company reached (at run))
-    later_child (inl joint) = past_stop joint.0 joint.1 joint.2
+    later_child (inl joint) = through_stop joint.0 joint.1 joint.2
     later_child (inr over) = over_side over
 
   -- all the way

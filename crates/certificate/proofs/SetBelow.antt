@@ -1,6 +1,7 @@
--- Each legal set is the settled runs of a leaf: train by train, in their order, a run of the set is taken for a train of
--- its kind, or none where no run of that kind is left.
-use Rattle.std.proofs.Common.{◌≡◌, ◌↔◌, ℕ, ◌+◌, ◌≤◌, Bool, true, false, ◌⊎◌, inl, inr, if◌then◌else◌, List, [], ◌∷◌, refl, ap, subst, arith}
+-- Each legal set is the settled runs of a leaf: train by train, in their order, a run of the set is taken for a train
+-- of its kind, or none where no run of that kind is left.
+use Rattle.std.proofs.Common.{◌≡◌, ◌↔◌, ℕ, ◌+◌, ◌≤◌, Bool, true, false, ◌⊎◌, inl, inr, if◌then◌else◌, List, [], ◌∷◌}
+use Rattle.std.proofs.Common.{refl, ap, subst, arith}
 use Rattle.std.specs.List.{AllByRecursion}
 use Rattle.map_tables.specs.declared.place.Stop.{Stop}
 use Rattle.reach.specs.Lawful.{IsLawful}
@@ -11,13 +12,14 @@ use Rattle.tables.specs.Train.{same_kind}
 use Rattle.tables.specs.declared.rolling_stock.Kind.{Kind}
 use Rattle.tables.specs.declared.rolling_stock.Kind.TheVariants.{Two, Three, Four, Five, Six, Diesel}
 use Rattle.tables.specs.declared.roster.Company.{Company}
-use Rattle.certificate.specs.Legal.{crossed, earned}
-use Rattle.certificate.specs.Set.{AreApart, IsLegalSet, RunsLegally, ShareNoBorder, TrainRun, in_number, revenue_of, trains_that_run}
+use Rattle.legal_runs.specs.Legal.{crossed, earned}
+use Rattle.legal_runs.specs.Set.{AreApart, IsLegalSet, RunsLegally, ShareNoBorder, TrainRun, in_number, revenue_of}
+use Rattle.legal_runs.specs.Set.{trains_that_run}
 use Rattle.certificate.specs.Tree.{IsBelow, IsLeaf, Node, greatest_first, node_of, root_of, run_borders}
 use Rattle.certificate.specs.TreeLaws.{AreItsRuns, LegalSetsAreLeaves}
 use Rattle.certificate.proofs.Leaves.{same_number}
-use Rattle.certificate.proofs.Marks.{among_both}
-use Rattle.certificate.proofs.Relabelled.{kind_is, of_kind}
+use Rattle.legal_runs.proofs.Marks.{among_both}
+use Rattle.legal_runs.proofs.Relabelled.{kind_is, of_kind}
 use Rattle.certificate.proofs.RunBelow.{one_below, run_below}
 
 -- a run is taken out of some, and these are left

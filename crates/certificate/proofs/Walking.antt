@@ -1,11 +1,10 @@
--- Where a walk over the choice tree stands, step by step.
-use Rattle.std.proofs.Common.{◌≡◌, ℕ, zero, suc, ◌+◌, ◌-◌, ◌*◌, ◌<◌, ◌≤◌, ◌==◌, eqb, nat_lt, Bool, true, false, not, ◌||◌, Option, Some, None, option_map, List, [], ◌∷◌, length, get_or, set, drop, replicate, refl, ap, sym, ◌∙◌, arith}
-use Rattle.std.proofs.lemmas.Bool.{eq-eqb, ne_eqb, eqb-true, ltb-false, ltb-true}
-use Rattle.std.proofs.lemmas.List.{get_or-set_same, get_or-set_other, set-set, set-get_or, length-set, drop_all, drop_more}
-use Rattle.map_tables.specs.Place.{stop_index_of}
+-- Where a walk over the choice tree is, step by step.
+use Rattle.std.proofs.Common.{◌≡◌, ℕ, suc, ◌+◌, ◌-◌, ◌*◌, ◌<◌, ◌≤◌, ◌==◌, eqb, nat_lt, Bool, true, false, not, ◌||◌}
+use Rattle.std.proofs.Common.{Option, Some, None, option_map, List, [], ◌∷◌, length, get_or, set, drop, replicate, refl}
+use Rattle.std.proofs.Common.{ap, sym, ◌∙◌, arith}
+use Rattle.std.proofs.lemmas.Bool.{eq-eqb, ne_eqb, ltb-false, ltb-true}
+use Rattle.std.proofs.lemmas.List.{set-set, set-get_or, length-set, drop_all, drop_more}
 use Rattle.map_tables.specs.declared.place.Stop.{Stop}
-use Rattle.map_tables.specs.declared.place.StopNumber.{StopNumber}
-use Rattle.map_tables.specs.declared.place.StopNumber.TheVariants.{First, Second}
 use Rattle.map_tables.specs.declared.track.End.{End}
 use Rattle.map_tables.specs.declared.track.End.TheVariants.{Side as AtSide, Stop as AtStop}
 use Rattle.reach.specs.Reached.{stop_order}
@@ -14,32 +13,21 @@ use Rattle.certificate.specs.Tree.{is_used_up, still_to_come}
 use Rattle.certificate.specs.Walked.{capped}
 use Rattle.certificate.specs.Walking.{AreCrossed, AreVisited, earned_from, is_none_left, still_left}
 use Rattle.certificate.specs.declared.tree.Group.{Group}
-use Rattle.reach.proofs.Hexes.{index_low}
+use Rattle.reach.proofs.Collected.{none_marked}
+use Rattle.legal_runs.proofs.Kept.{mark_more}
 
--- a step that is entered at a border may come to a stop
+-- a step that is entered at a border may reach a stop
 abbrev pub end_rank : End → ℕ
 end_rank (AtSide side) = 50
 end_rank (AtStop number) = 0
 
 -- a mark more
-set_at : (marks : List Bool) (n k : ℕ) → n < length marks
-    → get_or (set marks n true) k false ≡ (eqb n k || get_or marks k false)
-set_at marks n k low = by_test (eqb n k) refl
-  where
-    by_test : (b : Bool) → eqb n k ≡ b → get_or (set marks n true) k false ≡ (b || get_or marks k false)
-    by_test true is =
-        ap (λ (m : ℕ). get_or (set marks n true) m false) (sym (eqb-true n k is))
-        ∙ get_or-set_same marks n true false low
-    by_test false is =
-        get_or-set_other marks n k true false (λ same. let wrong : true ≡ false =
-        sym (eq-eqb n k (sym same)) ∙ is in cc)
-
 pub crossed_more :
     (marks : List Bool) (border : ℕ) (borders : List ℕ) → border < length marks → AreCrossed marks borders →
     AreCrossed (set marks border true) (border ∷ borders)
 crossed_more marks border borders low are = (
   length-set marks border true ∙ are.0,
-  λ k. set_at marks border k low
+  λ k. mark_more marks border k low
       ∙ ap (λ (b : Bool). eqb border k || b) (are.1 k),
 )
 
@@ -48,7 +36,7 @@ pub visited_more :
     AreVisited (set marks (stop_order stop) true) (stop ∷ stops)
 visited_more marks stop stops low are = (
   length-set marks (stop_order stop) true ∙ are.0,
-  λ other. set_at marks (stop_order stop) (stop_order other) low
+  λ other. mark_more marks (stop_order stop) (stop_order other) low
       ∙ ap (λ (b : Bool). eqb (stop_order stop) (stop_order other) || b) (are.1 other),
 )
 
@@ -56,12 +44,6 @@ visited_more marks stop stops low are = (
 pub mark_undone : (marks : List Bool) (n : ℕ) → get_or marks n false ≡ false → set (set marks n true) n false ≡ marks
 mark_undone marks n was =
     set-set marks n true false ∙ ap (λ (b : Bool). set marks n b) (sym was) ∙ set-get_or marks n false
-
--- no mark
-pub none_marked : (count n : ℕ) → get_or (replicate count false) n false ≡ false
-none_marked zero n = refl
-none_marked (suc count) zero = refl
-none_marked (suc count) (suc n) = none_marked count n
 
 pub none_visited : AreVisited (replicate 186 false) []
 none_visited = (refl, λ stop. none_marked 186 (stop_order stop))
@@ -110,14 +92,6 @@ pub value_more : (value stop settled here : ℕ) → value ≡ capped (settled +
     → capped (value + stop) ≡ capped (settled + (here + stop))
 value_more value stop settled here is = omega arith
 
--- the places of stops and of borders
-pub stop_low : (stop : Stop) → stop_order stop < 186
-stop_low stop = omega (arith, index_low stop.hex, number_low stop.number)
-  where
-    number_low : (number : StopNumber) → stop_index_of number < 2
-    number_low First = omega arith
-    number_low Second = omega arith
-
 -- what the trains of some groups may earn, group by group
 pub sum_start : (groups items : List Group) (place : ℕ) → items ≡ groups
     → capped (0 + earned_from (drop 0 items) place) ≡ capped (earned_from groups place)
@@ -131,7 +105,7 @@ pub sum_more :
     count ≡ (get_or items index none).count - before → amount ≡ capped (count * (get_or items index none).may_earn)
     → next ≡ capped (sum + amount) → rest ≡ before - (get_or items index none).count →
     capped (next + earned_from (drop (index + 1) items) rest) ≡ capped all
-sum_more items index none sum before count amount next rest all low told counted earned added left =
+sum_more items index none sum before count amount next rest all low earns counted earned added left =
     let group : Group = get_or items index none in
     let later : ℕ = earned_from (drop (index + 1) items) rest in
     let product : ℕ = count * group.may_earn in
@@ -139,16 +113,16 @@ sum_more items index none sum before count amount next rest all low told counted
     ap (λ (l : List Group). earned_from l before) (drop_more items index none low)
     ∙ (ap (λ (n : ℕ). n * group.may_earn + earned_from (drop (index + 1) items) (before - group.count)) (sym counted)
     ∙ ap (λ (n : ℕ). product + earned_from (drop (index + 1) items) n) (sym left)) in
-    summed sum product amount next later (earned_from (drop index items) before) all told earned added here
+    summed sum product amount next later (earned_from (drop index items) before) all earns earned added here
   where
     summed : (sum product amount next later here all : ℕ) → capped (sum + here) ≡ capped all → amount ≡ capped product
         → next ≡ capped (sum + amount) → here ≡ product + later → capped (next + later) ≡ capped all
-    summed sum product amount next later here all told earned added is = omega arith
+    summed sum product amount next later here all earns earned added is = omega arith
 
 pub sum_end :
     (items : List Group) (index sum before all : ℕ) → length items ≤ index → sum ≤ 18446744073709551615
     → capped (sum + earned_from (drop index items) before) ≡ capped all → sum ≡ capped all
-sum_end items index sum before all high low told =
+sum_end items index sum before all high low earns =
     let none : earned_from (drop index items) before ≡ 0 =
     ap (λ (l : List Group). earned_from l before) (drop_all index items high) in
     omega arith

@@ -1,6 +1,7 @@
--- Groups of certificates, of which each call of a runner uses one. A group shows the best runs of a company's trains in a
--- round where it is about that round and company, and its claim is accepted by its bits. The answer to a call is what the
--- next group claims, exactly where it is well formed and shows them; else a refusal. In each case that group is used up.
+-- Groups of certificates, of which each call of a runner uses one. A group shows the best runs of a company's trains
+-- in a round where it is about that round and company, and its claim is accepted by its bits. The answer to a call is
+-- what the next group claims, exactly where it is well formed and shows them; else a refusal. In each case that group
+-- is used up.
 use Rattle.std.specs.Prelude.{◌≡◌, ℤ, pos, Option, Some, None, List, [], ◌∷◌, Result, Ok, Err}
 use Rattle.reach.specs.Position.{Position}
 use Rattle.tables.specs.declared.rolling_stock.Kind.{Kind}
@@ -8,8 +9,8 @@ use Rattle.tables.specs.declared.roster.Company.{Company}
 use Rattle.tables.specs.declared.round.Round.{Round}
 use Rattle.certificate.specs.Holding.{IsAccepted}
 use Rattle.certificate.specs.declared.group.Group.{Group}
-use Rattle.certificate.specs.declared.runner.RunnerFault.{RunnerFault}
-use Rattle.certificate.specs.declared.runner.RunnerFault.TheVariants.{Memory, Refused}
+use Rattle.legal_runs.specs.declared.runner.RunnerFault.{RunnerFault}
+use Rattle.legal_runs.specs.declared.runner.RunnerFault.TheVariants.{Memory, Refused}
 
 -- a group shows the best runs of a company's trains in a round
 pub record Shows (position : Position) (round : Round) (company : Company) (trains : List Kind) (group : Group) : Type

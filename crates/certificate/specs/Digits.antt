@@ -1,11 +1,12 @@
 -- Marks in a text: four bits to a hexadecimal digit, the highest first. They are read in upper or lower case and
 -- printed in lower case; the last digit is filled up with 0 bits.
-use Rattle.std.specs.Prelude.{◌≡◌, ℕ, zero, suc, ◌+◌, ◌-◌, ◌*◌, ◌/◌, ◌%◌, ◌^◌, ◌==◌, ◌&&◌, nat_le, Bool, false, not, if◌then◌else◌, Option, Some, None, is_some, unwrap_or, List, [], ◌∷◌, ◌++◌, get_or, codes}
+use Rattle.std.specs.Prelude.{◌≡◌, ℕ, zero, suc, ◌+◌, ◌-◌, ◌*◌, ◌/◌, ◌%◌, ◌^◌, ◌==◌, ◌&&◌, nat_le, Bool, false, not}
+use Rattle.std.specs.Prelude.{if◌then◌else◌, Option, Some, None, is_some, unwrap_or, List, [], ◌∷◌, ◌++◌, get_or, codes}
 use Rattle.std.specs.List.{AllByRecursion, flat_map, list_any}
 use Rattle.reach.specs.Position.{IsAmong}
 use Rattle.certificate.specs.Holding.{AreFilling}
 
--- the bits of a number, so many of the lowest, the highest of them first
+-- the bits of a number, this many of the lowest, the highest of them first
 abbrev pub bits_of : ℕ → ℕ → List Bool
 bits_of zero number = []
 bits_of (suc count) number = (number / 2 ^ count % 2 == 1) ∷ bits_of count number
@@ -14,7 +15,7 @@ bits_of (suc count) number = (number / 2 ^ count % 2 == 1) ∷ bits_of count num
 abbrev pub bits_of_bytes : List ℕ → List Bool
 bits_of_bytes bytes = flat_map (bits_of 8) bytes
 
--- what a hexadecimal digit stands for, in upper or lower case
+-- the value of a hexadecimal digit, in upper or lower case
 abbrev pub digit_value : ℕ → Option ℕ
 digit_value byte =
     if nat_le 48 byte && nat_le byte 57 then Some (byte - 48)

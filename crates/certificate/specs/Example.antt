@@ -1,7 +1,9 @@
--- A small example of the choice tree. The Pennsylvania has its token on H12 and two 2-trains; a yellow city lies on H10,
--- worth 20, beside its home, worth 10. Its runs can earn 30, since one border joins the two cities. In the order in which
--- the tree is gone through, down to nodes whose bound is at most 30, these are the nodes with a greater bound.
-use Rattle.std.specs.Prelude.{◌≡◌, ℕ, zero, suc, nat_le, Bool, true, false, if◌then◌else◌, Option, Some, None, List, [], ◌∷◌, map, codes}
+-- A small example of the choice tree. The Pennsylvania has its token on H12 and two 2-trains; a yellow city lies on
+-- H10, worth 20, beside its home, worth 10. Its runs can earn 30, since one border joins the two cities. In the order
+-- in which the tree is gone through, down to nodes whose bound is at most 30, these are the nodes with a greater
+-- bound.
+use Rattle.std.specs.Prelude.{◌≡◌, ℕ, zero, suc, nat_le, Bool, true, false, if◌then◌else◌, Option, Some, None, List, []}
+use Rattle.std.specs.Prelude.{◌∷◌, map, codes}
 use Rattle.map_tables.specs.Hex.{hexes}
 use Rattle.map_tables.specs.Place.{stop_at}
 use Rattle.map_tables.specs.declared.hex.Hex.{Hex}

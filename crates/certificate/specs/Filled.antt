@@ -5,7 +5,7 @@ use Rattle.reach.specs.Position.{Position}
 use Rattle.tables.specs.declared.rolling_stock.Kind.{Kind}
 use Rattle.tables.specs.declared.roster.Company.{Company}
 use Rattle.certificate.specs.Holding.{AreFilling, AreMarks, IsAccepted}
-use Rattle.certificate.specs.declared.claim.Claim.{Claim}
+use Rattle.legal_runs.specs.declared.claim.Claim.{Claim}
 
 -- bits are marks for a revenue, whatever fills them up
 abbrev pub AreMarksFilled : Position → Company → List Kind → ℕ → List Bool → Type 0

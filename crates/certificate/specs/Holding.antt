@@ -5,21 +5,22 @@
 --
 -- `Hold` is the rule, node by node. `left_over` reads marks over a list of nodes that lie ahead, and computes. `Writes`
 -- is how marks are written once a revenue is known.
-use Rattle.std.specs.Prelude.{◌≡◌, ◌↔◌, ℕ, ◌<◌, ◌≤◌, nat_le, Bool, true, false, if◌then◌else◌, Option, Some, None, List, [], ◌∷◌, ◌++◌, length}
+use Rattle.std.specs.Prelude.{◌≡◌, ◌↔◌, ℕ, ◌<◌, ◌≤◌, nat_le, Bool, true, false, if◌then◌else◌, Option, Some, None, List}
+use Rattle.std.specs.Prelude.{[], ◌∷◌, ◌++◌, length}
 use Rattle.std.specs.List.{AllByRecursion}
 use Rattle.map_tables.specs.declared.place.Stop.{Stop}
 use Rattle.reach.specs.Position.{Position, IsAmong}
-use Rattle.reach.specs.Reached.{ReachesStop, StandInOrder, stop_order}
+use Rattle.reach.specs.Reached.{ReachesStop, AreSortedBy, stop_order}
 use Rattle.tables.specs.declared.rolling_stock.Kind.{Kind}
 use Rattle.tables.specs.declared.roster.Company.{Company}
-use Rattle.certificate.specs.Claim.{ClaimHolds}
+use Rattle.legal_runs.specs.Claim.{ClaimHolds}
 use Rattle.certificate.specs.Tree.{IsLeaf, Node, bound, children, root_of}
-use Rattle.certificate.specs.declared.claim.Claim.{Claim}
+use Rattle.legal_runs.specs.declared.claim.Claim.{Claim}
 
 -- exactly the stops that a company reaches, in the order of the map
 pub record AreReached (position : Position) (company : Company) (stops : List Stop) : Type 0 where
   pub exact : (stop : Stop) → IsAmong stop stops ↔ ReachesStop position company stop
-  pub in_order : StandInOrder stop_order stops
+  pub in_order : AreSortedBy stop_order stops
 
 -- no train is left
 abbrev pub is_leaf : List Kind → Bool

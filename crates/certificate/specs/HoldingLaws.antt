@@ -6,10 +6,11 @@ use Rattle.reach.specs.Lawful.{IsLawful}
 use Rattle.reach.specs.Position.{Position}
 use Rattle.tables.specs.declared.rolling_stock.Kind.{Kind}
 use Rattle.tables.specs.declared.roster.Company.{Company}
-use Rattle.certificate.specs.Holding.{AreFilling, AreMarks, AreReached, AreReadAsMarks, Hold, IsAccepted, Writes, left_over}
-use Rattle.certificate.specs.Set.{IsGreatest}
+use Rattle.certificate.specs.Holding.{AreFilling, AreMarks, AreReached, AreReadAsMarks, Hold, IsAccepted, Writes}
+use Rattle.certificate.specs.Holding.{left_over}
+use Rattle.legal_runs.specs.Set.{IsGreatest}
 use Rattle.certificate.specs.Tree.{Node, root_of}
-use Rattle.certificate.specs.declared.claim.Claim.{Claim}
+use Rattle.legal_runs.specs.declared.claim.Claim.{Claim}
 
 -- a claim that is accepted has the greatest revenue
 abbrev pub AcceptedIsGreatest : Type 0

@@ -9,7 +9,8 @@
 -- The bound of a node is what its settled runs and the stops of the run begun earn, and for that run the greatest
 -- values of reached stops that are not in it, as many as it may still visit, and for each train after it the greatest
 -- values of reached stops, as many as it may visit; a D may visit all.
-use Rattle.std.specs.Prelude.{◌≡◌, ℕ, zero, suc, ◌+◌, ◌-◌, max, ◌==◌, nat_lt, Bool, true, false, not, ◌&&◌, ◌||◌, if◌then◌else◌, Option, Some, None, is_some, List, [], ◌∷◌, ◌++◌, length}
+use Rattle.std.specs.Prelude.{◌≡◌, ℕ, zero, suc, ◌+◌, ◌-◌, max, ◌==◌, nat_lt, Bool, true, false, not, ◌&&◌, ◌||◌}
+use Rattle.std.specs.Prelude.{if◌then◌else◌, Option, Some, None, is_some, List, [], ◌∷◌, ◌++◌, length}
 use Rattle.std.specs.List.{list_any}
 use Rattle.map_tables.specs.Border.{neighbour_of}
 use Rattle.map_tables.specs.Track.{end_order}
@@ -27,9 +28,9 @@ use Rattle.tables.specs.Train.{same_kind, stops_of}
 use Rattle.tables.specs.declared.rolling_stock.Kind.{Kind}
 use Rattle.tables.specs.declared.rolling_stock.Kind.TheVariants.{Two, Three, Four, Five, Six, Diesel}
 use Rattle.tables.specs.declared.roster.Company.{Company}
-use Rattle.certificate.specs.Fault.{has_border, has_stop, has_token, is_full}
-use Rattle.certificate.specs.Legal.{border_at, border_of, crossed, visited, worth}
-use Rattle.certificate.specs.Set.{TrainRun, revenue_of}
+use Rattle.legal_runs.specs.Fault.{has_border, has_stop, has_token, is_full}
+use Rattle.legal_runs.specs.Legal.{border_at, border_of, crossed, visited, worth}
+use Rattle.legal_runs.specs.Set.{TrainRun, revenue_of}
 
 pub record Node : Type 0 where
   pub settled : List TrainRun
@@ -192,7 +193,7 @@ module _ (position : Position) (company : Company) (reached : List Stop) where
 abbrev pub IsLeaf : Node → Type 0
 IsLeaf node = node.trains ≡ []
 
--- the sum of so many of some values, the greatest ones
+-- the sum of this many of some values, the greatest ones
 abbrev pub greatest_sum : ℕ → List ℕ → ℕ
 greatest_sum zero values = 0
 greatest_sum (suc count) [] = 0
@@ -202,7 +203,7 @@ abbrev pub total : List ℕ → ℕ
 total [] = 0
 total (value ∷ values) = value + total values
 
--- the sum of the greatest of some values, as many as a train may visit that has visited so many stops
+-- the sum of the greatest of some values, as many as a train may visit that has visited this many stops
 abbrev pub still_to_come : Option ℕ → ℕ → List ℕ → ℕ
 still_to_come (Some most) count values = greatest_sum (most - count) values
 still_to_come None count values = total values

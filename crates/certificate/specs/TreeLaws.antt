@@ -8,10 +8,10 @@ use Rattle.reach.specs.Position.{Position, IsAmong}
 use Rattle.reach.specs.Reached.{IsReach, Reaching}
 use Rattle.tables.specs.declared.rolling_stock.Kind.{Kind}
 use Rattle.tables.specs.declared.roster.Company.{Company}
-use Rattle.certificate.specs.Set.{IsLegalSet, TrainRun, revenue_of}
+use Rattle.legal_runs.specs.Set.{IsLegalSet, TrainRun, revenue_of}
 use Rattle.certificate.specs.Tree.{IsBelow, IsLeaf, Node, bound, children, root_of}
 
--- a node stands in the tree of a company's trains, where this is what it reaches
+-- a node is in the tree of a company's trains, where this is what it reaches
 abbrev pub IsInTree : Position → Company → List Kind → Reaching → Node → Type 0
 IsInTree position company trains reach node = IsBelow position company reach.stops (root_of trains) node
 

@@ -1,7 +1,8 @@
--- Where a walk over the choice tree stands, by what it keeps in place: marks of the borders that were crossed and of
--- the stops that the run begun has visited, and a few numbers. `Stands` joins these to the settled runs and the steps
+-- Where a walk over the choice tree is, by what it keeps in place: marks of the borders that were crossed and of
+-- the stops that the run begun has visited, and a few numbers. `IsOnRun` joins these to the settled runs and the steps
 -- of the run begun, which no code keeps.
-use Rattle.std.specs.Prelude.{◌≡◌, ℕ, zero, suc, ◌+◌, ◌-◌, ◌*◌, ◌≤◌, nat_lt, ◌==◌, Bool, false, if◌then◌else◌, Option, Some, None, option_map, List, [], ◌∷◌, ◌++◌, length, drop, get_or, replicate}
+use Rattle.std.specs.Prelude.{◌≡◌, ℕ, zero, suc, ◌+◌, ◌-◌, ◌*◌, ◌≤◌, nat_lt, ◌==◌, Bool, false, if◌then◌else◌, Option}
+use Rattle.std.specs.Prelude.{Some, None, option_map, List, [], ◌∷◌, ◌++◌, length, drop, get_or, replicate}
 use Rattle.std.specs.List.{list_any}
 use Rattle.map_tables.specs.Place.{joined_stop_of}
 use Rattle.map_tables.specs.declared.place.Stop.{Stop}
@@ -15,11 +16,12 @@ use Rattle.reach.specs.Walk.{entered_at, left_at, stop_of}
 use Rattle.reach.specs.declared.walk.Step.{Step}
 use Rattle.tables.specs.Train.{stops_of}
 use Rattle.tables.specs.declared.rolling_stock.Kind.{Kind}
-use Rattle.certificate.specs.Fault.{has_border, has_stop, has_token}
-use Rattle.certificate.specs.Legal.{border_at, listed, visited, worth}
+use Rattle.legal_runs.specs.Fault.{has_border, has_stop, has_token}
+use Rattle.legal_runs.specs.Legal.{border_at, listed, visited, worth}
 use Rattle.certificate.specs.Ranking.{ranked_of}
-use Rattle.certificate.specs.Set.{TrainRun, revenue_of}
-use Rattle.certificate.specs.Tree.{Node, goes_over, gone_over, leads_on, may_all_earn, may_earn, node_of, run_borders, setting_out, taken_borders}
+use Rattle.legal_runs.specs.Set.{TrainRun, revenue_of}
+use Rattle.certificate.specs.Tree.{Node, goes_over, gone_over, leads_on, may_all_earn, may_earn, node_of, run_borders}
+use Rattle.certificate.specs.Tree.{setting_out, taken_borders}
 use Rattle.certificate.specs.Walked.{LeavesAhead, Walks, capped}
 use Rattle.certificate.specs.declared.decider.Decision.{Decision}
 use Rattle.certificate.specs.declared.tree.Group.{Group}
@@ -52,7 +54,7 @@ abbrev pub earned_from : List Group → ℕ → ℕ
 earned_from [] place = 0
 earned_from (group ∷ groups) place = (group.count - place) * group.may_earn + earned_from groups (place - group.count)
 
--- how many stops a run may still visit that has visited so many
+-- how many stops a run may still visit that has visited this many
 abbrev pub still_left : Option ℕ → ℕ → Option ℕ
 still_left most count = option_map (λ n. n - count) most
 
@@ -68,30 +70,30 @@ reached_in tree = tree.reached
 abbrev pub trains_of_tree : Tree → List Kind
 trains_of_tree tree = trains_in tree.groups
 
--- what each train of a group may earn is told
-abbrev pub TellEarnings : Position → List Stop → List Group → Type 0
-TellEarnings position reached [] = Unit {0}
-TellEarnings position reached (group ∷ groups) =
-    (group.may_earn ≡ may_earn position reached group.kind []) × TellEarnings position reached groups
+-- each group has what a train of it may earn
+abbrev pub HaveEarnings : Position → List Stop → List Group → Type 0
+HaveEarnings position reached [] = Unit {0}
+HaveEarnings position reached (group ∷ groups) =
+    (group.may_earn ≡ may_earn position reached group.kind []) × HaveEarnings position reached groups
 
--- what a walk is told of the tree is so at a position
+-- what a walk has of the tree is so at a position
 pub record IsTree (position : Position) (tree : Tree) : Type 0 where
   pub lawful : IsLawful position
   pub named : (stop : Stop) → IsAmong stop (reached_in tree) → joined_stop_of stop ≡ stop
-  pub earnings : TellEarnings position (reached_in tree) tree.groups
+  pub earnings : HaveEarnings position (reached_in tree) tree.groups
   pub count : tree.count ≡ length (trains_of_tree tree)
   pub fits : length (trains_of_tree tree) ≤ 18446744073709551615
   pub ranking : tree.ranking ≡ ranked_of position (reached_in tree)
 
 -- no run is begun, and the settled runs earn so much
-pub record StandsBetween (position : Position) (tree : Tree) (value : ℕ) (settled : List TrainRun) : Type 0 where
-  pub told : IsTree position tree
+pub record IsBetweenRuns (position : Position) (tree : Tree) (value : ℕ) (settled : List TrainRun) : Type 0 where
+  pub tree_is : IsTree position tree
   pub earns : value ≡ capped (revenue_of position settled)
 
 -- a run is begun that has visited these stops, the first of them also before its first step
-pub record Stands (position : Position) (tree : Tree) (begun : Begun) (used marks : List Bool)
+pub record IsOnRun (position : Position) (tree : Tree) (begun : Begun) (used marks : List Bool)
     (settled : List TrainRun) (steps : List Step) (stops : List Stop) : Type 0 where
-  pub told : IsTree position tree
+  pub tree_is : IsTree position tree
   pub crossed : AreCrossed used (gone_over steps ++ run_borders settled)
   pub seen : AreVisited marks stops
   pub some : 1 ≤ length stops
@@ -120,7 +122,7 @@ abbrev pub may_take : List Stop → Node → End → Step → Bool
 may_take reached node (AtSide side) step = leads_on reached node step
 may_take reached node (AtStop number) step = goes_over (taken_borders node) step
 
--- the nodes at which the trains have set out from a place on, so many of them, the last train first
+-- the nodes at which the trains have set out from a place on, this many of them, the last train first
 abbrev pub set_outs : Position → Tree → List TrainRun → ℕ → ℕ → List Node
 set_outs position tree settled first zero = []
 set_outs position tree settled first (suc count) =

@@ -3,16 +3,14 @@ ghost use Rattle.std.specs.Prelude.{◌≡◌, ◌↔◌, IsTrue, IfOk, List};
 ghost use Rattle.certificate.specs.Filled.{AreMarksFilled};
 ghost use Rattle.certificate.specs.Holding.{AreMarks, IsAccepted};
 ghost use Rattle.certificate.specs.Read.{AreZeros};
-ghost use Rattle.certificate.specs.Set.{IsGreatest};
+ghost use Rattle.legal_runs.specs.Set.{IsGreatest};
 
 use crate::bits::Bits;
-use crate::claim::Claim;
-use crate::in_turn::claim_holds;
 use crate::reader::{Marks, Reader, SliceMarks};
 use crate::tree::Tree;
 use crate::tree_walk::choose;
-use crate::used::Used;
 use crate::writer::Writer;
+use legal_runs::{Claim, Used, claim_holds};
 use reach::Network;
 use std::alloc::{AllocError, Global};
 use tables::{Amount, Company, Kind};
@@ -82,7 +80,7 @@ pub(crate) fn marks_hold<N: Network, M: Marks + Drop>(
     are_zeros(&mut reader.marks, 3)
 }
 
-/// Whether the bits that are left are at most so many, each 0.
+/// Whether the bits that are left are at most this many, each 0.
 fn are_zeros<M: Marks>(bits: &mut M, most: usize) -> bool
     ensures { IsTrue result ↔ AreZeros most (M.left bits.old) }
 {

@@ -1,4 +1,5 @@
-ghost use Rattle.std.specs.Prelude.{◌≡◌, ◌↔◌, ◌*◌, ◌+◌, true, Err, OnOk, OnErr, IfErr, IfOk, IsTrue, MatchOption, [], ◌∷◌, ◌++◌, take, drop, get_or, false};
+ghost use Rattle.std.specs.Prelude.{◌≡◌, ◌↔◌, ◌*◌, ◌+◌, true, Err, OnOk, OnErr, IfErr, IfOk, IsTrue, MatchOption, []};
+ghost use Rattle.std.specs.Prelude.{◌∷◌, ◌++◌, take, drop, get_or, false};
 ghost use Rattle.certificate.specs.Digits.{bits_of_digits, digits_of, has_other};
 ghost use Rattle.certificate.specs.declared.hex.HexFault.TheVariants.{Digit};
 
@@ -168,8 +169,8 @@ impl<'a> BitReader<'a> {
     }
 
     /// Prints the next bits at the end of a text, in hexadecimal digits of lower case, as
-    /// `print_hex` prints them: so many digits, or all where fewer are left. It fails only if memory
-    /// is refused, and then some may be printed.
+    /// `print_hex` prints them: this many digits, or all where fewer are left. It fails only if
+    /// memory is refused, and then some may be printed.
     pub fn print_digits(&mut self, most: usize, text: &mut Vec<u8>) -> Result<(), AllocError>
         ensures printed { OnOk result
             (text.new.items ≡ text.old.items ++ digits_of (take (4 * most) self.old)) }

@@ -4,7 +4,7 @@ ghost use Rattle.certificate.specs.Checked.{AnswersByNext, Shows};
 
 use crate::accept::accepts_bits;
 use crate::group::Group;
-use crate::runner::{Runner, RunnerFault};
+use legal_runs::{Runner, RunnerFault};
 use reach::Network;
 use std::marker::Model;
 use std::vec;

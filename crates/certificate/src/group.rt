@@ -1,5 +1,5 @@
 use crate::bits::Bits;
-use crate::claim::Claim;
+use legal_runs::Claim;
 use tables::{Company, Round};
 
 /// A group of a text of certificates: the round and the company whose best runs it is about, what it

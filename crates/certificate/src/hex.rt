@@ -1,6 +1,7 @@
 //! Marks in a text: four bits to a hexadecimal digit.
 ghost use Rattle.std.specs.Prelude.{◌≡◌, ◌↔◌, ◌*◌, ◌+◌, ◌<◌, ◌≤◌, length, take, drop, true, Err, IfOk, [], ◌∷◌};
-ghost use Rattle.certificate.specs.Digits.{bit_number, bits_of, bits_of_digit, bits_of_digits, digit_of, digit_value, digits_of, has_other, is_digit};
+ghost use Rattle.certificate.specs.Digits.{bit_number, bits_of, bits_of_digit, bits_of_digits, digit_of, digit_value};
+ghost use Rattle.certificate.specs.Digits.{digits_of, has_other, is_digit};
 ghost use Rattle.certificate.specs.declared.hex.HexFault.TheVariants.{Digit, Memory};
 
 use std::alloc::{AllocError, Global};
@@ -109,7 +110,7 @@ fn is_digit(byte: u8) -> bool
     digit_value(byte).is_some()
 }
 
-/// What a hexadecimal digit stands for.
+/// The value of a hexadecimal digit.
 fn digit_value(byte: u8) -> Option<u8>
     ensures { result ≡ digit_value byte }
 {
@@ -121,7 +122,7 @@ fn digit_value(byte: u8) -> Option<u8>
     }
 }
 
-/// The bits for which a digit stands.
+/// The bits of a digit.
 pub(crate) fn bits_of_digit(digit: u8) -> [bool; 4]
     ensures { result ≡ bits_of_digit digit }
 {

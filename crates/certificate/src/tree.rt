@@ -5,7 +5,7 @@ ghost use Rattle.map_tables.specs.declared.place.Stop.{Stop};
 ghost use Rattle.reach.specs.Position.{Position};
 ghost use Rattle.reach.specs.Stops.{AreReachedStops};
 ghost use Rattle.tables.specs.Train.{same_kind};
-ghost use Rattle.certificate.specs.Fault.{has_stop};
+ghost use Rattle.legal_runs.specs.Fault.{has_stop};
 ghost use Rattle.certificate.specs.Ranking.{most_of, ranked_of};
 ghost use Rattle.certificate.specs.Tree.{greatest_first, may_earn, new_values};
 ghost use Rattle.certificate.specs.Walked.{capped};
@@ -91,7 +91,7 @@ impl Tree {
         self.ranking.most_left(seen, left)
     }
 
-    /// The kind of the train at a place in their order; `None` past the last.
+    /// The kind of the train at a place in their order; `None` behind the last.
     pub(crate) fn kind_at(&self, place: usize) -> Option<Kind>
         ensures { result ≡ kind_from self.now.groups place }
     {

@@ -1,24 +1,26 @@
-//! The walk over the choice tree of a company's trains. It stands at a node, and changes what it has
+//! The walk over the choice tree of a company's trains. It is at a node, and changes what it has
 //! marked in place: it marks a border or a stop, goes on, and takes the mark away again.
-ghost use Rattle.std.specs.Prelude.{◌≡◌, ◌+◌, ◌-◌, ◌*◌, ◌<◌, ◌≤◌, ◌∷◌, [], ◌++◌, ◌||◌, ◌==◌, List, Bool, Option, None, Some, false, length, drop, option_map, not, nat_lt};
+ghost use Rattle.std.specs.Prelude.{◌≡◌, ◌+◌, ◌-◌, ◌*◌, ◌<◌, ◌≤◌, ◌∷◌, [], ◌++◌, ◌||◌, ◌==◌, List, Bool, Option, None};
+ghost use Rattle.std.specs.Prelude.{Some, false, length, drop, option_map, not, nat_lt};
 ghost use Rattle.std.specs.List.{list_any};
 ghost use Rattle.map_tables.specs.Place.{joined_stop_of};
 ghost use Rattle.map_tables.specs.declared.place.Stop.{Stop};
 ghost use Rattle.reach.specs.Position.{IsAmong, Position, is_red, links_of, value_of};
 ghost use Rattle.reach.specs.Walk.{across, entered_at, left_at, stop_of};
 ghost use Rattle.reach.specs.declared.walk.Step.{Step};
-ghost use Rattle.certificate.specs.Fault.{has_token, is_full};
-ghost use Rattle.certificate.specs.Legal.{listed, visited};
-ghost use Rattle.certificate.specs.Set.{TrainRun, revenue_of};
-ghost use Rattle.certificate.specs.Tree.{bound, from_stop, goes_over, leads_on, node_if, run_borders, setting_out, taken_borders, with_step, with_steps, ways_at, ways_by, ways_from};
+ghost use Rattle.legal_runs.specs.Fault.{has_token, is_full};
+ghost use Rattle.legal_runs.specs.Legal.{listed, visited};
+ghost use Rattle.legal_runs.specs.Set.{TrainRun, revenue_of};
+ghost use Rattle.certificate.specs.Tree.{bound, from_stop, goes_over, leads_on, node_if, run_borders, setting_out};
+ghost use Rattle.certificate.specs.Tree.{taken_borders, with_step, with_steps, ways_at, ways_by, ways_from};
 ghost use Rattle.certificate.specs.Walked.{capped};
-ghost use Rattle.certificate.specs.Walking.{AreCrossed, AreVisited, Continues, Descends, IsTree, is_none_left, Stands, StandsBetween, WalksOver, may_take, node_at, node_from, reached_in, trains_of_tree};
+ghost use Rattle.certificate.specs.Walking.{AreCrossed, AreVisited, Continues, Descends, IsTree, is_none_left, IsOnRun};
+ghost use Rattle.certificate.specs.Walking.{IsBetweenRuns, WalksOver, may_take, node_at, node_from, reached_in};
+ghost use Rattle.certificate.specs.Walking.{trains_of_tree};
 
-use crate::border_numbers::border_to;
 use crate::decider::{Decider, Decision};
-use crate::tally::{has_token, is_full, worth};
 use crate::tree::Tree;
-use crate::used::Used;
+use legal_runs::{Used, border_to, has_token, is_full, worth};
 use map_tables::{End, Hex, Link, Stop};
 use reach::{Network, Spot, Step, StopMarks, twin};
 use tables::{Company, Kind};
@@ -95,7 +97,7 @@ fn step_into(link: Link, end: End) -> Option<Step>
 fn ask<D: Decider>(tree: &Tree, begun: &Begun, seen: &StopMarks, decider: &mut D) -> Decision
     ensures { (position : Position) (crossed : List Bool) (settled : List TrainRun)
         (steps : List Step) →
-        Stands position tree.now begun.now crossed seen.now settled steps (visited steps) →
+        IsOnRun position tree.now begun.now crossed seen.now settled steps (visited steps) →
         let node = node_at tree.now begun.now settled steps in
         let amount = capped (bound position (reached_in tree.now) node) in
         D.decides decider.old amount false result decider.new }
@@ -113,7 +115,7 @@ fn ask<D: Decider>(tree: &Tree, begun: &Begun, seen: &StopMarks, decider: &mut D
 /// is how far it came: the trains before that place are to set out. It is `None` where the walk ends.
 fn descend<D: Decider>(tree: &Tree, value: u64, first: usize, decider: &mut D) -> Option<usize>
     ensures { (position : Position) (settled : List TrainRun) →
-        StandsBetween position tree.now value settled →
+        IsBetweenRuns position tree.now value settled →
         first ≤ length (trains_of_tree tree.now) →
         Descends D.decides position tree.now settled first decider.old result decider.new }
 {
@@ -143,7 +145,7 @@ pub(crate) fn choose<N: Network, D: Decider>(
     decider: &mut D,
 ) -> bool
     ensures walks { (settled : List TrainRun) →
-        StandsBetween (N.position network.now) tree.now value settled →
+        IsBetweenRuns (N.position network.now) tree.now value settled →
         AreCrossed used.old (run_borders settled) →
         first ≤ length (trains_of_tree tree.now) →
         let nodes = node_from tree.now settled first ∷ [] in
@@ -174,7 +176,7 @@ fn set_out<N: Network, D: Decider>(
     decider: &mut D,
 ) -> bool
     ensures walks { (settled : List TrainRun) →
-        StandsBetween (N.position network.now) tree.now value settled →
+        IsBetweenRuns (N.position network.now) tree.now value settled →
         AreCrossed used.old (run_borders settled) →
         place < length (trains_of_tree tree.now) →
         let position = N.position network.now in
@@ -220,7 +222,7 @@ fn leave<N: Network, D: Decider>(
     decider: &mut D,
 ) -> bool
     ensures walks { (settled : List TrainRun) (steps : List Step) (stops : List Stop) →
-        Stands (N.position network.now) tree.now begun.now used.old seen.old settled steps stops →
+        IsOnRun (N.position network.now) tree.now begun.now used.old seen.old settled steps stops →
         ((step : Step) → stop_of (entered_at step) ≡ Some stop → Continues steps stops step) →
         joined_stop_of stop ≡ stop →
         let position = N.position network.now in
@@ -254,7 +256,7 @@ fn follow<N: Network, D: Decider>(
     decider: &mut D,
 ) -> bool
     ensures walks { (settled : List TrainRun) (steps : List Step) (stops : List Stop) →
-        Stands (N.position network.now) tree.now begun.now used.old seen.old settled steps stops →
+        IsOnRun (N.position network.now) tree.now begun.now used.old seen.old settled steps stops →
         ((step : Step) → entered_at step ≡ at → Continues steps stops step) →
         let position = N.position network.now in
         let node = node_at tree.now begun.now settled steps in
@@ -287,7 +289,7 @@ fn take<N: Network, D: Decider>(
     decider: &mut D,
 ) -> bool
     ensures walks { (settled : List TrainRun) (steps : List Step) (stops : List Stop) →
-        Stands (N.position network.now) tree.now begun.now used.old seen.old settled steps stops →
+        IsOnRun (N.position network.now) tree.now begun.now used.old seen.old settled steps stops →
         IsAmong link (links_of (N.position network.now) at.hex) →
         ((step : Step) → entered_at step ≡ at → Continues steps stops step) →
         let node = node_at tree.now begun.now settled steps in
@@ -334,7 +336,7 @@ fn cross<N: Network, D: Decider>(
 ) -> bool
     ensures walks { (settled : List TrainRun) (steps : List Step) (stops : List Stop) →
         (step : Step) →
-        Stands (N.position network.now) tree.now begun.now used.old seen.old settled steps stops →
+        IsOnRun (N.position network.now) tree.now begun.now used.old seen.old settled steps stops →
         Continues steps stops step → left_at step ≡ head → stop_of head ≡ None →
         let node = node_at tree.now begun.now settled steps in
         let nodes = node_if (goes_over (taken_borders node) step) (with_step node step) in
@@ -372,7 +374,7 @@ fn at_border<N: Network, D: Decider>(
 ) -> bool
     ensures walks { (settled : List TrainRun) (before : List Step) (step : Step) →
         let steps = step ∷ before in let stops = visited steps in
-        Stands (N.position network.now) tree.now begun.now used.old seen.old settled steps stops →
+        IsOnRun (N.position network.now) tree.now begun.now used.old seen.old settled steps stops →
         stop_of (left_at step) ≡ None → across (left_at step) ≡ Some beyond →
         let nodes = node_at tree.now begun.now settled steps ∷ [] in
         WalksOver D.decides (N.position network.now) tree.now
@@ -387,7 +389,7 @@ fn at_border<N: Network, D: Decider>(
     }
 }
 
-/// Walks over the node at which the run has come to a stop.
+/// Walks over the node at which the run has reached a stop.
 #[cycle(walk)]
 fn at_stop<N: Network, D: Decider>(
     network: &N,
@@ -400,7 +402,7 @@ fn at_stop<N: Network, D: Decider>(
 ) -> bool
     ensures walks { (settled : List TrainRun) (before : List Step) (step : Step) →
         let steps = step ∷ before in let stops = visited steps in
-        Stands (N.position network.now) tree.now begun.now used.old seen.old settled steps stops →
+        IsOnRun (N.position network.now) tree.now begun.now used.old seen.old settled steps stops →
         2 ≤ length stops → stop_of (left_at step) ≡ Some stop →
         let nodes = node_at tree.now begun.now settled steps ∷ [] in
         WalksOver D.decides (N.position network.now) tree.now
@@ -435,7 +437,7 @@ fn pass<N: Network, D: Decider>(
 ) -> bool
     ensures walks { (settled : List TrainRun) (before : List Step) (step : Step) →
         let steps = step ∷ before in let stops = visited steps in
-        Stands (N.position network.now) tree.now begun.now used.old seen.old settled steps stops →
+        IsOnRun (N.position network.now) tree.now begun.now used.old seen.old settled steps stops →
         stop_of (left_at step) ≡ Some stop →
         let position = N.position network.now in
         let node = node_at tree.now begun.now settled steps in

@@ -2,13 +2,13 @@
 use Rattle.std.proofs.Common.{◌≡◌, ◌<◌, ◌+ℤ◌, Option, ℤ, pos, ap, ◌∙◌, arith}
 use std.Path.{fun_ext}
 use Rattle.certs.specs.Counted.{certificates_in, certificates_of, counted_in, counted_of, privates_owned}
-use Rattle.certs.specs.Holdings.{AreHoldingsAt, president_in, square_in, tenths_in}
+use Rattle.certs.specs.Holdings.{AreHoldingsAt, president_in, square_in, shares_in}
 use Rattle.certs.specs.declared.holdings.Holdings.{Holdings}
 use Rattle.events.specs.declared.event.Holder.{Holder}
 use Rattle.events.specs.declared.event.Shareholder.TheVariants.{Seat as OfSeat}
-use Rattle.history.specs.LookBack.{owner_of}
-use Rattle.history.specs.Shares.{president_of, shares_of, square_of}
-use Rattle.history.specs.declared.look_back.GameView.{GameView}
+use Rattle.totals.specs.LookBack.{owner_of}
+use Rattle.totals.specs.Shares.{president_of, shares_of, square_of}
+use Rattle.totals.specs.declared.look_back.GameView.{GameView}
 use Rattle.tables.specs.Roster.{companies}
 use Rattle.tables.specs.declared.roster.Company.{Company}
 use Rattle.tables.specs.declared.roster.Private.{Private}
@@ -21,17 +21,17 @@ pub counted_at : (past : GameView) (holdings : Holdings) (seat : Seat) → AreHo
 counted_at past holdings seat are few =
     let events = past.events.now in
     let by_table : Company → ℤ = λ company. certificates_of seat (square_in holdings company)
-    (president_in holdings company) (tenths_in holdings company (OfSeat seat)) in
+    (president_in holdings company) (shares_in holdings company (OfSeat seat)) in
     let by_list : Company → ℤ = λ company. certificates_of seat (square_of events company)
     (president_of events company) (shares_of events company (OfSeat seat)) in
     let each : (company : Company) → by_table company ≡ by_list company =
     λ company.
     ap (λ (square : Option Square). certificates_of seat square (president_in holdings company)
-    (tenths_in holdings company (OfSeat seat))) (are.squares company)
+    (shares_in holdings company (OfSeat seat))) (are.squares company)
     ∙ ap (λ (president : Option Seat). certificates_of seat (square_of events company) president
-    (tenths_in holdings company (OfSeat seat))) (are.presidents company)
+    (shares_in holdings company (OfSeat seat))) (are.presidents company)
     ∙ ap (certificates_of seat (square_of events company) (president_of events company))
-    (are.tenths company (OfSeat seat) (omega (arith, few)))
+    (are.shares company (OfSeat seat) (omega (arith, few)))
     in
     ap (λ (owner : Private → Option Holder). pos (privates_owned owner seat) +ℤ certificates_in by_table companies)
     (fun_ext are.owners)

@@ -15,23 +15,23 @@ use mir.Val.{SFits, of_z, to_z}
 abbrev kept : ℤ → ℤ
 kept z = to_z w128 (of_z w128 z)
 
--- tenths of a bounded row are few certificates
-pub few_tenths : (value tenths : ℤ) → value ≡ tenths → IsSmall tenths → IsFew (kept value)
-few_tenths value tenths is small =
+-- shares of a bounded row are few certificates
+pub few_shares : (value shares : ℤ) → value ≡ shares → IsSmall shares → IsFew (kept value)
+few_shares value shares is small =
     let under = small.not_under in
     let over = small.not_over in
     record { not_under = omega (arith, ints, is, under, over); not_over = omega (arith, ints, is, under, over) }
 
 -- one less are few too
-pub few_less : (value tenths : ℤ) → value ≡ tenths → IsSmall tenths → IsFew (kept (kept value -ℤ pos 1))
-few_less value tenths is small =
+pub few_less : (value shares : ℤ) → value ≡ shares → IsSmall shares → IsFew (kept (kept value -ℤ pos 1))
+few_less value shares is small =
     let under = small.not_under in
     let over = small.not_over in
     record { not_under = omega (arith, ints, is, under, over); not_over = omega (arith, ints, is, under, over) }
 
--- small tenths are small once they are kept
-pub small_kept : (value tenths : ℤ) → value ≡ tenths → IsSmall tenths → IsSmall (kept value)
-small_kept value tenths is small =
+-- small shares are small once they are kept
+pub small_kept : (value shares : ℤ) → value ≡ shares → IsSmall shares → IsSmall (kept value)
+small_kept value shares is small =
     let under = small.not_under in
     let over = small.not_over in
     record { not_under = omega (arith, ints, is, under, over); not_over = omega (arith, ints, is, under, over) }

@@ -1,5 +1,6 @@
 -- The other seats of a table are others.
-use Rattle.std.proofs.Common.{◌≡◌, ℕ, zero, suc, ◌+◌, ◌-◌, ◌≤◌, ◌<◌, ◌==◌, ◌⊎◌, inl, inr, Bool, true, false, ◌||◌, nat_lt, if◌then◌else◌, min, List, [], ◌∷◌, ℤ, ◌≤ℤ◌, refl, arith}
+use Rattle.std.proofs.Common.{◌≡◌, ℕ, zero, suc, ◌+◌, ◌-◌, ◌≤◌, ◌<◌, ◌==◌, ◌⊎◌, inl, inr, Bool, true, false, ◌||◌}
+use Rattle.std.proofs.Common.{nat_lt, if◌then◌else◌, min, List, [], ◌∷◌, ℤ, ◌≤ℤ◌, refl, arith}
 use Rattle.std.proofs.lemmas.Bool.Decides.{nat_tests}
 use Rattle.std.proofs.lemmas.Int.{ints}
 use Rattle.std.specs.Int.Signed.{le_z, lt_z}
@@ -8,7 +9,7 @@ use Rattle.certs.specs.President.{better_of, others_from, with_most}
 use Rattle.certs.specs.Sale.{one_has}
 use Rattle.events.specs.declared.event.Event.{Event}
 use Rattle.events.specs.declared.event.Shareholder.TheVariants.{Seat as OfSeat}
-use Rattle.history.specs.Shares.{shares_of}
+use Rattle.totals.specs.Shares.{shares_of}
 use Rattle.tables.specs.Seat.{left_of, seat_at, seats_from}
 use Rattle.tables.specs.declared.roster.Company.{Company}
 use Rattle.tables.specs.declared.seat.Seat.{Seat}
@@ -18,7 +19,7 @@ abbrev AreOthers : ℕ → List Seat → Type 0
 AreOthers seat [] = Unit {0}
 AreOthers seat (other ∷ others) = ((seat == other.0) ≡ false) × AreOthers seat others
 
--- so many seats from one on come to the end of the table and not round to a seat, or stay before it
+-- this many seats from one on reach the end of the table and not round to a seat, or stay before it
 abbrev StayClear : ℕ → ℕ → ℕ → ℕ → Type 0
 StayClear seats seat count first =
     ((seat < first) × (first < seats) × ((first - seat) + count ≤ seats)) ⊎ (first + count ≤ seat)
@@ -82,41 +83,41 @@ are_others seats seat few within = clear_others seats seat.0 (seats - 1) (left_o
     (first_clear seats seat.0 few within)
 
 -- the better of two seats has no fewer than the second
-most_le_second : (tenths : Seat → ℤ) (best seat : Seat) → tenths seat ≤ℤ tenths (better_of tenths best seat)
-most_le_second tenths best seat =
-    elim (lt_z (tenths best) (tenths seat)) as (λ (b : Bool). lt_z (tenths best) (tenths seat) ≡ b
-    → tenths seat ≤ℤ tenths (if b then seat else best)) [
+most_le_second : (shares : Seat → ℤ) (best seat : Seat) → shares seat ≤ℤ shares (better_of shares best seat)
+most_le_second shares best seat =
+    elim (lt_z (shares best) (shares seat)) as (λ (b : Bool). lt_z (shares best) (shares seat) ≡ b
+    → shares seat ≤ℤ shares (if b then seat else best)) [
       | true ↦ λ more. omega (arith, ints)
       | false ↦ λ no_more. grind (arith, ints)
     ]
     refl
 
 -- the first with most has no fewer than any
-most_over : (events : List Event) (company : Company) (least : ℤ) (tenths : Seat → ℤ) (seat : ℕ) (best : Seat)
+most_over : (events : List Event) (company : Company) (least : ℤ) (shares : Seat → ℤ) (seat : ℕ) (best : Seat)
     (others : List Seat) → ((other : Seat) → (seat == other.0) ≡ false
-    → tenths other ≡ shares_of events company (OfSeat other)) → AreOthers seat others
-    → one_has events company least others ≡ true → least ≤ℤ tenths (with_most tenths best others)
-most_over events company least tenths seat best [] same apart has = absurd (cc)
-most_over events company least tenths seat best (other ∷ others) same apart has =
-    let now : tenths other ≡ shares_of events company (OfSeat other) = same other apart.0 in
-    let better : tenths other ≤ℤ tenths (better_of tenths best other) = most_le_second tenths best other in
-    let rest = most_le tenths (better_of tenths best other) others in
+    → shares other ≡ shares_of events company (OfSeat other)) → AreOthers seat others
+    → one_has events company least others ≡ true → least ≤ℤ shares (with_most shares best others)
+most_over events company least shares seat best [] same apart has = absurd (cc)
+most_over events company least shares seat best (other ∷ others) same apart has =
+    let now : shares other ≡ shares_of events company (OfSeat other) = same other apart.0 in
+    let better : shares other ≤ℤ shares (better_of shares best other) = most_le_second shares best other in
+    let rest = most_le shares (better_of shares best other) others in
     elim (le_z least (shares_of events company (OfSeat other))) as
     (λ (b : Bool). le_z least (shares_of events company (OfSeat other)) ≡ b
     → (b || one_has events company least others) ≡ true
-    → least ≤ℤ tenths (with_most tenths (better_of tenths best other) others)) [
+    → least ≤ℤ shares (with_most shares (better_of shares best other) others)) [
       | true ↦ λ enough one. grind (arith, ints, now, better, rest)
-      | false ↦ λ fewer one. most_over events company least tenths seat (better_of tenths best other) others same
+      | false ↦ λ fewer one. most_over events company least shares seat (better_of shares best other) others same
           apart.1 one
     ]
     refl has
 
--- where another seat has so many tenths, the first with most has as many
-pub another_leads : (seats : ℕ) (events : List Event) (company : Company) (least : ℤ) (tenths : Seat → ℤ)
+-- where another seat has this many shares, the first with most has as many
+pub another_leads : (seats : ℕ) (events : List Event) (company : Company) (least : ℤ) (shares : Seat → ℤ)
     (seat : Seat) → seats ≤ 6 → seat.0 < seats → ((other : Seat) → (seat.0 == other.0) ≡ false
-    → tenths other ≡ shares_of events company (OfSeat other))
+    → shares other ≡ shares_of events company (OfSeat other))
     → one_has events company least (others_from seats seat) ≡ true
-    → least ≤ℤ tenths (with_most tenths seat (others_from seats seat))
-another_leads seats events company least tenths seat few within same has =
-    most_over events company least tenths seat.0 seat (others_from seats seat) same (are_others seats seat few within)
+    → least ≤ℤ shares (with_most shares seat (others_from seats seat))
+another_leads seats events company least shares seat few within same has =
+    most_over events company least shares seat.0 seat (others_from seats seat) same (are_others seats seat few within)
     has

@@ -1,13 +1,15 @@
 -- Who presides by the holdings of a game presides by its events.
-use Rattle.std.proofs.Common.{◌≡◌, ℕ, zero, suc, ◌<◌, ◌≤◌, Bool, true, false, if◌then◌else◌, List, [], ◌∷◌, Option, Some, None, option_map, ℤ, refl, ap, ◌∙◌, arith}
+use Rattle.std.proofs.Common.{◌≡◌, ℕ, zero, suc, ◌<◌, ◌≤◌, Bool, true, false, if◌then◌else◌, List, [], ◌∷◌, Option}
+use Rattle.std.proofs.Common.{Some, None, option_map, ℤ, refl, ap, ◌∙◌, arith}
 use Rattle.std.proofs.lemmas.Bool.Decides.{nat_tests}
 use lib.Signed.{lt_z}
 use Rattle.certs.specs.Holdings.{AreHoldingsOf, president_in}
-use Rattle.certs.specs.President.{PresidentIsSeated, better_of, others_from, presiding_in, presiding_of, seat_tenths, seat_tenths_of, successor, with_most}
+use Rattle.certs.specs.President.{PresidentIsSeated, better_of, others_from, presiding_in, presiding_of, seat_shares}
+use Rattle.certs.specs.President.{seat_shares_of, successor, with_most}
 use Rattle.certs.specs.declared.holdings.Holdings.{Holdings}
 use Rattle.events.specs.declared.event.Shareholder.TheVariants.{Seat as OfSeat}
-use Rattle.history.specs.LookBack.{Game}
-use Rattle.history.specs.Shares.{president_of}
+use Rattle.totals.specs.LookBack.{Game}
+use Rattle.totals.specs.Shares.{president_of}
 use Rattle.tables.specs.Seat.{left_of, seats_from}
 use Rattle.tables.specs.declared.roster.Company.{Company}
 use Rattle.tables.specs.declared.seat.Seat.{Seat}
@@ -58,14 +60,14 @@ module _ (a b : Seat → ℤ) (same : (seat : Seat) → seat.0 < 6 → a seat �
 same_presiding : (game : Game) (holdings : Holdings) (company : Company) (old : Option Seat)
     → AreHoldingsOf game holdings → game.seats ≤ 6 →
     ((seat : Seat) → old ≡ Some seat → seat.0 < game.seats) →
-    option_map (successor (seat_tenths holdings company) game.seats) old
-    ≡ option_map (successor (seat_tenths_of game.events company) game.seats) old
+    option_map (successor (seat_shares holdings company) game.seats) old
+    ≡ option_map (successor (seat_shares_of game.events company) game.seats) old
 same_presiding game holdings company None are few seated = refl
 same_presiding game holdings company (Some old) are few seated =
     let within = seated old refl in
     ap Some
-    (same_successor (seat_tenths holdings company) (seat_tenths_of game.events company)
-    (λ seat of_six. are.tenths company (OfSeat seat) (omega (arith, of_six))) game.seats old few
+    (same_successor (seat_shares holdings company) (seat_shares_of game.events company)
+    (λ seat of_six. are.shares company (OfSeat seat) (omega (arith, of_six))) game.seats old few
     (omega (arith, within, few)))
 
 -- so the same seat presides by the holdings as by the events
@@ -73,7 +75,7 @@ pub presides_by_game : (game : Game) (holdings : Holdings) (company : Company) �
     → game.seats ≤ 6 →
     PresidentIsSeated game company → presiding_in holdings company ≡ presiding_of game.seats game.events company
 presides_by_game game holdings company are few seated =
-    ap (λ (n : ℕ). option_map (successor (seat_tenths holdings company) n) (president_in holdings company)) are.seats
-    ∙ ap (λ (old : Option Seat). option_map (successor (seat_tenths holdings company) game.seats) old)
+    ap (λ (n : ℕ). option_map (successor (seat_shares holdings company) n) (president_in holdings company)) are.seats
+    ∙ ap (λ (old : Option Seat). option_map (successor (seat_shares holdings company) game.seats) old)
     (are.presidents company)
     ∙ same_presiding game holdings company (president_of game.events company) are few seated

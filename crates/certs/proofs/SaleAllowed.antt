@@ -1,21 +1,24 @@
 -- A sale that breaks no rule can be made, and still can where a list says the same; its block is small.
-use Rattle.std.proofs.Common.{◌≡◌, ℕ, ◌≤◌, ◌==◌, Bool, true, false, not, ◌||◌, ◌&&◌, List, [], ◌∷◌, ◌++◌, Option, Some, None, is_some, ℤ, pos, ◌≤ℤ◌, ◌-ℤ◌, ◌+ℤ◌, refl, sym, subst, ap, ◌∙◌, arith}
+use Rattle.std.proofs.Common.{◌≡◌, ℕ, ◌≤◌, ◌==◌, Bool, true, false, not, ◌||◌, ◌&&◌, List, [], ◌∷◌, ◌++◌, Option, Some}
+use Rattle.std.proofs.Common.{None, is_some, ℤ, pos, ◌≤ℤ◌, ◌-ℤ◌, ◌+ℤ◌, refl, sym, subst, ap, ◌∙◌, arith}
 use Rattle.std.proofs.lemmas.Int.{ints}
 use Rattle.std.specs.Int.Signed.{le_z, lt_z}
 use Rattle.certs.specs.Counted.{presides}
 use Rattle.certs.specs.President.{others_from}
-use Rattle.certs.specs.Sale.{is_first_stock, is_not_held, is_over_five, kept_after, leaves_none, moves_operating, must_stay, one_has, sale_judgement, sale_rules}
+use Rattle.certs.specs.Sale.{is_first_stock, is_not_held, is_over_five, kept_after, none_is_left, moves_operating}
+use Rattle.certs.specs.Sale.{must_stay, one_has, sale_judgement, sale_rules}
 use Rattle.certs.specs.SaleAct.{MaySell}
 use Rattle.certs.specs.declared.deal.Sale.{Sale}
 use Rattle.events.specs.Event.{IsQuiet}
 use Rattle.events.specs.declared.event.Event.{Event}
 use Rattle.events.specs.declared.event.Shareholder.TheVariants.{BankPool, Seat as OfSeat}
 use Rattle.events.specs.declared.ruling.StockRule.{StockRule}
-use Rattle.events.specs.declared.ruling.StockRule.TheVariants.{SaleInFirstRound, NotHeld, PoolFull, PresidentMustStay, WrongStart}
-use Rattle.history.proofs.EventAtEnd.{quiet_same}
-use Rattle.history.specs.Laws.{SaysTheSame}
-use Rattle.history.specs.LookBack.{Game, round_of, with_event}
-use Rattle.history.specs.Shares.{is_started, president_of, shares_of}
+use Rattle.events.specs.declared.ruling.StockRule.TheVariants.{SaleInFirstRound, NotHeld, PoolFull, PresidentMustStay}
+use Rattle.events.specs.declared.ruling.StockRule.TheVariants.{WrongStart}
+use Rattle.totals.proofs.EventAtEnd.{quiet_same}
+use Rattle.totals.specs.AtEnd.{SaysTheSame}
+use Rattle.totals.specs.LookBack.{Game, round_of, with_event}
+use Rattle.totals.specs.Shares.{is_started, president_of, shares_of}
 use Rattle.history.specs.Sound.{IsSound}
 use Rattle.tables.proofs.Rules.{none_broken}
 use Rattle.tables.specs.Roster.{same_company}
@@ -36,7 +39,7 @@ stays true true moves kept = kept
 stays true false moves kept = refl
 stays false leaves moves kept = refl
 
--- tenths can be sold
+-- shares can be sold
 pub sale_allowed : (seats : ℕ) (events : List Event) (seat : Seat) (sale : Sale) (operating : Option Company)
     → sale_judgement seats events seat sale operating ≡ None → MaySell seats events seat sale
 unfolding sale_judgement must_stay
@@ -46,7 +49,7 @@ sale_allowed seats events seat sale operating none =
       held = kept.1.0;
       pool = kept.1.1.0;
       leaves =
-          stays (presides seat (president_of events sale.company)) (leaves_none seats events seat sale)
+          stays (presides seat (president_of events sale.company)) (none_is_left seats events seat sale)
           (moves_operating seats events seat sale operating) kept.1.1.1.0;
       started =
           holds (is_started events sale.company) kept.1.1.1.1.0;
@@ -57,20 +60,20 @@ pub same_start : (before after : List Event) (company : Company) → SaysTheSame
     → is_started after company ≡ is_started before company
 same_start before after company same = ap is_some (same.square company)
 
--- the seats that have so many tenths have them still
+-- the seats that have this many shares have them still
 same_holders : (before after : List Event) (company : Company) (least : ℤ) (seats : List Seat)
     → SaysTheSame before after → one_has after company least seats ≡ one_has before company least seats
 same_holders before after company least [] same = refl
 same_holders before after company least (seat ∷ others) same =
-    ap (λ (tenths : ℤ). le_z least tenths || one_has after company least others) (same.shares company (OfSeat seat))
+    ap (λ (shares : ℤ). le_z least shares || one_has after company least others) (same.shares company (OfSeat seat))
     ∙ ap (λ (later : Bool). le_z least (shares_of before company (OfSeat seat)) || later)
     (same_holders before after company least others same)
 
 -- a president leaves none as before
 same_leave : (seats : ℕ) (before after : List Event) (seat : Seat) (sale : Sale) → SaysTheSame before after
-    → leaves_none seats after seat sale ≡ leaves_none seats before seat sale
+    → none_is_left seats after seat sale ≡ none_is_left seats before seat sale
 same_leave seats before after seat sale same =
-    ap (λ (tenths : ℤ). lt_z (tenths -ℤ pos sale.tenths) (pos 2)
+    ap (λ (shares : ℤ). lt_z (shares -ℤ pos sale.shares) (pos 2)
     && not (one_has after sale.company (pos 2) (others_from seats seat))) (same.shares sale.company (OfSeat seat))
     ∙ ap (λ (another : Bool). lt_z (kept_after before seat sale) (pos 2) && not another)
     (same_holders before after sale.company (pos 2) (others_from seats seat) same)
@@ -81,8 +84,8 @@ same_moves : (seats : ℕ) (before after : List Event) (seat : Seat) (sale : Sal
     ≡ moves_operating seats before seat sale operating
 same_moves seats before after seat sale None same = refl
 same_moves seats before after seat sale (Some operating) same =
-    ap (λ (tenths : ℤ). same_company operating sale.company
-    && one_has after sale.company ((tenths -ℤ pos sale.tenths) +ℤ pos 1) (others_from seats seat))
+    ap (λ (shares : ℤ). same_company operating sale.company
+    && one_has after sale.company ((shares -ℤ pos sale.shares) +ℤ pos 1) (others_from seats seat))
     (same.shares sale.company (OfSeat seat))
     ∙ ap (λ (another : Bool). same_company operating sale.company && another)
     (same_holders before after sale.company (kept_after before seat sale +ℤ pos 1) (others_from seats seat) same)
@@ -93,12 +96,12 @@ same_stay : (seats : ℕ) (before after : List Event) (seat : Seat) (sale : Sale
 unfolding must_stay
 same_stay seats before after seat sale operating same =
     ap (λ (president : Option Seat). presides seat president
-    && (leaves_none seats after seat sale || moves_operating seats after seat sale operating))
+    && (none_is_left seats after seat sale || moves_operating seats after seat sale operating))
     (same.president sale.company)
     ∙ ap (λ (leaves : Bool). presides seat (president_of before sale.company)
     && (leaves || moves_operating seats after seat sale operating)) (same_leave seats before after seat sale same)
     ∙ ap (λ (moves : Bool). presides seat (president_of before sale.company)
-    && (leaves_none seats before seat sale || moves)) (same_moves seats before after seat sale operating same)
+    && (none_is_left seats before seat sale || moves)) (same_moves seats before after seat sale operating same)
 
 -- the first of the five rules of a sale that is broken
 abbrev judged : Bool → Bool → Bool → Bool → Bool → Option StockRule
@@ -123,10 +126,10 @@ same_judgement seats before after seat sale operating same round =
     let stays : Bool = must_stay seats before seat sale operating in
     ap (λ (its : Option Round). judged (is_first_stock its) (is_not_held after seat sale) (is_over_five after sale)
     (must_stay seats after seat sale operating) (not (is_started after sale.company))) round
-    ∙ ap (λ (held : ℤ). judged first (sale.tenths == 0 || lt_z held (pos sale.tenths)) (is_over_five after sale)
+    ∙ ap (λ (held : ℤ). judged first (sale.shares == 0 || lt_z held (pos sale.shares)) (is_over_five after sale)
     (must_stay seats after seat sale operating) (not (is_started after sale.company)))
     (same.shares sale.company (OfSeat seat))
-    ∙ ap (λ (pooled : ℤ). judged first unheld (lt_z (pos 5) (pooled +ℤ pos sale.tenths))
+    ∙ ap (λ (pooled : ℤ). judged first unheld (lt_z (pos 5) (pooled +ℤ pos sale.shares))
     (must_stay seats after seat sale operating) (not (is_started after sale.company)))
     (same.shares sale.company BankPool)
     ∙ ap (λ (its : Bool). judged first unheld full its (not (is_started after sale.company)))
@@ -139,9 +142,9 @@ pub still_may_sell : (seats : ℕ) (before after : List Event) (seat : Seat) (sa
 unfolding is_not_held is_over_five
 still_may_sell seats before after seat sale same may =
     record {
-      held = ap (λ (held : ℤ). sale.tenths == 0 || lt_z held (pos sale.tenths))
+      held = ap (λ (held : ℤ). sale.shares == 0 || lt_z held (pos sale.shares))
           (same.shares sale.company (OfSeat seat)) ∙ may.held;
-      pool = ap (λ (pooled : ℤ). lt_z (pos 5) (pooled +ℤ pos sale.tenths)) (same.shares sale.company BankPool)
+      pool = ap (λ (pooled : ℤ). lt_z (pos 5) (pooled +ℤ pos sale.shares)) (same.shares sale.company BankPool)
           ∙ may.pool;
       leaves = same_stay seats before after seat sale None same ∙ may.leaves;
       started = same_start before after sale.company same ∙ may.started;
@@ -156,13 +159,13 @@ may_sell_after old new event seat sale operating told quiet none =
     (still_may_sell old.seats old.events (old.events ++ event ∷ []) seat sale (quiet_same old.events event quiet)
     (sale_allowed old.seats old.events seat sale operating none))
 
--- few tenths come to a pool that has none too few and comes to at most five
-few_come : (pooled : ℤ) (tenths : ℕ) → pos 0 ≤ℤ pooled → lt_z (pos 5) (pooled +ℤ pos tenths) ≡ false → tenths ≤ 5
-few_come pooled tenths some pool = grind (arith, ints, some, pool)
+-- few shares come to a pool that has none too few and comes to at most five
+few_come : (pooled : ℤ) (shares : ℕ) → pos 0 ≤ℤ pooled → lt_z (pos 5) (pooled +ℤ pos shares) ≡ false → shares ≤ 5
+few_come pooled shares some pool = grind (arith, ints, some, pool)
 
 -- a block that may be sold is small
 pub block_small : (game : Game) (seat : Seat) (sale : Sale) → MaySell game.seats game.events seat sale → IsSound game
-    → sale.tenths ≤ 5
+    → sale.shares ≤ 5
 unfolding is_over_five
 block_small game seat sale may sound =
-    few_come (shares_of game.events sale.company BankPool) sale.tenths (sound.held sale.company BankPool) may.pool
+    few_come (shares_of game.events sale.company BankPool) sale.shares (sound.held sale.company BankPool) may.pool

@@ -1,22 +1,24 @@
--- Sales of tenths, after which somebody presides who has two.
-use Rattle.std.proofs.Common.{◌≡◌, ℕ, ◌*◌, ◌≤◌, ◌<◌, ◌==◌, ◌⊎◌, inl, inr, Bool, true, false, not, ◌&&◌, ◌||◌, if◌then◌else◌, List, [], ◌∷◌, ◌++◌, Option, Some, None, is_some, ℤ, pos, ◌≤ℤ◌, ◌-ℤ◌, ◌+ℤ◌, refl, sym, subst, ap, ◌∙◌, arith}
+-- Sales of shares, after which somebody presides who has two.
+use Rattle.std.proofs.Common.{◌≡◌, ℕ, ◌*◌, ◌≤◌, ◌<◌, ◌==◌, ◌⊎◌, inl, inr, Bool, true, false, not, ◌&&◌, ◌||◌}
+use Rattle.std.proofs.Common.{if◌then◌else◌, List, [], ◌∷◌, ◌++◌, Option, Some, None, is_some, ℤ, pos, ◌≤ℤ◌, ◌-ℤ◌, ◌+ℤ◌}
+use Rattle.std.proofs.Common.{refl, sym, subst, ap, ◌∙◌, arith}
 use Rattle.std.proofs.lemmas.Bool.Decides.{nat_tests}
 use Rattle.std.proofs.lemmas.Int.{ints}
 use Rattle.std.specs.Int.Signed.{lt_z}
 use Rattle.certs.proofs.Presidents.{most_le}
 use Rattle.certs.specs.Counted.{presides}
-use Rattle.certs.specs.President.{others_from, seat_tenths_of, successor_of}
+use Rattle.certs.specs.President.{others_from, seat_shares_of, successor_of}
 use Rattle.certs.specs.Purchase.{market_price_of}
-use Rattle.certs.specs.Sale.{is_not_held, kept_after, leaves_none, must_stay, one_has}
+use Rattle.certs.specs.Sale.{is_not_held, kept_after, none_is_left, must_stay, one_has}
 use Rattle.certs.specs.declared.deal.Sale.{Sale}
 use Rattle.events.specs.declared.event.Event.{Event}
 use Rattle.events.specs.declared.event.Event.TheVariants as event
 use Rattle.events.specs.declared.event.Shareholder.TheVariants.{Seat as OfSeat}
-use Rattle.history.proofs.EventAtEnd.{president_of_before, shares_of_at_end, shares_of_before}
+use Rattle.totals.proofs.EventAtEnd.{president_of_before, shares_of_at_end, shares_of_before}
 use Rattle.history.proofs.Blocks.{block_sound, block_with_succession_sound}
 use Rattle.history.specs.Laws.{block_sold}
-use Rattle.history.specs.LookBack.{Game}
-use Rattle.history.specs.Shares.{is_started, president_of, square_of}
+use Rattle.totals.specs.LookBack.{Game}
+use Rattle.totals.specs.Shares.{is_started, president_of, square_of}
 use Rattle.history.specs.Sound.{IsLed, IsSound}
 use Rattle.history.specs.Record.{breaks, with_broken}
 use Rattle.market.proofs.Tokens.{same_game}
@@ -39,12 +41,12 @@ started_is_led game company started sound =
     ]
     refl started
 
--- that the bank is broken changes no tenths
-tenths_broken : (seats : ℕ) (events : List Event) (company : Company) (seat : Seat)
-    → seat_tenths_of (with_broken seats events) company seat ≡ seat_tenths_of events company seat
-tenths_broken seats events company seat =
-    elim (breaks seats events) as (λ (b : Bool). seat_tenths_of (if b then events ++ event.Broken ∷ [] else events)
-    company seat ≡ seat_tenths_of events company seat) [
+-- that the bank is broken changes no shares
+shares_broken : (seats : ℕ) (events : List Event) (company : Company) (seat : Seat)
+    → seat_shares_of (with_broken seats events) company seat ≡ seat_shares_of events company seat
+shares_broken seats events company seat =
+    elim (breaks seats events) as (λ (b : Bool). seat_shares_of (if b then events ++ event.Broken ∷ [] else events)
+    company seat ≡ seat_shares_of events company seat) [
       | true ↦ shares_of_before events event.Broken company (OfSeat seat) refl
       | false ↦ refl
     ]
@@ -63,49 +65,49 @@ president_broken seats events company =
 itself : (company : Company) → same_company company company ≡ true
 itself company = grind (arith, nat_tests)
 
--- what a sale of so many tenths takes from a seat
-taken : (same by : Bool) (held : ℤ) (tenths : ℕ) → same ≡ true
-    → ((held +ℤ pos (if same then 0 else 0)) -ℤ pos (if same then (if by then tenths else 0) else 0))
-    ≡ (held -ℤ pos (if by then tenths else 0))
-taken true by held tenths is = omega (arith, ints)
-taken false by held tenths is = absurd (cc)
+-- what a sale of this many shares takes from a seat
+taken : (same by : Bool) (held : ℤ) (shares : ℕ) → same ≡ true
+    → ((held +ℤ pos (if same then 0 else 0)) -ℤ pos (if same then (if by then shares else 0) else 0))
+    ≡ (held -ℤ pos (if by then shares else 0))
+taken true by held shares is = omega (arith, ints)
+taken false by held shares is = absurd (cc)
 
--- the tenths of a seat after a sale
-tenths_sold : (game : Game) (company : Company) (seat : Seat) (tenths price : ℕ) (other : Seat)
-    → seat_tenths_of (block_sold game company seat tenths price).events company other
-    ≡ (seat_tenths_of game.events company other -ℤ pos (if seat.0 == other.0 then tenths else 0))
-tenths_sold game company seat tenths price other =
-    tenths_broken game.seats (game.events ++ event.Sells company seat tenths price ∷ []) company other
-    ∙ shares_of_at_end game.events (event.Sells company seat tenths price) company (OfSeat other)
-    ∙ taken (same_company company company) (seat.0 == other.0) (seat_tenths_of game.events company other) tenths
+-- the shares of a seat after a sale
+shares_sold : (game : Game) (company : Company) (seat : Seat) (shares price : ℕ) (other : Seat)
+    → seat_shares_of (block_sold game company seat shares price).events company other
+    ≡ (seat_shares_of game.events company other -ℤ pos (if seat.0 == other.0 then shares else 0))
+shares_sold game company seat shares price other =
+    shares_broken game.seats (game.events ++ event.Sells company seat shares price ∷ []) company other
+    ∙ shares_of_at_end game.events (event.Sells company seat shares price) company (OfSeat other)
+    ∙ taken (same_company company company) (seat.0 == other.0) (seat_shares_of game.events company other) shares
     (itself company)
 
 -- a sale changes no president
-president_sold : (game : Game) (company : Company) (seat : Seat) (tenths price : ℕ)
-    → president_of (block_sold game company seat tenths price).events company ≡ president_of game.events company
-president_sold game company seat tenths price =
-    president_broken game.seats (game.events ++ event.Sells company seat tenths price ∷ []) company
-    ∙ president_of_before game.events (event.Sells company seat tenths price) company refl
+president_sold : (game : Game) (company : Company) (seat : Seat) (shares price : ℕ)
+    → president_of (block_sold game company seat shares price).events company ≡ president_of game.events company
+president_sold game company seat shares price =
+    president_broken game.seats (game.events ++ event.Sells company seat shares price ∷ []) company
+    ∙ president_of_before game.events (event.Sells company seat shares price) company refl
 
 -- one who sells nothing keeps what he has
-untaken : (seat other : Seat) (held : ℤ) (tenths : ℕ) → (seat.0 == other.0) ≡ false
-    → (held -ℤ pos (if seat.0 == other.0 then tenths else 0)) ≡ held
-untaken seat other held tenths apart = rw apart (omega (arith, ints))
+untaken : (seat other : Seat) (held : ℤ) (shares : ℕ) → (seat.0 == other.0) ≡ false
+    → (held -ℤ pos (if seat.0 == other.0 then shares else 0)) ≡ held
+untaken seat other held shares apart = rw apart (omega (arith, ints))
 
--- the tenths of another seat stay
-tenths_apart : (game : Game) (company : Company) (seat : Seat) (tenths price : ℕ) (other : Seat)
-    → (seat.0 == other.0) ≡ false → seat_tenths_of (block_sold game company seat tenths price).events company other
-    ≡ seat_tenths_of game.events company other
-tenths_apart game company seat tenths price other apart =
-    tenths_sold game company seat tenths price other
-    ∙ untaken seat other (seat_tenths_of game.events company other) tenths apart
+-- the shares of another seat stay
+shares_apart : (game : Game) (company : Company) (seat : Seat) (shares price : ℕ) (other : Seat)
+    → (seat.0 == other.0) ≡ false → seat_shares_of (block_sold game company seat shares price).events company other
+    ≡ seat_shares_of game.events company other
+shares_apart game company seat shares price other apart =
+    shares_sold game company seat shares price other
+    ∙ untaken seat other (seat_shares_of game.events company other) shares apart
 
 -- what a seat sells is held
 sale_held : (none short : Bool) → (none || short) ≡ false → short ≡ false
 sale_held true short kept = absurd (cc)
 sale_held false short kept = kept
 
--- a president who may sell keeps two tenths, or another seat has two
+-- a president who may sell keeps two shares, or another seat has two
 keeps_or_another : (short another : Bool) → ((short && not another) || false) ≡ false
     → (short ≡ false) ⊎ (another ≡ true)
 keeps_or_another true true kept = inr refl
@@ -117,31 +119,31 @@ presiding : (is : Bool) (rest : Bool) → is ≡ true → (is && rest) ≡ false
 presiding true rest so kept = kept
 presiding false rest so kept = absurd (cc)
 
--- who presides after a sale of another seat has two tenths
-led_by_other : (game : Game) (company : Company) (seat : Seat) (tenths price : ℕ) (old : Seat)
+-- who presides after a sale of another seat has two shares
+led_by_other : (game : Game) (company : Company) (seat : Seat) (shares price : ℕ) (old : Seat)
     → (seat.0 == old.0) ≡ false → president_of game.events company ≡ Some old → IsLed game.events company
-    → pos 2 ≤ℤ seat_tenths_of (block_sold game company seat tenths price).events company old
-led_by_other game company seat tenths price old apart is led =
+    → pos 2 ≤ℤ seat_shares_of (block_sold game company seat shares price).events company old
+led_by_other game company seat shares price old apart is led =
     let one : Some led.president ≡ Some old = sym led.has_president ∙ is in
     let same : led.president ≡ old = cc in
-    subst (λ (n : ℤ). pos 2 ≤ℤ n) (sym (tenths_apart game company seat tenths price old apart))
-    (subst (λ (s : Seat). pos 2 ≤ℤ seat_tenths_of game.events company s) same led.holds_two)
+    subst (λ (n : ℤ). pos 2 ≤ℤ n) (sym (shares_apart game company seat shares price old apart))
+    (subst (λ (s : Seat). pos 2 ≤ℤ seat_shares_of game.events company s) same led.holds_two)
 
--- who presides after a sale has two tenths
+-- who presides after a sale has two shares
 pub successor_has_two : (game : Game) (seat : Seat) (sale : Sale) (price : ℕ) (old : Seat) → game.seats ≤ 6
     → seat.0 < game.seats → MaySell game.seats game.events seat sale → IsSound game
     → president_of game.events sale.company ≡ Some old
-    → pos 2 ≤ℤ seat_tenths_of (block_sold game sale.company seat sale.tenths price).events sale.company
-    (successor_of game.seats (block_sold game sale.company seat sale.tenths price).events sale.company old)
+    → pos 2 ≤ℤ seat_shares_of (block_sold game sale.company seat sale.shares price).events sale.company
+    (successor_of game.seats (block_sold game sale.company seat sale.shares price).events sale.company old)
 unfolding must_stay
 successor_has_two game seat sale price old few within may sound is =
     let company = sale.company in
-    let after : List Event = (block_sold game company seat sale.tenths price).events in
-    let most = most_le (seat_tenths_of after company) old (others_from game.seats old) in
+    let after : List Event = (block_sold game company seat sale.shares price).events in
+    let most = most_le (seat_shares_of after company) old (others_from game.seats old) in
     elim (seat.0 == old.0) as (λ (b : Bool). (seat.0 == old.0) ≡ b
-    → pos 2 ≤ℤ seat_tenths_of after company (successor_of game.seats after company old)) [
+    → pos 2 ≤ℤ seat_shares_of after company (successor_of game.seats after company old)) [
       | false ↦ λ apart.
-          let two = led_by_other game company seat sale.tenths price old apart is
+          let two = led_by_other game company seat sale.shares price old apart is
           (started_is_led game company may.started sound) in
           omega (arith, ints, most, two)
       | true ↦ λ same.
@@ -150,21 +152,21 @@ successor_has_two game seat sale price old few within may sound is =
           let itself : presides seat (president_of game.events company) ≡ true =
           ap (presides seat) is ∙ grind (arith, nat_tests, number) in
           let kept = presiding (presides seat (president_of game.events company))
-          (leaves_none game.seats game.events seat sale || false) itself may.leaves in
+          (none_is_left game.seats game.events seat sale || false) itself may.leaves in
           elim (keeps_or_another (lt_z (kept_after game.events seat sale) (pos 2))
           (one_has game.events company (pos 2) (others_from game.seats seat)) kept) [
             | inl keeps ↦
-                let left = tenths_sold game company seat sale.tenths price old in
-                let mine : seat_tenths_of game.events company old ≡ seat_tenths_of game.events company seat =
-                ap (seat_tenths_of game.events company) (sym one) in
-                let two : pos 2 ≤ℤ seat_tenths_of after company old =
+                let left = shares_sold game company seat sale.shares price old in
+                let mine : seat_shares_of game.events company old ≡ seat_shares_of game.events company seat =
+                ap (seat_shares_of game.events company) (sym one) in
+                let two : pos 2 ≤ℤ seat_shares_of after company old =
                 grind (arith, ints, nat_tests, left, mine, keeps, same) in
                 omega (arith, ints, most, two)
             | inr another ↦
-                subst (λ (s : Seat). pos 2 ≤ℤ seat_tenths_of after company (successor_of game.seats after company s))
+                subst (λ (s : Seat). pos 2 ≤ℤ seat_shares_of after company (successor_of game.seats after company s))
                 one
-                (another_leads game.seats game.events company (pos 2) (seat_tenths_of after company) seat few within
-                (tenths_apart game company seat sale.tenths price) another)
+                (another_leads game.seats game.events company (pos 2) (seat_shares_of after company) seat few within
+                (shares_apart game company seat sale.shares price) another)
           ]
     ]
     refl
@@ -176,18 +178,18 @@ succeeded_sound : (game : Game) (seat : Seat) (sale : Sale) (price : ℕ) (old :
     → IsSound (record {
       seats = game.seats;
       events =
-          succeeded (block_sold game sale.company seat sale.tenths price).events sale.company old
-          (successor_of game.seats (block_sold game sale.company seat sale.tenths price).events sale.company old);
+          succeeded (block_sold game sale.company seat sale.shares price).events sale.company old
+          (successor_of game.seats (block_sold game sale.company seat sale.shares price).events sale.company old);
     })
 unfolding is_not_held
 succeeded_sound game seat sale price old few within may sound is =
     let company = sale.company in
-    let after : List Event = (block_sold game company seat sale.tenths price).events in
+    let after : List Event = (block_sold game company seat sale.shares price).events in
     let new = successor_of game.seats after company old in
     let two = successor_has_two game seat sale price old few within may sound is in
-    let short : lt_z (seat_tenths_of game.events company seat) (pos sale.tenths) ≡ false =
-    sale_held (sale.tenths == 0) (lt_z (seat_tenths_of game.events company seat) (pos sale.tenths)) may.held in
-    let held : pos sale.tenths ≤ℤ seat_tenths_of game.events company seat = grind (arith, ints, short) in
+    let short : lt_z (seat_shares_of game.events company seat) (pos sale.shares) ≡ false =
+    sale_held (sale.shares == 0) (lt_z (seat_shares_of game.events company seat) (pos sale.shares)) may.held in
+    let held : pos sale.shares ≤ℤ seat_shares_of game.events company seat = grind (arith, ints, short) in
     elim (new.0 == old.0) as (λ (b : Bool). (new.0 == old.0) ≡ b
     → IsSound (record {
       seats = game.seats;
@@ -198,28 +200,28 @@ succeeded_sound game seat sale price old few within may sound is =
           let number : new.0 ≡ old.0 = grind (arith, nat_tests, same) in
           let one : new ≡ old = ap seat_at number in
           let stays : (president : Seat) → president_of game.events company ≡ Some president
-          → pos 2 ≤ℤ seat_tenths_of after company president =
+          → pos 2 ≤ℤ seat_shares_of after company president =
           λ president has.
           let both : Some old ≡ Some president = sym is ∙ has in
           let is_old : old ≡ president = cc in
-          subst (λ (s : Seat). pos 2 ≤ℤ seat_tenths_of after company s) (one ∙ is_old) two
+          subst (λ (s : Seat). pos 2 ≤ℤ seat_shares_of after company s) (one ∙ is_old) two
           in
-          block_sound game company seat sale.tenths price within held stays sound
-      | false ↦ λ apart. block_with_succession_sound game company seat sale.tenths price new within held two sound
+          block_sound game company seat sale.shares price within held stays sound
+      | false ↦ λ apart. block_with_succession_sound game company seat sale.shares price new within held two sound
     ]
     refl
 
 -- a sale without a president
 unled_sound : (game : Game) (seat : Seat) (sale : Sale) (price : ℕ) → seat.0 < game.seats
     → MaySell game.seats game.events seat sale → IsSound game → president_of game.events sale.company ≡ None
-    → IsSound (block_sold game sale.company seat sale.tenths price)
+    → IsSound (block_sold game sale.company seat sale.shares price)
 unfolding is_not_held
 unled_sound game seat sale price within may sound none =
     let company = sale.company in
-    let short : lt_z (seat_tenths_of game.events company seat) (pos sale.tenths) ≡ false =
-    sale_held (sale.tenths == 0) (lt_z (seat_tenths_of game.events company seat) (pos sale.tenths)) may.held in
-    let held : pos sale.tenths ≤ℤ seat_tenths_of game.events company seat = grind (arith, ints, short) in
-    block_sound game company seat sale.tenths price within held
+    let short : lt_z (seat_shares_of game.events company seat) (pos sale.shares) ≡ false =
+    sale_held (sale.shares == 0) (lt_z (seat_shares_of game.events company seat) (pos sale.shares)) may.held in
+    let held : pos sale.shares ≤ℤ seat_shares_of game.events company seat = grind (arith, ints, short) in
+    block_sound game company seat sale.shares price within held
     (λ president has. let no : None ≡ Some president = sym none ∙ has in absurd (cc)) sound
 
 -- after a sale and the presidency that follows from it a list is sound
@@ -228,12 +230,12 @@ pub sale_led : (game : Game) (seat : Seat) (sale : Sale) (price : ℕ) → game.
     → IsSound (record {
       seats = game.seats;
       events =
-          with_president game.seats (block_sold game sale.company seat sale.tenths price).events sale.company;
+          with_president game.seats (block_sold game sale.company seat sale.shares price).events sale.company;
     })
 sale_led game seat sale price few within may sound =
     let company = sale.company in
-    let after : List Event = (block_sold game company seat sale.tenths price).events in
-    let same = president_sold game company seat sale.tenths price in
+    let after : List Event = (block_sold game company seat sale.shares price).events in
+    let same = president_sold game company seat sale.shares price in
     subst (λ (found : Option Seat). IsSound (record
     { seats = game.seats; events = with_successor game.seats after company found })) (sym same)
     (elim (president_of game.events company) as (λ (found : Option Seat). president_of game.events company ≡ found
@@ -246,11 +248,11 @@ sale_led game seat sale price few within may sound =
 -- so it is step by step
 pub sold_sound : (game paid led : Game) (seat : Seat) (sale : Sale) → game.seats ≤ 6 → seat.0 < game.seats
     → MaySell game.seats game.events seat sale → IsSound game → paid.seats ≡ game.seats
-    → paid.events ≡ sold game.seats game.events seat sale.company sale.tenths → led.seats ≡ paid.seats
+    → paid.events ≡ sold game.seats game.events seat sale.company sale.shares → led.seats ≡ paid.seats
     → led.events ≡ with_president paid.seats paid.events sale.company → IsSound led
 sold_sound game paid led seat sale few within may sound paid_seats is_paid led_seats is_led =
-    let price = sale.tenths * market_price_of game.events sale.company in
-    let after : List Event = (block_sold game sale.company seat sale.tenths price).events in
+    let price = sale.shares * market_price_of game.events sale.company in
+    let after : List Event = (block_sold game sale.company seat sale.shares price).events in
     let events : led.events ≡ with_president game.seats after sale.company =
     is_led
     ∙ ap (λ (n : ℕ). with_president n paid.events sale.company) paid_seats

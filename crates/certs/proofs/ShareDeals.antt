@@ -4,12 +4,12 @@ use Rattle.std.specs.Int.Signed.{le_z}
 use Rattle.certs.specs.Sale.{one_has}
 use Rattle.events.specs.declared.event.Event.{Event}
 use Rattle.events.specs.declared.event.Shareholder.TheVariants.{Seat as OfSeat}
-use Rattle.history.specs.Shares.{shares_of}
+use Rattle.totals.specs.Shares.{shares_of}
 use Rattle.tables.specs.Seat.{left_of, seats_from}
 use Rattle.tables.specs.declared.roster.Company.{Company}
 use Rattle.tables.specs.declared.seat.Seat.{Seat}
 
--- one of some seats has so many tenths: the first of them, or one of the others
+-- one of some seats has this many shares: the first of them, or one of the others
 pub one_has_from : (events : List Event) (company : Company) (least : ℤ) (seats counter : ℕ) (other next : Seat)
     (has : Bool) → counter < seats → next ≡ left_of seats other
     → le_z least (shares_of events company (OfSeat next)) ≡ has

@@ -1,12 +1,12 @@
 -- A presidency that passes on keeps a list sound.
 use Rattle.std.proofs.Common.{◌≡◌, ◌==◌, Bool, true, false, if◌then◌else◌, [], ◌∷◌, ◌++◌, Option, Some, None, refl}
 use Rattle.certs.proofs.Presidents.{most_le}
-use Rattle.certs.specs.President.{others_from, seat_tenths_of, successor_of}
+use Rattle.certs.specs.President.{others_from, seat_shares_of, successor_of}
 use Rattle.certs.specs.SaleAct.{succeeded, with_president, with_successor}
 use Rattle.events.specs.declared.event.Event.TheVariants as event
 use Rattle.history.proofs.Blocks.{succession_sound as succession_law}
-use Rattle.history.specs.LookBack.{Game}
-use Rattle.history.specs.Shares.{president_of}
+use Rattle.totals.specs.LookBack.{Game}
+use Rattle.totals.specs.Shares.{president_of}
 use Rattle.history.specs.Sound.{IsSound}
 use Rattle.market.proofs.Tokens.{same_game}
 use Rattle.tables.specs.declared.roster.Company.{Company}
@@ -29,7 +29,7 @@ succession_sound game company old is sound =
     })) [
       | true ↦ sound
       | false ↦ succession_law game company old new is
-          (most_le (seat_tenths_of game.events company) old (others_from game.seats old)) sound
+          (most_le (seat_shares_of game.events company) old (others_from game.seats old)) sound
     ]
 
 -- the presidency that follows from a change

@@ -1,5 +1,6 @@
 -- A transfer, company by company.
-use Rattle.std.proofs.Common.{◌≡◌, ℕ, ◌<◌, ◌==◌, Bool, true, false, if◌then◌else◌, List, [], ℤ, pos, ◌+ℤ◌, ◌-ℤ◌, Some, length, get_or, set, refl, sym, ap, ◌∙◌, inl, inr, arith}
+use Rattle.std.proofs.Common.{◌≡◌, ℕ, ◌<◌, ◌==◌, Bool, true, false, if◌then◌else◌, List, [], ℤ, pos, ◌+ℤ◌, ◌-ℤ◌, Some}
+use Rattle.std.proofs.Common.{length, get_or, set, refl, sym, ap, ◌∙◌, inl, inr, arith}
 use Rattle.std.proofs.lemmas.Bool.{cases_eq}
 use Rattle.std.proofs.lemmas.Bool.Decides.{nat_tests}
 use Rattle.std.proofs.lemmas.Int.{ints}
@@ -8,7 +9,7 @@ use Rattle.certs.specs.Rows.{index_of}
 use Rattle.events.specs.declared.event.Shareholder.{Shareholder}
 use Rattle.events.specs.declared.event.Shareholder.TheVariants.{InitialOffering, BankPool, Seat as OfSeat}
 use Rattle.events.specs.declared.event.Transfer.{Transfer}
-use Rattle.history.specs.Shares.{brought_to, same_shareholder, taken_from}
+use Rattle.totals.specs.Shares.{brought_to, same_shareholder, taken_from}
 use Rattle.tables.specs.Roster.{place_of_company}
 use Rattle.tables.specs.declared.roster.Company.{Company}
 
@@ -25,36 +26,36 @@ same_index (OfSeat a) BankPool = grind (arith, nat_tests)
 same_index (OfSeat a) (OfSeat b) = grind (arith, nat_tests)
 
 -- a part of a sum, as a natural number and as an integer
-part_is : (b : Bool) (tenths : ℕ) → pos (if b then tenths else 0) ≡ (if b then pos tenths else pos 0)
-part_is true tenths = refl
-part_is false tenths = refl
+part_is : (b : Bool) (shares : ℕ) → pos (if b then shares else 0) ≡ (if b then pos shares else pos 0)
+part_is true shares = refl
+part_is false shares = refl
 
 -- what goes to or from a place of the company of the transfer
-part_here : (of at : Company) (place other : Shareholder) (tenths : ℕ) → place_of_company of ≡ place_of_company at
+part_here : (of at : Company) (place other : Shareholder) (shares : ℕ) → place_of_company of ≡ place_of_company at
     → pos (if place_of_company of == place_of_company
-    at then (if same_shareholder place other then tenths else 0) else 0)
-    ≡ (if index_of place == index_of other then pos tenths else pos 0)
-part_here of at place other tenths same =
+    at then (if same_shareholder place other then shares else 0) else 0)
+    ≡ (if index_of place == index_of other then pos shares else pos 0)
+part_here of at place other shares same =
     let yes : (place_of_company of == place_of_company at) ≡ true = grind (arith, nat_tests) in
-    ap (λ (b : Bool). pos (if b then (if same_shareholder place other then tenths else 0) else 0)) yes
-    ∙ ap (λ (b : Bool). pos (if b then tenths else 0)) (same_index place other)
-    ∙ part_is (index_of place == index_of other) tenths
+    ap (λ (b : Bool). pos (if b then (if same_shareholder place other then shares else 0) else 0)) yes
+    ∙ ap (λ (b : Bool). pos (if b then shares else 0)) (same_index place other)
+    ∙ part_is (index_of place == index_of other) shares
 
 -- what goes to or from a place of another company
-part_elsewhere : (of at : Company) (place other : Shareholder) (tenths : ℕ)
+part_elsewhere : (of at : Company) (place other : Shareholder) (shares : ℕ)
     → (place_of_company of ≡ place_of_company at → ⊥)
     → pos 0 ≡ pos (if place_of_company of == place_of_company
-    at then (if same_shareholder place other then tenths else 0) else 0)
-part_elsewhere of at place other tenths apart =
+    at then (if same_shareholder place other then shares else 0) else 0)
+part_elsewhere of at place other shares apart =
     let no : (place_of_company of == place_of_company at) ≡ false = grind (arith, nat_tests) in
-    sym (ap (λ (b : Bool). pos (if b then (if same_shareholder place other then tenths else 0) else 0)) no)
+    sym (ap (λ (b : Bool). pos (if b then (if same_shareholder place other then shares else 0) else 0)) no)
 
--- the tenths at a place after a transfer, where its company's row changed so there
+-- the shares at a place after a transfer, where its company's row changed so there
 pub rows_after : (rows : List (List ℤ)) (row : List ℤ) (transfer : Transfer) (at : ℕ)
     → at ≡ place_of_company transfer.company → at < length rows → (company : Company) (place : Shareholder)
     → get_or row (index_of place) (pos 0) ≡ (get_or (get_or rows at []) (index_of place) (pos 0) +ℤ
-    (if index_of transfer.to == index_of place then pos transfer.tenths else pos 0)) -ℤ
-    (if index_of transfer.from == index_of place then pos transfer.tenths else pos 0)
+    (if index_of transfer.to == index_of place then pos transfer.shares else pos 0)) -ℤ
+    (if index_of transfer.from == index_of place then pos transfer.shares else pos 0)
     → get_or (get_or (set rows at row) (place_of_company company) []) (index_of place) (pos 0)
     ≡ (get_or (get_or rows (place_of_company company) []) (index_of place) (pos 0) +ℤ pos
     (brought_to company place (Some transfer))) -ℤ pos (taken_from company place (Some transfer))
@@ -68,13 +69,13 @@ rows_after rows row transfer at at_is within company place moved =
           ∙ ap (λ (r : List ℤ). get_or r i (pos 0)) (get_or-set_same rows at row [] within)
           ∙ moved
           ∙ ap (λ (n : ℕ). (get_or (get_or rows n []) i (pos 0) +ℤ
-          (if index_of transfer.to == i then pos transfer.tenths else pos 0)) -ℤ
-          (if index_of transfer.from == i then pos transfer.tenths else pos 0)) at_k
+          (if index_of transfer.to == i then pos transfer.shares else pos 0)) -ℤ
+          (if index_of transfer.from == i then pos transfer.shares else pos 0)) at_k
           ∙ ap (λ (z : ℤ). (get_or (get_or rows k []) i (pos 0) +ℤ z) -ℤ
-          (if index_of transfer.from == i then pos transfer.tenths else pos 0))
-          (sym (part_here transfer.company company transfer.to place transfer.tenths same))
+          (if index_of transfer.from == i then pos transfer.shares else pos 0))
+          (sym (part_here transfer.company company transfer.to place transfer.shares same))
           ∙ ap (λ (z : ℤ). (get_or (get_or rows k []) i (pos 0) +ℤ pos (brought_to company place (Some transfer))) -ℤ
-          z) (sym (part_here transfer.company company transfer.from place transfer.tenths same))
+          z) (sym (part_here transfer.company company transfer.from place transfer.shares same))
       | inr apart ↦
           let other : k ≡ at → ⊥ = λ is. apart (sym (is ∙ at_is)) in
           let nothing : get_or (get_or rows k []) i (pos 0)
@@ -82,7 +83,7 @@ rows_after rows row transfer at at_is within company place moved =
           ap (λ (r : List ℤ). get_or r i (pos 0)) (get_or-set_other rows at k row [] other)
           ∙ nothing
           ∙ ap (λ (z : ℤ). (get_or (get_or rows k []) i (pos 0) +ℤ z) -ℤ pos 0)
-          (part_elsewhere transfer.company company transfer.to place transfer.tenths apart)
+          (part_elsewhere transfer.company company transfer.to place transfer.shares apart)
           ∙ ap (λ (z : ℤ). (get_or (get_or rows k []) i (pos 0) +ℤ pos (brought_to company place (Some transfer))) -ℤ
-          z) (part_elsewhere transfer.company company transfer.from place transfer.tenths apart)
+          z) (part_elsewhere transfer.company company transfer.from place transfer.shares apart)
     ]

@@ -1,15 +1,16 @@
--- How many certificates of a seat count against the limit: its open privates, and of each company whose
--- square lies in no zone, or that has no square, its tenths, less one if the seat presides, since the
--- president's certificate is two tenths.
-use Rattle.std.specs.Prelude.{◌≡◌, ℕ, ◌<◌, ◌==◌, Bool, true, false, if◌then◌else◌, List, [], ◌∷◌, Option, Some, None, sum_by, ℤ, pos, ◌+ℤ◌, ◌-ℤ◌}
-use Rattle.certs.specs.Holdings.{AreHoldingsOf, president_in, square_in, tenths_in}
+-- How many certificates of a seat count against the limit: its open privates, and of each company whose square lies in
+-- no zone, or that has no square, its shares, less one if the seat presides, since the president's certificate is two
+-- shares.
+use Rattle.std.specs.Prelude.{◌≡◌, ℕ, ◌<◌, ◌==◌, Bool, true, false, if◌then◌else◌, List, [], ◌∷◌, Option, Some, None}
+use Rattle.std.specs.Prelude.{sum_by, ℤ, pos, ◌+ℤ◌, ◌-ℤ◌}
+use Rattle.certs.specs.Holdings.{AreHoldingsOf, president_in, square_in, shares_in}
 use Rattle.certs.specs.declared.holdings.Holdings.{Holdings}
 use Rattle.events.specs.declared.event.Event.{Event}
 use Rattle.events.specs.declared.event.Holder.{Holder}
 use Rattle.events.specs.declared.event.Holder.TheVariants as holder
 use Rattle.events.specs.declared.event.Shareholder.TheVariants.{Seat as OfSeat}
-use Rattle.history.specs.LookBack.{Game, owner_in, owner_of}
-use Rattle.history.specs.Shares.{president_of, shares_of, square_of}
+use Rattle.totals.specs.LookBack.{Game, owner_in, owner_of}
+use Rattle.totals.specs.Shares.{president_of, shares_of, square_of}
 use Rattle.tables.specs.Chart.{zone_of}
 use Rattle.tables.specs.Roster.{companies, privates}
 use Rattle.tables.specs.declared.roster.Company.{Company}
@@ -46,10 +47,10 @@ abbrev pub presides : Seat → Option Seat → Bool
 presides seat None = false
 presides seat (Some president) = president.0 == seat.0
 
--- the certificates of so many tenths of a company
+-- the certificates of this many shares of a company
 abbrev pub certificates_of : Seat → Option Square → Option Seat → ℤ → ℤ
-certificates_of seat square president tenths =
-    if counts_on square then (if presides seat president then tenths -ℤ pos 1 else tenths) else pos 0
+certificates_of seat square president shares =
+    if counts_on square then (if presides seat president then shares -ℤ pos 1 else shares) else pos 0
 
 -- the certificates of these companies
 abbrev pub certificates_in : (Company → ℤ) → List Company → ℤ
@@ -60,7 +61,7 @@ certificates_in certificates (company ∷ others) = certificates company +ℤ ce
 abbrev pub certificates_by : Holdings → Seat → Company → ℤ
 certificates_by holdings seat company =
     certificates_of seat (square_in holdings company) (president_in holdings company)
-    (tenths_in holdings company (OfSeat seat))
+    (shares_in holdings company (OfSeat seat))
 
 -- how many of a seat's certificates count, by the holdings
 abbrev pub counted_in : Holdings → Seat → ℤ

@@ -1,23 +1,23 @@
--- The holdings of a game: the tenths of each company at each place, who its president was said to be last,
--- its square, and the owners of the privates. A transfer moves tenths and nothing else.
+-- The holdings of a game: the shares of each company at each place, who its president was said to be last, its square,
+-- and the owners of the privates. A transfer moves shares and nothing else.
 use Rattle.std.specs.Prelude.{◌≡◌, [], Option, Some, None, ℤ, pos, ◌+ℤ◌, ◌-ℤ◌, slice_index_or}
 use Rattle.certs.specs.Rows.{HasPlace, index_of}
 use Rattle.certs.specs.declared.holdings.Holdings.{Holdings}
 use Rattle.events.specs.declared.event.Shareholder.{Shareholder}
 use Rattle.events.specs.declared.event.Transfer.{Transfer}
-use Rattle.history.specs.LookBack.{Game, owner_in, owner_of}
-use Rattle.history.specs.Shares.{brought_to, president_of, shares_of, square_of, taken_from}
-use Rattle.history.specs.declared.look_back.GameView.{GameView}
+use Rattle.totals.specs.LookBack.{Game, owner_in, owner_of}
+use Rattle.totals.specs.Shares.{brought_to, president_of, shares_of, square_of, taken_from}
+use Rattle.totals.specs.declared.look_back.GameView.{GameView}
 use Rattle.tables.specs.Roster.{place_of_company}
 use Rattle.tables.specs.declared.roster.Company.{Company}
 use Rattle.tables.specs.declared.roster.Private.{Private}
 use Rattle.tables.specs.declared.seat.Seat.{Seat}
 use Rattle.tables.specs.declared.squares.Square.{Square}
 
--- the tenths of a company at a place
-abbrev pub tenths_in : Holdings → Company → Shareholder → ℤ
-tenths_in holdings company place =
-    slice_index_or (slice_index_or holdings.tenths (place_of_company company) []) (index_of place) (pos 0)
+-- the shares of a company at a place
+abbrev pub shares_in : Holdings → Company → Shareholder → ℤ
+shares_in holdings company place =
+    slice_index_or (slice_index_or holdings.shares (place_of_company company) []) (index_of place) (pos 0)
 
 -- the president of a company, as it was said last
 abbrev pub president_in : Holdings → Company → Option Seat
@@ -30,8 +30,8 @@ square_in holdings company = slice_index_or holdings.squares (place_of_company c
 -- the holdings are those of a game
 pub record AreHoldingsOf (game : Game) (holdings : Holdings) : Type 0 where
   pub seats : holdings.seats ≡ game.seats
-  pub tenths : (company : Company) (place : Shareholder) → HasPlace place
-      → tenths_in holdings company place ≡ shares_of game.events company place
+  pub shares : (company : Company) (place : Shareholder) → HasPlace place
+      → shares_in holdings company place ≡ shares_of game.events company place
   pub presidents : (company : Company) → president_in holdings company ≡ president_of game.events company
   pub squares : (company : Company) → square_in holdings company ≡ square_of game.events company
   pub owners : (private : Private) → owner_in holdings.owners private ≡ owner_of game.events private
@@ -40,10 +40,10 @@ pub record AreHoldingsOf (game : Game) (holdings : Holdings) : Type 0 where
 abbrev pub AreHoldingsAt : GameView → Holdings → Type 0
 AreHoldingsAt past holdings = AreHoldingsOf (record { seats = past.seats; events = past.events.now }) holdings
 
--- a transfer moves its tenths, and nothing else
-pub record MovesTenths (old new : Holdings) (transfer : Transfer) : Type 0 where
-  pub tenths : (company : Company) (place : Shareholder)
-      → tenths_in new company place ≡ (tenths_in old company place +ℤ pos (brought_to company place (Some transfer)))
+-- a transfer moves its shares, and nothing else
+pub record MovesShares (old new : Holdings) (transfer : Transfer) : Type 0 where
+  pub shares : (company : Company) (place : Shareholder)
+      → shares_in new company place ≡ (shares_in old company place +ℤ pos (brought_to company place (Some transfer)))
       -ℤ pos (taken_from company place (Some transfer))
   pub seats : new.seats ≡ old.seats
   pub presidents : new.presidents ≡ old.presidents

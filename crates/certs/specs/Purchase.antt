@@ -1,10 +1,11 @@
--- The rules of a purchase in a stock round. A seat sets the par value of a company that is not started, and so
--- buys its president's certificate, two tenths; or it buys a tenth of one that is started, at the par value
--- from the initial offering, at the market price from the bank pool. It buys nothing of a company of which
--- it has sold in this round, holds no more certificates that count than the limit, nor over six tenths of a
--- company, and buys once in a turn. By the zone in which the company's square lies before the purchase the
--- certificates do not count, the limit of six tenths does not hold, or several may be bought in a turn.
-use Rattle.std.specs.Prelude.{ℕ, ◌*◌, Bool, true, false, not, ◌&&◌, List, [], ◌∷◌, Option, Some, None, Result, Ok, Err, pos, ◌+ℤ◌, unwrap_or}
+-- The rules of a purchase in a stock round. A seat sets the par value of a company that is not started, and so buys its
+-- president's certificate, two shares; or it buys a share of one that is started, at the par value from the initial
+-- offering, at the market price from the bank pool. It buys nothing of a company of which it has sold in this round,
+-- holds no more certificates that count than the limit, nor over six shares of a company, and buys once in a turn. By
+-- the zone in which the company's square lies before the purchase the certificates do not count, the limit of six
+-- shares does not hold, or several may be bought in a turn.
+use Rattle.std.specs.Prelude.{ℕ, ◌*◌, Bool, true, false, not, ◌&&◌, List, [], ◌∷◌, Option, Some, None, Result, Ok, Err}
+use Rattle.std.specs.Prelude.{pos, ◌+ℤ◌, unwrap_or}
 use Rattle.std.specs.Int.Signed.{le_z, lt_z}
 use Rattle.certs.specs.Counted.{counted_of, counts_on}
 use Rattle.certs.specs.declared.deal.Purchase.{Purchase}
@@ -13,9 +14,11 @@ use Rattle.events.specs.Event.{is_par_value, place_of_source}
 use Rattle.events.specs.declared.event.Event.{Event}
 use Rattle.events.specs.declared.event.Shareholder.TheVariants.{Seat as OfSeat}
 use Rattle.events.specs.declared.ruling.StockRule.{StockRule}
-use Rattle.events.specs.declared.ruling.StockRule.TheVariants.{SoldInRound, NoneThere, NoParValue, WrongStart, CashTooSmall, CertificateLimit, OverSixTenths, BoughtBefore}
-use Rattle.history.specs.Bids.{free_cash_of}
-use Rattle.history.specs.Shares.{has_sold_in_round, is_started, par_of, shares_of, square_of}
+use Rattle.events.specs.declared.ruling.StockRule.TheVariants.{SoldInRound, NoneThere, NoParValue, WrongStart}
+use Rattle.events.specs.declared.ruling.StockRule.TheVariants.{CashTooSmall, CertificateLimit, OverSixShares}
+use Rattle.events.specs.declared.ruling.StockRule.TheVariants.{BoughtBefore}
+use Rattle.totals.specs.Bids.{free_cash_of}
+use Rattle.totals.specs.Shares.{has_sold_in_round, is_started, par_of, shares_of, square_of}
 use Rattle.order_grammar.specs.declared.order.ShareSource.{ShareSource}
 use Rattle.order_grammar.specs.declared.order.ShareSource.TheVariants.{InitialOffering, BankPool}
 use Rattle.tables.specs.Chart.{price_of, zone_of}
@@ -32,10 +35,10 @@ abbrev pub company_of : Purchase → Company
 company_of (Par company price) = company
 company_of (Share company from) = company
 
--- how many tenths are bought: a president's certificate has two
-abbrev pub tenths_of : Purchase → ℕ
-tenths_of (Par company price) = 2
-tenths_of (Share company from) = 1
+-- how many shares are bought: a president's certificate has two
+abbrev pub shares_bought : Purchase → ℕ
+shares_bought (Par company price) = 2
+shares_bought (Share company from) = 1
 
 -- the price of a square; without one there is none
 abbrev pub price_on : Option Square → ℕ
@@ -46,17 +49,17 @@ price_on (Some square) = price_of square
 abbrev pub market_price_of : List Event → Company → ℕ
 market_price_of events company = price_on (square_of events company)
 
--- what a tenth costs: the par value in the initial offering, the market price in the pool
-abbrev pub tenth_price_of : List Event → Company → ShareSource → ℕ
-tenth_price_of events company InitialOffering = unwrap_or (par_of events company) 0
-tenth_price_of events company BankPool = market_price_of events company
+-- what a share costs: the par value in the initial offering, the market price in the pool
+abbrev pub share_price_of : List Event → Company → ShareSource → ℕ
+share_price_of events company InitialOffering = unwrap_or (par_of events company) 0
+share_price_of events company BankPool = market_price_of events company
 
 -- what a purchase costs: a president's certificate twice the par value
 abbrev pub cost_of : List Event → Purchase → ℕ
 cost_of events (Par company price) = 2 * price
-cost_of events (Share company from) = tenth_price_of events company from
+cost_of events (Share company from) = share_price_of events company from
 
--- the limit of six tenths does not hold in a zone: the orange or the brown
+-- the limit of six shares does not hold in a zone: the orange or the brown
 abbrev pub lifts_six : Zone → Bool
 lifts_six White = false
 lifts_six Yellow = false
@@ -75,7 +78,7 @@ abbrev pub in_zone : (Zone → Bool) → Option Square → Bool
 in_zone holds None = false
 in_zone holds (Some square) = holds (zone_of square)
 
--- none is where a tenth is to be bought
+-- none is where a share is to be bought
 unfoldable pub is_sold_out_there : List Event → Purchase → Bool
 is_sold_out_there events (Par company price) = false
 is_sold_out_there events (Share company from) = lt_z (shares_of events company (place_of_source from)) (pos 1)
@@ -85,7 +88,7 @@ abbrev pub is_no_par : Purchase → Bool
 is_no_par (Par company price) = not (is_par_value price)
 is_no_par (Share company from) = false
 
--- a par value is set for a company that is started, or a tenth is bought of one that is not
+-- a par value is set for a company that is started, or a share is bought of one that is not
 abbrev pub is_wrong_start : List Event → Purchase → Bool
 is_wrong_start events (Par company price) = is_started events company
 is_wrong_start events (Share company from) = not (is_started events company)
@@ -99,11 +102,11 @@ unfoldable pub is_at_limit : ℕ → List Event → Seat → Company → Bool
 is_at_limit seats events seat company =
     counts_on (square_of events company) && le_z (pos (certificate_limit_of seats)) (counted_of events seat)
 
--- with so many tenths more the seat would have over six of a company, where the zone does not lift that
+-- with this many shares more the seat would have over six of a company, where the zone does not lift that
 unfoldable pub is_over_six : List Event → Seat → Company → ℕ → Bool
-is_over_six events seat company tenths =
+is_over_six events seat company shares =
     not (in_zone lifts_six (square_of events company))
-    && lt_z (pos 6) (shares_of events company (OfSeat seat) +ℤ pos tenths)
+    && lt_z (pos 6) (shares_of events company (OfSeat seat) +ℤ pos shares)
 
 -- a company is the one of which the seat has bought, and several of it may be bought
 abbrev pub is_one_of_several : List Event → Company → Company → Bool
@@ -115,10 +118,10 @@ unfoldable pub is_second : List Event → Company → Option Company → Bool
 is_second events company None = false
 is_second events company (Some bought) = not (is_one_of_several events company bought)
 
--- the rules that a purchase may break, in a turn in which the seat has bought of this company, if it has
--- bought: the seat has sold of the company in this round; none is there; the sum is no par value; the company
--- is started, or is not; the cost is over the seat's cash; the certificate counts, and the limit is reached;
--- the seat would have over six tenths; it has bought already
+-- the rules that a purchase may break, in a turn in which the seat has bought of this company, if it has bought: the
+-- seat has sold of the company in this round; none is there; the sum is no par value; the company is started, or is
+-- not; the cost is over the seat's cash; the certificate counts, and the limit is reached; the seat would have over six
+-- shares; it has bought already
 abbrev pub share_purchase_rules : ℕ → List Event → Seat → Purchase → Option Company → List (Rule StockRule)
 share_purchase_rules seats events seat purchase bought =
     record { code = SoldInRound; broken = has_sold_in_round events (company_of purchase) seat }
@@ -127,7 +130,7 @@ share_purchase_rules seats events seat purchase bought =
     ∷ record { code = WrongStart; broken = is_wrong_start events purchase }
     ∷ record { code = CashTooSmall; broken = is_short_of_cash seats events seat (cost_of events purchase) }
     ∷ record { code = CertificateLimit; broken = is_at_limit seats events seat (company_of purchase) }
-    ∷ record { code = OverSixTenths; broken = is_over_six events seat (company_of purchase) (tenths_of purchase) }
+    ∷ record { code = OverSixShares; broken = is_over_six events seat (company_of purchase) (shares_bought purchase) }
     ∷ record { code = BoughtBefore; broken = is_second events (company_of purchase) bought }
     ∷ []
 

@@ -1,6 +1,6 @@
--- A row of tenths of one company: first the initial offering's, then the bank pool's, then those of each of
--- six seats.
-use Rattle.std.specs.Prelude.{◌≡◌, ℕ, ◌+◌, ◌^◌, ◌<◌, ◌≤◌, ◌==◌, if◌then◌else◌, List, [], ◌∷◌, ℤ, pos, ◌+ℤ◌, ◌-ℤ◌, ◌≤ℤ◌, length, slice_index_or}
+-- A row of shares of one company: first the initial offering's, then the bank pool's, then those of each of six seats.
+use Rattle.std.specs.Prelude.{◌≡◌, ℕ, ◌+◌, ◌^◌, ◌<◌, ◌≤◌, ◌==◌, if◌then◌else◌, List, [], ◌∷◌, ℤ, pos, ◌+ℤ◌, ◌-ℤ◌, ◌≤ℤ◌}
+use Rattle.std.specs.Prelude.{length, slice_index_or}
 use lib.IntN.{neg_ℤ}
 use Rattle.events.specs.declared.event.Shareholder.{Shareholder}
 use Rattle.events.specs.declared.event.Shareholder.TheVariants.{InitialOffering, BankPool, Seat as OfSeat}
@@ -18,7 +18,7 @@ HasPlace place = index_of place < 8
 -- the sum of a row
 abbrev pub total : List ℤ → ℤ
 total [] = pos 0
-total (tenths ∷ others) = tenths +ℤ total others
+total (shares ∷ others) = shares +ℤ total others
 
 -- a row of eight whose sum, and what is owed in it, are no more than a list in memory can bring; a transfer
 -- keeps it so
@@ -31,20 +31,20 @@ pub record IsBounded (row : List ℤ) : Type 0 where
 abbrev pub AreBounded : List (List ℤ) → Type 0
 AreBounded rows = (k : ℕ) → IsBounded (slice_index_or rows k [])
 
--- tenths at one place of a row
+-- shares at one place of a row
 abbrev pub only_at : ℕ → ℕ → ℤ → ℤ
-only_at index k tenths = if index == k then tenths else pos 0
+only_at index k shares = if index == k then shares else pos 0
 
--- a row is another in which tenths went from one place to another
+-- a row is another in which shares went from one place to another
 abbrev pub IsMoved : List ℤ → List ℤ → ℕ → ℕ → ℕ → Type 0
-IsMoved old new from to tenths =
-    (k : ℕ) → slice_index_or new k (pos 0) ≡ (slice_index_or old k (pos 0) +ℤ only_at to k (pos tenths)) -ℤ only_at
-    from k (pos tenths)
+IsMoved old new from to shares =
+    (k : ℕ) → slice_index_or new k (pos 0) ≡ (slice_index_or old k (pos 0) +ℤ only_at to k (pos shares)) -ℤ only_at
+    from k (pos shares)
 
--- tenths that are neither many nor far under 0
-pub record IsSmall (tenths : ℤ) : Type 0 where
-  pub not_under : neg_ℤ (pos (2 ^ 100)) ≤ℤ tenths
-  pub not_over : tenths ≤ℤ pos (2 ^ 104)
+-- shares that are neither many nor far under 0
+pub record IsSmall (shares : ℤ) : Type 0 where
+  pub not_under : neg_ℤ (pos (2 ^ 100)) ≤ℤ shares
+  pub not_over : shares ≤ℤ pos (2 ^ 104)
 
 -- certificates that are neither many nor far under 0
 pub record IsFew (certificates : ℤ) : Type 0 where

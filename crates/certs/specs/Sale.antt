@@ -1,8 +1,9 @@
--- The rules of a sale. From the second stock round on a seat sells tenths that it has, as one block, to the
--- bank pool, which holds at most five of a company. The president sells only while he keeps two tenths, or
--- another seat has two and can preside. A president who sells to pay for a company's train sells no tenths of
--- that company if another seat would then have strictly more of them, since its presidency would move.
-use Rattle.std.specs.Prelude.{ℕ, ◌==◌, Bool, false, not, ◌&&◌, ◌||◌, List, [], ◌∷◌, Option, Some, None, pos, ℤ, ◌+ℤ◌, ◌-ℤ◌}
+-- The rules of a sale. From the second stock round on a seat sells shares that it has, as one block, to the bank pool,
+-- which holds at most five of a company. The president sells only while he keeps two shares, or another seat has two
+-- and can preside. A president who sells to pay for a company's train sells no shares of that company if another seat
+-- would then have strictly more of them, since its presidency would move.
+use Rattle.std.specs.Prelude.{ℕ, ◌==◌, Bool, false, not, ◌&&◌, ◌||◌, List, [], ◌∷◌, Option, Some, None, pos, ℤ, ◌+ℤ◌}
+use Rattle.std.specs.Prelude.{◌-ℤ◌}
 use Rattle.std.specs.Int.Signed.{le_z, lt_z}
 use Rattle.certs.specs.Counted.{presides}
 use Rattle.certs.specs.President.{others_from}
@@ -10,9 +11,10 @@ use Rattle.certs.specs.declared.deal.Sale.{Sale}
 use Rattle.events.specs.declared.event.Event.{Event}
 use Rattle.events.specs.declared.event.Shareholder.TheVariants.{BankPool, Seat as OfSeat}
 use Rattle.events.specs.declared.ruling.StockRule.{StockRule}
-use Rattle.events.specs.declared.ruling.StockRule.TheVariants.{SaleInFirstRound, NotHeld, PoolFull, PresidentMustStay, WrongStart}
-use Rattle.history.specs.LookBack.{round_of}
-use Rattle.history.specs.Shares.{is_started, president_of, shares_of}
+use Rattle.events.specs.declared.ruling.StockRule.TheVariants.{SaleInFirstRound, NotHeld, PoolFull, PresidentMustStay}
+use Rattle.events.specs.declared.ruling.StockRule.TheVariants.{WrongStart}
+use Rattle.totals.specs.LookBack.{round_of}
+use Rattle.totals.specs.Shares.{is_started, president_of, shares_of}
 use Rattle.tables.specs.Roster.{same_company}
 use Rattle.tables.specs.Rules.{Rule, first_broken}
 use Rattle.tables.specs.declared.roster.Company.{Company}
@@ -27,31 +29,31 @@ is_first_stock (Some (Opening number)) = false
 is_first_stock (Some (Stock set)) = set == 1
 is_first_stock (Some (Operating set number)) = false
 
--- no tenths are to be sold, or more than the seat has
+-- no shares are to be sold, or more than the seat has
 unfoldable pub is_not_held : List Event → Seat → Sale → Bool
-is_not_held events seat sale = sale.tenths == 0 || lt_z (shares_of events sale.company (OfSeat seat)) (pos sale.tenths)
+is_not_held events seat sale = sale.shares == 0 || lt_z (shares_of events sale.company (OfSeat seat)) (pos sale.shares)
 
--- the bank pool would hold over five tenths of the company
+-- the bank pool would hold over five shares of the company
 unfoldable pub is_over_five : List Event → Sale → Bool
-is_over_five events sale = lt_z (pos 5) (shares_of events sale.company BankPool +ℤ pos sale.tenths)
+is_over_five events sale = lt_z (pos 5) (shares_of events sale.company BankPool +ℤ pos sale.shares)
 
 -- what the seat keeps of the company
 abbrev pub kept_after : List Event → Seat → Sale → ℤ
-kept_after events seat sale = shares_of events sale.company (OfSeat seat) -ℤ pos sale.tenths
+kept_after events seat sale = shares_of events sale.company (OfSeat seat) -ℤ pos sale.shares
 
--- one of these seats has at least so many tenths of a company
+-- one of these seats has at least this many shares of a company
 abbrev pub one_has : List Event → Company → ℤ → List Seat → Bool
 one_has events company least [] = false
 one_has events company least (seat ∷ others) =
     le_z least (shares_of events company (OfSeat seat)) || one_has events company least others
 
--- another seat has at least so many
+-- another seat has at least this many
 abbrev pub another_has : ℕ → List Event → Company → Seat → ℤ → Bool
 another_has seats events company seat least = one_has events company least (others_from seats seat)
 
--- the president would keep fewer than two tenths, and no other seat has two
-abbrev pub leaves_none : ℕ → List Event → Seat → Sale → Bool
-leaves_none seats events seat sale =
+-- the president would keep fewer than two shares, and no other seat has two
+abbrev pub none_is_left : ℕ → List Event → Seat → Sale → Bool
+none_is_left seats events seat sale =
     lt_z (kept_after events seat sale) (pos 2) && not (another_has seats events sale.company seat (pos 2))
 
 -- the sale is of the operating company, if one operates, and another seat would have strictly more of it
@@ -61,15 +63,15 @@ moves_operating seats events seat sale (Some operating) =
     same_company operating sale.company && another_has seats events sale.company seat
     (kept_after events seat sale +ℤ pos 1)
 
--- the seat presides over the company, and may not sell so many of its tenths
+-- the seat presides over the company, and may not sell this many of its shares
 unfoldable pub must_stay : ℕ → List Event → Seat → Sale → Option Company → Bool
 must_stay seats events seat sale operating =
     presides seat (president_of events sale.company)
-    && (leaves_none seats events seat sale || moves_operating seats events seat sale operating)
+    && (none_is_left seats events seat sale || moves_operating seats events seat sale operating)
 
--- the rules that a sale may break, where this company operates, if it is to pay for a train: it is the first
--- stock round; no tenths are to be sold, or more than the seat has; the pool would hold over five; the
--- president must stay; the company is not started
+-- the rules that a sale may break, where this company operates, if it is to pay for a train: it is the first stock
+-- round; no shares are to be sold, or more than the seat has; the pool would hold over five; the president must stay;
+-- the company is not started
 abbrev pub sale_rules : ℕ → List Event → Seat → Sale → Option Company → List (Rule StockRule)
 sale_rules seats events seat sale operating =
     record { code = SaleInFirstRound; broken = is_first_stock (round_of events) }

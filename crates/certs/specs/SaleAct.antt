@@ -1,7 +1,7 @@
--- What a sale brings, event by event, each on the list that the one before left. So many tenths bring so many times
--- the market price, and the token then moves down as many squares. The presidency passes to a seat that has strictly
--- more tenths than the president. A sale can be made where the seat has the tenths, the pool has room for them, a
--- president remains and the company is started.
+-- What a sale brings, event by event, each on the list that the one before left. Each share brings the market price,
+-- and the token then moves down as many squares. The presidency passes to a seat that has strictly more shares than the
+-- president. A sale can be made where the seat has the shares, the pool has room for them, a president remains and the
+-- company is started.
 use Rattle.std.specs.Prelude.{◌≡◌, ℕ, ◌*◌, ◌==◌, true, false, if◌then◌else◌, List, [], ◌∷◌, ◌++◌, Option, Some, None}
 use Rattle.certs.specs.President.{successor_of}
 use Rattle.certs.specs.Purchase.{market_price_of}
@@ -9,7 +9,7 @@ use Rattle.certs.specs.Sale.{is_not_held, is_over_five, must_stay}
 use Rattle.certs.specs.declared.deal.Sale.{Sale}
 use Rattle.events.specs.declared.event.Event.{Event}
 use Rattle.events.specs.declared.event.Event.TheVariants as event
-use Rattle.history.specs.Shares.{is_started, president_of}
+use Rattle.totals.specs.Shares.{is_started, president_of}
 use Rattle.history.specs.Record.{with_broken}
 use Rattle.market.specs.Moves.{fallen}
 use Rattle.market.specs.Token.{with_move}
@@ -29,15 +29,15 @@ with_successor seats events company (Some old) = succeeded events company old (s
 abbrev pub with_president : ℕ → List Event → Company → List Event
 with_president seats events company = with_successor seats events company (president_of events company)
 
--- after a seat was paid for so many tenths
+-- after a seat was paid for this many shares
 abbrev pub sold : ℕ → List Event → Seat → Company → ℕ → List Event
-sold seats events seat company tenths =
-    with_broken seats (events ++ event.Sells company seat tenths (tenths * market_price_of events company) ∷ [])
+sold seats events seat company shares =
+    with_broken seats (events ++ event.Sells company seat shares (shares * market_price_of events company) ∷ [])
 
--- after a seat has sold so many tenths, and what follows from it
+-- after a seat has sold this many shares, and what follows from it
 abbrev pub after_sale : ℕ → List Event → Seat → Company → ℕ → List Event
-after_sale seats events seat company tenths =
-    with_move (fallen tenths) (with_president seats (sold seats events seat company tenths) company) company
+after_sale seats events seat company shares =
+    with_move (fallen shares) (with_president seats (sold seats events seat company shares) company) company
 
 -- the seat can make a sale
 pub record MaySell (seats : ℕ) (events : List Event) (seat : Seat) (sale : Sale) : Type 0 where

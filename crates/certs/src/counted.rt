@@ -1,21 +1,22 @@
 //! The certificates of a seat that count against the limit.
 ghost use Rattle.std.specs.Prelude.{◌≡◌, ◌≤◌, ◌+ℤ◌, ℤ, pos};
-ghost use Rattle.certs.specs.Counted.{certificates_by, certificates_in, certificates_now, certificates_of, counted_in, counted_of, counts_on, one_owned, presides, privates_owned};
+ghost use Rattle.certs.specs.Counted.{certificates_by, certificates_in, certificates_now, certificates_of, counted_in};
+ghost use Rattle.certs.specs.Counted.{counted_of, counts_on, one_owned, presides, privates_owned};
 ghost use Rattle.certs.specs.Rows.{IsFew, IsSmall};
-ghost use Rattle.history.specs.LookBack.{owner_in};
+ghost use Rattle.totals.specs.LookBack.{owner_in};
 ghost use Rattle.tables.specs.Roster.{companies};
 ghost use Rattle.tables.specs.declared.roster.Company.{Company};
 
 use crate::holdings::Holdings;
-use history::{GameView, Holder, Owners, Shareholder, Tenths};
+use history::{GameView, Holder, Owners, ShareCount, Shareholder};
 use tables::{Company, Private, Seat, Square, Zone, zone};
 
-/// What tells how many certificates of each company a seat has that count.
+/// What gives how many certificates of each company a seat has that count.
 trait Certificates {
     ghost certificates: { Self → Company → ℤ };
 
     /// Those of a company.
-    fn certificates_of(&self, company: Company) -> Tenths
+    fn certificates_of(&self, company: Company) -> ShareCount
         ensures certificates { result ≡ certificates self.now company }
         ensures small { IsFew result };
 }
@@ -30,14 +31,14 @@ struct InHoldings<'a> {
 impl Certificates for InHoldings<'_> {
     ghost certificates = { λ its. certificates_by its.holdings.now its.seat };
 
-    fn certificates_of(&self, company: Company) -> Tenths {
+    fn certificates_of(&self, company: Company) -> ShareCount {
         let place = company.place();
-        let tenths = self.holdings.tenths(company, Shareholder::Seat(self.seat));
+        let shares = self.holdings.shares(company, Shareholder::Seat(self.seat));
         let (square, president) = (
             self.holdings.squares[place],
             self.holdings.presidents[place],
         );
-        certificates_of(self.seat, square, president, tenths)
+        certificates_of(self.seat, square, president, shares)
     }
 }
 
@@ -51,18 +52,18 @@ struct InEvents<'a> {
 impl Certificates for InEvents<'_> {
     ghost certificates = { λ its. certificates_now its.past.now.events.now its.seat };
 
-    fn certificates_of(&self, company: Company) -> Tenths {
-        let tenths = self.past.shares(company, Shareholder::Seat(self.seat));
+    fn certificates_of(&self, company: Company) -> ShareCount {
+        let shares = self.past.shares(company, Shareholder::Seat(self.seat));
         let (square, president) = (self.past.square(company), self.past.president(company));
-        certificates_of(self.seat, square, president, tenths)
+        certificates_of(self.seat, square, president, shares)
     }
 }
 
 impl Holdings {
     /// How many certificates of a seat count against the limit: its privates, and of each company
-    /// whose square lies in no zone, or that has no square, its tenths, less one if the seat
+    /// whose square lies in no zone, or that has no square, its shares, less one if the seat
     /// presides.
-    pub fn counted(&self, seat: Seat) -> Tenths
+    pub fn counted(&self, seat: Seat) -> ShareCount
         ensures { result ≡ counted_in self.now seat }
     {
         let held = InHoldings {
@@ -74,18 +75,18 @@ impl Holdings {
 }
 
 /// As many by the events of a game, of which the totals are read.
-pub(crate) fn counted_now(past: &GameView, seat: Seat) -> Tenths
+pub(crate) fn counted_now(past: &GameView, seat: Seat) -> ShareCount
     ensures { result ≡ counted_of past.now.events.now seat }
 {
     counted(&past.owners(), &InEvents { past, seat }, seat)
 }
 
 /// How many certificates of a seat count: its privates, and those of each company.
-fn counted<C: Certificates>(owners: &Owners, held: &C, seat: Seat) -> Tenths
+fn counted<C: Certificates>(owners: &Owners, held: &C, seat: Seat) -> ShareCount
     ensures { result ≡ pos (privates_owned (owner_in owners.now) seat)
         +ℤ certificates_in (C.certificates held.now) companies }
 {
-    let mut count = Tenths::from(privates_owned(owners, seat));
+    let mut count = ShareCount::from(privates_owned(owners, seat));
     for company in Company::ALL {
         count += held.certificates_of(company);
     }
@@ -115,24 +116,24 @@ fn one_owned(seat: Seat, owner: Option<Holder>) -> u8
     }
 }
 
-/// How many certificates so many tenths of a company are that count, for a seat.
+/// How many certificates this many shares of a company are that count, for a seat.
 fn certificates_of(
     seat: Seat,
     square: Option<Square>,
     president: Option<Seat>,
-    tenths: Tenths,
-) -> Tenths
-    requires { IsSmall tenths }
-    ensures certificates { result ≡ certificates_of seat square president tenths }
+    shares: ShareCount,
+) -> ShareCount
+    requires { IsSmall shares }
+    ensures certificates { result ≡ certificates_of seat square president shares }
     ensures small { IsFew result }
 {
     if !counts_on(square) {
         return 0;
     }
     if presides(seat, president) {
-        tenths - 1
+        shares - 1
     } else {
-        tenths
+        shares
     }
 }
 

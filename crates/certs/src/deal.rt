@@ -1,5 +1,5 @@
 ghost use Rattle.std.specs.Prelude.{◌≡◌};
-ghost use Rattle.certs.specs.Purchase.{company_of, tenths_of};
+ghost use Rattle.certs.specs.Purchase.{company_of, shares_bought};
 
 use order_grammar::ShareSource;
 use tables::{Amount, Company};
@@ -7,10 +7,10 @@ use tables::{Amount, Company};
 /// What a seat buys in a stock round.
 #[derive(Clone, Copy, Debug, PartialEq, Eq)]
 pub enum Purchase {
-    /// The president's certificate of a company that is not started, two tenths, at twice the par
+    /// The president's certificate of a company that is not started, two shares, at twice the par
     /// value that the seat sets, in dollars.
     Par { company: Company, price: Amount },
-    /// A tenth of a company that is started.
+    /// A share of a company that is started.
     Share { company: Company, from: ShareSource },
 }
 
@@ -24,9 +24,9 @@ impl Purchase {
         }
     }
 
-    /// How many tenths are bought.
-    pub fn tenths(self) -> u8
-        ensures { result ≡ tenths_of self }
+    /// How many shares are bought.
+    pub fn shares(self) -> u8
+        ensures { result ≡ shares_bought self }
     {
         match self {
             Purchase::Par { .. } => 2,
@@ -35,11 +35,11 @@ impl Purchase {
     }
 }
 
-/// What a seat sells: so many tenths of a company, as one block.
+/// What a seat sells: this many shares of a company, as one block.
 #[derive(Clone, Copy, Debug, PartialEq, Eq)]
 pub struct Sale {
     /// The company of which is sold.
     pub company: Company,
-    /// How many tenths.
-    pub tenths: Amount,
+    /// How many shares.
+    pub shares: Amount,
 }

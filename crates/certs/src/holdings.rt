@@ -5,22 +5,22 @@ ghost use Rattle.tables.specs.declared.roster.Company.{Company};
 
 use crate::notes::{Notes, notes_of};
 use crate::rows::{Row, index_of, moved};
-use history::{GameView, History, Owners, Shareholder, Tenths, Transfer};
+use history::{GameView, History, Owners, ShareCount, Shareholder, Transfer};
 use tables::{Company, Seat, Square};
 
 /// Who holds what in a game, in tables by the places of the companies in the roster.
 #[derive(Clone, Copy, Debug)]
 pub struct Holdings {
     pub(crate) seats: usize,
-    tenths: [Row; 8],
+    shares: [Row; 8],
     pub(crate) presidents: [Option<Seat>; 8],
     pub(crate) squares: [Option<Square>; 8],
     pub(crate) owners: Owners,
-    ghost bounded: { AreBounded tenths },
+    ghost bounded: { AreBounded shares },
 }
 
 impl Holdings {
-    ghost use Rattle.certs.specs.Holdings.{AreHoldingsAt, AreHoldingsOf, MovesTenths, tenths_in};
+    ghost use Rattle.certs.specs.Holdings.{AreHoldingsAt, AreHoldingsOf, MovesShares, shares_in};
 
     /// The holdings of a game as it stands, read from the totals that it keeps of its events.
     pub fn of(history: &History) -> Holdings
@@ -34,44 +34,44 @@ impl Holdings {
         ensures { AreHoldingsAt past.now result }
     {
         let Notes {
-            tenths,
+            shares,
             presidents,
             squares,
         } = notes_of(past);
         Holdings {
             seats: past.seats,
-            tenths,
+            shares,
             presidents,
             squares,
             owners: past.owners(),
         }
     }
 
-    /// The tenths of a company at a place. Of the seats the first six have places.
-    pub fn tenths(&self, company: Company, place: Shareholder) -> Tenths
-        ensures { result ≡ tenths_in self.now company place }
+    /// The shares of a company at a place. Of the seats the first six have places.
+    pub fn shares(&self, company: Company, place: Shareholder) -> ShareCount
+        ensures { result ≡ shares_in self.now company place }
     {
-        self.tenths[company.place()]
+        self.shares[company.place()]
             .get(index_of(place))
             .copied()
             .unwrap_or(0)
     }
 
-    /// Moves tenths of a company from one place to another, of which the giver has them.
+    /// Moves shares of a company from one place to another, of which the giver has them.
     pub fn transfer(&mut self, transfer: Transfer)
         requires from { HasPlace transfer.from }
         requires to { HasPlace transfer.to }
-        requires held { pos transfer.tenths ≤ℤ tenths_in self.old transfer.company transfer.from }
-        ensures { MovesTenths self.old self.new transfer }
+        requires held { pos transfer.shares ≤ℤ shares_in self.old transfer.company transfer.from }
+        ensures { MovesShares self.old self.new transfer }
     {
         let place = transfer.company.place();
-        let mut tenths = self.tenths;
-        tenths[place] = moved(
-            tenths[place],
+        let mut shares = self.shares;
+        shares[place] = moved(
+            shares[place],
             index_of(transfer.from),
             index_of(transfer.to),
-            transfer.tenths,
+            transfer.shares,
         );
-        self.tenths = tenths;
+        self.shares = shares;
     }
 }

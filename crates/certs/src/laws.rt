@@ -3,7 +3,7 @@ ghost use Rattle.certs.specs.Counted.{CountsByGame};
 ghost use Rattle.certs.specs.President.{FirstWithMostPresides, PresidesByGame};
 
 /// The seat that presides is the first with most, beginning with the one that presided: each seat
-/// before it has fewer tenths, and none after it has more.
+/// before it has fewer shares, and none after it has more.
 pub fn first_with_most_presides()
     ensures { FirstWithMostPresides }
 {}

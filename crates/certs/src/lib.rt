@@ -1,12 +1,12 @@
-//! The certificates: who holds how many tenths of each company, who presides, how many certificates
+//! The certificates: who holds how many shares of each company, who presides, how many certificates
 //! of a player count against the limit, and what a player may buy and sell.
 //!
 //! The holdings are a small table that is read from the totals that a game keeps of its events. A
-//! transfer moves tenths and nothing else; then the table answers who presides. The rules of a
+//! transfer moves shares and nothing else; then the table answers who presides. The rules of a
 //! purchase and of a sale are looked at in the order of their numbers, and the first that is broken
 //! is the answer.
 //!
-//! Reading order: `holdings`, `notes` (the tables that they are made of), `rows` (the tenths of one
+//! Reading order: `holdings`, `notes` (the tables that they are made of), `rows` (the shares of one
 //! company), `president`, `counted` (the certificates that count), `deal` (what is bought and
 //! sold), `purchase`, `sale`, `sell` (what a sale brings), `laws` (what the presidency goes by, and
 //! that it and what counts are the same by the events of a game).
@@ -26,6 +26,6 @@ mod sell;
 pub use deal::{Purchase, Sale};
 pub use holdings::Holdings;
 pub use president::successor;
-pub use purchase::{is_over_six, market_price, may_buy, tenth_price};
+pub use purchase::{is_over_six, market_price, may_buy, share_price};
 pub use sale::may_sell;
 pub use sell::{record_president, sell_block};

@@ -1,5 +1,5 @@
 //! Tables of what a game says of its companies, as the totals of the game have it.
-ghost use Rattle.certs.specs.Notes.{AreNoted, ArePresidentsOf, AreSquaresOf, AreTenthsOf, IsRowOf};
+ghost use Rattle.certs.specs.Notes.{AreNoted, AreSharesOf, IsRowOf};
 ghost use Rattle.certs.specs.Rows.{AreBounded, IsBounded};
 
 use crate::rows::Row;
@@ -9,8 +9,8 @@ use tables::{Company, Seat, Square};
 /// What is said of each company, by its place in the roster.
 #[derive(Clone, Copy, Debug)]
 pub(crate) struct Notes {
-    /// The tenths of each company by their places.
-    pub tenths: [Row; 8],
+    /// The shares of each company by their places.
+    pub shares: [Row; 8],
     /// The president of each company, as it was said last.
     pub presidents: [Option<Seat>; 8],
     /// The square of each company.
@@ -22,15 +22,15 @@ pub(crate) fn notes_of(past: &GameView) -> Notes
     ensures { AreNoted past.now.events.now result }
 {
     Notes {
-        tenths: rows_of(past),
-        presidents: presidents_of(past),
-        squares: squares_of(past),
+        shares: rows_of(past),
+        presidents: past.presidents(),
+        squares: past.squares(),
     }
 }
 
-/// The tenths of each company.
+/// The shares of each company.
 fn rows_of(past: &GameView) -> [Row; 8]
-    ensures tenths { AreTenthsOf past.now.events.now result }
+    ensures shares { AreSharesOf past.now.events.now result }
     ensures bounded { AreBounded result }
 {
     [
@@ -45,9 +45,9 @@ fn rows_of(past: &GameView) -> [Row; 8]
     ]
 }
 
-/// The tenths of a company.
+/// The shares of a company.
 fn row_of(past: &GameView, company: Company) -> Row
-    ensures tenths { IsRowOf past.now.events.now company result }
+    ensures shares { IsRowOf past.now.events.now company result }
     ensures bounded { IsBounded result }
 {
     [
@@ -59,37 +59,5 @@ fn row_of(past: &GameView, company: Company) -> Row
         past.shares(company, Shareholder::Seat(Seat(3))),
         past.shares(company, Shareholder::Seat(Seat(4))),
         past.shares(company, Shareholder::Seat(Seat(5))),
-    ]
-}
-
-/// The president of each company.
-fn presidents_of(past: &GameView) -> [Option<Seat>; 8]
-    ensures { ArePresidentsOf past.now.events.now result }
-{
-    [
-        past.president(Company::Pennsylvania),
-        past.president(Company::NewYorkCentral),
-        past.president(Company::CanadianPacific),
-        past.president(Company::BaltimoreOhio),
-        past.president(Company::ChesapeakeOhio),
-        past.president(Company::Erie),
-        past.president(Company::NewHaven),
-        past.president(Company::BostonMaine),
-    ]
-}
-
-/// The square of each company.
-fn squares_of(past: &GameView) -> [Option<Square>; 8]
-    ensures { AreSquaresOf past.now.events.now result }
-{
-    [
-        past.square(Company::Pennsylvania),
-        past.square(Company::NewYorkCentral),
-        past.square(Company::CanadianPacific),
-        past.square(Company::BaltimoreOhio),
-        past.square(Company::ChesapeakeOhio),
-        past.square(Company::Erie),
-        past.square(Company::NewHaven),
-        past.square(Company::BostonMaine),
     ]
 }

@@ -1,68 +1,68 @@
 ghost use Rattle.std.specs.Prelude.{◌≡◌, ℤ};
-ghost use Rattle.certs.specs.President.{better_of, presiding_in, seat_tenths, seat_tenths_of, successor, successor_of};
+ghost use Rattle.certs.specs.President.{better_of, presiding_in, seat_shares, seat_shares_of, successor, successor_of};
 ghost use Rattle.tables.specs.declared.seat.Seat.{Seat};
 
 use crate::holdings::Holdings;
-use history::{GameView, Shareholder, Tenths};
+use history::{GameView, ShareCount, Shareholder};
 use tables::{Company, Seat};
 
-/// What tells how many tenths of a company each seat has.
-trait TenthsOfSeats {
-    ghost tenths: { Self → Seat → ℤ };
+/// What gives how many shares of a company each seat has.
+trait SharesOfSeats {
+    ghost shares: { Self → Seat → ℤ };
 
-    /// The tenths that a seat has.
-    fn tenths_of(&self, seat: Seat) -> Tenths
-        ensures { result ≡ tenths self.now seat };
+    /// The shares that a seat has.
+    fn shares_of_seat(&self, seat: Seat) -> ShareCount
+        ensures { result ≡ shares self.now seat };
 }
 
-/// The tenths of a company by the holdings.
+/// The shares of a company by the holdings.
 #[derive(Drop)]
 struct InHoldings<'a> {
     holdings: &'a Holdings,
     company: Company,
 }
 
-impl TenthsOfSeats for InHoldings<'_> {
-    ghost tenths = { λ its. seat_tenths its.holdings.now its.company };
+impl SharesOfSeats for InHoldings<'_> {
+    ghost shares = { λ its. seat_shares its.holdings.now its.company };
 
-    fn tenths_of(&self, seat: Seat) -> Tenths {
-        self.holdings.tenths(self.company, Shareholder::Seat(seat))
+    fn shares_of_seat(&self, seat: Seat) -> ShareCount {
+        self.holdings.shares(self.company, Shareholder::Seat(seat))
     }
 }
 
-/// The tenths of a company by the events.
+/// The shares of a company by the events.
 #[derive(Drop)]
 struct InEvents<'a> {
     past: &'a GameView<'a>,
     company: Company,
 }
 
-impl TenthsOfSeats for InEvents<'_> {
-    ghost tenths = { λ its. seat_tenths_of its.past.now.events.now its.company };
+impl SharesOfSeats for InEvents<'_> {
+    ghost shares = { λ its. seat_shares_of its.past.now.events.now its.company };
 
-    fn tenths_of(&self, seat: Seat) -> Tenths {
+    fn shares_of_seat(&self, seat: Seat) -> ShareCount {
         self.past.shares(self.company, Shareholder::Seat(seat))
     }
 }
 
 impl Holdings {
     /// Who presides over a company; `None` where nobody has its president's certificate. The
-    /// president as it was said last stays unless some seat has strictly more tenths; then it is
+    /// president as it was said last stays unless some seat has strictly more shares; then it is
     /// the seat with most, among equals the first to the president's left.
     pub fn president(&self, company: Company) -> Option<Seat>
         ensures { result ≡ presiding_in self.now company }
     {
         let old = self.presidents[company.place()]?;
-        let tenths = InHoldings {
+        let shares = InHoldings {
             holdings: self,
             company,
         };
-        Some(with_most(&tenths, self.seats, old))
+        Some(with_most(&shares, self.seats, old))
     }
 }
 
-/// Who presides over a company by the tenths that the game tells, where this seat presided: it stays
-/// unless some seat has strictly more tenths; then it is the seat with most, among equals the first
+/// Who presides over a company by the shares that the game tells, where this seat presided: it stays
+/// unless some seat has strictly more shares; then it is the seat with most, among equals the first
 /// to its left.
 pub fn successor(past: &GameView, company: Company, old: Seat) -> Seat
     ensures { result ≡ successor_of past.now.seats past.now.events.now company old }
@@ -70,24 +70,25 @@ pub fn successor(past: &GameView, company: Company, old: Seat) -> Seat
     with_most(&InEvents { past, company }, past.seats, old)
 }
 
-/// The seat with most tenths at a table of so many seats, among equals the first from this one on.
-fn with_most<T: TenthsOfSeats>(tenths: &T, seats: usize, old: Seat) -> Seat
-    ensures { result ≡ successor (T.tenths tenths.now) seats old }
+/// The seat with most shares at a table of this many seats, among equals the first from this one
+/// on.
+fn with_most<T: SharesOfSeats>(shares: &T, seats: usize, old: Seat) -> Seat
+    ensures { result ≡ successor (T.shares shares.now) seats old }
 {
     let mut best = old;
     let mut seat = old;
     for _ in 1..seats {
         seat = seat.left(seats);
-        best = better(tenths, best, seat);
+        best = better(shares, best, seat);
     }
     best
 }
 
-/// The better of two seats: the second where it has strictly more tenths.
-fn better<T: TenthsOfSeats>(tenths: &T, best: Seat, seat: Seat) -> Seat
-    ensures { result ≡ better_of (T.tenths tenths.now) best seat }
+/// The better of two seats: the second where it has strictly more shares.
+fn better<T: SharesOfSeats>(shares: &T, best: Seat, seat: Seat) -> Seat
+    ensures { result ≡ better_of (T.shares shares.now) best seat }
 {
-    if tenths.tenths_of(seat) > tenths.tenths_of(best) {
+    if shares.shares_of_seat(seat) > shares.shares_of_seat(best) {
         seat
     } else {
         best

@@ -1,19 +1,21 @@
 ghost use Rattle.std.specs.Prelude.{◌≡◌, ◌≤◌, ◌<◌, ◌+ℤ◌, pos, unwrap_or};
 ghost use Rattle.std.specs.Int.Signed.{le_z};
 ghost use Rattle.certs.specs.Counted.{counted_of};
-ghost use Rattle.certs.specs.Purchase.{allowed, allows_several, cost_of, in_zone, is_at_limit, is_sold_out_there, is_no_par, is_over_six, is_second, is_short_of_cash, is_wrong_start, lifts_six, market_price_of, purchase_judgement, tenth_price_of};
+ghost use Rattle.certs.specs.Purchase.{allowed, allows_several, cost_of, in_zone, is_at_limit, is_sold_out_there};
+ghost use Rattle.certs.specs.Purchase.{is_no_par, is_over_six, is_second, is_short_of_cash, is_wrong_start, lifts_six};
+ghost use Rattle.certs.specs.Purchase.{market_price_of, purchase_judgement, share_price_of};
 ghost use Rattle.events.specs.declared.event.Shareholder.TheVariants.{Seat as OfSeat};
-ghost use Rattle.history.specs.Shares.{par_of, shares_of, square_of};
+ghost use Rattle.totals.specs.Shares.{par_of, shares_of, square_of};
 ghost use Rattle.tables.specs.Roster.{certificate_limit_of};
 
 use crate::counted::{counted_now, counts_on};
 use crate::deal::Purchase;
-use history::{GameView, History, Shareholder, StockRule, Tenths};
+use history::{GameView, History, ShareCount, Shareholder, StockRule};
 use order_grammar::ShareSource;
 use tables::{Amount, Company, Money, Seat, Zone, certificate_limit, par_square, price, zone};
 
-/// The most tenths of a company that a seat may hold where no zone lifts_six that.
-const TENTHS_MOST: Tenths = 6;
+/// The most shares of a company that a seat may hold where no zone lifts that.
+const SHARES_MOST: ShareCount = 6;
 
 /// Whether a seat at a table of at most six may buy, in a turn in which it has bought of a company,
 /// if it has bought. An `Err` is the first rule that the purchase breaks, of S6 to S13.
@@ -66,8 +68,8 @@ fn broken_by(
     if is_at_limit(now, seat, company) {
         return Some(StockRule::CertificateLimit);
     }
-    if is_over_six(now, seat, company, purchase.tenths()) {
-        return Some(StockRule::OverSixTenths);
+    if is_over_six(now, seat, company, purchase.shares()) {
+        return Some(StockRule::OverSixShares);
     }
     if is_second(now, company, bought) {
         return Some(StockRule::BoughtBefore);
@@ -75,7 +77,7 @@ fn broken_by(
     None
 }
 
-/// Whether none is where a tenth is to be bought.
+/// Whether none is where a share is to be bought.
 #[tactic(auto, unfolding(crate::specs::Purchase::is_sold_out_there))]
 fn is_sold_out_there(now: &GameView, purchase: Purchase) -> bool
     ensures { result ≡ is_sold_out_there now.now.events.now purchase }
@@ -98,7 +100,7 @@ fn is_no_par(purchase: Purchase) -> bool
     }
 }
 
-/// Whether a par value is set for a company that is started, or a tenth bought of one that is not.
+/// Whether a par value is set for a company that is started, or a share bought of one that is not.
 fn is_wrong_start(now: &GameView, purchase: Purchase) -> bool
     ensures { result ≡ is_wrong_start now.now.events.now purchase }
 {
@@ -114,16 +116,16 @@ fn cost(now: &GameView, purchase: Purchase) -> Money
 {
     match purchase {
         Purchase::Par { price, .. } => 2 * Money::from(price),
-        Purchase::Share { company, from } => tenth_price(now, company, from),
+        Purchase::Share { company, from } => share_price(now, company, from),
     }
 }
 
-/// What a tenth of a company costs: the par value in the initial offering, the market price in the
+/// What a share of a company costs: the par value in the initial offering, the market price in the
 /// pool.
-pub fn tenth_price(now: &GameView, company: Company, from: ShareSource) -> Money
-    ensures price { result ≡ pos (tenth_price_of now.now.events.now company from) }
+pub fn share_price(now: &GameView, company: Company, from: ShareSource) -> Money
+    ensures price { result ≡ pos (share_price_of now.now.events.now company from) }
     ensures small { unwrap_or (par_of now.now.events.now company) 0 ≤ 350 →
-        tenth_price_of now.now.events.now company from ≤ 350 }
+        share_price_of now.now.events.now company from ≤ 350 }
 {
     match from {
         ShareSource::InitialOffering => now.par(company).unwrap_or(0),
@@ -164,19 +166,19 @@ fn has_full_hand(now: &GameView, seat: Seat) -> bool
     ensures { result ≡ le_z (pos (certificate_limit_of now.now.seats))
         (counted_of now.now.events.now seat) }
 {
-    counted_now(now, seat) >= certificate_limit(now.seats) as Tenths
+    counted_now(now, seat) >= certificate_limit(now.seats) as ShareCount
 }
 
-/// Whether with so many tenths more a seat would have over six of a company, where the zone of the
-/// company's square does not lift that.
+/// Whether with this many shares more a seat would have over six of a company, where the zone of
+/// the company's square does not lift that.
 #[tactic(auto, unfolding(crate::specs::Purchase::is_over_six))]
-pub fn is_over_six(now: &GameView, seat: Seat, company: Company, tenths: u8) -> bool
-    ensures { result ≡ is_over_six now.now.events.now seat company tenths }
+pub fn is_over_six(now: &GameView, seat: Seat, company: Company, shares: u8) -> bool
+    ensures { result ≡ is_over_six now.now.events.now seat company shares }
 {
-    !lifts_six(now, company) && would_have(now, seat, company, tenths) > TENTHS_MOST
+    !lifts_six(now, company) && would_have(now, seat, company, shares) > SHARES_MOST
 }
 
-/// Whether the zone of a company's square lifts_six the limit of six tenths.
+/// Whether the zone of a company's square lifts the limit of six shares.
 fn lifts_six(now: &GameView, company: Company) -> bool
     ensures { result ≡ in_zone lifts_six (square_of now.now.events.now company) }
 {
@@ -186,15 +188,15 @@ fn lifts_six(now: &GameView, company: Company) -> bool
     }
 }
 
-/// What a seat would have of a company with so many tenths more.
-fn would_have(now: &GameView, seat: Seat, company: Company, tenths: u8) -> Tenths
-    ensures { result ≡ shares_of now.now.events.now company (OfSeat seat) +ℤ pos tenths }
+/// What a seat would have of a company with this many shares more.
+fn would_have(now: &GameView, seat: Seat, company: Company, shares: u8) -> ShareCount
+    ensures { result ≡ shares_of now.now.events.now company (OfSeat seat) +ℤ pos shares }
 {
-    now.shares(company, Shareholder::Seat(seat)) + Tenths::from(tenths)
+    now.shares(company, Shareholder::Seat(seat)) + ShareCount::from(shares)
 }
 
-/// Whether a seat has bought already in its turn, and a purchase of a company is not one of
-/// allows_several.
+/// Whether a seat has bought already in its turn, and a purchase of a company is not one of allows
+/// several.
 #[tactic(auto, unfolding(crate::specs::Purchase::is_second))]
 fn is_second(now: &GameView, company: Company, bought: Option<Company>) -> bool
     ensures { result ≡ is_second now.now.events.now company bought }
@@ -205,7 +207,7 @@ fn is_second(now: &GameView, company: Company, bought: Option<Company>) -> bool
     }
 }
 
-/// Whether allows_several certificates of a company may be bought in a turn.
+/// Whether several certificates of a company may be bought in a turn.
 fn allows_several(now: &GameView, company: Company) -> bool
     ensures { result ≡ in_zone allows_several (square_of now.now.events.now company) }
 {

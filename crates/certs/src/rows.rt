@@ -2,12 +2,12 @@ ghost use Rattle.std.specs.Prelude.{◌≡◌, ◌<◌, ◌≤ℤ◌, pos, slice
 ghost use Rattle.certs.specs.Rows.{IsBounded, IsMoved, index_of};
 ghost use Rattle.events.specs.declared.event.Shareholder.{Shareholder};
 
-use history::{Shareholder, Tenths};
+use history::{ShareCount, Shareholder};
 use tables::Seat;
 
-/// The tenths of a company by their places: the initial offering's, the bank pool's, and those of
+/// The shares of a company by their places: the initial offering's, the bank pool's, and those of
 /// each of six seats.
-pub(crate) type Row = [Tenths; 8];
+pub(crate) type Row = [ShareCount; 8];
 
 /// The index of a place in a row.
 pub(crate) fn index_of(place: Shareholder) -> usize
@@ -20,17 +20,17 @@ pub(crate) fn index_of(place: Shareholder) -> usize
     }
 }
 
-/// A row after so many tenths have gone from one place to another, of which the giver has them.
-pub(crate) fn moved(mut row: Row, from: usize, to: usize, tenths: u8) -> Row
+/// A row after this many shares have gone from one place to another, of which the giver has them.
+pub(crate) fn moved(mut row: Row, from: usize, to: usize, shares: u8) -> Row
     requires from { from < 8 }
     requires to { to < 8 }
-    requires held { pos tenths ≤ℤ slice_index_or row from (pos 0) }
+    requires held { pos shares ≤ℤ slice_index_or row from (pos 0) }
     requires bounded { IsBounded row }
-    ensures moved { IsMoved row result from to tenths }
+    ensures moved { IsMoved row result from to shares }
     ensures bounded { IsBounded result }
 {
-    let tenths = Tenths::from(tenths);
-    row[from] -= tenths;
-    row[to] += tenths;
+    let shares = ShareCount::from(shares);
+    row[from] -= shares;
+    row[to] += shares;
     row
 }

@@ -1,20 +1,21 @@
 ghost use Rattle.std.specs.Prelude.{◌≡◌, ◌^◌, ◌≤ℤ◌, ◌+ℤ◌, pos};
 ghost use Rattle.certs.specs.Counted.{presides};
 ghost use Rattle.certs.specs.Purchase.{allowed};
-ghost use Rattle.certs.specs.Sale.{another_has, is_first_stock, is_not_held, is_over_five, kept_after, leaves_none, moves_operating, must_stay, sale_judgement};
+ghost use Rattle.certs.specs.Sale.{another_has, is_first_stock, is_not_held, is_over_five, kept_after, none_is_left};
+ghost use Rattle.certs.specs.Sale.{moves_operating, must_stay, sale_judgement};
 ghost use Rattle.events.specs.declared.event.Shareholder.TheVariants.{BankPool};
-ghost use Rattle.history.specs.LookBack.{round_of};
-ghost use Rattle.history.specs.Shares.{shares_of};
+ghost use Rattle.totals.specs.LookBack.{round_of};
+ghost use Rattle.totals.specs.Shares.{shares_of};
 
 use crate::deal::Sale;
-use history::{GameView, History, Shareholder, StockRule, Tenths};
+use history::{GameView, History, ShareCount, Shareholder, StockRule};
 use tables::{Company, Round, Seat};
 
-/// The most tenths of a company that the bank pool may hold.
-const POOL_MOST: Tenths = 5;
+/// The most shares of a company that the bank pool may hold.
+const POOL_MOST: ShareCount = 5;
 
-/// The tenths of a president's certificate.
-const PRESIDENT_TENTHS: Tenths = 2;
+/// The shares of a president's certificate.
+const PRESIDENT_SHARES: ShareCount = 2;
 
 /// Whether a seat may sell. A sale to pay for a train of an operating company is
 /// told which that is. An `Err` is the first rule that the sale breaks, of S2 to S5 and S9.
@@ -68,16 +69,16 @@ fn is_first_stock(now: &GameView) -> bool
     matches!(now.round(), Some(Round::Stock(1)))
 }
 
-/// Whether no tenths are to be sold, or more than the seat has.
+/// Whether no shares are to be sold, or more than the seat has.
 #[tactic(auto, unfolding(crate::specs::Sale::is_not_held))]
 fn is_not_held(now: &GameView, seat: Seat, sale: Sale) -> bool
     ensures { result ≡ is_not_held now.now.events.now seat sale }
 {
-    sale.tenths == 0
-        || now.shares(sale.company, Shareholder::Seat(seat)) < Tenths::from(sale.tenths)
+    sale.shares == 0
+        || now.shares(sale.company, Shareholder::Seat(seat)) < ShareCount::from(sale.shares)
 }
 
-/// Whether the bank pool would hold over five tenths of the company.
+/// Whether the bank pool would hold over five shares of the company.
 #[tactic(auto, unfolding(crate::specs::Sale::is_over_five))]
 fn is_over_five(now: &GameView, sale: Sale) -> bool
     ensures { result ≡ is_over_five now.now.events.now sale }
@@ -86,27 +87,27 @@ fn is_over_five(now: &GameView, sale: Sale) -> bool
 }
 
 /// What the bank pool would hold of the company.
-fn would_be_pooled(now: &GameView, sale: Sale) -> Tenths
-    ensures { result ≡ shares_of now.now.events.now sale.company BankPool +ℤ pos sale.tenths }
+fn would_be_pooled(now: &GameView, sale: Sale) -> ShareCount
+    ensures { result ≡ shares_of now.now.events.now sale.company BankPool +ℤ pos sale.shares }
 {
-    now.shares(sale.company, Shareholder::BankPool) + Tenths::from(sale.tenths)
+    now.shares(sale.company, Shareholder::BankPool) + ShareCount::from(sale.shares)
 }
 
-/// Whether the seat presides over the company, and may not sell so many of its tenths.
+/// Whether the seat presides over the company, and may not sell this many of its shares.
 #[tactic(auto, unfolding(crate::specs::Sale::must_stay))]
 fn must_stay(now: &GameView, seat: Seat, sale: Sale, operating: Option<Company>) -> bool
     ensures { result ≡ must_stay now.now.seats now.now.events.now seat sale operating }
 {
     now.president(sale.company) == Some(seat)
-        && (leaves_none(now, seat, sale) || moves_operating(now, seat, sale, operating))
+        && (none_is_left(now, seat, sale) || moves_operating(now, seat, sale, operating))
 }
 
-/// Whether the president would keep fewer than two tenths, and no other seat has two.
-fn leaves_none(now: &GameView, seat: Seat, sale: Sale) -> bool
-    ensures { result ≡ leaves_none now.now.seats now.now.events.now seat sale }
+/// Whether the president would keep fewer than two shares, and no other seat has two.
+fn none_is_left(now: &GameView, seat: Seat, sale: Sale) -> bool
+    ensures { result ≡ none_is_left now.now.seats now.now.events.now seat sale }
 {
-    would_keep(now, seat, sale) < PRESIDENT_TENTHS
-        && !another_has(now, sale.company, seat, PRESIDENT_TENTHS)
+    would_keep(now, seat, sale) < PRESIDENT_SHARES
+        && !another_has(now, sale.company, seat, PRESIDENT_SHARES)
 }
 
 /// Whether the sale is of the operating company, and another seat would have strictly more of it.
@@ -128,15 +129,15 @@ fn another_has_more(now: &GameView, seat: Seat, sale: Sale) -> bool
 }
 
 /// What the seat would keep of the company.
-fn would_keep(now: &GameView, seat: Seat, sale: Sale) -> Tenths
+fn would_keep(now: &GameView, seat: Seat, sale: Sale) -> ShareCount
     ensures kept { result ≡ kept_after now.now.events.now seat sale }
     ensures not_over { result ≤ℤ pos (2 ^ 100) }
 {
-    now.shares(sale.company, Shareholder::Seat(seat)) - Tenths::from(sale.tenths)
+    now.shares(sale.company, Shareholder::Seat(seat)) - ShareCount::from(sale.shares)
 }
 
-/// Whether another seat has at least so many tenths of a company.
-fn another_has(now: &GameView, company: Company, seat: Seat, least: Tenths) -> bool
+/// Whether another seat has at least this many shares of a company.
+fn another_has(now: &GameView, company: Company, seat: Seat, least: ShareCount) -> bool
     ensures { result
         ≡ another_has now.now.seats now.now.events.now company seat least }
 {

@@ -11,9 +11,9 @@ use market::move_token_down;
 use std::alloc::AllocError;
 use tables::{Amount, Company, Seat};
 
-/// A seat sells tenths of a company, as one block: the bank pays it, the presidency passes on where
-/// another seat then has more, and the token on the chart moves down. An `Err` comes from want of
-/// memory alone.
+/// A seat sells shares of a company, as one block: the bank pays it, the presidency passes on where
+/// another seat then has more, and the token on the chart moves down. It fails only if memory is
+/// refused.
 pub fn sell_block(history: &mut History, seat: Seat, sale: Sale) -> Result<(), AllocError>
     requires few { history.old.seats ≤ 6 }
     requires at_table { seat.0 < history.old.seats }
@@ -21,47 +21,47 @@ pub fn sell_block(history: &mut History, seat: Seat, sale: Sale) -> Result<(), A
     requires sound { IsSound history.old }
     ensures seats { OnOk result (history.new.seats ≡ history.old.seats) }
     ensures events { OnOk result (history.new.events
-        ≡ after_sale history.old.seats history.old.events seat sale.company sale.tenths) }
+        ≡ after_sale history.old.seats history.old.events seat sale.company sale.shares) }
     ensures sound { OnOk result (IsSound history.new) }
 {
-    let tenths = sale.tenths as u8;
-    pay_for_block(history, seat, sale.company, tenths)?;
+    let shares = sale.shares as u8;
+    pay_for_block(history, seat, sale.company, shares)?;
     record_president(history, sale.company)?;
-    move_token_down(history, sale.company, tenths)?;
+    move_token_down(history, sale.company, shares)?;
     Ok(())
 }
 
-/// A seat has the price of tenths of a company, and the pool has them.
+/// A seat has the price of shares of a company, and the pool has them.
 fn pay_for_block(
     history: &mut History,
     seat: Seat,
     company: Company,
-    tenths: u8,
+    shares: u8,
 ) -> Result<(), AllocError>
-    requires few { tenths ≤ 10 }
+    requires few { shares ≤ 10 }
     ensures seats { OnOk result (history.new.seats ≡ history.old.seats) }
     ensures events { OnOk result (history.new.events
-        ≡ sold history.old.seats history.old.events seat company tenths) }
+        ≡ sold history.old.seats history.old.events seat company shares) }
 {
-    let price = Amount::from(tenths) * market_price(&history.now(), company);
+    let price = Amount::from(shares) * market_price(&history.now(), company);
     history.append(Event::Sells {
         company,
         seat,
-        tenths,
+        shares,
         price,
     })?;
     history.record_broken()?;
     Ok(())
 }
 
-/// Tells who presides over a company, where the presidency has moved by a change of its tenths. An
-/// `Err` comes from want of memory alone.
+/// Tells who presides over a company, where the presidency has moved by a change of its shares. It
+/// fails only if memory is refused.
 pub fn record_president(history: &mut History, company: Company) -> Result<(), AllocError>
     ensures seats { OnOk result (history.new.seats ≡ history.old.seats) }
     ensures events { OnOk result (history.new.events
         ≡ with_president history.old.seats history.old.events company) }
 {
-    let Some(old) = history.president(company) else {
+    let Some(old) = history.now().president(company) else {
         return Ok(());
     };
     let new = successor(&history.now(), company, old);

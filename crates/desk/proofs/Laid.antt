@@ -2,11 +2,11 @@
 use Rattle.std.proofs.Common.{◌≡◌, List, [], ◌∷◌, ◌++◌, Option, Some, None, refl, ap, ◌∙◌}
 use Rattle.std.proofs.lemmas.List.{append-nil}
 use Rattle.std.specs.List.{cons_option, fold}
-use Rattle.board.specs.MapState.{MapState, map_state_of}
+use Rattle.board_state.specs.MapState.{MapState, map_state_of}
 use Rattle.desk.specs.Laid.{laid_then}
 use Rattle.events.specs.Event.{tile_laid, token_placed}
 use Rattle.events.specs.declared.event.Event.{Event}
-use Rattle.history.specs.Operating.{lays_of, tokens_of}
+use Rattle.totals.specs.Operating.{lays_of, tokens_of}
 use Rattle.map_tables.specs.declared.lay.Lay.{Lay}
 use Rattle.map_tables.specs.declared.place.Place.{Place}
 use Rattle.tables.specs.declared.rolling_stock.Kind.{Kind}

@@ -1,4 +1,5 @@
 -- What the proofs of the desk share.
+pub mod BestRuns
 pub mod Laid
 pub mod Refusals
 pub mod RoundParts

@@ -1,7 +1,8 @@
 -- A round's part of the report of a file.
 use Rattle.std.proofs.Common.{◌≡◌, ℕ, List, [], Option, Some, sym, refl, ◌∙◌}
 use Rattle.desk.specs.Refusal.{HasNone}
-use Rattle.desk.specs.RoundPart.{HasNoText, IsGameOf, IsNotPlayed, IsNotPlayedIn, IsRoundFault, IsRoundPart, round_asked, text_of_round}
+use Rattle.desk.specs.RoundPart.{HasNoText, IsGameOf, IsNotPlayed, IsNotPlayedIn, IsRoundFault, IsRoundPart}
+use Rattle.desk.specs.RoundPart.{round_asked, text_of_round}
 use Rattle.desk.specs.declared.fault.DeskFault.{DeskFault}
 use Rattle.desk.specs.declared.fault.DeskFault.TheVariants.{File, Round, Memory}
 use Rattle.report.specs.Report.{round_text_of}

@@ -2,7 +2,7 @@
 -- places one, behind those that were placed.
 use Rattle.std.specs.Prelude.{[], ◌++◌}
 use Rattle.std.specs.List.{cons_option}
-use Rattle.board.specs.MapState.{MapState, map_state_of}
+use Rattle.board_state.specs.MapState.{MapState, map_state_of}
 use Rattle.events.specs.Event.{tile_laid, token_placed}
 use Rattle.events.specs.declared.event.Event.{Event}
 

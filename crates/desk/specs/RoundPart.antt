@@ -3,7 +3,7 @@ use Rattle.std.specs.Prelude.{◌≡◌, ℕ, List, [], Option, Some, None, ⊤}
 use Rattle.desk.specs.Refusal.{HasNone}
 use Rattle.desk.specs.declared.fault.DeskFault.{DeskFault}
 use Rattle.desk.specs.declared.fault.DeskFault.TheVariants as desk
-use Rattle.history.specs.LookBack.{round_of}
+use Rattle.totals.specs.LookBack.{round_of}
 use Rattle.report.specs.Report.{round_text_of}
 use Rattle.rounds.specs.Play.{IsTheGame, Played}
 use Rattle.tables.specs.declared.round.Round.{Round}

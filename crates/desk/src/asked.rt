@@ -30,7 +30,7 @@ pub fn read_round(word: &[u8]) -> Option<Round> {
     }
 }
 
-/// Whether a byte may stand in the name of a round.
+/// Whether a byte may be in the name of a round.
 fn is_of_round(byte: &u8) -> bool {
     byte.is_ascii_alphanumeric() || *byte == b'.'
 }

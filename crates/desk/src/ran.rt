@@ -3,9 +3,9 @@
 use crate::fault::DeskFault;
 use crate::map_state::{best_at, board_at, go_behind};
 use board::Board;
-use certificate::ClaimedRun;
 use desk_base::{push_company, push_words};
 use history::{Event, GameView, PackedRuling, Ruling, Walk};
+use legal_runs::ClaimedRun;
 use map_tables::{Place, Run};
 use order_grammar::{Order, print_number, print_order, print_round};
 use reach::Network;
@@ -94,8 +94,8 @@ fn push_round(
         }
         if let (true, Event::Runs { company, revenue }, Some(order)) = (within, event, &ordered) {
             go_behind(&mut walk, passed);
-            let past = walk.past(history.seats());
-            push_ran(alloc, out, &past, *company, *revenue, order)?;
+            let view = walk.view(history.seats());
+            push_ran(alloc, out, &view, *company, *revenue, order)?;
         }
     }
     Ok(())
@@ -113,7 +113,7 @@ fn order_obeyed(ruling: &PackedRuling) -> Option<Order> {
 fn push_ran(
     alloc: Global,
     out: &mut Vec<u8>,
-    past: &GameView,
+    view: &GameView,
     company: Company,
     revenue: Amount,
     order: &Order,
@@ -122,7 +122,7 @@ fn push_ran(
     push_company(out, company)?;
     out.push(b' ')?;
     print_number(out, revenue)?;
-    let board = board_at(alloc, past)?;
+    let board = board_at(alloc, view)?;
     match order {
         Order::Run { kind, run } => {
             push_words(out, "\n")?;
@@ -130,7 +130,7 @@ fn push_ran(
         }
         Order::RunBest => {
             push_words(out, " BEST\n")?;
-            let claim = best_at(alloc, past, company)?;
+            let claim = best_at(alloc, view, company)?;
             push_claimed(out, &board, claim.runs.as_slice())
         }
         _ => push_words(out, "\n"),

@@ -94,12 +94,12 @@ fn round_asked(game: &Game, asked: Option<Round>) -> Option<Round>
 {
     match asked {
         Some(round) => Some(round),
-        None => game.history().round(),
+        None => game.history().now().round(),
     }
 }
 
 /// Adds the text of a round, with the rule that it broke under each line that was refused. The lines
-/// of the events stand first in the text, one for each.
+/// of the events are first in the text, one for each.
 fn push_with_rules(
     out: &mut Vec<u8>,
     game: &Game,
@@ -123,7 +123,7 @@ fn push_with_rules(
             push_why(
                 out,
                 game.sheets(),
-                &walk.past(game.sheets().seats()),
+                &walk.view(game.sheets().seats()),
                 *seat,
                 ruling,
             )?;

@@ -1,11 +1,11 @@
 //! What was looked for as an order was refused, where it is at hand: the cash, the price, the limit.
 //! Each is added behind the rule, in brackets.
 
-use certs::{Holdings, market_price, tenth_price};
+use certs::{Holdings, market_price, share_price};
 use desk_base::{push_company, push_words};
 use history::{
-    GameView, Holder, LayRule, OpeningRule, Party, PrivateRule, Refusal, RunRule, Shareholder,
-    StockRule, TokenRule, TrainRule,
+    GameView, Holder, LayRule, OpeningRule, Party, PrivateRule, Refusal, Ruling, RunRule,
+    Shareholder, StockRule, TokenRule, TrainRule,
 };
 use map_tables::{End, Lay, laid_links, neighbour};
 use order_grammar::{Condition, Order, print_number};
@@ -16,11 +16,29 @@ use tables::{
     Company, Kind, Money, PLAYERS_MOST, Private, Seat, certificate_limit, face, limit, train,
 };
 
-/// Adds what was looked for, where an order of a seat broke a rule in a game as it stood.
+/// Adds what was looked for, where an order of a seat was refused in a view of the game before it.
 pub(crate) fn push_sought(
     out: &mut Vec<u8>,
     sheets: &Sheets,
-    past: &GameView,
+    view: &GameView,
+    seat: Seat,
+    ruling: &Ruling,
+) -> Result<(), AllocError> {
+    match ruling {
+        Ruling::Refused {
+            rule,
+            condition,
+            order,
+        } => push_of_rule(out, sheets, view, seat, *rule, *condition, order),
+        _ => Ok(()),
+    }
+}
+
+/// Adds what was looked for by a rule.
+fn push_of_rule(
+    out: &mut Vec<u8>,
+    sheets: &Sheets,
+    view: &GameView,
     seat: Seat,
     rule: Refusal,
     condition: Option<Condition>,
@@ -28,20 +46,20 @@ pub(crate) fn push_sought(
 ) -> Result<(), AllocError> {
     match rule {
         Refusal::Opening(rule) => match private_of(order) {
-            Some(private) => push_of_opening(out, sheets, past, seat, rule, private),
+            Some(private) => push_of_opening(out, sheets, view, seat, rule, private),
             None => Ok(()),
         },
         Refusal::Stock(rule) => match company_of(order) {
-            Some(company) => push_of_stock(out, sheets, past, seat, rule, company, order),
+            Some(company) => push_of_stock(out, sheets, view, seat, rule, company, order),
             None => Ok(()),
         },
-        Refusal::Lay(rule) => push_of_lay(out, past, seat, rule, order),
-        Refusal::Token(TokenRule::CashTooSmall) => push_presided(out, past, seat),
+        Refusal::Lay(rule) => push_of_lay(out, view, seat, rule, order),
+        Refusal::Token(TokenRule::CashTooSmall) => push_presided(out, view, seat),
         Refusal::Token(_) | Refusal::Pay(_) => Ok(()),
         Refusal::Run(rule) => push_of_run(out, rule, order),
-        Refusal::Train(rule) => push_of_train(out, past, seat, rule),
-        Refusal::Private(rule) => push_of_private(out, past, seat, rule, order),
-        Refusal::Condition => push_of_condition(out, past, condition),
+        Refusal::Train(rule) => push_of_train(out, view, seat, rule),
+        Refusal::Private(rule) => push_of_private(out, view, seat, rule, order),
+        Refusal::Condition => push_of_condition(out, view, condition),
     }
 }
 
@@ -56,7 +74,7 @@ fn private_of(order: &Order) -> Option<Private> {
     }
 }
 
-/// The company of which an order buys or sells tenths, if it does.
+/// The company of which an order buys or sells shares, if it does.
 fn company_of(order: &Order) -> Option<Company> {
     match order {
         Order::Par { company, .. }
@@ -71,19 +89,19 @@ fn company_of(order: &Order) -> Option<Company> {
 fn push_of_opening(
     out: &mut Vec<u8>,
     sheets: &Sheets,
-    past: &GameView,
+    view: &GameView,
     seat: Seat,
     rule: OpeningRule,
     private: Private,
 ) -> Result<(), AllocError> {
     match rule {
-        OpeningRule::Sold => push_owner(out, sheets, past, private),
-        OpeningRule::NotCheapest | OpeningRule::BidForCheapest => push_cheapest(out, past),
-        OpeningRule::BidTooLow => push_bids(out, past, private),
+        OpeningRule::Sold => push_owner(out, sheets, view, private),
+        OpeningRule::NotCheapest | OpeningRule::BidForCheapest => push_cheapest(out, view),
+        OpeningRule::BidTooLow => push_bids(out, view, private),
         OpeningRule::CashTooSmall => {
             push_words(out, " (")?;
-            push_has(out, sheets, seat, past.cash(Party::of_seat(seat)))?;
-            push_number(out, ", less ", past.bids_elsewhere(seat, private))?;
+            push_has(out, sheets, seat, view.cash(Party::of_seat(seat)))?;
+            push_number(out, ", less ", view.bids_elsewhere(seat, private))?;
             push_words(out, " bid elsewhere)")
         }
         OpeningRule::NotOfOpening | OpeningRule::TurnUsed => Ok(()),
@@ -94,10 +112,10 @@ fn push_of_opening(
 fn push_owner(
     out: &mut Vec<u8>,
     sheets: &Sheets,
-    past: &GameView,
+    view: &GameView,
     private: Private,
 ) -> Result<(), AllocError> {
-    let Some(holder) = past.owner(private) else {
+    let Some(holder) = view.owner(private) else {
         return Ok(());
     };
     push_words(out, " (")?;
@@ -109,8 +127,8 @@ fn push_owner(
 }
 
 /// Adds which private is the cheapest unsold.
-fn push_cheapest(out: &mut Vec<u8>, past: &GameView) -> Result<(), AllocError> {
-    let Some(private) = past.cheapest_unsold() else {
+fn push_cheapest(out: &mut Vec<u8>, view: &GameView) -> Result<(), AllocError> {
+    let Some(private) = view.cheapest_unsold() else {
         return Ok(());
     };
     push_words(out, " (that is ")?;
@@ -119,10 +137,10 @@ fn push_cheapest(out: &mut Vec<u8>, past: &GameView) -> Result<(), AllocError> {
 }
 
 /// Adds the face value of a private and the highest bid on it.
-fn push_bids(out: &mut Vec<u8>, past: &GameView, private: Private) -> Result<(), AllocError> {
+fn push_bids(out: &mut Vec<u8>, view: &GameView, private: Private) -> Result<(), AllocError> {
     let mut highest = 0;
     for seat in 0..PLAYERS_MOST {
-        highest = past
+        highest = view
             .standing_bid(private, Seat::at(seat))
             .unwrap_or(0)
             .max(highest);
@@ -136,34 +154,34 @@ fn push_bids(out: &mut Vec<u8>, past: &GameView, private: Private) -> Result<(),
 fn push_of_stock(
     out: &mut Vec<u8>,
     sheets: &Sheets,
-    past: &GameView,
+    view: &GameView,
     seat: Seat,
     rule: StockRule,
     company: Company,
     order: &Order,
 ) -> Result<(), AllocError> {
     match rule {
-        StockRule::NotHeld | StockRule::OverSixTenths => {
+        StockRule::NotHeld | StockRule::OverSixShares => {
             push_words(out, " (")?;
             push_has(
                 out,
                 sheets,
                 seat,
-                past.shares(company, Shareholder::Seat(seat)),
+                view.shares(company, Shareholder::Seat(seat)),
             )?;
             push_words(out, ")")
         }
-        StockRule::PoolFull | StockRule::NoneThere => push_with_bank(out, past, company),
+        StockRule::PoolFull | StockRule::NoneThere => push_with_bank(out, view, company),
         StockRule::CashTooSmall => {
-            push_number(out, " (it costs ", cost_of(past, order))?;
+            push_number(out, " (it costs ", cost_of(view, order))?;
             push_words(out, ", ")?;
-            push_has(out, sheets, seat, past.free_cash(seat))?;
+            push_has(out, sheets, seat, view.free_cash(seat))?;
             push_words(out, ")")
         }
         StockRule::CertificateLimit => {
             push_words(out, " (")?;
-            push_has(out, sheets, seat, Holdings::at(past).counted(seat))?;
-            push_number(out, " of ", certificate_limit(past.seats) as Money)?;
+            push_has(out, sheets, seat, Holdings::at(view).counted(seat))?;
+            push_number(out, " of ", certificate_limit(view.seats) as Money)?;
             push_words(out, ")")
         }
         _ => Ok(()),
@@ -181,20 +199,20 @@ fn push_has(
     push_number(out, " has ", count)
 }
 
-/// Adds how many tenths of a company the bank has.
-fn push_with_bank(out: &mut Vec<u8>, past: &GameView, company: Company) -> Result<(), AllocError> {
-    let left = past.shares(company, Shareholder::InitialOffering);
-    let pool = past.shares(company, Shareholder::BankPool);
+/// Adds how many shares of a company the bank has.
+fn push_with_bank(out: &mut Vec<u8>, view: &GameView, company: Company) -> Result<(), AllocError> {
+    let left = view.shares(company, Shareholder::InitialOffering);
+    let pool = view.shares(company, Shareholder::BankPool);
     push_number(out, " (", left)?;
     push_number(out, " are in IPO, ", pool)?;
     push_words(out, " in POOL)")
 }
 
 /// What an order to start a company, or to buy of one, costs, in dollars; nothing for other orders.
-fn cost_of(past: &GameView, order: &Order) -> Money {
+fn cost_of(view: &GameView, order: &Order) -> Money {
     match order {
         Order::Par { price, .. } => 2 * Money::from(*price),
-        Order::BuyShare { company, from } => tenth_price(past, *company, *from),
+        Order::BuyShare { company, from } => share_price(view, *company, *from),
         _ => 0,
     }
 }
@@ -202,15 +220,15 @@ fn cost_of(past: &GameView, order: &Order) -> Money {
 /// Adds what was looked for by a rule of lays.
 fn push_of_lay(
     out: &mut Vec<u8>,
-    past: &GameView,
+    view: &GameView,
     seat: Seat,
     rule: LayRule,
     order: &Order,
 ) -> Result<(), AllocError> {
     match (rule, order) {
-        (LayRule::ColourClosed, _) => push_phase(out, past),
+        (LayRule::ColourClosed, _) => push_phase(out, view),
         (LayRule::BadSide, Order::Lay(lay)) => push_border(out, *lay),
-        (LayRule::CashTooSmall, _) => push_presided(out, past, seat),
+        (LayRule::CashTooSmall, _) => push_presided(out, view, seat),
         _ => Ok(()),
     }
 }
@@ -246,27 +264,27 @@ fn push_of_run(out: &mut Vec<u8>, rule: RunRule, order: &Order) -> Result<(), Al
 /// Adds what was looked for by a rule of trains.
 fn push_of_train(
     out: &mut Vec<u8>,
-    past: &GameView,
+    view: &GameView,
     seat: Seat,
     rule: TrainRule,
 ) -> Result<(), AllocError> {
     match rule {
-        TrainRule::NotOnSale => push_on_sale(out, past),
+        TrainRule::NotOnSale => push_on_sale(out, view),
         TrainRule::TrainLimit => {
-            push_number(out, " (which is ", limit(past.phase()) as Money)?;
+            push_number(out, " (which is ", limit(view.phase()) as Money)?;
             push_words(out, ")")
         }
-        TrainRule::CashTooSmall => push_presided(out, past, seat),
+        TrainRule::CashTooSmall => push_presided(out, view, seat),
         _ => Ok(()),
     }
 }
 
 /// Adds which train the bank sells: the first kind of which it has not sold all.
-fn push_on_sale(out: &mut Vec<u8>, past: &GameView) -> Result<(), AllocError> {
+fn push_on_sale(out: &mut Vec<u8>, view: &GameView) -> Result<(), AllocError> {
     for kind in Kind::ALL {
         if train(kind)
             .number
-            .is_none_or(|number| past.trains_sold(kind) < usize::from(number))
+            .is_none_or(|number| view.trains_sold(kind) < usize::from(number))
         {
             push_words(out, " (the bank sells a ")?;
             push_words(out, kind.code())?;
@@ -279,18 +297,18 @@ fn push_on_sale(out: &mut Vec<u8>, past: &GameView) -> Result<(), AllocError> {
 /// Adds what was looked for by a rule of privates that companies buy.
 fn push_of_private(
     out: &mut Vec<u8>,
-    past: &GameView,
+    view: &GameView,
     seat: Seat,
     rule: PrivateRule,
     order: &Order,
 ) -> Result<(), AllocError> {
     match (rule, private_of(order)) {
-        (PrivateRule::TooEarly, _) => push_phase(out, past),
+        (PrivateRule::TooEarly, _) => push_phase(out, view),
         (PrivateRule::WrongPrice, Some(private)) => {
             push_number(out, " (the face value is ", Money::from(face(private)))?;
             push_words(out, ")")
         }
-        (PrivateRule::CashTooSmall, _) => push_presided(out, past, seat),
+        (PrivateRule::CashTooSmall, _) => push_presided(out, view, seat),
         _ => Ok(()),
     }
 }
@@ -298,36 +316,36 @@ fn push_of_private(
 /// Adds what was looked for by a condition.
 fn push_of_condition(
     out: &mut Vec<u8>,
-    past: &GameView,
+    view: &GameView,
     condition: Option<Condition>,
 ) -> Result<(), AllocError> {
     match condition {
         Some(Condition::Price(company, _)) => {
             push_words(out, " (the price of ")?;
             push_company(out, company)?;
-            push_number(out, " is ", Money::from(market_price(past, company)))?;
+            push_number(out, " is ", Money::from(market_price(view, company)))?;
             push_words(out, ")")
         }
-        Some(Condition::Phase(_)) => push_phase(out, past),
+        Some(Condition::Phase(_)) => push_phase(out, view),
         _ => Ok(()),
     }
 }
 
 /// Adds the phase.
-fn push_phase(out: &mut Vec<u8>, past: &GameView) -> Result<(), AllocError> {
+fn push_phase(out: &mut Vec<u8>, view: &GameView) -> Result<(), AllocError> {
     push_words(out, " (the phase is ")?;
-    push_words(out, past.phase().code())?;
+    push_words(out, view.phase().code())?;
     push_words(out, ")")
 }
 
 /// Adds what each floated company has over which a player presides.
-fn push_presided(out: &mut Vec<u8>, past: &GameView, seat: Seat) -> Result<(), AllocError> {
+fn push_presided(out: &mut Vec<u8>, view: &GameView, seat: Seat) -> Result<(), AllocError> {
     let mut sign = " (";
     for company in Company::ALL {
-        if past.floated(company) && past.president(company) == Some(seat) {
+        if view.floated(company) && view.president(company) == Some(seat) {
             push_words(out, sign)?;
             push_company(out, company)?;
-            push_number(out, " has ", past.cash(Party::of_company(company)))?;
+            push_number(out, " has ", view.cash(Party::of_company(company)))?;
             sign = ", ";
         }
     }

@@ -2,33 +2,29 @@
 
 use crate::sought::push_sought;
 use desk_base::{explain, push_words};
-use history::{GameView, PackedRuling, Ruling};
+use history::{GameView, PackedRuling, Verdict};
 use sheets::Sheets;
 use std::alloc::AllocError;
 use tables::Seat;
 
-/// Adds a line that tells which rule a line of a seat's sheet broke, in a game as it stood; nothing
+/// Adds a line with the rule that a line of a seat's sheet broke, in a view of the game before it; nothing
 /// where it was obeyed.
 pub(crate) fn push_why(
     out: &mut Vec<u8>,
     sheets: &Sheets,
-    past: &GameView,
+    view: &GameView,
     seat: Seat,
     ruling: &PackedRuling,
 ) -> Result<(), AllocError> {
-    match ruling.ruling() {
-        Ruling::Obeyed { .. } => Ok(()),
-        Ruling::Faulty(fault) => {
+    match ruling.verdict() {
+        Verdict::Obeyed => Ok(()),
+        Verdict::Faulty(fault) => {
             push_rule(out, fault.code())?;
             push_words(out, "\n")
         }
-        Ruling::Refused {
-            rule,
-            condition,
-            order,
-        } => {
+        Verdict::Refused(rule) => {
             push_rule(out, rule.code())?;
-            push_sought(out, sheets, past, seat, rule, condition, &order)?;
+            push_sought(out, sheets, view, seat, &ruling.ruling())?;
             push_words(out, "\n")
         }
     }

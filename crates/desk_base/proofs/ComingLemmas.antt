@@ -1,5 +1,6 @@
 -- A round that cannot come never comes: what holds of the round that is awaited holds of each that follows.
-use Rattle.std.proofs.Common.{◌≡◌, ℕ, zero, suc, ◌+◌, ◌<◌, ◌≤◌, Bool, true, false, ◌&&◌, ◌||◌, not, nat_le, nat_lt, if◌then◌else◌, List, [], ◌∷◌, ◌++◌, length, refl, sym, ap, subst, ◌∙◌, arith, true≢false}
+use Rattle.std.proofs.Common.{◌≡◌, ℕ, zero, suc, ◌+◌, ◌<◌, ◌≤◌, Bool, true, false, ◌&&◌, ◌||◌, not, nat_le, nat_lt}
+use Rattle.std.proofs.Common.{if◌then◌else◌, List, [], ◌∷◌, ◌++◌, length, refl, sym, ap, subst, ◌∙◌, arith, true≢false}
 use Rattle.std.proofs.lemmas.Bool.{eqb-true, le-leb, le-ltb, ltb-true}
 use Rattle.std.proofs.lemmas.List.Folds.{list_any-append}
 use Rattle.std.specs.Prelude.{◌==◌, ⊤}
@@ -7,20 +8,21 @@ use Rattle.desk_base.proofs.SetLemmas.{number_there}
 use Rattle.desk_base.specs.Coming.{NeverComes, can_come, is_in_time, may_come, may_follow, most_in_set, set_of}
 use Rattle.desk_base.specs.SetNumber.{number_in_set}
 use Rattle.desk_base.specs.Stopped.{StoppedAt}
-use Rattle.events.specs.Event.{tells_broken}
+use Rattle.events.specs.Event.{says_broken}
 use Rattle.events.specs.declared.event.Event.{Event}
 use Rattle.events.specs.declared.event.Event.TheVariants as event
-use Rattle.history.specs.LookBack.{Game, broken_in}
-use Rattle.history.specs.Trains.{phase_of}
+use Rattle.totals.specs.LookBack.{Game, broken_in}
+use Rattle.totals.specs.Trains.{phase_of}
 use Rattle.operating.proofs.Complete.{phase_kept}
 use Rattle.privates.specs.Turn.{all_sold}
 use Rattle.rounds.proofs.Coming.{OfNext, after_operating, comes_once, follows, in_set_then, no_round, of_coming}
 use Rattle.rounds.proofs.Forward.{played_forward}
-use Rattle.rounds.proofs.InSet.{StandsInSet, StandsNext, comes_in_set, round_in_set}
+use Rattle.rounds.proofs.InSet.{IsInSet, IsNextInSet, comes_in_set, round_in_set}
 use Rattle.rounds.proofs.OpeningGrows.{opening_grows}
 use Rattle.rounds.proofs.RoundSteps.{of_growing}
 use Rattle.rounds.specs.Begun.{AddsRound, RoundsOnlyAdd}
-use Rattle.rounds.specs.Play.{AreRounds, Between, IsPlayed, IsRound, Played, before_play, end_of, in_set_before, rounds_of_new_set}
+use Rattle.rounds.specs.Play.{AreRounds, Between, IsPlayed, IsRound, Played, before_play, end_of, in_set_before}
+use Rattle.rounds.specs.Play.{rounds_of_new_set}
 use Rattle.rounds.specs.Sequence.{following}
 use Rattle.rounds.specs.declared.following.Next.{Next}
 use Rattle.rounds.specs.declared.following.Next.TheVariants as next
@@ -72,7 +74,7 @@ opens_next (Operating set number) events in_set sold broken opens =
     number in_set sold broken
     (λ more. tt) (λ past. tt)
 
--- ahead of an awaited round, whose set has so many operating rounds, where the bank was broken or not
+-- ahead of an awaited round, whose set has this many operating rounds, where the bank was broken or not
 record InSets (awaited : Round) (count : ℕ) (broken : Bool) (round : Round) (in_set : ℕ) : Type 0 where
   later : set_of awaited ≤ set_of round
   number : set_of round ≡ set_of awaited → in_set ≡ count
@@ -134,7 +136,7 @@ both_hold false b first second = absurd (true≢false (sym first))
 
 comes_in : (awaited : Round) (count : ℕ) (broken : Bool) (round : Round) (in_set : ℕ)
     → InSets awaited count broken round in_set →
-    StandsInSet round in_set → may_come (set_of awaited) count broken round ≡ true
+    IsInSet round in_set → may_come (set_of awaited) count broken round ≡ true
 comes_in awaited count broken (Opening number) in_set ahead stands = refl
 comes_in awaited count broken (Stock set) in_set ahead stands = in_time (set_of awaited) broken set ahead.stays
 comes_in awaited count broken (Operating set number) in_set ahead stands =
@@ -148,14 +150,14 @@ record IsAhead (awaited : Round) (count : ℕ) (broken : Bool) (there : Between)
   sets : (round : Round) → there.next ≡ next.Round round → InSets awaited count broken round there.in_set
   opens : (round : Round) → there.next ≡ next.Round round → OpensWith round there.game.events there.in_set
   still : broken ≡ true → broken_in there.game.events ≡ true
-  stands : StandsNext there
+  stands : IsNextInSet there
 
 -- a broken bank stays broken through a round
 broken_through : (round : Round) (old new : Game) → AddsRound round old new → broken_in old.events ≡ true
     → broken_in new.events ≡ true
 broken_through round old new adds is =
     ap (λ (game : Game). broken_in game.events) adds.added
-    ∙ list_any-append tells_broken old.events (event.Round round ∷ adds.more)
+    ∙ list_any-append says_broken old.events (event.Round round ∷ adds.more)
     ∙ ap (λ b. b || broken_in (event.Round round ∷ adds.more)) is
 
 module _ (adds : RoundsOnlyAdd) (numbered : SheetsAreNumbered) (file : List ℕ)

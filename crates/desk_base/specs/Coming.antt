@@ -1,4 +1,4 @@
--- Which rounds may still come: from the round that is awaited on, in the order of all rounds; its set has so many
+-- Which rounds may still come: from the round that is awaited on, in the order of all rounds; its set has this many
 -- operating rounds, each later one at most three; and if the bank is broken, no later set is played.
 use Rattle.std.specs.Prelude.{◌≡◌, ◌==◌, ℕ, Bool, true, false, ◌&&◌, ◌||◌, not, nat_le, if◌then◌else◌, List}
 use Rattle.rounds.specs.Play.{AreRounds, Between, Played}
@@ -8,7 +8,7 @@ use Rattle.rounds.specs.declared.game.End.TheVariants.{Awaiting, Bank, Bankrupt}
 use Rattle.desk_base.specs.SetNumber.{number_in_set}
 use Rattle.desk_base.specs.Stopped.{StoppedAt}
 use Rattle.events.specs.declared.event.Event.{Event}
-use Rattle.history.specs.LookBack.{broken_in}
+use Rattle.totals.specs.LookBack.{broken_in}
 use Rattle.sheets.specs.File.{IsAccepted}
 use Rattle.tables.specs.Round.{is_before, operating_most}
 use Rattle.tables.specs.declared.round.Round.{Round}
@@ -24,7 +24,7 @@ set_of (Operating set number) = set
 abbrev pub is_in_time : ℕ → Bool → ℕ → Bool
 is_in_time set broken its = nat_le its set || not broken
 
--- how many operating rounds a set may have, where another has so many
+-- how many operating rounds a set may have, where another has this many
 abbrev pub most_in_set : ℕ → ℕ → ℕ → ℕ
 most_in_set set in_set its = if its == set then in_set else operating_most
 

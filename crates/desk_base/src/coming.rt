@@ -32,8 +32,8 @@ fn may_be_ahead(game: &Game, round: Round) -> bool
     }
 }
 
-/// Whether a round may be the awaited one or come after it. The set of the awaited round has so many
-/// operating rounds, and if the bank is broken no other set is played.
+/// Whether a round may be the awaited one or come after it. The set of the awaited round has this
+/// many operating rounds, and if the bank is broken no other set is played.
 fn may_follow(awaited: Round, in_set: u8, broken: bool, round: Round) -> bool
     ensures { result ≡ may_follow awaited in_set broken round }
 {

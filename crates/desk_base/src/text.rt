@@ -17,7 +17,7 @@ pub fn push_company(out: &mut Vec<u8>, company: Company) -> Result<(), AllocErro
     push_words(out, company.code())
 }
 
-/// Adds a line of a file, cut to so many bytes. A byte that is no printable ASCII is `?`.
+/// Adds a line of a file, cut to this many bytes. A byte that is no printable ASCII is `?`.
 pub fn push_cut(out: &mut Vec<u8>, line: &[u8], most: usize) -> Result<(), AllocError> {
     let shown = line.get(..most).unwrap_or(line);
     for byte in shown {

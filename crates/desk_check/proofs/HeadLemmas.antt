@@ -1,10 +1,12 @@
 -- Heads that come one after another.
-use Rattle.std.proofs.Common.{◌≡◌, ℕ, ◌+◌, List, [], ◌∷◌, ◌++◌, Option, Bool, true, false, Some, None, map, cond, is_some, refl, sym, ap, subst, ◌∙◌, append_assoc, add-one, true≢false}
+use Rattle.std.proofs.Common.{◌≡◌, ℕ, ◌+◌, List, [], ◌∷◌, ◌++◌, Option, Bool, true, false, Some, None, map, cond}
+use Rattle.std.proofs.Common.{is_some, refl, sym, ap, subst, ◌∙◌, append_assoc, add-one, true≢false}
 use Rattle.std.proofs.lemmas.Bool.{and_parts, eqb-true}
 use Rattle.std.proofs.lemmas.List.{append-nil, map-append}
 use Rattle.std.specs.Map.{lookup}
 use Rattle.std.specs.Option.{option_or}
-use Rattle.desk_check.specs.SheetLines.{HeadAt, ReplaceTheLast, complete_by, first_line, head_at, head_here, heads_in, last_line, later_of, sheet_key_of, same_sent}
+use Rattle.desk_check.specs.SheetLines.{HeadAt, ReplaceTheLast, complete_by, first_line, head_at, head_here, heads_in}
+use Rattle.desk_check.specs.SheetLines.{last_line, later_of, sheet_key_of, same_sent}
 use Rattle.desk_check.specs.declared.check_sheets.Head.{Head}
 use Rattle.desk_check.specs.declared.check_sheets.Sent.{Sent}
 use Rattle.sheets.specs.File.{begins, sheet_key_at, same_sheet_key}

@@ -1,6 +1,7 @@
 -- Sheets that replace others: what was there of the round at the line that replaced one, and before which line the game is
 -- looked at again, to tell what has changed since.
-use Rattle.std.specs.Prelude.{◌≡◌, ℕ, ◌-◌, ◌==◌, Bool, true, false, ◌&&◌, ◌||◌, if◌then◌else◌, List, [], ◌∷◌, ◌++◌, length, take, Option, Some, None, Err, is_some}
+use Rattle.std.specs.Prelude.{◌≡◌, ℕ, ◌-◌, ◌==◌, Bool, true, false, ◌&&◌, ◌||◌, if◌then◌else◌, List, [], ◌∷◌, ◌++◌}
+use Rattle.std.specs.Prelude.{length, take, Option, Some, None, Err, is_some}
 use Rattle.std.specs.List.{flat_map, fold}
 use Rattle.desk_check.specs.Found.{finding}
 use Rattle.desk_check.specs.Heads.{came}
@@ -17,7 +18,7 @@ use Rattle.desk_check.specs.declared.check_late.Turning.{Turning}
 use Rattle.desk_check.specs.declared.check_lines.FileLine.{FileLine}
 use Rattle.desk_check.specs.declared.check_sheets.Head.{Head}
 use Rattle.desk_check.specs.declared.check_sheets.Heads.{Heads}
-use Rattle.history.specs.LookBack.{round_of}
+use Rattle.totals.specs.LookBack.{round_of}
 use Rattle.rounds.specs.Play.{IsTheGame, Played}
 use Rattle.sheets.specs.File.{content_of}
 use Rattle.sheets.specs.declared.fault.FileFault.{FileFault}
@@ -27,7 +28,7 @@ use Rattle.tables.specs.declared.round.Round.{Round}
 abbrev pub complete_in : Heads → Round → Option ℕ
 complete_in heads round = complete_by heads.seats round (came heads)
 
--- what stands in a file before a line of it
+-- what is in a file before a line of it
 abbrev pub before : List ℕ → FileLine → List ℕ
 before file line = take (length file - length line.from.now) file
 
@@ -35,8 +36,8 @@ before file line = take (length file - length line.from.now) file
 abbrev pub standing_of : Played → Standing
 standing_of played = record { last = round_of played.game.events; end = played.end }
 
--- what stands before a line that begins a sheet, as a game: its rounds, each with the line by which every player had
--- sheets for it and those before it, and how far it had come
+-- what is before a line that begins a sheet, as a game: its rounds, each with the line by which every player had sheets
+-- for it and those before it, and how far it had come
 pub record IsTurn (file : List ℕ) (heads : Heads) (head : Head) (turn : Turn) : Type 0 where
   pub played : Played
   pub of_file : played.file ≡ before file head.line
@@ -45,7 +46,7 @@ pub record IsTurn (file : List ℕ) (heads : Heads) (head : Head) (turn : Turn) 
   pub rounds : AreRoundsOf heads turn.rounds played.game.events
   pub standing : turn.standing ≡ standing_of played
 
--- so it is with that game, or what stands before the line is refused
+-- so it is with that game, or what is before the line is refused
 abbrev pub TurnsAt : List ℕ → Heads → Head → Option Turn → Type 0
 TurnsAt file heads head None = (fault : FileFault) × (content_of (before file head.line) ≡ Err fault)
 TurnsAt file heads head (Some turn) = IsTurn file heads head turn

@@ -1,6 +1,7 @@
 -- Which rounds of a game were played, and by which line of the file every player had a sheet for a round and for each round
 -- of the game before it.
-use Rattle.std.specs.Prelude.{◌≡◌, ℕ, Bool, List, [], ◌∷◌, ◌++◌, Option, Some, None, is_some, max, unwrap_or, if◌then◌else◌}
+use Rattle.std.specs.Prelude.{◌≡◌, ℕ, Bool, List, [], ◌∷◌, ◌++◌, Option, Some, None, is_some, max, unwrap_or}
+use Rattle.std.specs.Prelude.{if◌then◌else◌}
 use Rattle.std.specs.HashMap.{get}
 use Rattle.std.specs.List.{list_any}
 use Rattle.std.specs.Option.{option_or}
@@ -17,7 +18,7 @@ use Rattle.tables.specs.declared.round.Round.{Round}
 abbrev pub is_begun : List Event → Round → Bool
 is_begun events round = list_any (λ begun. same_round begun round) (rounds_begun events)
 
--- the line by which so many players had sheets for a round too, where by a line they had those for the rounds before
+-- the line by which this many players had sheets for a round too, where by a line they had those for the rounds before
 abbrev pub by_with : ℕ → List HeadAt → ℕ → Round → ℕ
 by_with seats heads by round = max (unwrap_or (complete_by seats round heads) 0) by
 

@@ -1,6 +1,7 @@
--- The good SHEET lines of a file: whose sheet for which round each begins, where it stands, and which line's sheet it
+-- The good SHEET lines of a file: whose sheet for which round each begins, where it is, and which line's sheet it
 -- replaces.
-use Rattle.std.specs.Prelude.{◌≡◌, ℕ, zero, suc, ◌+◌, ◌==◌, ◌&&◌, Bool, true, false, if◌then◌else◌, List, [], ◌∷◌, ◌++◌, Option, Some, None, map, max, nat_lt, ⊤}
+use Rattle.std.specs.Prelude.{◌≡◌, ℕ, zero, suc, ◌+◌, ◌==◌, ◌&&◌, Bool, true, false, if◌then◌else◌, List, [], ◌∷◌, ◌++◌}
+use Rattle.std.specs.Prelude.{Option, Some, None, map, max, nat_lt, ⊤}
 use Rattle.std.specs.Option.{option_or}
 use Rattle.desk_check.specs.declared.check_sheets.Beginning.{Beginning}
 use Rattle.desk_check.specs.declared.check_sheets.Beginning.TheVariants.{Sheet, Closing, Other}
@@ -35,7 +36,7 @@ abbrev pub head_here : ℕ → Option SheetKey → List HeadAt
 head_here number None = []
 head_here number (Some sheet_key) = record { line = number; sheet_key = sheet_key } ∷ []
 
--- those of some lines that begin sheets, where so many came before
+-- those of some lines that begin sheets, where this many came before
 abbrev pub heads_in : List (List ℕ) → ℕ → List (List ℕ) → List HeadAt
 heads_in players passed [] = []
 heads_in players passed (line ∷ lines) =
@@ -63,7 +64,8 @@ later_of None other = None
 later_of (Some a) None = None
 later_of (Some a) (Some b) = Some (max a b)
 
--- the line by which each of so many players had a sheet for a round: the latest of those with which a player's first came
+-- the line by which each of this many players had a sheet for a round: the latest of those with which a player's first
+-- came
 abbrev pub complete_by : ℕ → Round → List HeadAt → Option ℕ
 complete_by zero round heads = Some 0
 complete_by (suc seats) round heads = later_of (complete_by seats round heads)

@@ -1,24 +1,24 @@
 -- What a line of a sheet is that is not played yet: a head, a line that may be taken up, or one that has a fault by
--- itself or whose order has no place where it stands.
+-- itself or whose order has no place where it is.
 use Rattle.std.specs.Prelude.{Bool, true, false, if◌then◌else◌, Result, Ok, Err}
 use Rattle.desk_check.specs.declared.check_early.Look.{Look}
 use Rattle.desk_check.specs.declared.check_early.Look.TheVariants.{Head, Good, Bad}
-use Rattle.operating.specs.Standing.{has_place_before as stands_before_blocks}
+use Rattle.operating.specs.Standing.{has_place_before as is_before_blocks}
 use Rattle.order_grammar.specs.declared.fault.Fault.{Fault}
 use Rattle.order_grammar.specs.declared.fault.Fault.TheVariants.{OutOfPlace}
 use Rattle.order_grammar.specs.declared.order.Order.{Order}
 use Rattle.order_grammar.specs.declared.order.Order.TheVariants as order
-use Rattle.privates.specs.Standing.{has_place_before as stands_before_groups}
+use Rattle.privates.specs.Standing.{has_place_before as is_before_turns}
 use Rattle.sheets.specs.Part.{opens_part}
 use Rattle.tables.specs.declared.round.Round.{Round}
 use Rattle.tables.specs.declared.round.Round.TheVariants.{Opening, Stock, Operating}
-use Rattle.turns.specs.Ruling.{has_place_in_group}
+use Rattle.turns.specs.Ruling.{has_place_in_turn}
 
 -- the order has a place before the first head of a sheet for this round
 abbrev pub has_place_before : Round → Order → Bool
-has_place_before (Opening number) its = stands_before_groups its
+has_place_before (Opening number) its = is_before_turns its
 has_place_before (Stock set) its = false
-has_place_before (Operating set number) its = stands_before_blocks its
+has_place_before (Operating set number) its = is_before_blocks its
 
 -- the order has a place in a block, as `operating: OrderLeads` has it
 abbrev pub has_place_in_block : Order → Bool
@@ -30,15 +30,15 @@ has_place_in_block order.Pay = true
 has_place_in_block order.Withhold = true
 has_place_in_block (order.BuyTrain kind from) = true
 has_place_in_block (order.BuyOwnedPrivate private price) = true
-has_place_in_block (order.Raise company tenths) = true
+has_place_in_block (order.Raise company shares) = true
 has_place_in_block other = false
 
 -- the order has a place behind a head of a sheet for this round
 abbrev pub has_place_behind : Round → Order → Bool
 has_place_behind (Operating set number) its = has_place_in_block its
-has_place_behind round its = has_place_in_group its
+has_place_behind round its = has_place_in_turn its
 
--- the order has a place where it stands, behind a head or before the first
+-- the order has a place where it is, behind a head or before the first
 abbrev pub has_place : Round → Bool → Order → Bool
 has_place round is_open its = if is_open then has_place_behind round its else has_place_before round its
 

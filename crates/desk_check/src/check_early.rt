@@ -44,8 +44,8 @@ pub(crate) fn find_unplayed<'a>(
     Ok(())
 }
 
-/// Finds the lines of a sheet that have a fault of their own, or an order that has no place where it
-/// stands. Of those past line `LINES_MOST`, which have one fault whatever they say, only the first is read.
+/// Finds the lines of a sheet that have a fault of their own, or an order that has no place where it is. Of
+/// those past line `LINES_MOST`, which have one fault whatever they say, only the first is read.
 fn find_faults<'a>(
     head: &Head<'a>,
     version: Version,
@@ -82,7 +82,7 @@ fn find_faults<'a>(
 /// What a line of a sheet is that is not played yet.
 #[derive(Clone, Copy)]
 enum Look {
-    /// The head of a group or a block.
+    /// The head of a written turn or a block.
     Head,
     /// A line that may be taken up.
     Good,
@@ -102,7 +102,7 @@ fn look_at(line: UnreadLine, round: Round, is_open: bool) -> Look
     }
 }
 
-/// Whether an order begins a group of a sheet for a round, or a block of it.
+/// Whether an order begins a written turn of a sheet for a round, or a block of it.
 fn is_head(round: Round, order: &Order) -> bool
     ensures { result ≡ opens_part round (Ok order.now) }
 {
@@ -112,7 +112,8 @@ fn is_head(round: Round, order: &Order) -> bool
     }
 }
 
-/// Whether an order has a place in a sheet for a round, in a group or a block or before the first.
+/// Whether an order has a place in a sheet for a round, in a written turn or a block or before the
+/// first.
 fn has_place(round: Round, order: &Order, is_open: bool) -> bool
     ensures { result ≡ has_place round is_open order.now }
 {
@@ -134,7 +135,7 @@ fn has_place_before(round: Round, order: &Order) -> bool
     }
 }
 
-/// Whether an order has a place in a group or a block of a sheet for a round.
+/// Whether an order has a place in a written turn or a block of a sheet for a round.
 fn has_place_behind(round: Round, order: &Order) -> bool
     ensures { result ≡ has_place_behind round order.now }
 {

@@ -1,7 +1,9 @@
 //! Sheets that replace others: whether the round was played, and how the game has changed since.
 ghost use Rattle.std.specs.Prelude.{◌≡◌, ℕ, ◌++◌, IfOk, List, OnOk, max, unwrap_or};
 ghost use Rattle.desk_check.specs.Heads.{AreKept};
-ghost use Rattle.desk_check.specs.Replaced.{IsTurn, TellsReplaced, TurnsAt, TurnsBefore, before, is_fresh_at, is_late, lateness_of, line_in_turn, standing_of, told_of, turned, turning_of, turning_then};
+ghost use Rattle.desk_check.specs.Replaced.{IsTurn, TellsReplaced, TurnsAt, TurnsBefore, before, is_fresh_at, is_late};
+ghost use Rattle.desk_check.specs.Replaced.{lateness_of, line_in_turn, standing_of, told_of, turned, turning_of};
+ghost use Rattle.desk_check.specs.Replaced.{turning_then};
 ghost use Rattle.desk_check.specs.RoundsPlayed.{AreRoundsOf, NotesEvent, is_kept, line_kept};
 ghost use Rattle.desk_check.specs.SheetLines.{is_under};
 ghost use Rattle.std.specs.List.{flat_map};
@@ -93,12 +95,12 @@ fn standing_of(game: &Game) -> Standing
     ensures { result ≡ standing_of game.now }
 {
     Standing {
-        last: game.history().round(),
+        last: game.history().now().round(),
         end: game.outcome(),
     }
 }
 
-/// The game of what stands before a line that replaced a sheet for a played round.
+/// The game of what is before a line that replaced a sheet for a played round.
 #[derive(Drop)]
 struct Turn {
     /// The number of the line.
@@ -266,7 +268,7 @@ fn turning_head<'a>(heads: &Heads<'a>, rounds: &Rounds) -> Option<Head<'a>>
     turning.head
 }
 
-/// The game of what stands before a line, if there is such a line.
+/// The game of what is before a line, if there is such a line.
 fn turn_before(
     alloc: Global,
     file: &[u8],
@@ -282,7 +284,7 @@ fn turn_before(
     }
 }
 
-/// The game of what stands before a line; `None` where that is refused, which no front of a file is from
+/// The game of what is before a line; `None` where that is refused, which no prefix of a file is from
 /// its PLAYERS line on, if the file is not.
 fn turn_at(
     alloc: Global,
@@ -300,7 +302,7 @@ fn turn_at(
     }
 }
 
-/// The game of the sheets that stand before a line.
+/// The game of the sheets that are before a line.
 fn turn_of(alloc: Global, sheets: &Sheets, heads: &Heads, head: &Head) -> Result<Turn, AllocError>
     requires { AreKept heads.now }
     ensures { IfOk result (λ turn. (file : List ℕ) → sheets.now ≡ before file head.now.line
@@ -314,7 +316,7 @@ fn turn_of(alloc: Global, sheets: &Sheets, heads: &Heads, head: &Head) -> Result
     })
 }
 
-/// What stands in a file before a line of it.
+/// What is in a file before a line of it.
 fn before<'a>(file: &'a [u8], line: &FileLine) -> &'a [u8]
     ensures { result.now ≡ before file.now line.now }
 {

@@ -1,7 +1,7 @@
 //! Lines that look like mail.
 
 /// The words with which the lines of a mail's head begin, and those of what it quotes.
-const HEADS: [&str; 8] = [
+static HEADS: [&str; 8] = [
     "From:",
     "To:",
     "Cc:",
@@ -28,7 +28,7 @@ fn is_begun_so(byte: u8) -> bool {
 
 /// Whether a line begins with one of those words.
 fn is_begun_as_mail(line: &[u8]) -> bool {
-    for head in HEADS {
+    for head in &HEADS {
         if line.starts_with(head.as_bytes()) {
             return true;
         }

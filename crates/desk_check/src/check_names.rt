@@ -9,13 +9,13 @@ pub(crate) enum Likeness {
     Company,
     /// The code of a private.
     Private,
-    /// A word with which lines of a report begin, or that stands there in the place of a name.
+    /// A word with which lines of a report begin, or that is there in the place of a name.
     Word,
 }
 
-/// The words of at most eight letters with which a report's lines begin, and those that stand in the place
+/// The words of at most eight letters with which a report's lines begin, and those that are in the place
 /// of a name.
-const WORDS: [&str; 40] = [
+static WORDS: [&str; 40] = [
     "AID", "AWAITING", "BANK", "BANKRUPT", "BIDS", "BOUGHT", "BROKEN", "CLOSED", "COMPANY",
     "DIVIDEND", "END", "FILE", "FLOATS", "FORCED", "GAME", "GIVEN", "HOME", "IPO", "LAID", "LEFT",
     "MOVES", "PAR", "PHASE", "PLAYER", "PLAYERS", "POOL", "PRICE", "PRIVATE", "REVENUE", "ROUND",
@@ -57,7 +57,7 @@ fn is_private(name: &[u8]) -> bool {
 
 /// Whether lines of a report begin with this word, or have it in the place of a name.
 fn is_word_of_reports(name: &[u8]) -> bool {
-    for word in WORDS {
+    for word in &WORDS {
         if word.as_bytes() == name {
             return true;
         }

@@ -1,4 +1,4 @@
-//! One pass over the lines of a file: its SHEET lines, and what stands outside of sheets or looks like mail.
+//! One pass over the lines of a file: its SHEET lines, and what is outside of sheets or looks like mail.
 ghost use Rattle.std.specs.Prelude.{◌≡◌, ◌≤◌, ◌++◌, IfOk, Ok, OnOk, length};
 ghost use Rattle.desk_check.specs.Heads.{AreKept, came};
 ghost use Rattle.desk_check.specs.SheetLines.{head_here, heads_in};
@@ -17,7 +17,7 @@ use sheets::Sheets;
 use std::alloc::{AllocError, Global};
 use tables::Seat;
 
-/// How many lines that are not blank stand before the first sheet may begin: the header and the players.
+/// How many lines that are not blank are before the first sheet may begin: the header and the players.
 const PREAMBLE: usize = 2;
 
 /// What a pass over a file has come to.
@@ -115,7 +115,7 @@ impl<'a> Pass<'a> {
     }
 }
 
-/// Looks at the names of the players, which stand on this line.
+/// Looks at the names of the players, which are on this line.
 fn look_at_names<'a>(
     sheets: &Sheets,
     line: &FileLine<'a>,

@@ -22,7 +22,7 @@ pub(crate) enum Cause<'a> {
     TooManySheets,
     /// It has no line that is not blank.
     Empty,
-    /// A byte order mark stands before the first line.
+    /// A byte order mark is before the first line.
     ByteOrderMark,
     /// The text is UTF-16.
     Wide,
@@ -52,7 +52,7 @@ pub(crate) enum Cause<'a> {
     NoLetterFirst(&'a [u8]),
     /// This name has another byte than a letter or a digit.
     OtherLetter(&'a [u8]),
-    /// This name stands twice.
+    /// This name is twice.
     NameTwice(&'a [u8]),
     /// What follows PLAYERS is wrong otherwise.
     WrongPlayers,
@@ -98,7 +98,7 @@ fn of_line<'a>(line: FileLine<'a>, cause: Cause<'a>) -> Refusal<'a> {
     }
 }
 
-/// The line of a file behind so many that are not blank.
+/// The line of a file behind this many that are not blank.
 fn written_line(file: &[u8], before: usize) -> Option<FileLine<'_>> {
     if file.len() > FILE_MOST {
         return None;
@@ -141,7 +141,7 @@ fn cause_of_order<'a>(order: &Order) -> Cause<'a> {
 fn is_wide(file: &[u8]) -> bool {
     file.starts_with(b"\xFF\xFE")
         || file.starts_with(b"\xFE\xFF")
-        || file.iter().take(2).any(|byte| *byte == 0)
+        || matches!(file, [0, ..] | [_, 0, ..])
 }
 
 /// What is wrong with the line after the header.
@@ -171,21 +171,27 @@ fn cause_of_names<'a>(names: &[&'a [u8]]) -> Cause<'a> {
         if let Some(cause) = cause_of_name(*name) {
             return cause;
         }
-        if names
-            .iter()
-            .take(place)
-            .any(|earlier| earlier.eq_ignore_ascii_case(*name))
-        {
+        if is_among(&names[..place], name) {
             return Cause::NameTwice(*name);
         }
     }
     Cause::WrongPlayers
 }
 
+/// Whether a name is among others, in either case.
+fn is_among(names: &[&[u8]], name: &[u8]) -> bool {
+    for other in names {
+        if other.eq_ignore_ascii_case(name) {
+            return true;
+        }
+    }
+    false
+}
+
 /// What is wrong with a name; `None` where it is one.
 fn cause_of_name<'a>(name: &'a [u8]) -> Option<Cause<'a>> {
     let first = name.first()?;
-    if !name.iter().all(|byte| byte.is_ascii_alphanumeric()) {
+    if !name.iter().all(u8::is_ascii_alphanumeric) {
         return Some(Cause::OtherLetter(name));
     }
     if !first.is_ascii_alphabetic() {

@@ -2,7 +2,8 @@
 ghost use Rattle.std.specs.Prelude.{◌≡◌, ◌≤◌, OnOk, [], false, option_map, slice_get};
 ghost use Rattle.std.specs.Option.{option_map_or};
 ghost use Rattle.desk_check.specs.Heads.{AreKept, NotesFirst, came, with_head};
-ghost use Rattle.desk_check.specs.SheetLines.{Begins, complete_by, first_line, is_at, last_line, later_of, sheet_key_of};
+ghost use Rattle.desk_check.specs.SheetLines.{Begins, complete_by, first_line, is_at, last_line, later_of};
+ghost use Rattle.desk_check.specs.SheetLines.{sheet_key_of};
 ghost use Rattle.order_grammar.specs.Line.{reading_of};
 ghost use Rattle.order_grammar.specs.Words.{same_word};
 ghost use Rattle.sheets.specs.File.{players_of, sheet_key_begun, seat_from};
@@ -46,7 +47,7 @@ pub(crate) struct Heads<'a> {
 }
 
 impl<'a> Heads<'a> {
-    /// None, in a game of so many players.
+    /// None, in a game of this many players.
     pub(crate) fn none(alloc: Global, seats: usize) -> Heads<'a>
         requires { seats ≤ 6 }
         ensures none { came result ≡ [] }

@@ -15,7 +15,7 @@ use tables::Round;
 /// How many columns of a line are shown.
 const COLUMNS: usize = 60;
 
-/// What stands between the parts of a finding.
+/// What is between the parts of a finding.
 const PARTED: &str = " | ";
 
 /// The text of what was found.

@@ -23,7 +23,7 @@ pub struct Findings {
 /// Looks through a file for what its report does not tell: which line it is refused for, and why; or its
 /// lines that are in no sheet or look like mail, names that are taken for something else, sheets that
 /// replace others, and sheets for rounds that are not played, with the faults of their lines. It plays the
-/// game of the file, and at most one more: that of what stands before a sheet that replaces one of a round
+/// game of the file, and at most one more: that of what is before a sheet that replaces one of a round
 /// that was played.
 ///
 /// It fails only if memory is refused.

@@ -3,8 +3,8 @@
 use Rattle.std.specs.Prelude.{ℕ, ◌-◌, List, Option, Some, None}
 use Rattle.board.specs.LayRules.{on_map_of}
 use Rattle.events.specs.declared.event.Event.{Event}
-use Rattle.history.specs.Operating.{tokens_placed}
-use Rattle.history.specs.Trains.{trains_sold}
+use Rattle.totals.specs.Operating.{tokens_placed}
+use Rattle.totals.specs.Trains.{trains_sold}
 use Rattle.map_tables.specs.Tile.{entry_of}
 use Rattle.map_tables.specs.declared.lay.Lay.{Lay}
 use Rattle.map_tables.specs.declared.tiles.TileNo.{TileNo}
@@ -17,7 +17,7 @@ use Rattle.tables.specs.declared.roster.Company.{Company}
 abbrev pub tokens_left : List Event → Company → ℕ
 tokens_left events company = token_supply_of company - tokens_placed events company
 
--- so many of a number, if that has a limit, less some
+-- this many of a number, if that has a limit, less some
 abbrev pub less_of : Option ℕ → ℕ → Option ℕ
 less_of None sold = None
 less_of (Some number) sold = Some (number - sold)

@@ -95,8 +95,8 @@ fn mark(zone: Zone) -> &'static str {
     }
 }
 
-/// Adds the tokens on the squares of a row that lie below so many others, as many as a line shows; no
-/// line where there are none.
+/// Adds the tokens on the squares of a row that lie below this many others, as many as a line shows;
+/// no line where there are none.
 fn push_tokens(page: &mut Page, past: &GameView, row: u8, above: usize) -> Result<(), AllocError>
     requires { above < 9 }
 {

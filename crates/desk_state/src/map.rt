@@ -106,7 +106,7 @@ fn slots_on(lays: &[Lay], hex: Hex) -> u8 {
     }
 }
 
-/// Adds the tokens in the cities of a hex, each of which has so many slots.
+/// Adds the tokens in the cities of a hex, each of which has this many slots.
 fn push_cities(
     page: &mut Page,
     history: &History,
@@ -129,7 +129,7 @@ fn push_cities(
     Ok(())
 }
 
-/// Adds the tokens in a city of so many slots, and a mark for each slot that is free.
+/// Adds the tokens in a city of this many slots, and a mark for each slot that is free.
 fn push_city(
     page: &mut Page,
     history: &History,

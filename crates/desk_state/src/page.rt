@@ -11,7 +11,7 @@ use std::alloc::{AllocError, Global};
 pub(crate) struct Page {
     /// The text so far.
     pub text: Vec<u8>,
-    /// How many bytes stand before the line in hand.
+    /// How many bytes are before the line in hand.
     begun: usize,
 }
 

@@ -2,12 +2,12 @@
 ghost use Rattle.std.specs.Prelude.{◌≡◌, ◌<◌};
 ghost use Rattle.certs.specs.Counted.{counted_of};
 ghost use Rattle.events.specs.Event.{party_at};
-ghost use Rattle.history.specs.Bids.{free_cash_of};
-ghost use Rattle.history.specs.LookBack.{cash_of};
+ghost use Rattle.totals.specs.Bids.{free_cash_of};
+ghost use Rattle.totals.specs.LookBack.{cash_of};
 ghost use Rattle.report.specs.Worth.{worth_of};
 
 use certs::Holdings;
-use history::{History, Party, Tenths};
+use history::{History, Party, ShareCount};
 use report::player_worth;
 use tables::{Money, Seat};
 
@@ -19,7 +19,7 @@ pub(crate) struct Purse {
     /// The cash that no standing bid ties, in dollars.
     pub free: Money,
     /// How many certificates count against the limit.
-    pub certificates: Tenths,
+    pub certificates: ShareCount,
     /// Cash, shares at their market price and privates at their face, in dollars.
     pub worth: Money,
 }
@@ -34,7 +34,7 @@ pub(crate) fn purse_of(history: &History, seat: Seat) -> Purse
 {
     Purse {
         cash: history.cash(Party::of_seat(seat)),
-        free: history.free_cash(seat),
+        free: history.now().free_cash(seat),
         certificates: certificates(history, seat),
         worth: worth(history, seat),
     }
@@ -48,7 +48,7 @@ fn worth(history: &History, seat: Seat) -> Money
 }
 
 /// How many certificates of a seat count against the limit. The seat is one of six.
-fn certificates(history: &History, seat: Seat) -> Tenths
+fn certificates(history: &History, seat: Seat) -> ShareCount
     requires { seat.0 < 6 }
     ensures { result ≡ counted_of history.now.events seat }
 {

@@ -7,7 +7,7 @@ use crate::state_players::push_privates;
 use crate::stock_left::tokens_left;
 use crate::text::push_place;
 use desk_base::push_company;
-use history::{History, Holder, Party, Shareholder, so_many};
+use history::{History, Holder, Party, Shareholder, at_least_zero};
 use order_grammar::{print_number, print_round};
 use report::{push_name, push_right, push_square};
 use rounds::Game;
@@ -75,7 +75,7 @@ fn push_figures(page: &mut Page, game: &Game, company: Company) -> Result<(), Al
         push_treasury(page, history, company)?;
     } else {
         page.to(TRAINS)?;
-        page.put(not_operating(history.is_started(company)))?;
+        page.put(not_operating(history.now().is_started(company)))?;
     }
     push_privates(page, history, Holder::Company(company), PRIVATES)?;
     page.end_line()
@@ -102,7 +102,7 @@ fn push_market(page: &mut Page, game: &Game, company: Company) -> Result<(), All
         page.to(PLACE)?;
         print_number(&mut page.text, above.saturating_add(1) as u64)?;
     }
-    if let Some(president) = history.president(company) {
+    if let Some(president) = history.now().president(company) {
         page.to(PRESIDENT)?;
         push_name(&mut page.text, game.sheets(), president)?;
     }
@@ -132,7 +132,7 @@ fn push_trains(
     company: Company,
     kind: Kind,
 ) -> Result<(), AllocError> {
-    let count = so_many(Money::from(history.trains(Some(company), kind)));
+    let count = at_least_zero(Money::from(history.trains(Some(company), kind)));
     for _ in 0..count {
         page.to(TRAINS)?;
         page.put(" ")?;
@@ -187,7 +187,7 @@ fn push_holding(
     page.to(player_column(seat))?;
     let shares = history.shares(company, Shareholder::Seat(seat));
     push_right(&mut page.text, shares, 4)?;
-    if history.president(company) == Some(seat) {
+    if history.now().president(company) == Some(seat) {
         page.put("*")?;
     }
     Ok(())

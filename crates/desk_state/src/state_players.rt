@@ -66,7 +66,7 @@ pub(crate) fn push_privates(
     Ok(())
 }
 
-/// Adds who owns each private; of those that are unsold the price, and the bids that stand.
+/// Adds who owns each private; of those that are unsold the price, and the bids that are held.
 pub(crate) fn push_owners(page: &mut Page, game: &Game) -> Result<(), AllocError> {
     page.heading("PRIVATE FACE  PRICE  OWNER    BIDS")?;
     for private in Private::ALL {
@@ -83,13 +83,13 @@ fn push_owner(page: &mut Page, game: &Game, private: Private) -> Result<(), Allo
     page.put(private.code())?;
     page.to(8)?;
     push_right(&mut page.text, face(private), 4)?;
-    if !history.is_sold(private) {
+    if !history.now().is_sold(private) {
         push_right(&mut page.text, price_of(&history.now(), private), 7)?;
     }
     page.to(OWNER)?;
     match history.owner(private) {
         Some(holder) => push_holder(&mut page.text, game.sheets(), holder),
-        None if history.is_sold(private) => page.put("closed"),
+        None if history.now().is_sold(private) => page.put("closed"),
         None => page.put("unsold"),
     }
 }
@@ -104,7 +104,7 @@ fn price_of(past: &GameView, private: Private) -> Amount
     }
 }
 
-/// Adds the bids that stand on a private.
+/// Adds the bids that are on a private.
 fn push_bids(page: &mut Page, game: &Game, private: Private) -> Result<(), AllocError> {
     let past = game.history().now();
     for seat in 0..game.sheets().seats() {

@@ -19,7 +19,7 @@ const VALUE: usize = 18;
 /// it, or how the game ended.
 pub(crate) fn push_awaited(page: &mut Page, game: &Game) -> Result<(), AllocError> {
     push_label(page, "LAST ROUND")?;
-    match game.history().round() {
+    match game.history().now().round() {
         Some(round) => print_round(&mut page.text, &round)?,
         None => page.put("none")?,
     }
@@ -70,7 +70,7 @@ pub(crate) fn push_matters(page: &mut Page, game: &Game) -> Result<(), AllocErro
     push_label(page, "PHASE")?;
     page.line(history.phase().code())?;
     push_label(page, "PRIORITY")?;
-    push_name(&mut page.text, game.sheets(), history.priority())?;
+    push_name(&mut page.text, game.sheets(), history.now().priority())?;
     page.end_line()?;
     push_label(page, "ROUNDS IN SET")?;
     print_number(&mut page.text, number_in_set(game))?;

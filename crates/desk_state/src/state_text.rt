@@ -18,11 +18,11 @@ use rounds::{Game, play};
 use sheets::{FileFault, Sheets, collect};
 use std::alloc::{AllocError, Global};
 
-/// How the game of an order file stands after the last round that its sheets play: who owes a sheet, or how
-/// the game ended; the phase, priority, the number of operating rounds of the set and the limit of
-/// certificates; players, privates, companies in operating order, trains and tiles; the stock market and the
-/// map. Lines have at most 80 columns, but for those of a private with many bids and of a company with
-/// over three privates. The fault is that for which the file is refused, or `Memory` where memory is.
+/// How the game of an order file is after the last round that its sheets play: who owes a sheet, or how the
+/// game ended; the phase, priority, the number of operating rounds of the set and the limit of certificates;
+/// players, privates, companies in operating order, trains and tiles; the stock market and the map. Lines
+/// have at most 80 columns, but for those of a private with many bids and of a company with over three
+/// privates. The fault is that for which the file is refused, or `Memory` where memory is.
 pub fn state(alloc: Global, file: &[u8]) -> Result<Vec<u8>, FileFault>
     ensures accepted { OnOk result (IsAccepted file.now) }
     ensures refused { IfErr result (λ fault. Fails fault (content_of file.now)) }

@@ -2,7 +2,7 @@
 ghost use Rattle.std.specs.Prelude.{◌≡◌};
 ghost use Rattle.board.specs.LayRules.{is_tile, on_map_of};
 ghost use Rattle.desk_state.specs.StockLeft.{tiles_left, tokens_left, trains_left};
-ghost use Rattle.history.specs.Operating.{tokens_of};
+ghost use Rattle.totals.specs.Operating.{tokens_of};
 ghost use Rattle.map_tables.specs.Hex.{same_hex};
 ghost use Rattle.map_tables.specs.OnMap.{has_token, names, same_stop, tile_on};
 ghost use Rattle.std.specs.List.{count_by};
@@ -39,7 +39,7 @@ fn on_map_of(lays: &[Lay], number: TileNo) -> usize
     ensures { result ≡ on_map_of lays.now number }
 {
     // A law, which does nothing when it runs: these are all hexes.
-    map_tables::laws::hexes_stand_once();
+    map_tables::laws::hexes_are_listed_once();
     count_of(lays, number, &Hex::ALL)
 }
 

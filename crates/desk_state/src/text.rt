@@ -7,7 +7,7 @@ use report::push_name;
 use sheets::Sheets;
 use std::alloc::AllocError;
 
-/// Adds so many spaces.
+/// Adds this many spaces.
 pub(crate) fn push_spaces(out: &mut Vec<u8>, count: usize) -> Result<(), AllocError> {
     for _ in 0..count {
         out.push(b' ')?;

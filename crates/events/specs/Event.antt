@@ -1,9 +1,9 @@
--- An event has a few aspects: the payment that it makes, the tenths that it moves, what it says of a
--- private's owner and of the bids on it, the par value, square and president of a company that it sets,
--- the company that floats, the price of SV that it sets, the tile that it lays, the token that it places,
--- the train that it moves, the phase that it sets, the company that has operated by it, the round that it
--- begins, the seat of a line that was ruled, the order that was obeyed, and whether it tells that the bank is
--- broken or that a president is bankrupt. Every fact about a game looks back over one of them.
+-- An event has a few aspects: the payment that it makes, the shares that it moves, what it says of a private's owner
+-- and of the bids on it, the par value, square and president of a company that it sets, the company that floats, the
+-- price of SV that it sets, the tile that it lays, the token that it places, the train that it moves, the phase that it
+-- sets, the company that has operated by it, the round that it begins, the seat of a line that was ruled, the order
+-- that was obeyed, and whether it tells that the bank is broken or that a president is bankrupt. Every fact about a
+-- game looks back over one of them.
 use Rattle.std.specs.Prelude.{◌≡◌, ℕ, Bool, true, false, List, codes, Option, Some, None, if◌then◌else◌, is_some}
 use Rattle.order_grammar.specs.declared.order.Order.{Order}
 use Rattle.order_grammar.specs.declared.order.Order.TheVariants as order
@@ -12,7 +12,11 @@ use Rattle.order_grammar.specs.declared.order.ShareSource.TheVariants as source
 use Rattle.events.specs.declared.event.Bidding.{Bidding}
 use Rattle.events.specs.declared.event.Bidding.TheVariants.{Made, Ended}
 use Rattle.events.specs.declared.event.Event.{Event}
-use Rattle.events.specs.declared.event.Event.TheVariants.{Round, Ruled, Bids, Sold, Price, Revenue, Given, Par, President, Bought, Sells, Exchanged, Floats, Moves, Home, Laid, Token, Withheld, Runs, Dividend, Traded, Train, Phase, Rusted, Discarded, Closed, PrivateBought, Aid, Bankrupt, Broken}
+use Rattle.events.specs.declared.event.Event.TheVariants.{Round, Ruled, Bids, Sold, Price, Revenue, Given, Par}
+use Rattle.events.specs.declared.event.Event.TheVariants.{President, Bought, Sells, Exchanged, Floats, Moves, Home}
+use Rattle.events.specs.declared.event.Event.TheVariants.{Laid, Token, Withheld, Runs, Dividend, Traded, Train, Phase}
+use Rattle.events.specs.declared.event.Event.TheVariants.{Rusted, Discarded, Closed, PrivateBought, Aid, Bankrupt}
+use Rattle.events.specs.declared.event.Event.TheVariants.{Broken}
 use Rattle.events.specs.declared.event.Holder.TheVariants as holder
 use Rattle.events.specs.declared.event.Office.{Office}
 use Rattle.events.specs.declared.event.Ownership.{Ownership}
@@ -63,7 +67,7 @@ party_at seat = party.Holder (holder.Seat seat)
 abbrev pub party_of_company : Company → Party
 party_of_company company = party.Holder (holder.Company company)
 
--- where a tenth lies that is bought from there
+-- where a share lies that is bought from there
 abbrev pub place_of_source : ShareSource → Shareholder
 place_of_source source.InitialOffering = place.InitialOffering
 place_of_source source.BankPool = place.BankPool
@@ -85,17 +89,16 @@ abbrev pub train_owner_place : Option Company → TrainPlace
 train_owner_place None = train_place.BankPool
 train_owner_place (Some company) = train_place.Company company
 
--- the money that an event moves: a seat pays the bank for a private or for tenths, and a company for a lay or
--- a token; a company pays whoever sells it a train, and a seat for its private; a seat pays a company what that
--- lacks for a train; the bank pays a revenue, a
--- dividend, a seat for tenths, a company that floats, and one that withholds
+-- the money that an event moves: a seat pays the bank for a private or for shares, and a company for a lay or a token;
+-- a company pays whoever sells it a train, and a seat for its private; a seat pays a company what that lacks for a
+-- train; the bank pays a revenue, a dividend, a seat for shares, a company that floats, and one that withholds
 abbrev pub payment_of : Event → Option Payment
 payment_of (Sold private seat price) = Some (record { from = party_at seat; to = party.Bank; amount = price })
 payment_of (Revenue private owner amount) = Some
     (record { from = party.Bank; to = party.Holder owner; amount = amount })
-payment_of (Bought company seat tenths from price) =
+payment_of (Bought company seat shares from price) =
     Some (record { from = party_at seat; to = party.Bank; amount = price })
-payment_of (Sells company seat tenths price) = Some (record { from = party.Bank; to = party_at seat; amount = price })
+payment_of (Sells company seat shares price) = Some (record { from = party.Bank; to = party_at seat; amount = price })
 payment_of (Floats company amount) = Some (record { from = party.Bank; to = party_of_company company; amount = amount })
 payment_of (Laid company lay cost) = Some (record { from = party_of_company company; to = party.Bank; amount = cost })
 payment_of (Token company place cost) = Some (record
@@ -119,8 +122,8 @@ sum_of (Price price) = price
 sum_of (Revenue private owner amount) = amount
 sum_of (Bids private seat amount) = amount
 sum_of (Par company price) = price
-sum_of (Bought company seat tenths from price) = price
-sum_of (Sells company seat tenths price) = price
+sum_of (Bought company seat shares from price) = price
+sum_of (Sells company seat shares price) = price
 sum_of (Floats company amount) = amount
 sum_of (Laid company lay cost) = cost
 sum_of (Token company place cost) = cost
@@ -147,17 +150,17 @@ bidding_of (Bids private seat amount) = Some (Made private (record { seat = seat
 bidding_of (Sold private seat price) = Some (Ended private)
 bidding_of other = None
 
--- the tenths that an event moves: a gift is from the initial offering, a purchase from there or from the
--- bank pool, and a sale goes to the pool; MH goes for a tenth of NYC
+-- the shares that an event moves: a gift is from the initial offering, a purchase from there or from the bank pool, and
+-- a sale goes to the pool; MH goes for a share of NYC
 abbrev pub transfer_of : Event → Option Transfer
-transfer_of (Given company seat tenths) =
-    Some (record { company = company; from = place.InitialOffering; to = place.Seat seat; tenths = tenths })
-transfer_of (Bought company seat tenths from price) =
-    Some (record { company = company; from = place_of_source from; to = place.Seat seat; tenths = tenths })
-transfer_of (Sells company seat tenths price) =
-    Some (record { company = company; from = place.Seat seat; to = place.BankPool; tenths = tenths })
+transfer_of (Given company seat shares) =
+    Some (record { company = company; from = place.InitialOffering; to = place.Seat seat; shares = shares })
+transfer_of (Bought company seat shares from price) =
+    Some (record { company = company; from = place_of_source from; to = place.Seat seat; shares = shares })
+transfer_of (Sells company seat shares price) =
+    Some (record { company = company; from = place.Seat seat; to = place.BankPool; shares = shares })
 transfer_of (Exchanged seat from) =
-    Some (record { company = NewYorkCentral; from = place_of_source from; to = place.Seat seat; tenths = 1 })
+    Some (record { company = NewYorkCentral; from = place_of_source from; to = place.Seat seat; shares = 1 })
 transfer_of other = None
 
 -- the par value that an event sets
@@ -241,14 +244,14 @@ ruled_by (Ruled seat line ruling) = Some seat
 ruled_by other = None
 
 -- it tells that the bank is broken
-abbrev pub tells_broken : Event → Bool
-tells_broken Broken = true
-tells_broken other = false
+abbrev pub says_broken : Event → Bool
+says_broken Broken = true
+says_broken other = false
 
 -- it tells that a president is bankrupt
-abbrev pub tells_bankrupt : Event → Bool
-tells_bankrupt (Bankrupt seat) = true
-tells_bankrupt other = false
+abbrev pub says_bankrupt : Event → Bool
+says_bankrupt (Bankrupt seat) = true
+says_bankrupt other = false
 
 -- an order that was obeyed, with the seat that gave it and the number of its line
 pub record Obeyance : Type 0 where
@@ -276,12 +279,12 @@ abbrev pub obeyed_of : Event → Option Obeyance
 obeyed_of (Ruled seat line ruling) = obeyed_by seat line ruling
 obeyed_of other = None
 
--- the order is by itself an act of a turn: it buys a private or bids on one, or sells tenths. A purchase of
--- tenths shows by its event, since a standing order can set a par value too
+-- the order is by itself an act of a turn: it buys a private or bids on one, or sells shares. A purchase of shares
+-- shows by its event, since a standing order can set a par value too
 abbrev pub is_act : Order → Bool
 is_act (order.BuyPrivate private) = true
 is_act (order.Bid private amount) = true
-is_act (order.Sell company tenths) = true
+is_act (order.Sell company shares) = true
 is_act other = false
 
 -- so is the order that is obeyed, if one is
@@ -298,10 +301,10 @@ abbrev pub actor_by : Option Obeyance → Option Seat
 actor_by None = None
 actor_by (Some obeyed) = if is_act obeyed.order then Some obeyed.seat else None
 
--- the seat that acted in its own turn by this event: it bought a private or bid on one, or bought or sold
--- tenths of a company
+-- the seat that acted in its own turn by this event: it bought a private or bid on one, or bought or sold shares of a
+-- company
 abbrev pub actor_of : Event → Option Seat
-actor_of (Bought company seat tenths from price) = Some seat
+actor_of (Bought company seat shares from price) = Some seat
 actor_of other = actor_by (obeyed_of other)
 
 -- an event says nothing of what parties have and own, of SV's price, or of what lies on the map
@@ -342,7 +345,7 @@ code_of_stock_rule stock.NoParValue = codes "S8"
 code_of_stock_rule stock.WrongStart = codes "S9"
 code_of_stock_rule stock.CashTooSmall = codes "S10"
 code_of_stock_rule stock.CertificateLimit = codes "S11"
-code_of_stock_rule stock.OverSixTenths = codes "S12"
+code_of_stock_rule stock.OverSixShares = codes "S12"
 code_of_stock_rule stock.BoughtBefore = codes "S13"
 code_of_stock_rule stock.NoExchange = codes "S14"
 

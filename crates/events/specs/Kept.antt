@@ -1,4 +1,4 @@
--- Orders and rulings as events keep them, in few bytes; an order under a condition stands behind a box.
+-- Orders and rulings as events keep them, in few bytes; an order under a condition is behind a box.
 use Rattle.std.specs.Prelude.{◌≡◌, ◌<◌, false, length, Option, Some, None, ⊤}
 use Rattle.events.specs.PackedRun.{places_in}
 use Rattle.events.specs.declared.kept.PackedOrder.{PackedOrder}

@@ -1,5 +1,9 @@
 ghost use Rattle.std.specs.Prelude.{◌≡◌};
-ghost use Rattle.events.specs.Event.{actor_of, bidding_of, floated_by, office_of, operated_by, ownership_of, par_set, party_at, party_of_company, party_of_seller, payment_of, phase_set, place_of_seller, place_of_source, round_begun_by, ruled_by, square_set, train_owner_place, sum_of, sv_price_set, tile_laid, token_placed, train_moved, transfer_of};
+ghost use Rattle.events.specs.Event.{actor_of, bidding_of, floated_by, office_of, operated_by, ownership_of, par_set};
+ghost use Rattle.events.specs.Event.{party_at, party_of_company, party_of_seller, payment_of, phase_set};
+ghost use Rattle.events.specs.Event.{place_of_seller, place_of_source, round_begun_by, ruled_by, square_set};
+ghost use Rattle.events.specs.Event.{train_owner_place, sum_of, sv_price_set, tile_laid, token_placed, train_moved};
+ghost use Rattle.events.specs.Event.{transfer_of};
 ghost use Rattle.events.specs.declared.event.Party.TheVariants.{Bank};
 ghost use Rattle.tables.specs.Seat.{seat_at};
 
@@ -96,13 +100,13 @@ pub enum Event {
         owner: Holder,
         amount: Amount,
     },
-    /// A company's tenths go from the initial offering to a seat.
+    /// A company's shares go from the initial offering to a seat.
     Given {
         company: Company,
         seat: Seat,
-        tenths: u8,
+        shares: u8,
     },
-    /// A company's par value is set, and its token stands on the square of that par.
+    /// A company's par value is set, and its token is on the square of that par.
     Par {
         company: Company,
         price: Amount,
@@ -112,29 +116,29 @@ pub enum Event {
         company: Company,
         seat: Seat,
     },
-    /// A seat pays the bank for tenths of a company, which come from the initial offering or from
+    /// A seat pays the bank for shares of a company, which come from the initial offering or from
     /// the bank pool. The price is that of them all.
     Bought {
         company: Company,
         seat: Seat,
-        tenths: u8,
+        shares: u8,
         from: ShareSource,
         price: Amount,
     },
-    /// The bank pays a seat for tenths of a company, which go to the bank pool. The price is that
+    /// The bank pays a seat for shares of a company, which go to the bank pool. The price is that
     /// of them all.
     Sells {
         company: Company,
         seat: Seat,
-        tenths: u8,
+        shares: u8,
         price: Amount,
     },
-    /// MH goes for one tenth of NYC, which comes to its owner, and nobody owns it from then on.
+    /// MH goes for one share of NYC, which comes to its owner, and nobody owns it from then on.
     Exchanged {
         seat: Seat,
         from: ShareSource,
     },
-    /// A company floats: the bank pays it what its ten tenths cost at its par value.
+    /// A company floats: the bank pays it what its ten shares cost at its par value.
     Floats {
         company: Company,
         amount: Amount,
@@ -171,7 +175,7 @@ pub enum Event {
         company: Company,
         revenue: Amount,
     },
-    /// The bank pays a holder of a company's tenths its part of what the company earned. The
+    /// The bank pays a holder of a company's shares its part of what the company earned. The
     /// company itself is paid for those in the bank pool.
     Dividend {
         company: Company,
@@ -313,7 +317,7 @@ pub enum Bidding {
     Ended(Private),
 }
 
-/// Where tenths of a company lie.
+/// Where shares of a company lie.
 #[derive(Clone, Copy, Debug, PartialEq, Eq)]
 pub enum Shareholder {
     /// With the bank, never bought yet.
@@ -325,7 +329,7 @@ pub enum Shareholder {
 }
 
 impl Shareholder {
-    /// Where a tenth lies that is bought from there.
+    /// Where a share lies that is bought from there.
     pub fn of_source(source: ShareSource) -> Shareholder
         ensures { result ≡ place_of_source source }
     {
@@ -336,7 +340,7 @@ impl Shareholder {
     }
 }
 
-/// Tenths of a company that an event moves.
+/// Shares of a company that an event moves.
 #[derive(Clone, Copy, Debug, PartialEq, Eq)]
 pub struct Transfer {
     /// The company.
@@ -345,8 +349,8 @@ pub struct Transfer {
     pub from: Shareholder,
     /// Where they lie from then on.
     pub to: Shareholder,
-    /// How many tenths of the company.
-    pub tenths: u8,
+    /// How many shares of the company.
+    pub shares: u8,
 }
 
 /// A company's par value that an event sets.
@@ -557,7 +561,7 @@ impl Event {
         }
     }
 
-    /// The tenths that it moves.
+    /// The shares that it moves.
     pub fn transfer(&self) -> Option<Transfer>
         ensures { result ≡ transfer_of self.now }
     {
@@ -565,41 +569,41 @@ impl Event {
             Event::Given {
                 company,
                 seat,
-                tenths,
+                shares,
             } => Some(Transfer {
                 company: *company,
                 from: Shareholder::InitialOffering,
                 to: Shareholder::Seat(*seat),
-                tenths: *tenths,
+                shares: *shares,
             }),
             Event::Bought {
                 company,
                 seat,
-                tenths,
+                shares,
                 from,
                 ..
             } => Some(Transfer {
                 company: *company,
                 from: Shareholder::of_source(*from),
                 to: Shareholder::Seat(*seat),
-                tenths: *tenths,
+                shares: *shares,
             }),
             Event::Sells {
                 company,
                 seat,
-                tenths,
+                shares,
                 ..
             } => Some(Transfer {
                 company: *company,
                 from: Shareholder::Seat(*seat),
                 to: Shareholder::BankPool,
-                tenths: *tenths,
+                shares: *shares,
             }),
             Event::Exchanged { seat, from } => Some(Transfer {
                 company: Company::NewYorkCentral,
                 from: Shareholder::of_source(*from),
                 to: Shareholder::Seat(*seat),
-                tenths: 1,
+                shares: 1,
             }),
             _ => None,
         }
@@ -765,7 +769,7 @@ impl Event {
     }
 
     /// The seat that acted in its own turn by it: that bought a private or bid on one, or bought or
-    /// sold tenths of a company.
+    /// sold shares of a company.
     pub fn actor(&self) -> Option<Seat>
         ensures { result ≡ actor_of self.now }
     {

@@ -1,5 +1,5 @@
-//! Orders and rulings as events keep them, in few bytes; an order under a condition stands behind a
-//! box with it.
+//! Orders and rulings as events keep them, in few bytes; an order under a condition is behind a box
+//! with it.
 ghost use Rattle.std.specs.Prelude.{◌≡◌, ◌++◌, None, Some, MatchResult, OnOk};
 ghost use Rattle.std.specs.Option.{option_copied};
 ghost use Rattle.events.specs.Event.{acts, order_obeyed};
@@ -17,7 +17,7 @@ use crate::packed_run::{LongRun, ShortRun, print_places};
 use crate::ruling::{Refusal, Ruling, Verdict};
 use map_tables::Run;
 use order_grammar::{
-    Condition, Fault, Offer, Order, ShortOrder, print_condition, print_order, print_run_front,
+    Condition, Fault, Offer, Order, ShortOrder, print_condition, print_order, print_run_prefix,
     print_short_order,
 };
 use std::alloc::{AllocError, Global};
@@ -200,7 +200,7 @@ enum PackedRulingForm {
     Faulty(Fault),
 }
 
-// The verdict stands beside the order's form, so that a ruling takes no more than an order.
+// The verdict is beside the order's form, so that a ruling takes no more than an order.
 const _: () = prove!(size_of::<PackedRuling>() <= 16);
 
 impl Model for PackedRuling {
@@ -227,7 +227,7 @@ impl PackedRuling {
         PackedRuling::of(OrderVerdict::Refused(rule), order)
     }
 
-    /// The line has a fault by itself or has no place where it stands.
+    /// The line has a fault by itself or has no place where it is.
     pub fn faulty(fault: Fault) -> PackedRuling
         ensures { result ≡ Faulty fault }
     {
@@ -339,7 +339,7 @@ impl PackedRuling {
     }
 
     /// Whether it obeys an order that is by itself an act of a turn: the purchase of a private, a
-    /// bid on one, or a sale of tenths. The purchase of tenths shows by its event.
+    /// bid on one, or a sale of shares. The purchase of shares shows by its event.
     pub fn is_act(&self) -> bool
         ensures { result ≡ acts self.now }
     {
@@ -469,7 +469,7 @@ fn print_run(text: &mut Vec<u8>, kind: Kind, places: &[PackedPlace]) -> Result<(
     ensures { OnOk result (text.new.items
         ≡ text.old.items ++ spelling_of (order.Run kind places.now)) }
 {
-    print_run_front(text, kind)?;
+    print_run_prefix(text, kind)?;
     print_places(text, places)
 }
 

@@ -6,7 +6,7 @@
 //! it sets, .. Each function of `Event` gives one of them, as `specs/Event.antt` has it. An aspect
 //! that one kind of order alone has (how far a seat goes in an auction, the par value that it sets
 //! for BO, the sale that it offers) is asked of the ruling. What a list of events says is no matter
-//! of this crate: `history` looks back over lists, by these aspects alone.
+//! of this crate: `totals` looks back over lists, by these aspects alone.
 //!
 //! Reading order: `event` (events and their aspects), `ruling` (what became of a line),
 //! `packed_place`, `packed_run` and `kept` (how an event keeps that).

@@ -1,5 +1,6 @@
 ghost use Rattle.std.specs.Prelude.{◌≡◌};
-ghost use Rattle.events.specs.Event.{code_of_opening_rule, code_of_pay_rule, code_of_private_rule, code_of_refusal, code_of_stock_rule, code_of_train_rule};
+ghost use Rattle.events.specs.Event.{code_of_opening_rule, code_of_pay_rule, code_of_private_rule, code_of_refusal};
+ghost use Rattle.events.specs.Event.{code_of_stock_rule, code_of_train_rule};
 
 use map_tables::{LayRule, RunRule, TokenRule};
 use order_grammar::{Condition, Fault, Order};
@@ -24,7 +25,7 @@ pub enum Refusal {
     Train(TrainRule),
     /// A rule of privates that companies buy.
     Private(PrivateRule),
-    /// I1: the order stands under a condition that does not hold.
+    /// I1: the order is under a condition that does not hold.
     Condition,
 }
 
@@ -94,7 +95,7 @@ impl OpeningRule {
 /// A rule that an order in a stock round may break.
 #[derive(Clone, Copy, Debug, PartialEq, Eq, Drop, Error)]
 pub enum StockRule {
-    /// S1: the order is none of a stock round; or tenths are to be sold for a train, and nothing has
+    /// S1: the order is none of a stock round; or shares are to be sold for a train, and nothing has
     /// to be raised.
     #[error("the order has no place in a stock round")]
     NotOfStock,
@@ -104,14 +105,14 @@ pub enum StockRule {
     /// S3: none are to be sold, or more than the seat has.
     #[error("none are to be sold, or more than the seat has")]
     NotHeld,
-    /// S4: the bank pool would have over five tenths of the company.
+    /// S4: the bank pool would have over five shares of the company.
     #[error("the bank pool would have over five tenths of the company")]
     PoolFull,
-    /// S5: the seat is president, would keep fewer than two tenths, and no other seat has two; or
-    /// the presidency of the company for which tenths are sold would pass.
+    /// S5: the seat is president, would keep fewer than two shares, and no other seat has two; or
+    /// the presidency of the company for which shares are sold would pass.
     #[error("no other seat could follow the president")]
     PresidentMustStay,
-    /// S6: the seat has sold tenths of the company in this round.
+    /// S6: the seat has sold shares of the company in this round.
     #[error("the seat has sold tenths of the company in this round")]
     SoldInRound,
     /// S7: none are where they are to be bought.
@@ -130,13 +131,13 @@ pub enum StockRule {
     /// S11: the certificate would count, and the seat has reached the limit.
     #[error("the seat has reached the limit of certificates")]
     CertificateLimit,
-    /// S12: the seat would have over six tenths of the company.
+    /// S12: the seat would have over six shares of the company.
     #[error("the seat would have over six tenths of the company")]
-    OverSixTenths,
+    OverSixShares,
     /// S13: the seat has bought in this turn.
     #[error("the seat has bought in this turn")]
     BoughtBefore,
-    /// S14: the seat doesn't own MH, no tenth of NYC is with the bank, or the seat would have over
+    /// S14: the seat doesn't own MH, no share of NYC is with the bank, or the seat would have over
     /// six.
     #[error("MH cannot be exchanged")]
     NoExchange,
@@ -159,7 +160,7 @@ impl StockRule {
             StockRule::WrongStart => "S9",
             StockRule::CashTooSmall => "S10",
             StockRule::CertificateLimit => "S11",
-            StockRule::OverSixTenths => "S12",
+            StockRule::OverSixShares => "S12",
             StockRule::BoughtBefore => "S13",
             StockRule::NoExchange => "S14",
         }
@@ -267,7 +268,7 @@ pub enum Ruling {
         condition: Option<Condition>,
         order: Order,
     },
-    /// The line has a fault by itself or has no place where it stands.
+    /// The line has a fault by itself or has no place where it is.
     Faulty(Fault),
 }
 
@@ -278,6 +279,6 @@ pub enum Verdict {
     Obeyed,
     /// The order breaks a rule of play, of which this is the first.
     Refused(Refusal),
-    /// The line has a fault by itself or has no place where it stands.
+    /// The line has a fault by itself or has no place where it is.
     Faulty(Fault),
 }

@@ -1,5 +1,6 @@
 -- A bid, a sale, a revenue or a new price of SV keeps a list sound.
-use Rattle.std.proofs.Common.{◌≡◌, ℕ, ◌≤◌, inl, inr, Bool, true, false, if◌then◌else◌, List, [], ◌∷◌, ◌++◌, Option, Some, None, is_some, is_none, ◌&&◌, pos, ◌≤ℤ◌, ◌-ℤ◌, refl, sym, subst, ap, ◌∙◌, arith}
+use Rattle.std.proofs.Common.{◌≡◌, ℕ, ◌≤◌, inl, inr, Bool, true, false, if◌then◌else◌, List, [], ◌∷◌, ◌++◌, Option}
+use Rattle.std.proofs.Common.{Some, None, is_some, is_none, ◌&&◌, pos, ◌≤ℤ◌, ◌-ℤ◌, refl, sym, subst, ap, ◌∙◌, arith}
 use Rattle.std.proofs.lemmas.Bool.{cases_eq}
 use Rattle.std.proofs.lemmas.Int.{ints}
 use Rattle.std.specs.Option.{option_flatten, option_or}
@@ -11,20 +12,28 @@ use Rattle.events.specs.declared.event.Holder.TheVariants as holder
 use Rattle.events.specs.declared.event.Party.TheVariants as party
 use Rattle.events.specs.declared.event.Shareholder.TheVariants.{InitialOffering}
 use Rattle.history.proofs.Rolling.{trains_kept}
-use Rattle.history.proofs.Choices.{chosen, passed_over}
-use Rattle.history.proofs.BidWords.{differ_after_bid, differ_after_sale, elsewhere_kept, bid_silent, sale_silent, same_private_is, seated_after_bid, seated_after_sale, small_after_bid, small_after_sale, tied_by_bid, untied_by_sale}
-use Rattle.history.proofs.EventAtEnd.{bids_of_before, cash_of_at_end, cash_of_before, is_sold_before, last_said_at_end, shares_of_before, square_of_before, sv_price_of_at_end}
-use Rattle.history.proofs.Soundness.{companies_kept, differ_kept, fit_kept, floated_kept, given_kept, held_kept, led_kept, offered_kept, price_kept, seated_kept, small_kept, solvent_kept, ten_kept, within_after, within_kept}
+use Rattle.totals.proofs.Choices.{chosen, passed_over}
+use Rattle.totals.proofs.Privates.{same_private_is}
+use Rattle.history.proofs.BidWords.{differ_after_bid, differ_after_sale, elsewhere_kept, bid_silent, sale_silent}
+use Rattle.history.proofs.BidWords.{seated_after_bid, seated_after_sale, small_after_bid, small_after_sale, tied_by_bid}
+use Rattle.history.proofs.BidWords.{untied_by_sale}
+use Rattle.totals.proofs.EventAtEnd.{bids_of_before, cash_of_at_end, cash_of_before, is_sold_before, last_said_at_end}
+use Rattle.totals.proofs.EventAtEnd.{shares_of_before, square_of_before, sv_price_of_at_end}
+use Rattle.history.proofs.Soundness.{companies_kept, differ_kept, fit_kept, floated_kept, given_kept, held_kept}
+use Rattle.history.proofs.Soundness.{led_kept, offered_kept, price_kept, seated_kept, small_kept, solvent_kept}
+use Rattle.history.proofs.Soundness.{ten_kept, within_after, within_kept}
 use Rattle.history.proofs.Owned.{owner_is_party}
-use Rattle.history.proofs.Standing.{bids_split}
-use Rattle.history.specs.Bids.{bids_elsewhere_of, free_cash_of, tied_on}
+use Rattle.totals.proofs.Standing.{bids_split}
+use Rattle.totals.specs.Bids.{bids_elsewhere_of, free_cash_of, tied_on}
 use Rattle.history.specs.Laws.{BidKeepsSound, PriceKeepsSound, RevenueKeepsSound, SaleKeepsSound, SvIsGivenAway}
-use Rattle.history.specs.LookBack.{Game, cash_of, is_closed, is_sold, last_said, owner_said, paid_by, sv_price_of, with_event}
+use Rattle.totals.specs.LookBack.{Game, cash_of, is_closed, is_sold, last_said, owner_said, paid_by, sv_price_of}
+use Rattle.totals.specs.LookBack.{with_event}
 use Rattle.history.specs.Sound.{AreOffered, CompaniesAreSolvent, IsGivenAway, IsSvPrice, SeatsAreSolvent, least_offered}
 use Rattle.tables.specs.Roster.{same_private}
 use Rattle.tables.specs.Seat.{seat_at}
 use Rattle.tables.specs.declared.roster.Company.{Company}
-use Rattle.tables.specs.declared.roster.Company.TheVariants.{Pennsylvania, NewYorkCentral, CanadianPacific, BaltimoreOhio, ChesapeakeOhio, Erie, NewHaven, BostonMaine}
+use Rattle.tables.specs.declared.roster.Company.TheVariants.{Pennsylvania, NewYorkCentral, CanadianPacific}
+use Rattle.tables.specs.declared.roster.Company.TheVariants.{BaltimoreOhio, ChesapeakeOhio, Erie, NewHaven, BostonMaine}
 use Rattle.tables.specs.declared.roster.Private.{Private}
 use Rattle.tables.specs.declared.roster.Private.TheVariants.{SchuylkillValley, MohawkHudson, CamdenAmboy}
 use Rattle.tables.specs.declared.seat.Seat.{Seat}
@@ -121,7 +130,7 @@ stays_sold events event private sold =
     ∙ stays_said (owner_said private (ownership_of event))
     (last_said (λ e. owner_said private (ownership_of e)) events) sold
 
--- fewer tenths are to stay where something is so that was not
+-- fewer shares are to stay where something is so that was not
 pub fewer : (before after : Bool) → (before ≡ true → after ≡ true)
     → (if after then 8 else 9) ≤ (if before then 8 else 9)
 fewer true after stays = subst (λ (now : Bool). (if now then 8 else 9) ≤ 8) (sym (stays refl)) (omega arith)
@@ -148,7 +157,7 @@ stays_closed events sold seat price private unsold closed =
     (last_said (λ e. owner_said private (ownership_of e)) events)
     (λ same. ap (is_sold events) (sym (same_private_is sold private same)) ∙ unsold) closed
 
--- after a sale no more tenths are to stay in an initial offering
+-- after a sale no more shares are to stay in an initial offering
 least_after_sale : (events : List Event) (private : Private) (seat : Seat) (price : ℕ) (company : Company)
     → is_sold events private ≡ false → least_offered (events ++ Sold private seat price ∷ []) company
     ≤ least_offered events company

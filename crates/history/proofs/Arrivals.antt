@@ -1,14 +1,15 @@
 -- Companies with squares have come there by different events.
-use Rattle.std.proofs.Common.{◌≡◌, ℕ, ◌+◌, ◌≤◌, Bool, true, false, if◌then◌else◌, List, [], ◌∷◌, Option, Some, None, is_some, length, refl, sym, ap, ◌∙◌, arith, unwrap_or}
+use Rattle.std.proofs.Common.{◌≡◌, ℕ, ◌+◌, ◌≤◌, Bool, true, false, if◌then◌else◌, List, [], ◌∷◌, Option, Some, None}
+use Rattle.std.proofs.Common.{is_some, length, refl, sym, ap, ◌∙◌, arith, unwrap_or}
 use Rattle.std.specs.Option.{option_or}
 use Rattle.events.specs.Event.{square_set}
 use Rattle.events.specs.declared.event.Event.{Event}
 use Rattle.events.specs.declared.event.Placement.{Placement}
-use Rattle.history.proofs.Choices.{same_company_is, something}
-use Rattle.history.proofs.Places.{last_place_at_end}
+use Rattle.totals.proofs.Choices.{same_company_is, something}
+use Rattle.totals.proofs.Places.{last_place_at_end}
 use Rattle.history.specs.Laws.{ArrivalIsLast, ArrivalsDiffer}
-use Rattle.history.specs.LookBack.{last_place_from, last_said}
-use Rattle.history.specs.Shares.{arrival_of, square_of, square_said}
+use Rattle.totals.specs.LookBack.{last_place_from, last_said}
+use Rattle.totals.specs.Shares.{arrival_of, square_of, square_said}
 use Rattle.tables.specs.Roster.{same_company}
 use Rattle.tables.specs.declared.roster.Company.{Company}
 use Rattle.tables.specs.declared.squares.Square.{Square}

@@ -1,69 +1,20 @@
 -- What a bid or a sale makes of the standing bids.
-use Rattle.std.proofs.Common.{◌<◌, ◌≡◌, ℕ, ◌≤◌, ◌==◌, ◌⊎◌, inl, inr, Bool, true, false, ◌&&◌, if◌then◌else◌, List, [], ◌∷◌, ◌++◌, Option, Some, None, unwrap_or, sum_by, refl, subst, sym, ap, ◌∙◌, arith}
+use Rattle.std.proofs.Common.{◌<◌, ◌≡◌, ℕ, ◌≤◌, ◌==◌, ◌⊎◌, inl, inr, Bool, true, false, ◌&&◌, if◌then◌else◌, List, []}
+use Rattle.std.proofs.Common.{◌∷◌, ◌++◌, Option, Some, None, unwrap_or, sum_by, refl, sym, ap, ◌∙◌, arith}
 use Rattle.std.proofs.lemmas.Bool.Decides.{Decides-eqb, nat_tests}
-use Rattle.std.specs.Option.{option_flatten, option_or}
 use std.Path.{fun_ext}
-use Rattle.events.specs.Event.{bidding_of, obeyed_by, obeyed_of}
-use Rattle.events.specs.Orders.{said_by}
+use Rattle.events.specs.Event.{bidding_of}
 use Rattle.events.specs.declared.event.Event.{Event}
-use Rattle.events.specs.declared.event.Event.TheVariants.{Bids, Ruled, Sold}
-use Rattle.events.specs.declared.ruling.Ruling.{Ruling}
-use Rattle.events.specs.declared.ruling.Ruling.TheVariants.{Faulty, Obeyed, Refused}
-use Rattle.history.proofs.EventAtEnd.{last_said_at_end, now_said_before}
-use Rattle.history.specs.Bids.{bid_of, bid_said, bids_elsewhere_of, tied_on}
-use Rattle.history.specs.LookBack.{last_said, now_said}
+use Rattle.events.specs.declared.event.Event.TheVariants.{Bids, Sold}
+use Rattle.totals.proofs.Choices.{both}
+use Rattle.totals.proofs.EventAtEnd.{bid_of_at_end, now_said_before}
+use Rattle.totals.proofs.Privates.{private_itself, same_private_is}
+use Rattle.totals.specs.Bids.{bid_of, bid_said, bids_elsewhere_of, tied_on}
 use Rattle.history.specs.Sound.{BiddersAreSeated, BidsAreSmall, BidsDiffer}
-use Rattle.order_grammar.specs.declared.condition.Condition.{Condition}
-use Rattle.order_grammar.specs.declared.order.Order.{Order}
 use Rattle.tables.specs.Roster.{place_of_private, privates, same_private}
 use Rattle.tables.specs.Seat.{seat_at}
 use Rattle.tables.specs.declared.roster.Private.{Private}
-use Rattle.tables.specs.declared.roster.Private.TheVariants.{SchuylkillValley, ChamplainStLawrence, DelawareHudson, MohawkHudson, CamdenAmboy, BaltimoreOhio}
 use Rattle.tables.specs.declared.seat.Seat.{Seat}
-
--- what holds is the later word, or what held before
-flatten_or : {A : Type 0} (later earlier : Option (Option A))
-    → option_flatten (option_or later earlier) ≡ unwrap_or later (option_flatten earlier)
-flatten_or None earlier = refl
-flatten_or (Some word) earlier = refl
-
--- what holds now is what the event at the end says, or what held before it
-pub now_said_at_end : {A : Type 0} (says : Event → Option (Option A)) (events : List Event) (event : Event)
-    → now_said says (events ++ event ∷ []) ≡ unwrap_or (says event) (now_said says events)
-now_said_at_end says events event =
-    ap option_flatten (last_said_at_end says events event) ∙ flatten_or (says event) (last_said says events)
-
--- a seat's bid: what the event at the end says, or the bid before
-pub bid_of_at_end : (events : List Event) (event : Event) (private : Private) (seat : Seat)
-    → bid_of (events ++ event ∷ []) private seat ≡ unwrap_or (bid_said private seat (bidding_of event))
-    (bid_of events private seat)
-bid_of_at_end events event private seat = now_said_at_end (λ e. bid_said private seat (bidding_of e)) events event
-
--- the private at a place of the roster
-abbrev private_at : ℕ → Private
-private_at place =
-    if place == 0 then SchuylkillValley else if place == 1 then ChamplainStLawrence else if place ==
-    2 then DelawareHudson else if place == 3 then MohawkHudson else if place ==
-    4 then CamdenAmboy else BaltimoreOhio
-
--- is the private
-private_at_place : (private : Private) → private_at (place_of_private private) ≡ private
-private_at_place SchuylkillValley = refl
-private_at_place ChamplainStLawrence = refl
-private_at_place DelawareHudson = refl
-private_at_place MohawkHudson = refl
-private_at_place CamdenAmboy = refl
-private_at_place BaltimoreOhio = refl
-
--- privates of one place are the same
-pub same_private_is : (a b : Private) → same_private a b ≡ true → a ≡ b
-same_private_is a b same =
-    sym (private_at_place a) ∙ ap private_at ((Decides-eqb (place_of_private a) (place_of_private b)).0 same)
-    ∙ private_at_place b
-
--- a private is itself
-pub private_itself : (private : Private) → same_private private private ≡ true
-private_itself private = (Decides-eqb (place_of_private private) (place_of_private private)).1 refl
 
 -- whichever is named first
 same_either_way : (i k : ℕ) → (i == k) ≡ (k == i)
@@ -72,12 +23,6 @@ same_either_way i k = grind (arith, nat_tests)
 -- seats of one number are the same
 pub same_seat_is : (a b : Seat) → (a.0 == b.0) ≡ true → a ≡ b
 same_seat_is a b same = ap seat_at ((Decides-eqb a.0 b.0).0 same)
-
--- both hold
-both : (a b : Bool) → (a && b) ≡ true → (a ≡ true) × (b ≡ true)
-both true true hold = (refl, refl)
-both true false hold = absurd (cc)
-both false b hold = absurd (cc)
 
 -- a sum that leaves out one private
 skip_same : (same : Bool) (a b : ℕ) → (same ≡ false → a ≡ b) → (if same then 0 else a) ≡ (if same then 0 else b)
@@ -132,14 +77,14 @@ untied_by_sale events private seat price by =
     ap (λ bid. unwrap_or bid 0) (bid_of_at_end events (Sold private seat price) private by
     ∙ ap (λ same. unwrap_or (if same then Some None else None) (bid_of events private by)) (private_itself private))
 
--- a bid that stands after a bid is that one, or one before
+-- a bid that is after a bid is that one, or one before
 bid_cases : (here : Bool) (amount : ℕ) (earlier : Option ℕ) (said : ℕ)
     → unwrap_or (if here then Some (Some amount) else None) earlier ≡ Some said
     → ((here ≡ true) × (amount ≡ said)) ⊎ ((here ≡ false) × (earlier ≡ Some said))
 bid_cases true amount earlier said is = inl (refl, cc)
 bid_cases false amount earlier said is = inr (refl, is)
 
--- a bid that stands after a sale stood before it
+-- a bid that is after a sale was before it
 sale_cases : (here : Bool) (earlier : Option ℕ) (said : ℕ)
     → unwrap_or (if here then Some None else None) earlier ≡ Some said → earlier ≡ Some said
 sale_cases true earlier said is = absurd (cc)
@@ -222,30 +167,3 @@ pub seated_after_sale : (seats : ℕ) (events : List Event) (private : Private) 
 seated_after_sale seats events private seat price seated on by said is =
     seated on by said (sale_cases (same_private private on) (bid_of events on by) said
     (sym (bid_of_at_end events (Sold private seat price) on by) ∙ is))
-
--- no word is none, of whichever seat
-none_of : {A : Type 0} (here : Bool) → ◌≡◌ {A = Option A} None (if here then None else None)
-none_of true = refl
-none_of false = refl
-
--- a ruling that obeys no order that speaks says nothing of a seat
-no_word :
-    {A : Type 0} (says : Order → Option A) (obeyed : Ruling → Option A) (by : Seat) (line : ℕ) (seat : Seat)
-    (ruling : Ruling) →
-    ((condition : Option Condition) (order : Order) → obeyed (Obeyed condition order) ≡ says order) →
-    None ≡ obeyed ruling → None ≡ said_by seat says (obeyed_by by line ruling)
-no_word {A} says obeyed by line seat (Obeyed condition order) agree none =
-    none_of (by.0 == seat.0) ∙ ap (λ (word : Option A). if by.0 == seat.0 then word else None)
-    (none ∙ agree condition order)
-no_word says obeyed by line seat (Refused rule condition order) agree none = refl
-no_word says obeyed by line seat (Faulty fault) agree none = refl
-
--- and neither does the event that tells of it
-pub no_word_told :
-    {A : Type 0} (says : Order → Option A) (obeyed : Ruling → Option A) (event : Event) (by : Seat) (line : ℕ)
-    (seat : Seat) (ruling : Ruling) →
-    ((condition : Option Condition) (order : Order) → obeyed (Obeyed condition order) ≡ says order) →
-    event ≡ Ruled by line ruling → None ≡ obeyed ruling →
-    None ≡ said_by seat says (obeyed_of event)
-no_word_told says obeyed event by line seat ruling agree is none =
-    subst (λ e. None ≡ said_by seat says (obeyed_of e)) (sym is) (no_word says obeyed by line seat ruling agree none)

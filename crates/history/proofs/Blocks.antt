@@ -1,5 +1,6 @@
--- A sale of tenths keeps a list sound, and so do a presidency that passes, a float and a token that moves.
-use Rattle.std.proofs.Common.{◌≡◌, ℕ, ◌<◌, ◌==◌, inl, inr, Bool, false, if◌then◌else◌, List, [], ◌∷◌, ◌++◌, Option, Some, None, is_some, unwrap_or, ℤ, pos, ◌≤ℤ◌, refl, sym, subst, ap, ◌∙◌, arith}
+-- A sale of shares keeps a list sound, and so do a presidency that passes, a float and a token that moves.
+use Rattle.std.proofs.Common.{◌≡◌, ℕ, ◌<◌, ◌==◌, inl, inr, Bool, false, if◌then◌else◌, List, [], ◌∷◌, ◌++◌, Option}
+use Rattle.std.proofs.Common.{Some, None, is_some, unwrap_or, ℤ, pos, ◌≤ℤ◌, refl, sym, subst, ap, ◌∙◌, arith}
 use Rattle.std.proofs.lemmas.Int.{ints}
 use Rattle.std.specs.Option.{option_or}
 use Rattle.events.specs.Event.{floated_by, party_at, square_set}
@@ -10,102 +11,107 @@ use Rattle.events.specs.declared.event.Party.TheVariants as party
 use Rattle.events.specs.declared.event.Shareholder.TheVariants.{InitialOffering, BankPool, Seat as OfSeat}
 use Rattle.events.specs.declared.event.Transfer.{Transfer}
 use Rattle.history.proofs.Rolling.{trains_kept}
-use Rattle.history.proofs.Choices.{new_word, nothing_there, old_word, same_company_is, truth}
-use Rattle.history.proofs.EventAtEnd.{bids_of_before, cash_of_at_end, is_floated_before, last_said_at_end, par_of_before, president_of_before, shares_of_before, square_of_before}
-use Rattle.history.proofs.Settled.{IsSettled, sound_of, told_same, told_settled}
-use Rattle.history.proofs.Soundness.{companies_kept, differ_kept, fit_kept, floated_kept, given_kept, held_kept, is_led_kept, least_offered_before, led_kept, offered_kept, price_kept, seated_kept, small_kept, solvent_kept, ten_kept, within_after, within_kept}
+use Rattle.totals.proofs.Choices.{new_word, nothing_there, old_word, same_company_is, truth}
+use Rattle.totals.proofs.EventAtEnd.{bids_of_before, cash_of_at_end, is_floated_before, last_said_at_end, par_of_before}
+use Rattle.totals.proofs.EventAtEnd.{president_of_before, shares_of_before, square_of_before}
+use Rattle.history.proofs.NearlySound.{IsNearlySound, nearly_sound_kept, nearly_sound_of, sound_of, told_same}
+use Rattle.history.proofs.NearlySound.{nearly_sound_recorded}
+use Rattle.history.proofs.Soundness.{companies_kept, differ_kept, fit_kept, floated_kept, given_kept, held_kept}
+use Rattle.history.proofs.Soundness.{is_led_kept, least_offered_before, led_kept, offered_kept, price_kept, seated_kept}
+use Rattle.history.proofs.Soundness.{small_kept, solvent_kept, ten_kept, within_after, within_kept}
 use Rattle.history.proofs.Starts.{least_eight, president_after}
-use Rattle.history.proofs.Tenths.{held_after, moved, part, shares_after, ten_after}
-use Rattle.history.specs.Laws.{BlockKeepsSound, BlockWithSuccessionKeepsSound, FloatKeepsSound, MoveKeepsSound, SuccessionKeepsSound, block_sold}
-use Rattle.history.specs.LookBack.{Game, last_said, with_event}
-use Rattle.history.specs.Shares.{float_said, is_floated, par_of, president_of, shares_of, square_of, square_said}
+use Rattle.history.proofs.ShareCount.{held_after, moved, part, shares_after, ten_after}
+use Rattle.history.specs.Laws.{BlockKeepsSound, BlockWithSuccessionKeepsSound, FloatKeepsSound, MoveKeepsSound}
+use Rattle.history.specs.Laws.{SuccessionKeepsSound, block_sold}
+use Rattle.totals.specs.LookBack.{Game, last_said, with_event}
+use Rattle.totals.specs.Shares.{float_said, is_floated, par_of, president_of, shares_of, square_of, square_said}
 use Rattle.history.specs.Sound.{IsLed, IsSound}
 use Rattle.tables.specs.Roster.{same_company}
 use Rattle.tables.specs.declared.roster.Company.{Company}
 use Rattle.tables.specs.declared.seat.Seat.{Seat}
 use Rattle.tables.specs.declared.squares.Square.{Square}
 
--- the tenths of a sale
+-- the shares of a sale
 abbrev block : Company → Seat → ℕ → Transfer
-block company seat tenths = record { company = company; from = OfSeat seat; to = BankPool; tenths = tenths }
+block company seat shares = record { company = company; from = OfSeat seat; to = BankPool; shares = shares }
 
 -- a sale settles a list
-block_settled : (game : Game) (company : Company) (seat : Seat) (tenths price : ℕ) → seat.0 < game.seats
-    → pos tenths ≤ℤ shares_of game.events company (OfSeat seat) → IsSound game
-    → IsSettled (with_event game (Sells company seat tenths price))
-block_settled game company seat tenths price seated many sound =
+block_nearly_sound : (game : Game) (company : Company) (seat : Seat) (shares price : ℕ) → seat.0 < game.seats
+    → pos shares ≤ℤ shares_of game.events company (OfSeat seat) → IsSound game
+    → IsNearlySound (with_event game (Sells company seat shares price))
+block_nearly_sound game company seat shares price seated many sound =
     record {
       solvent = λ by. let before = sound.solvent by in omega (
         arith,
         ints,
-        cash_of_at_end game.seats game.events (Sells company seat tenths price) (party_at by),
-        bids_of_before game.events (Sells company seat tenths price) by refl,
+        cash_of_at_end game.seats game.events (Sells company seat shares price) (party_at by),
+        bids_of_before game.events (Sells company seat shares price) by refl,
       );
       companies = λ other. let before = sound.companies other in omega (
         arith,
         ints,
-        cash_of_at_end game.seats game.events (Sells company seat tenths price)
+        cash_of_at_end game.seats game.events (Sells company seat shares price)
             (party.Holder (holder.Company other)),
       );
-      bids_differ = differ_kept game.events (Sells company seat tenths price) refl sound.bids_differ;
-      bids_small = small_kept game.events (Sells company seat tenths price) refl sound.bids_small;
-      seated = seated_kept game.seats game.events (Sells company seat tenths price) refl sound.seated;
-      price = price_kept game.events (Sells company seat tenths price) refl sound.price;
-      given = given_kept game.events (Sells company seat tenths price) refl refl sound.given;
-      held = held_after game.events (Sells company seat tenths price) (block company seat tenths) refl many sound.held;
-      ten = ten_after game (Sells company seat tenths price) (block company seat tenths) refl seated tt sound.ten;
+      bids_differ = differ_kept game.events (Sells company seat shares price) refl sound.bids_differ;
+      bids_small = small_kept game.events (Sells company seat shares price) refl sound.bids_small;
+      seated = seated_kept game.seats game.events (Sells company seat shares price) refl sound.seated;
+      price = price_kept game.events (Sells company seat shares price) refl sound.price;
+      given = given_kept game.events (Sells company seat shares price) refl refl sound.given;
+      held = held_after game.events (Sells company seat shares price) (block company seat shares) refl many sound.held;
+      ten = ten_after game (Sells company seat shares price) (block company seat shares) refl seated tt sound.ten;
       offered = λ other unplaced. let before = sound.offered other
-          (sym (square_of_before game.events (Sells company seat tenths price) other refl) ∙ unplaced) in omega (
+          (sym (square_of_before game.events (Sells company seat shares price) other refl) ∙ unplaced) in omega (
             arith,
             ints,
-            shares_after game.events (Sells company seat tenths price) (block company seat tenths) other
+            shares_after game.events (Sells company seat shares price) (block company seat shares) other
                 InitialOffering refl,
-            least_offered_before game.events (Sells company seat tenths price) other refl,
+            least_offered_before game.events (Sells company seat shares price) other refl,
           );
-      within = within_after game.seats game.events (Sells company seat tenths price) (tt, seated) sound.within;
-      trains = trains_kept game.events (Sells company seat tenths price) refl sound.trains;
-      fit = fit_kept game.events (Sells company seat tenths price) refl refl sound.fit;
+      within = within_after game.seats game.events (Sells company seat shares price) (tt, seated) sound.within;
+      trains = trains_kept game.events (Sells company seat shares price) refl sound.trains;
+      fit = fit_kept game.events (Sells company seat shares price) refl refl sound.fit;
     }
 
 -- after a sale that may break the bank
-module _ (game : Game) (company : Company) (seat : Seat) (tenths price : ℕ) where
+module _ (game : Game) (company : Company) (seat : Seat) (shares price : ℕ) where
   abbrev paid : Game
-  paid = with_event game (Sells company seat tenths price)
+  paid = with_event game (Sells company seat shares price)
 
   abbrev sold : Game
-  sold = block_sold game company seat tenths price
+  sold = block_sold game company seat shares price
 
   -- squares in the end
   squares_then : (other : Company) → square_of sold.events other ≡ square_of game.events other
   squares_then other = (told_same paid).square other
-      ∙ square_of_before game.events (Sells company seat tenths price) other refl
+      ∙ square_of_before game.events (Sells company seat shares price) other refl
 
   -- par values in the end
   pars_then : (other : Company) → par_of sold.events other ≡ par_of game.events other
-  pars_then other = (told_same paid).par other ∙ par_of_before game.events (Sells company seat tenths price) other refl
+  pars_then other = (told_same paid).par other ∙ par_of_before game.events (Sells company seat shares price) other refl
 
   -- presidents in the end
   presidents_then : (other : Company) → president_of sold.events other ≡ president_of game.events other
   presidents_then other = (told_same paid).president other
-      ∙ president_of_before game.events (Sells company seat tenths price) other refl
+      ∙ president_of_before game.events (Sells company seat shares price) other refl
 
   -- who has floated in the end
   floats_then : (other : Company) → is_floated sold.events other ≡ is_floated game.events other
   floats_then other = (told_same paid).floated other
-      ∙ is_floated_before game.events (Sells company seat tenths price) other refl
+      ∙ is_floated_before game.events (Sells company seat shares price) other refl
 
   -- seats hold as many of another company
   others_held : (other : Company) (by : Seat) → same_company company other ≡ false
       → shares_of sold.events other (OfSeat by) ≡ shares_of game.events other (OfSeat by)
   others_held other by apart =
-      let its : moved other (block company seat tenths) ≡ 0 = ap (λ (is : Bool). if is then tenths else 0) apart in
-      let none : part (OfSeat seat) (OfSeat by) (moved other (block company seat tenths))
+      let its : moved other (block company seat shares) ≡ 0 = ap (λ (is : Bool). if is then shares else 0) apart in
+      let none : part (OfSeat seat) (OfSeat by) (moved other (block company seat shares))
       ≡ part (OfSeat seat) (OfSeat by) 0 = ap (part (OfSeat seat) (OfSeat by)) its in
       let nothing = nothing_there (seat.0 == by.0) in
       (told_same paid).shares other (OfSeat by) ∙ omega (
         arith,
         ints,
-        shares_after game.events (Sells company seat tenths price) (block company seat tenths) other
+        shares_after game.events (Sells company seat shares price) (block company seat shares) other
             (OfSeat by) refl,
       )
 
@@ -175,69 +181,36 @@ module _ (game : Game) (company : Company) (seat : Seat) (tenths price : ℕ) wh
 
 -- a sale after which the president keeps two
 pub block_sound : BlockKeepsSound
-block_sound game company seat tenths price seated many stays sound =
-    let after = block_sold game company seat tenths price in
-    sound_of after (told_settled (with_event game (Sells company seat tenths price))
-    (block_settled game company seat tenths price seated many sound))
-    (λ other square placed. is_led_then game company seat tenths price stays other
-    (sound.led other square (sym (squares_then game company seat tenths price other) ∙ placed)))
-    (λ other floated. is_led_then game company seat tenths price stays other
-    (sound.floated other (sym (floats_then game company seat tenths price other) ∙ floated)))
+block_sound game company seat shares price seated many stays sound =
+    let after = block_sold game company seat shares price in
+    sound_of after (nearly_sound_recorded (with_event game (Sells company seat shares price))
+    (block_nearly_sound game company seat shares price seated many sound))
+    (λ other square placed. is_led_then game company seat shares price stays other
+    (sound.led other square (sym (squares_then game company seat shares price other) ∙ placed)))
+    (λ other floated. is_led_then game company seat shares price stays other
+    (sound.floated other (sym (floats_then game company seat shares price other) ∙ floated)))
 
--- a presidency that passes leaves a list settled
-president_settled : (game : Game) (company : Company) (seat : Seat) → IsSettled game
-    → IsSettled (with_event game (President company seat))
-president_settled game company seat settled =
-    record {
-      solvent = solvent_kept game (President company seat) refl refl settled.solvent;
-      companies = companies_kept game (President company seat) refl settled.companies;
-      bids_differ = differ_kept game.events (President company seat) refl settled.bids_differ;
-      bids_small = small_kept game.events (President company seat) refl settled.bids_small;
-      seated = seated_kept game.seats game.events (President company seat) refl settled.seated;
-      price = price_kept game.events (President company seat) refl settled.price;
-      given = given_kept game.events (President company seat) refl refl settled.given;
-      held = held_kept game.events (President company seat) refl settled.held;
-      ten = ten_kept game (President company seat) refl settled.ten;
-      offered = offered_kept game.events (President company seat) refl refl refl settled.offered;
-      within = within_kept game.seats game.events (President company seat) refl settled.within;
-      trains = trains_kept game.events (President company seat) refl settled.trains;
-      fit = fit_kept game.events (President company seat) refl refl settled.fit;
-    }
+-- a presidency that passes keeps a list nearly sound
+president_nearly_sound : (game : Game) (company : Company) (seat : Seat) → IsNearlySound game
+    → IsNearlySound (with_event game (President company seat))
+president_nearly_sound game company seat nearly =
+    nearly_sound_kept game (President company seat) refl refl refl refl refl refl refl refl refl nearly
 
 -- a sale after which the presidency passes to a seat with two
 pub block_with_succession_sound : BlockWithSuccessionKeepsSound
-block_with_succession_sound game company seat tenths price president seated many two sound =
-    let after = block_sold game company seat tenths price in
+block_with_succession_sound game company seat shares price president seated many two sound =
+    let after = block_sold game company seat shares price in
     sound_of (with_event after (President company president))
-    (president_settled after company president (told_settled (with_event game (Sells company seat tenths price))
-    (block_settled game company seat tenths price seated many sound)))
-    (λ other square placed. is_led_next game company seat tenths price president two other
+    (president_nearly_sound after company president (nearly_sound_recorded (with_event game (Sells company seat shares price))
+    (block_nearly_sound game company seat shares price seated many sound)))
+    (λ other square placed. is_led_next game company seat shares price president two other
     (sound.led other square (sym (square_of_before after.events (President company president) other refl
-    ∙ squares_then game company seat tenths price other) ∙ placed)))
-    (λ other floated. is_led_next game company seat tenths price president two other
+    ∙ squares_then game company seat shares price other) ∙ placed)))
+    (λ other floated. is_led_next game company seat shares price president two other
     (sound.floated other (sym (is_floated_before after.events (President company president) other refl
-    ∙ floats_then game company seat tenths price other) ∙ floated)))
+    ∙ floats_then game company seat shares price other) ∙ floated)))
 
--- a sound list is settled
-settled_of : (game : Game) → IsSound game → IsSettled game
-settled_of game sound =
-    record {
-      solvent = sound.solvent;
-      companies = sound.companies;
-      bids_differ = sound.bids_differ;
-      bids_small = sound.bids_small;
-      seated = sound.seated;
-      price = sound.price;
-      given = sound.given;
-      held = sound.held;
-      ten = sound.ten;
-      offered = sound.offered;
-      within = sound.within;
-      trains = sound.trains;
-      fit = sound.fit;
-    }
-
--- a company is led after the presidency of one has passed to a seat with no fewer tenths
+-- a company is led after the presidency of one has passed to a seat with no fewer shares
 is_led_succeeded : (events : List Event) (company : Company) (old new : Seat) → president_of events company ≡ Some old
     → shares_of events company (OfSeat old) ≤ℤ shares_of events company (OfSeat new) → (other : Company)
     → IsLed events other → IsLed (events ++ President company new ∷ []) other
@@ -280,16 +253,16 @@ is_led_succeeded events company old new presided more other before =
           }
     ]
 
--- a presidency that passes to a seat with no fewer tenths
+-- a presidency that passes to a seat with no fewer shares
 pub succession_sound : SuccessionKeepsSound
 succession_sound game company old new presided more sound =
-    sound_of (with_event game (President company new)) (president_settled game company new (settled_of game sound))
+    sound_of (with_event game (President company new)) (president_nearly_sound game company new (nearly_sound_of game sound))
     (λ other square placed. is_led_succeeded game.events company old new presided more other
     (sound.led other square (sym (square_of_before game.events (President company new) other refl) ∙ placed)))
     (λ other floated. is_led_succeeded game.events company old new presided more other
     (sound.floated other (sym (is_floated_before game.events (President company new) other refl) ∙ floated)))
 
--- a company of which few tenths are left in the initial offering is led
+-- a company of which few shares are left in the initial offering is led
 is_led_few : (game : Game) (company : Company) (at : Option Square) → square_of game.events company ≡ at
     → shares_of game.events company InitialOffering ≤ℤ pos 4 → IsSound game → IsLed game.events company
 is_led_few game company None unplaced few sound =
@@ -305,7 +278,7 @@ floated_after : (events : List Event) (company other : Company) (amount : ℕ)
 floated_after events company other amount =
     ap is_some (last_said_at_end (λ e. float_said other (floated_by e)) events (Floats company amount))
 
--- a float, of a company of which few tenths are left
+-- a float, of a company of which few shares are left
 pub float_sound : FloatKeepsSound
 float_sound game company amount few sound =
     sound_of (with_event game (Floats company amount)) (record {

@@ -1,11 +1,13 @@
 -- The first private in roster order that is unsold costs least of those that are.
-use Rattle.std.proofs.Common.{◌≡◌, ℕ, ◌≤◌, ◌⊎◌, Bool, true, false, cond, List, [], ◌∷◌, ◌++◌, Option, Some, subst, arith}
+use Rattle.std.proofs.Common.{◌≡◌, ℕ, ◌≤◌, ◌⊎◌, Bool, true, false, cond, List, [], ◌∷◌, ◌++◌, Option, Some, subst}
+use Rattle.std.proofs.Common.{arith}
 use Rattle.events.specs.declared.event.Event.{Event}
 use Rattle.history.specs.Laws.{AreAsked, FirstIsCheapest}
-use Rattle.history.specs.LookBack.{Game, is_sold, sv_price_of, first_unsold, cheapest_of}
+use Rattle.totals.specs.LookBack.{Game, is_sold, sv_price_of, first_unsold, cheapest_of}
 use Rattle.history.specs.Sound.{IsSound}
 use Rattle.tables.specs.declared.roster.Private.{Private}
-use Rattle.tables.specs.declared.roster.Private.TheVariants.{SchuylkillValley, ChamplainStLawrence, DelawareHudson, MohawkHudson, CamdenAmboy, BaltimoreOhio}
+use Rattle.tables.specs.declared.roster.Private.TheVariants.{SchuylkillValley, ChamplainStLawrence, DelawareHudson}
+use Rattle.tables.specs.declared.roster.Private.TheVariants.{MohawkHudson, CamdenAmboy, BaltimoreOhio}
 
 module _ (events : List Event) (price : Private → ℕ) where
   -- each of these privates costs no more

@@ -4,13 +4,15 @@ use Rattle.std.proofs.lemmas.Bool.{cases_eq}
 use Rattle.std.proofs.lemmas.Int.{ints}
 use Rattle.events.specs.Event.{party_at, party_of_company}
 use Rattle.events.specs.declared.event.Event.TheVariants.{Aid, Bankrupt, Forced}
-use Rattle.history.proofs.Choices.{chosen, passed_over}
-use Rattle.history.proofs.EventAtEnd.{bids_of_before, cash_of_at_end}
+use Rattle.totals.proofs.Choices.{chosen, passed_over}
+use Rattle.totals.proofs.EventAtEnd.{bids_of_before, cash_of_at_end}
 use Rattle.history.proofs.Rolling.{trains_kept}
-use Rattle.history.proofs.Soundness.{differ_kept, fit_kept, floated_kept, given_kept, held_kept, led_kept, offered_kept, price_kept, quiet_sound, seated_kept, small_kept, ten_kept, within_after}
-use Rattle.history.specs.Bids.{free_cash_of}
+use Rattle.history.proofs.NearlySound.{quiet_sound}
+use Rattle.history.proofs.Soundness.{differ_kept, fit_kept, floated_kept, given_kept, held_kept, led_kept, no_word}
+use Rattle.history.proofs.Soundness.{offered_kept, price_kept, seated_kept, small_kept, ten_kept, within_after}
+use Rattle.totals.specs.Bids.{free_cash_of}
 use Rattle.history.specs.Laws.{AidKeepsSound, BankruptcyKeepsSound, ForcingKeepsSound}
-use Rattle.history.specs.LookBack.{Game, with_event}
+use Rattle.totals.specs.LookBack.{Game, with_event}
 use Rattle.history.specs.Sound.{CompaniesAreSolvent, SeatsAreSolvent}
 use Rattle.tables.specs.Seat.{seat_at}
 use Rattle.tables.specs.declared.roster.Company.{Company}
@@ -19,42 +21,12 @@ use Rattle.tables.specs.declared.seat.Seat.{Seat}
 -- a purchase that is due
 pub forcing_sound : ForcingKeepsSound
 forcing_sound game company sound =
-    quiet_sound game (Forced company) (record {
-      payment = refl;
-      ownership = refl;
-      bidding = refl;
-      transfer =
-          refl;
-      par = refl;
-      square = refl;
-      office = refl;
-      float = refl;
-      sv_price = refl;
-      train = refl;
-      tile =
-          refl;
-      token = refl;
-    }) sound
+    quiet_sound game (Forced company) (no_word _ refl refl refl refl refl refl refl refl refl refl refl refl) sound
 
 -- a president that is bankrupt
 pub bankruptcy_sound : BankruptcyKeepsSound
 bankruptcy_sound game seat sound =
-    quiet_sound game (Bankrupt seat) (record {
-      payment = refl;
-      ownership = refl;
-      bidding = refl;
-      transfer =
-          refl;
-      par = refl;
-      square = refl;
-      office = refl;
-      float = refl;
-      sv_price = refl;
-      train = refl;
-      tile =
-          refl;
-      token = refl;
-    }) sound
+    quiet_sound game (Bankrupt seat) (no_word _ refl refl refl refl refl refl refl refl refl refl refl refl) sound
 
 -- after an aid each seat still has what its bids tie
 solvent_after_aid : (game : Game) (seat : Seat) (company : Company) (amount : ℕ) →

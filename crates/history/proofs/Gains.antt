@@ -1,20 +1,23 @@
--- Tenths that come from the bank to a seat, by an event that says nothing else but perhaps of money: each
--- president has at least as many as before, and enough are left in each initial offering, where there were.
+-- Shares that come from the bank to a seat, by an event that says nothing else but perhaps of money: each president has
+-- at least as many as before, and enough are left in each initial offering, where there were.
 use Rattle.std.proofs.Common.{◌≡◌, ℕ, ◌+◌, List, [], ◌∷◌, ◌++◌, Some, None, pos, ◌≤ℤ◌, refl, sym, ◌∙◌, arith}
 use Rattle.std.proofs.lemmas.Int.{ints}
-use Rattle.events.specs.Event.{bidding_of, floated_by, office_of, ownership_of, par_set, payment_of, place_of_source, square_set, sv_price_set, tile_laid, token_placed, train_moved, transfer_of}
+use Rattle.events.specs.Event.{bidding_of, floated_by, office_of, ownership_of, par_set, payment_of, place_of_source}
+use Rattle.events.specs.Event.{square_set, sv_price_set, tile_laid, token_placed, train_moved, transfer_of}
 use Rattle.events.specs.declared.event.Event.{Event}
 use Rattle.events.specs.declared.event.Shareholder.{Shareholder}
 use Rattle.events.specs.declared.event.Shareholder.TheVariants.{InitialOffering, BankPool, Seat as OfSeat}
 use Rattle.events.specs.declared.event.Transfer.{Transfer}
 use Rattle.history.proofs.Rolling.{trains_kept}
-use Rattle.history.proofs.EventAtEnd.{is_floated_before, par_of_before, president_of_before, square_of_before}
-use Rattle.history.proofs.Soundness.{differ_kept, fit_kept, given_kept, least_offered_before, price_kept, seated_kept, small_kept, within_after}
-use Rattle.history.proofs.Tenths.{IsAtTable, held_after, moved, part, shares_after, ten_after}
-use Rattle.history.specs.LookBack.{Game, with_event}
+use Rattle.totals.proofs.EventAtEnd.{is_floated_before, par_of_before, president_of_before, square_of_before}
+use Rattle.history.proofs.Soundness.{differ_kept, fit_kept, given_kept, least_offered_before, price_kept, seated_kept}
+use Rattle.history.proofs.Soundness.{small_kept, within_after}
+use Rattle.history.proofs.ShareCount.{IsAtTable, held_after, moved, part, shares_after, ten_after}
+use Rattle.totals.specs.LookBack.{Game, with_event}
 use Rattle.history.specs.Money.{IsWithin}
-use Rattle.history.specs.Shares.{shares_of, square_of}
-use Rattle.history.specs.Sound.{AreLed, AreOffered, CompaniesAreSolvent, FloatedAreLed, IsLed, IsSound, SeatsAreSolvent, least_offered}
+use Rattle.totals.specs.Shares.{shares_of, square_of}
+use Rattle.history.specs.Sound.{AreLed, AreOffered, CompaniesAreSolvent, FloatedAreLed, IsLed, IsSound, SeatsAreSolvent}
+use Rattle.history.specs.Sound.{least_offered}
 use Rattle.order_grammar.specs.declared.order.ShareSource.{ShareSource}
 use Rattle.order_grammar.specs.declared.order.ShareSource.TheVariants as source
 use Rattle.tables.specs.declared.roster.Company.{Company}
@@ -32,10 +35,10 @@ source_of_bank source.InitialOffering = tt
 source_of_bank source.BankPool = tt
 
 -- what the bank has no seat has
-none_with_seat : (from : Shareholder) (seat : Seat) (tenths : ℕ) → IsOfBank from → part from (OfSeat seat) tenths ≡ 0
-none_with_seat InitialOffering seat tenths bank = refl
-none_with_seat BankPool seat tenths bank = refl
-none_with_seat (OfSeat other) seat tenths bank = absurd bank
+none_with_seat : (from : Shareholder) (seat : Seat) (shares : ℕ) → IsOfBank from → part from (OfSeat seat) shares ≡ 0
+none_with_seat InitialOffering seat shares bank = refl
+none_with_seat BankPool seat shares bank = refl
+none_with_seat (OfSeat other) seat shares bank = absurd bank
 
 -- the bank is at each table
 pub bank_at_table : (seats : ℕ) (from : Shareholder) → IsOfBank from → IsAtTable seats from
@@ -43,7 +46,7 @@ bank_at_table seats InitialOffering bank = tt
 bank_at_table seats BankPool bank = tt
 bank_at_table seats (OfSeat seat) bank = absurd bank
 
--- an event moves these tenths from the bank to a seat, and says nothing else but perhaps of money, which it moves
+-- an event moves these shares from the bank to a seat, and says nothing else but perhaps of money, which it moves
 -- within the table
 pub record Gains (seats : ℕ) (event : Event) (transfer : Transfer) : Type 0 where
   pub moves : transfer_of event ≡ Some transfer
@@ -61,7 +64,31 @@ pub record Gains (seats : ℕ) (event : Event) (transfer : Transfer) : Type 0 wh
   pub no_token : token_placed event ≡ None
   pub pays : IsWithin seats (payment_of event)
 
--- no seat has fewer tenths
+-- so does one that has none of the other aspects
+pub only_gains : (seats : ℕ) (event : Event) (transfer : Transfer) → transfer_of event ≡ Some transfer
+    → IsOfBank transfer.from → IsAtTable seats transfer.to → ownership_of event ≡ None → bidding_of event ≡ None
+    → par_set event ≡ None → square_set event ≡ None → office_of event ≡ None → floated_by event ≡ None
+    → sv_price_set event ≡ None → train_moved event ≡ None → tile_laid event ≡ None → token_placed event ≡ None
+    → IsWithin seats (payment_of event) → Gains seats event transfer
+only_gains seats event transfer moves from_bank to_table owner bid par square office float price train tile token pays =
+    record {
+      moves = moves;
+      from_bank = from_bank;
+      to_table = to_table;
+      no_owner = owner;
+      no_bid = bid;
+      no_par = par;
+      no_square = square;
+      no_office = office;
+      no_float = float;
+      no_price = price;
+      no_train = train;
+      no_tile = tile;
+      no_token = token;
+      pays = pays;
+    }
+
+-- no seat has fewer shares
 pub seat_gains : (events : List Event) (event : Event) (transfer : Transfer) (company : Company) (seat : Seat)
     → transfer_of event ≡ Some transfer → IsOfBank transfer.from
     → shares_of events company (OfSeat seat) ≤ℤ shares_of (events ++ event ∷ []) company (OfSeat seat)
@@ -126,9 +153,9 @@ offered_gained events event transfer moves no_owner no_square enough company unp
           event company no_owner,
     )
 
--- such an event keeps a list sound, where the bank has so many, enough are left and nobody comes to owe
+-- such an event keeps a list sound, where the bank has this many, enough are left and nobody comes to owe
 pub gain_sound : (game : Game) (event : Event) (transfer : Transfer) → Gains game.seats event transfer
-    → pos transfer.tenths ≤ℤ shares_of game.events transfer.company transfer.from → EnoughAreLeft game.events transfer
+    → pos transfer.shares ≤ℤ shares_of game.events transfer.company transfer.from → EnoughAreLeft game.events transfer
     → SeatsAreSolvent (with_event game event) → CompaniesAreSolvent (with_event game event) → IsSound game
     → IsSound (with_event game event)
 gain_sound game event transfer gains many enough solvent companies sound =

@@ -1,20 +1,21 @@
--- A gift of tenths keeps a list sound; so does CA's sale with its gift.
-use Rattle.std.proofs.Common.{◌≡◌, ℕ, ◌+◌, ◌<◌, inl, inr, Bool, true, if◌then◌else◌, List, None, is_some, ℤ, pos, ◌≤ℤ◌, refl, sym, subst, ap, arith}
+-- A gift of shares keeps a list sound; so does CA's sale with its gift.
+use Rattle.std.proofs.Common.{◌≡◌, ℕ, ◌+◌, ◌<◌, inl, inr, Bool, true, if◌then◌else◌, List, None, is_some, ℤ, pos, ◌≤ℤ◌}
+use Rattle.std.proofs.Common.{refl, sym, subst, ap, arith}
 use Rattle.std.proofs.lemmas.Int.{ints}
 use Rattle.events.specs.Event.{ownership_of}
 use Rattle.events.specs.declared.event.Event.{Event}
 use Rattle.events.specs.declared.event.Event.TheVariants.{Given, Sold}
 use Rattle.events.specs.declared.event.Shareholder.TheVariants.{InitialOffering, Seat as OfSeat}
 use Rattle.events.specs.declared.event.Transfer.{Transfer}
-use Rattle.history.proofs.Choices.{same_company_is, truth}
+use Rattle.totals.proofs.Choices.{same_company_is, truth}
 use Rattle.history.proofs.Acts.{sale_sound}
-use Rattle.history.proofs.EventAtEnd.{last_said_at_end, shares_of_before}
-use Rattle.history.proofs.Gains.{EnoughAreLeft, Gains, gain_sound}
+use Rattle.totals.proofs.EventAtEnd.{last_said_at_end, shares_of_before}
+use Rattle.history.proofs.Gains.{EnoughAreLeft, Gains, gain_sound, only_gains}
 use Rattle.history.proofs.Soundness.{companies_kept, solvent_kept}
-use Rattle.history.proofs.Tenths.{moved}
+use Rattle.history.proofs.ShareCount.{moved}
 use Rattle.history.specs.Laws.{CaIsSoldWithItsGift, GiftKeepsSound}
-use Rattle.history.specs.LookBack.{is_sold, owner_said, with_event}
-use Rattle.history.specs.Shares.{shares_of, square_of}
+use Rattle.totals.specs.LookBack.{is_sold, owner_said, with_event}
+use Rattle.totals.specs.Shares.{shares_of, square_of}
 use Rattle.history.specs.Sound.{AreOffered, least_offered}
 use Rattle.tables.specs.Roster.{same_company}
 use Rattle.tables.specs.declared.roster.Company.{Company}
@@ -22,61 +23,46 @@ use Rattle.tables.specs.declared.roster.Company.TheVariants.{Pennsylvania}
 use Rattle.tables.specs.declared.roster.Private.TheVariants.{CamdenAmboy}
 use Rattle.tables.specs.declared.seat.Seat.{Seat}
 
--- the tenths of a gift
+-- the shares of a gift
 abbrev gift : Company → Seat → ℕ → Transfer
-gift company seat tenths = record { company = company; from = InitialOffering; to = OfSeat seat; tenths = tenths }
+gift company seat shares = record { company = company; from = InitialOffering; to = OfSeat seat; shares = shares }
 
 -- a gift says nothing else
-gift_gains : (seats : ℕ) (company : Company) (seat : Seat) (tenths : ℕ) → seat.0 < seats
-    → Gains seats (Given company seat tenths) (gift company seat tenths)
-gift_gains seats company seat tenths seated =
-    record {
-      moves = refl;
-      from_bank = tt;
-      to_table = seated;
-      no_owner = refl;
-      no_bid = refl;
-      no_par = refl;
-      no_square = refl;
-      no_office = refl;
-      no_float = refl;
-      no_price = refl;
-      no_train = refl;
-      no_tile = refl;
-      no_token = refl;
-      pays = tt;
-    }
+gift_gains : (seats : ℕ) (company : Company) (seat : Seat) (shares : ℕ) → seat.0 < seats
+    → Gains seats (Given company seat shares) (gift company seat shares)
+gift_gains seats company seat shares seated =
+    only_gains _ _ _ refl tt seated refl refl refl refl refl refl refl refl refl refl tt
 
 -- enough are left of each company, where there are enough of the one
-left_after_gift : (events : List Event) (given : Company) (seat : Seat) (tenths : ℕ)
-    → (square_of events given ≡ None → pos (least_offered events given + tenths) ≤ℤ shares_of events given
-    InitialOffering) → AreOffered events → EnoughAreLeft events (gift given seat tenths)
-left_after_gift events given seat tenths many offered company unplaced =
+left_after_gift : (events : List Event) (given : Company) (seat : Seat) (shares : ℕ)
+    → (square_of events given ≡ None → pos (least_offered events given + shares) ≤ℤ shares_of events given
+    InitialOffering) → AreOffered events → EnoughAreLeft events (gift given seat shares)
+left_after_gift events given seat shares many offered company unplaced =
     elim (truth (same_company given company)) [
       | inl same ↦
-          let its : moved company (gift given seat tenths) ≡ tenths =
-          ap (λ (is : Bool). if is then tenths else 0) same in
-          let enough : pos (least_offered events company + tenths) ≤ℤ shares_of events company InitialOffering =
+          let its : moved company (gift given seat shares) ≡ shares =
+          ap (λ (is : Bool). if is then shares else 0) same in
+          let enough : pos (least_offered events company + shares) ≤ℤ shares_of events company InitialOffering =
           subst (λ (one : Company). square_of events one ≡ None
-          → pos (least_offered events one + tenths) ≤ℤ shares_of events one InitialOffering)
+          → pos (least_offered events one + shares) ≤ℤ shares_of events one InitialOffering)
           (same_company_is given company same) many unplaced in
           omega (arith, ints)
       | inr apart ↦
-          let its : moved company (gift given seat tenths) ≡ 0 = ap (λ (is : Bool). if is then tenths else 0) apart in
+          let its : moved company (gift given seat shares) ≡ 0 = ap (λ (is : Bool). if is then shares else 0) apart in
           let enough = offered company unplaced in
           omega (arith, ints)
     ]
 
 -- a gift to a seat at the table
 pub given_sound : GiftKeepsSound
-given_sound game company seat tenths seated many more sound =
-    gain_sound game (Given company seat tenths) (gift company seat tenths)
-    (gift_gains game.seats company seat tenths seated) many
-    (left_after_gift game.events company seat tenths more sound.offered)
-    (solvent_kept game (Given company seat tenths) refl refl sound.solvent)
-    (companies_kept game (Given company seat tenths) refl sound.companies) sound
+given_sound game company seat shares seated many more sound =
+    gain_sound game (Given company seat shares) (gift company seat shares)
+    (gift_gains game.seats company seat shares seated) many
+    (left_after_gift game.events company seat shares more sound.offered)
+    (solvent_kept game (Given company seat shares) refl refl sound.solvent)
+    (companies_kept game (Given company seat shares) refl sound.companies) sound
 
--- CA's sale, with the tenth of PRR
+-- CA's sale, with the share of PRR
 pub ca_sound : CaIsSoldWithItsGift
 ca_sound game seat price unsold unplaced seated affordable sound =
     let mid = with_event game (Sold CamdenAmboy seat price) in
@@ -91,7 +77,7 @@ ca_sound game seat price unsold unplaced seated affordable sound =
     ≡ shares_of game.events Pennsylvania InitialOffering =
     shares_of_before game.events (Sold CamdenAmboy seat price) Pennsylvania InitialOffering refl in
     let many : pos 9 ≤ℤ shares_of mid.events Pennsylvania InitialOffering =
-    subst (λ (tenths : ℤ). pos 9 ≤ℤ tenths) (sym same)
+    subst (λ (shares : ℤ). pos 9 ≤ℤ shares) (sym same)
     (subst (λ (least : ℕ). pos least ≤ℤ shares_of game.events Pennsylvania InitialOffering) nine offered) in
     given_sound mid Pennsylvania seat 1 seated (omega (arith, ints))
     (λ _. subst (λ (least : ℕ). pos (least + 1) ≤ℤ shares_of mid.events Pennsylvania InitialOffering) (sym eight)

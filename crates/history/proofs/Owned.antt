@@ -1,5 +1,6 @@
 -- A private's owner has paid for it, so that it is a party of the game where all payments go between parties.
-use Rattle.std.proofs.Common.{◌≡◌, ◌<◌, ◌⊎◌, inl, inr, List, [], ◌∷◌, ℕ, Bool, true, false, if◌then◌else◌, Option, Some, None, subst, ap}
+use Rattle.std.proofs.Common.{◌≡◌, ◌<◌, ◌⊎◌, inl, inr, List, [], ◌∷◌, ℕ, Bool, true, false, if◌then◌else◌, Option, Some}
+use Rattle.std.proofs.Common.{None, subst, ap}
 use Rattle.std.specs.Option.{option_flatten, option_or}
 use Rattle.events.specs.Event.{ownership_of, payment_of}
 use Rattle.events.specs.declared.event.Event.{Event}
@@ -8,7 +9,7 @@ use Rattle.events.specs.declared.event.Holder.{Holder}
 use Rattle.events.specs.declared.event.Holder.TheVariants as holder
 use Rattle.events.specs.declared.event.Party.TheVariants as party
 use Rattle.history.specs.Laws.{OwnersAreParties}
-use Rattle.history.specs.LookBack.{last_said, owner_said}
+use Rattle.totals.specs.LookBack.{last_said, owner_said}
 use Rattle.history.specs.Money.{AreWithin, IsParty, IsWithin}
 use Rattle.tables.specs.Roster.{same_private}
 use Rattle.tables.specs.declared.roster.Company.{Company}

@@ -2,18 +2,20 @@
 -- company has what it pays.
 use Rattle.std.proofs.Common.{◌≡◌, ℕ, inl, inr, if◌then◌else◌, [], ◌∷◌, ◌++◌, None, pos, ◌≤ℤ◌, refl, subst, arith}
 use Rattle.std.proofs.lemmas.Int.{ints}
-use Rattle.events.specs.Event.{bidding_of, floated_by, office_of, ownership_of, par_set, party_at, party_of_company, payment_of, square_set, sv_price_set, transfer_of}
+use Rattle.events.specs.Event.{bidding_of, floated_by, office_of, ownership_of, par_set, party_at, party_of_company}
+use Rattle.events.specs.Event.{payment_of, square_set, sv_price_set, transfer_of}
 use Rattle.events.specs.declared.event.Event.{Event}
 use Rattle.events.specs.declared.event.Event.TheVariants.{Home, Laid, Token, Withheld}
-use Rattle.history.proofs.Choices.{same_company_is, truth}
-use Rattle.history.proofs.EventAtEnd.{bids_of_before, cash_of_at_end}
+use Rattle.totals.proofs.Choices.{same_company_is, truth}
+use Rattle.totals.proofs.EventAtEnd.{bids_of_before, cash_of_at_end}
 use Rattle.history.proofs.Rolling.{trains_kept}
-use Rattle.history.proofs.Soundness.{differ_kept, fit_kept, floated_kept, given_kept, held_kept, led_kept, offered_kept, price_kept, seated_kept, small_kept, ten_kept, within_after}
+use Rattle.history.proofs.Soundness.{differ_kept, fit_kept, floated_kept, given_kept, held_kept, led_kept, offered_kept}
+use Rattle.history.proofs.Soundness.{price_kept, seated_kept, small_kept, ten_kept, within_after}
 use Rattle.history.specs.Laws.{HomeKeepsSound, LayKeepsSound, TokenKeepsSound, WithholdingKeepsSound}
-use Rattle.history.specs.LookBack.{Game, cash_of, paid_by, with_event}
+use Rattle.totals.specs.LookBack.{Game, cash_of, paid_by, with_event}
 use Rattle.history.specs.Money.{IsWithin}
 use Rattle.history.specs.Sound.{CompaniesAreSolvent, IsSound, LiesFit}
-use Rattle.history.specs.Trains.{TrainsAreHeld}
+use Rattle.totals.specs.Trains.{TrainsAreHeld}
 use Rattle.tables.specs.Roster.{same_company}
 use Rattle.tables.specs.declared.roster.Company.{Company}
 use Rattle.tables.specs.declared.seat.Seat.{Seat}
@@ -28,6 +30,22 @@ pub record OnlyPays (event : Event) : Type 0 where
   pub no_office : office_of event ≡ None
   pub no_float : floated_by event ≡ None
   pub no_price : sv_price_set event ≡ None
+
+-- so is one that has none of the other aspects
+pub only_pays : (event : Event) → ownership_of event ≡ None → bidding_of event ≡ None → transfer_of event ≡ None
+    → par_set event ≡ None → square_set event ≡ None → office_of event ≡ None → floated_by event ≡ None
+    → sv_price_set event ≡ None → OnlyPays event
+only_pays event owner bid transfer par square office float price =
+    record {
+      no_owner = owner;
+      no_bid = bid;
+      no_transfer = transfer;
+      no_par = par;
+      no_square = square;
+      no_office = office;
+      no_float = float;
+      no_price = price;
+    }
 
 -- no seat pays by an event
 abbrev pub NoSeatPays : Event → Type 0
@@ -84,66 +102,26 @@ can_pay game company other cost enough solvent =
 -- a lay
 pub lay_sound : LayKeepsSound
 lay_sound game company lay cost enough fit sound =
-    payment_sound game (Laid company lay cost) (record {
-      no_owner = refl;
-      no_bid = refl;
-      no_transfer = refl;
-      no_par = refl;
-      no_square = refl;
-      no_office =
-          refl;
-      no_float = refl;
-      no_price = refl;
-    }) (λ seat. refl)
+    payment_sound game (Laid company lay cost) (only_pays _ refl refl refl refl refl refl refl refl) (λ seat. refl)
     (λ other. can_pay game company other cost enough sound.companies) (tt, tt)
     (trains_kept game.events (Laid company lay cost) refl sound.trains) fit sound
 
 -- a token
 pub token_sound : TokenKeepsSound
 token_sound game company place cost enough fit sound =
-    payment_sound game (Token company place cost) (record {
-      no_owner = refl;
-      no_bid = refl;
-      no_transfer = refl;
-      no_par = refl;
-      no_square = refl;
-      no_office =
-          refl;
-      no_float = refl;
-      no_price = refl;
-    }) (λ seat. refl)
+    payment_sound game (Token company place cost) (only_pays _ refl refl refl refl refl refl refl refl) (λ seat. refl)
     (λ other. can_pay game company other cost enough sound.companies) (tt, tt)
     (trains_kept game.events (Token company place cost) refl sound.trains) fit sound
 
 -- a company that withholds
 pub withholding_sound : WithholdingKeepsSound
 withholding_sound game company amount sound =
-    payment_sound game (Withheld company amount) (record {
-      no_owner = refl;
-      no_bid = refl;
-      no_transfer = refl;
-      no_par = refl;
-      no_square = refl;
-      no_office =
-          refl;
-      no_float = refl;
-      no_price = refl;
-    }) (λ seat. refl) (λ other. sound.companies other) (tt, tt)
+    payment_sound game (Withheld company amount) (only_pays _ refl refl refl refl refl refl refl refl) (λ seat. refl) (λ other. sound.companies other) (tt, tt)
     (trains_kept game.events (Withheld company amount) refl sound.trains)
     (fit_kept game.events (Withheld company amount) refl refl sound.fit) sound
 
 -- a home token
 pub home_sound : HomeKeepsSound
 home_sound game company place fit sound =
-    payment_sound game (Home company place) (record {
-      no_owner = refl;
-      no_bid = refl;
-      no_transfer = refl;
-      no_par = refl;
-      no_square = refl;
-      no_office =
-          refl;
-      no_float = refl;
-      no_price = refl;
-    }) (λ seat. refl) (λ other. sound.companies other) tt
+    payment_sound game (Home company place) (only_pays _ refl refl refl refl refl refl refl refl) (λ seat. refl) (λ other. sound.companies other) tt
     (trains_kept game.events (Home company place) refl sound.trains) fit sound

@@ -1,5 +1,6 @@
 -- A private that a company buys from the seat that owns it keeps a list sound.
-use Rattle.std.proofs.Common.{◌≡◌, ℕ, ◌≤◌, Bool, true, false, ◌&&◌, if◌then◌else◌, List, [], ◌∷◌, ◌++◌, Option, Some, None, is_some, is_none, refl, sym, ap, ◌∙◌, arith}
+use Rattle.std.proofs.Common.{◌≡◌, ℕ, ◌≤◌, Bool, true, false, ◌&&◌, if◌then◌else◌, List, [], ◌∷◌, ◌++◌, Option, Some}
+use Rattle.std.proofs.Common.{None, is_some, is_none, refl, sym, ap, ◌∙◌, arith}
 use Rattle.std.proofs.lemmas.Int.{ints}
 use Rattle.std.specs.Option.{option_flatten, option_or}
 use Rattle.events.specs.Event.{ownership_of, party_at, party_of_company}
@@ -9,18 +10,21 @@ use Rattle.events.specs.declared.event.Holder.{Holder}
 use Rattle.events.specs.declared.event.Holder.TheVariants as holder
 use Rattle.events.specs.declared.event.Shareholder.TheVariants.{InitialOffering}
 use Rattle.history.proofs.Acts.{fewer, stays_sold}
-use Rattle.history.proofs.BidWords.{same_private_is}
-use Rattle.history.proofs.EventAtEnd.{bids_of_before, cash_of_at_end, last_said_at_end, shares_of_before, square_of_before, sv_price_of_before}
+use Rattle.totals.proofs.Privates.{same_private_is}
+use Rattle.totals.proofs.EventAtEnd.{bids_of_before, cash_of_at_end, last_said_at_end, shares_of_before}
+use Rattle.totals.proofs.EventAtEnd.{square_of_before, sv_price_of_before}
 use Rattle.history.proofs.Owned.{owner_is_party}
 use Rattle.history.proofs.Payments.{can_pay}
 use Rattle.history.proofs.Rolling.{trains_kept}
-use Rattle.history.proofs.Soundness.{differ_kept, fit_kept, floated_kept, held_kept, led_kept, price_kept, seated_kept, small_kept, ten_kept, within_after}
+use Rattle.history.proofs.Soundness.{differ_kept, fit_kept, floated_kept, held_kept, led_kept, price_kept, seated_kept}
+use Rattle.history.proofs.Soundness.{small_kept, ten_kept, within_after}
 use Rattle.history.specs.Laws.{PrivateKeepsSound}
-use Rattle.history.specs.LookBack.{is_closed, is_sold, last_said, owner_of, owner_said}
+use Rattle.totals.specs.LookBack.{is_closed, is_sold, last_said, owner_of, owner_said}
 use Rattle.history.specs.Sound.{AreOffered, IsGivenAway, least_offered}
 use Rattle.tables.specs.Roster.{same_private}
 use Rattle.tables.specs.declared.roster.Company.{Company}
-use Rattle.tables.specs.declared.roster.Company.TheVariants.{Pennsylvania, NewYorkCentral, CanadianPacific, BaltimoreOhio, ChesapeakeOhio, Erie, NewHaven, BostonMaine}
+use Rattle.tables.specs.declared.roster.Company.TheVariants.{Pennsylvania, NewYorkCentral, CanadianPacific}
+use Rattle.tables.specs.declared.roster.Company.TheVariants.{BaltimoreOhio, ChesapeakeOhio, Erie, NewHaven, BostonMaine}
 use Rattle.tables.specs.declared.roster.Private.{Private}
 use Rattle.tables.specs.declared.roster.Private.TheVariants.{SchuylkillValley, MohawkHudson, CamdenAmboy}
 use Rattle.tables.specs.declared.seat.Seat.{Seat}
@@ -51,7 +55,7 @@ stays_closed events bought company seller price private owns closed =
     (last_said (λ e. owner_said private (ownership_of e)) events)
     (λ same. ap (owner_of events) (sym (same_private_is bought private same)) ∙ owns) closed
 
--- no more tenths are to stay in an initial offering
+-- no more shares are to stay in an initial offering
 least_after_purchase : (events : List Event) (private : Private) (company : Company) (seller : Seat) (price : ℕ)
     (of : Company) →
     owner_of events private ≡ Some (holder.Seat seller) →

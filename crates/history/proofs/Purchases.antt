@@ -1,5 +1,6 @@
--- A purchase of tenths keeps a list sound; so do the start of a company by a purchase, and MH's exchange.
-use Rattle.std.proofs.Common.{◌≡◌, ℕ, ◌≤◌, ◌<◌, inl, inr, Bool, false, if◌then◌else◌, ◌&&◌, List, [], ◌∷◌, ◌++◌, Option, Some, None, is_some, is_none, ℤ, pos, ◌≤ℤ◌, refl, sym, subst, ap, ◌∙◌, arith}
+-- A purchase of shares keeps a list sound; so do the start of a company by a purchase, and MH's exchange.
+use Rattle.std.proofs.Common.{◌≡◌, ℕ, ◌≤◌, ◌<◌, inl, inr, Bool, false, if◌then◌else◌, ◌&&◌, List, [], ◌∷◌, ◌++◌, Option}
+use Rattle.std.proofs.Common.{Some, None, is_some, is_none, ℤ, pos, ◌≤ℤ◌, refl, sym, subst, ap, ◌∙◌, arith}
 use Rattle.std.proofs.lemmas.Bool.{cases_eq}
 use Rattle.std.proofs.lemmas.Int.{ints}
 use Rattle.std.specs.Option.{option_flatten}
@@ -12,35 +13,39 @@ use Rattle.events.specs.declared.event.Party.TheVariants as party
 use Rattle.events.specs.declared.event.Shareholder.TheVariants.{InitialOffering, Seat as OfSeat}
 use Rattle.events.specs.declared.event.Transfer.{Transfer}
 use Rattle.history.proofs.Rolling.{trains_kept}
-use Rattle.history.proofs.Choices.{chosen, passed_over, same_company_is, truth}
+use Rattle.totals.proofs.Choices.{chosen, passed_over, same_company_is, truth}
 use Rattle.history.proofs.Acts.{stays_sold}
-use Rattle.history.proofs.EventAtEnd.{bids_of_before, cash_of_at_end, last_said_at_end, square_of_before, sv_price_of_before}
-use Rattle.history.proofs.Gains.{EnoughAreLeft, Gains, bank_at_table, floated_gained, gain_sound, led_gained, source_of_bank}
-use Rattle.history.proofs.Soundness.{companies_kept, differ_kept, fit_kept, free_cash_before, price_kept, seated_kept, small_kept, solvent_kept, within_kept}
+use Rattle.totals.proofs.EventAtEnd.{bids_of_before, cash_of_at_end, last_said_at_end, square_of_before}
+use Rattle.totals.proofs.EventAtEnd.{sv_price_of_before}
+use Rattle.history.proofs.Gains.{EnoughAreLeft, Gains, bank_at_table, floated_gained, gain_sound, led_gained}
+use Rattle.history.proofs.Gains.{only_gains, source_of_bank}
+use Rattle.history.proofs.Soundness.{companies_kept, differ_kept, fit_kept, free_cash_before, price_kept, seated_kept}
+use Rattle.history.proofs.Soundness.{small_kept, solvent_kept, within_kept}
 use Rattle.history.proofs.Starts.{start_sound_by}
-use Rattle.history.proofs.Tenths.{held_after, moved, part, shares_after, ten_after}
-use Rattle.history.specs.Bids.{free_cash_of}
+use Rattle.history.proofs.ShareCount.{held_after, moved, part, shares_after, ten_after}
+use Rattle.totals.specs.Bids.{free_cash_of}
 use Rattle.history.specs.Laws.{ExchangeKeepsSound, PurchaseKeepsSound, StartByPurchaseKeepsSound}
-use Rattle.history.specs.LookBack.{Game, last_said, owner_of, owner_said, with_event}
-use Rattle.history.specs.Shares.{shares_of, square_of}
+use Rattle.totals.specs.LookBack.{Game, last_said, owner_of, owner_said, with_event}
+use Rattle.totals.specs.Shares.{shares_of, square_of}
 use Rattle.history.specs.Sound.{AreOffered, CompaniesAreSolvent, SeatsAreSolvent, least_offered}
 use Rattle.order_grammar.specs.declared.order.ShareSource.{ShareSource}
 use Rattle.order_grammar.specs.declared.order.ShareSource.TheVariants as source
 use Rattle.tables.specs.Roster.{same_company}
 use Rattle.tables.specs.Seat.{seat_at}
 use Rattle.tables.specs.declared.roster.Company.{Company}
-use Rattle.tables.specs.declared.roster.Company.TheVariants.{Pennsylvania, NewYorkCentral, CanadianPacific, BaltimoreOhio, ChesapeakeOhio, Erie, NewHaven, BostonMaine}
+use Rattle.tables.specs.declared.roster.Company.TheVariants.{Pennsylvania, NewYorkCentral, CanadianPacific}
+use Rattle.tables.specs.declared.roster.Company.TheVariants.{BaltimoreOhio, ChesapeakeOhio, Erie, NewHaven, BostonMaine}
 use Rattle.tables.specs.declared.roster.Private.TheVariants.{SchuylkillValley, MohawkHudson, CamdenAmboy}
 use Rattle.tables.specs.declared.seat.Seat.{Seat}
 use Rattle.tables.specs.declared.squares.Square.{Square}
 
 -- after a purchase each seat still has what its bids tie
-solvent_after_purchase : (game : Game) (company : Company) (seat : Seat) (tenths : ℕ) (from : ShareSource) (price : ℕ)
+solvent_after_purchase : (game : Game) (company : Company) (seat : Seat) (shares : ℕ) (from : ShareSource) (price : ℕ)
     → pos price ≤ℤ free_cash_of game.seats game.events seat → SeatsAreSolvent game
-    → SeatsAreSolvent (with_event game (Bought company seat tenths from price))
-solvent_after_purchase game company seat tenths from price affordable solvent by =
-    let cash = cash_of_at_end game.seats game.events (Bought company seat tenths from price) (party_at by) in
-    let bids = bids_of_before game.events (Bought company seat tenths from price) by refl in
+    → SeatsAreSolvent (with_event game (Bought company seat shares from price))
+solvent_after_purchase game company seat shares from price affordable solvent by =
+    let cash = cash_of_at_end game.seats game.events (Bought company seat shares from price) (party_at by) in
+    let bids = bids_of_before game.events (Bought company seat shares from price) by refl in
     let before = solvent by in
     elim (cases_eq seat.0 by.0) [
       | inl same ↦
@@ -52,81 +57,66 @@ solvent_after_purchase game company seat tenths from price affordable solvent by
     ]
 
 -- a purchase takes nothing from a company
-companies_after_purchase : (game : Game) (company : Company) (seat : Seat) (tenths : ℕ) (from : ShareSource)
+companies_after_purchase : (game : Game) (company : Company) (seat : Seat) (shares : ℕ) (from : ShareSource)
     (price : ℕ) → CompaniesAreSolvent game → CompaniesAreSolvent
-    (with_event game (Bought company seat tenths from price))
-companies_after_purchase game company seat tenths from price solvent other =
+    (with_event game (Bought company seat shares from price))
+companies_after_purchase game company seat shares from price solvent other =
     let before = solvent other in
     omega (
       arith,
       ints,
-      cash_of_at_end game.seats game.events (Bought company seat tenths from price)
+      cash_of_at_end game.seats game.events (Bought company seat shares from price)
           (party.Holder (holder.Company other)),
     )
 
--- the tenths of a purchase
+-- the shares of a purchase
 abbrev purchase : Company → Seat → ℕ → ShareSource → Transfer
-purchase company seat tenths from = record {
+purchase company seat shares from = record {
   company = company;
   from = place_of_source from;
   to =
       OfSeat seat;
-  tenths = tenths;
+  shares = shares;
 }
 
 -- a purchase says nothing else but of money
-purchase_gains : (seats : ℕ) (company : Company) (seat : Seat) (tenths : ℕ) (from : ShareSource) (price : ℕ)
-    → seat.0 < seats → Gains seats (Bought company seat tenths from price) (purchase company seat tenths from)
-purchase_gains seats company seat tenths from price seated =
-    record {
-      moves = refl;
-      from_bank = source_of_bank from;
-      to_table = seated;
-      no_owner = refl;
-      no_bid = refl;
-      no_par = refl;
-      no_square = refl;
-      no_office = refl;
-      no_float = refl;
-      no_price = refl;
-      no_train = refl;
-      no_tile = refl;
-      no_token = refl;
-      pays = (seated, tt);
-    }
+purchase_gains : (seats : ℕ) (company : Company) (seat : Seat) (shares : ℕ) (from : ShareSource) (price : ℕ)
+    → seat.0 < seats → Gains seats (Bought company seat shares from price) (purchase company seat shares from)
+purchase_gains seats company seat shares from price seated =
+    only_gains _ _ _ refl (source_of_bank from) seated refl refl refl refl refl refl refl refl refl refl (seated, tt)
 
 -- nothing goes either way
-part_of_none : (from : ShareSource) (tenths : ℕ) → tenths ≡ 0 → part (place_of_source from) InitialOffering tenths ≡ 0
-part_of_none source.InitialOffering tenths none = none
-part_of_none source.BankPool tenths none = refl
+part_of_none : (from : ShareSource) (shares : ℕ) → shares ≡ 0 → part (place_of_source from) InitialOffering shares ≡ 0
+part_of_none source.InitialOffering shares none = none
+part_of_none source.BankPool shares none = refl
 
 -- of a company without a square nothing is bought
-left_after_purchase : (events : List Event) (company : Company) (seat : Seat) (tenths : ℕ) (from : ShareSource)
+left_after_purchase : (events : List Event) (company : Company) (seat : Seat) (shares : ℕ) (from : ShareSource)
     (square : Square) → square_of events company ≡ Some square → AreOffered events
-    → EnoughAreLeft events (purchase company seat tenths from)
-left_after_purchase events company seat tenths from square started offered other unplaced =
+    → EnoughAreLeft events (purchase company seat shares from)
+left_after_purchase events company seat shares from square started offered other unplaced =
     elim (truth (same_company company other)) [
       | inl same ↦
           let has : Some square ≡ None = sym started ∙ ap (square_of events) (same_company_is company other same)
           ∙ unplaced in
           absurd (cc)
       | inr apart ↦
-          let its : moved other (purchase company seat tenths from) ≡ 0 =
-          ap (λ (is : Bool). if is then tenths else 0) apart in
+          let its : moved other (purchase company seat shares from) ≡ 0 =
+          ap (λ (is : Bool). if is then shares else 0) apart in
           let enough = offered other unplaced in
-          omega (arith, ints, part_of_none from (moved other (purchase company seat tenths from)) its)
+          omega (arith, ints, part_of_none from (moved other (purchase company seat shares from)) its)
     ]
 
 -- a purchase by a seat at the table that has the price free of its bids
 pub purchase_sound : PurchaseKeepsSound
-purchase_sound game company seat tenths from price square started seated many affordable sound =
-    gain_sound game (Bought company seat tenths from price) (purchase company seat tenths from)
-    (purchase_gains game.seats company seat tenths from price seated) many
-    (left_after_purchase game.events company seat tenths from square started sound.offered)
-    (solvent_after_purchase game company seat tenths from price affordable sound.solvent)
-    (companies_after_purchase game company seat tenths from price sound.companies) sound
+purchase_sound game company seat shares from price square started seated many affordable sound =
+    gain_sound game (Bought company seat shares from price) (purchase company seat shares from)
+    (purchase_gains game.seats company seat shares from price seated) many
+    (left_after_purchase game.events company seat shares from square started sound.offered)
+    (solvent_after_purchase game company seat shares from price affordable sound.solvent)
+    (companies_after_purchase game company seat shares from price sound.companies) sound
 
--- the president's two tenths are bought
+-- the president's two shares are bought
 pub start_by_purchase_sound : StartByPurchaseKeepsSound
 start_by_purchase_sound game company seat price cost is_par unplaced seated affordable sound =
     let par = with_event game (Par company price) in
@@ -140,9 +130,9 @@ start_by_purchase_sound game company seat price cost is_par unplaced seated affo
     (companies_after_purchase par company seat 2 source.InitialOffering cost
     (companies_kept game (Par company price) refl sound.companies)) sound
 
--- the tenth of an exchange
+-- the share of an exchange
 abbrev exchange : Seat → ShareSource → Transfer
-exchange seat from = record { company = NewYorkCentral; from = place_of_source from; to = OfSeat seat; tenths = 1 }
+exchange seat from = record { company = NewYorkCentral; from = place_of_source from; to = OfSeat seat; shares = 1 }
 
 -- a private that has an owner is not closed
 not_closed : (word : Option (Option Holder)) (owner : Holder) → option_flatten word ≡ Some owner
@@ -151,7 +141,7 @@ not_closed None owner has = refl
 not_closed (Some None) owner has = absurd cc
 not_closed (Some (Some word)) owner has = refl
 
--- before an exchange nine tenths of NYC stay
+-- before an exchange nine shares of NYC stay
 nine_before : (events : List Event) (owner : Holder) → owner_of events MohawkHudson ≡ Some owner
     → least_offered events NewYorkCentral ≡ 9
 nine_before events owner has =
@@ -178,20 +168,25 @@ camden_as_before events seat from =
     ap (λ (word : Option (Option Holder)). if is_some word then 8 else 9)
     (last_said_at_end (λ e. owner_said CamdenAmboy (ownership_of e)) events (Exchanged seat from))
 
+-- another company has as many as before
+as_many_after_exchange : (events : List Event) (seat : Seat) (from : ShareSource) (company : Company)
+    → moved company (exchange seat from) ≡ 0 → shares_of (events ++ Exchanged seat from ∷ []) company InitialOffering
+    ≡ shares_of events company InitialOffering
+as_many_after_exchange events seat from company none =
+    omega (
+      arith,
+      ints,
+      shares_after events (Exchanged seat from) (exchange seat from) company InitialOffering refl,
+      part_of_none from (moved company (exchange seat from)) none,
+    )
+
 -- enough are left of each company
 enough_after_exchange : (events : List Event) (seat : Seat) (from : ShareSource) (owner : Holder) (company : Company)
     → owner_of events MohawkHudson ≡ Some owner → pos (least_offered events company) ≤ℤ shares_of events company
     InitialOffering → pos (least_offered (events ++ Exchanged seat from ∷ []) company) ≤ℤ shares_of
     (events ++ Exchanged seat from ∷ []) company InitialOffering
 enough_after_exchange events seat from owner Pennsylvania has before =
-    omega (
-      arith,
-      ints,
-      camden_as_before events seat from,
-      shares_after events (Exchanged seat from)
-          (exchange seat from) Pennsylvania InitialOffering refl,
-      part_of_none from 0 refl,
-    )
+    omega (arith, ints, camden_as_before events seat from, as_many_after_exchange events seat from Pennsylvania refl)
 enough_after_exchange events seat from owner NewYorkCentral has before =
     omega (
       arith,
@@ -203,51 +198,17 @@ enough_after_exchange events seat from owner NewYorkCentral has before =
       one_goes from seat,
     )
 enough_after_exchange events seat from owner CanadianPacific has before =
-    omega (
-      arith,
-      ints,
-      shares_after events (Exchanged seat from) (exchange seat from) CanadianPacific InitialOffering
-          refl,
-      part_of_none from 0 refl,
-    )
+    omega (arith, ints, as_many_after_exchange events seat from CanadianPacific refl)
 enough_after_exchange events seat from owner BaltimoreOhio has before =
-    omega (
-      arith,
-      ints,
-      shares_after events (Exchanged seat from) (exchange seat from) BaltimoreOhio InitialOffering
-          refl,
-      part_of_none from 0 refl,
-    )
+    omega (arith, ints, as_many_after_exchange events seat from BaltimoreOhio refl)
 enough_after_exchange events seat from owner ChesapeakeOhio has before =
-    omega (
-      arith,
-      ints,
-      shares_after events (Exchanged seat from) (exchange seat from) ChesapeakeOhio InitialOffering
-          refl,
-      part_of_none from 0 refl,
-    )
+    omega (arith, ints, as_many_after_exchange events seat from ChesapeakeOhio refl)
 enough_after_exchange events seat from owner Erie has before =
-    omega (
-      arith,
-      ints,
-      shares_after events (Exchanged seat from) (exchange seat from) Erie InitialOffering refl,
-      part_of_none from 0 refl,
-    )
+    omega (arith, ints, as_many_after_exchange events seat from Erie refl)
 enough_after_exchange events seat from owner NewHaven has before =
-    omega (
-      arith,
-      ints,
-      shares_after events (Exchanged seat from) (exchange seat from) NewHaven InitialOffering refl,
-      part_of_none from 0 refl,
-    )
+    omega (arith, ints, as_many_after_exchange events seat from NewHaven refl)
 enough_after_exchange events seat from owner BostonMaine has before =
-    omega (
-      arith,
-      ints,
-      shares_after events (Exchanged seat from) (exchange seat from) BostonMaine InitialOffering
-          refl,
-      part_of_none from 0 refl,
-    )
+    omega (arith, ints, as_many_after_exchange events seat from BostonMaine refl)
 
 -- so as many are offered
 offered_after_exchange : (events : List Event) (seat : Seat) (from : ShareSource) (owner : Holder)

@@ -1,11 +1,11 @@
--- Events that follow from the list alone, where they stand among others.
+-- Events that follow from the list alone, where they are among others.
 use Rattle.std.proofs.Common.{◌≡◌, ℕ, ◌==◌, Bool, true, false, if◌then◌else◌, List, [], ◌∷◌, ◌++◌, refl}
 use Rattle.events.specs.declared.event.Event.{Event}
 use Rattle.events.specs.declared.event.Event.TheVariants as event
 use Rattle.history.specs.Record.{with_left}
 use Rattle.tables.specs.declared.seat.Seat.{Seat}
 
--- a LEFT event stands in front of others
+-- a LEFT event is in front of others
 pub left_first : (seat : Seat) (count : ℕ) (events : List Event)
     → with_left seat count [] ++ events ≡ with_left seat count events
 left_first seat count events =

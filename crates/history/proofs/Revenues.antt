@@ -2,7 +2,7 @@
 use Rattle.std.proofs.Common.{◌≡◌, ℕ, ◌+◌, ◌<◌, List, ◌∷◌, length, drop, get_or, sym, ap, ◌∙◌, add-one}
 use Rattle.std.proofs.Math.Seq.{drop-cons}
 use Rattle.events.specs.declared.event.Event.{Event}
-use Rattle.history.specs.LookBack.{owner_of}
+use Rattle.totals.specs.LookBack.{owner_of}
 use Rattle.history.specs.Record.{after_revenues, paid_to_owner}
 use Rattle.tables.specs.declared.roster.Private.{Private}
 

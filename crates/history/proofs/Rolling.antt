@@ -1,6 +1,7 @@
 -- An event that moves no train leaves all trains where they lie. One that moves a train that is there leaves
 -- nobody with fewer than none, and the bank has sold no more than there are.
-use Rattle.std.proofs.Common.{◌≡◌, ℕ, ◌+◌, ◌<◌, inl, inr, Bool, true, false, ◌&&◌, ◌==◌, if◌then◌else◌, List, [], ◌∷◌, ◌++◌, Option, Some, None, ℤ, pos, ◌≤ℤ◌, refl, sym, subst, ap, ◌∙◌, arith}
+use Rattle.std.proofs.Common.{◌≡◌, ℕ, ◌+◌, ◌<◌, inl, inr, Bool, true, false, ◌&&◌, ◌==◌, if◌then◌else◌, List, [], ◌∷◌}
+use Rattle.std.proofs.Common.{◌++◌, Option, Some, None, ℤ, pos, ◌≤ℤ◌, refl, sym, subst, ap, ◌∙◌, arith}
 use Rattle.std.proofs.lemmas.Bool.Decides.{Decides-eqb}
 use Rattle.std.proofs.lemmas.Int.{ints}
 use Rattle.std.proofs.lemmas.List.Sums.{sum_by_push}
@@ -9,9 +10,10 @@ use Rattle.events.specs.declared.event.Event.{Event}
 use Rattle.events.specs.declared.event.TrainMove.{TrainMove}
 use Rattle.events.specs.declared.event.TrainPlace.{TrainPlace}
 use Rattle.events.specs.declared.event.TrainPlace.TheVariants as place
-use Rattle.history.proofs.Choices.{same_company_is, truth}
-use Rattle.history.proofs.EventAtEnd.{trains_at_before, trains_at_end}
-use Rattle.history.specs.Trains.{TrainsAreHeld, one_if, same_train_place, train_goes, trains_at, trains_held, trains_sold}
+use Rattle.totals.proofs.Choices.{both, same_company_is, truth}
+use Rattle.totals.proofs.EventAtEnd.{trains_at_before, trains_at_end}
+use Rattle.totals.specs.Trains.{TrainsAreHeld, one_if, same_train_place, train_goes, trains_at, trains_held}
+use Rattle.totals.specs.Trains.{trains_sold}
 use Rattle.tables.specs.Train.{place_of_kind, same_kind, trains_of}
 use Rattle.tables.specs.declared.rolling_stock.Kind.{Kind}
 use Rattle.tables.specs.declared.rolling_stock.Kind.TheVariants.{Two, Three, Four, Five, Six, Diesel}
@@ -56,13 +58,7 @@ same_train_place_is place.OutOfPlay place.BankPool same = absurd cc
 same_train_place_is place.OutOfPlay (place.Company b) same = absurd cc
 same_train_place_is place.OutOfPlay place.OutOfPlay same = refl
 
--- both of two tests
-both : (a b : Bool) → (a && b) ≡ true → (a ≡ true) × (b ≡ true)
-both true true is = (refl, refl)
-both true false is = absurd cc
-both false b is = absurd cc
-
--- how many the bank has sold, once one more event stands at the end
+-- how many the bank has sold, once one more event is at the end
 pub sold_at_end : (events : List Event) (event : Event) (kind : Kind)
     → trains_sold (events ++ event ∷ []) kind ≡ trains_sold events kind
     + one_if (train_goes place.Bank kind (train_moved event))
@@ -110,7 +106,7 @@ still_held events event move place kind is there before =
           )
     ]
 
--- a train that leaves a stable is none that the bank sells
+-- a train that leaves a company or the pool is none that the bank sells
 never_of_bank : (owner : Option Company) (kind of : Kind) (to : TrainPlace)
     → train_goes place.Bank kind (Some (record { kind = of; from = train_owner_place owner; to = to })) ≡ false
 never_of_bank None kind of to = grind arith
@@ -133,7 +129,7 @@ trains_after_move events event owner kind to is there before =
       );
     }
 
--- the bank is no stable
+-- the bank is neither of them
 none_from_train_owner : (owner : Option Company) (kind of : Kind) (to : TrainPlace)
     → train_goes (train_owner_place owner) kind (Some (record { kind = of; from = place.Bank; to = to })) ≡ false
 none_from_train_owner None kind of to = grind arith

@@ -1,27 +1,33 @@
 -- What keeps a list sound: an event without the aspects of a fact keeps that fact.
-use Rattle.std.proofs.Common.{◌≡◌, ℕ, ◌≤◌, List, [], ◌∷◌, ◌++◌, None, pos, ◌≤ℤ◌, ◌-ℤ◌, ◌+ℤ◌, ℤ, refl, sym, subst, ap, ◌∙◌, arith, if◌then◌else◌, inl}
+use Rattle.std.proofs.Common.{◌≡◌, ℕ, ◌≤◌, List, [], ◌∷◌, ◌++◌, None, pos, ◌≤ℤ◌, ◌-ℤ◌, ◌+ℤ◌, ℤ, refl, sym, subst, ap}
+use Rattle.std.proofs.Common.{◌∙◌, arith, if◌then◌else◌, inl}
 use Rattle.std.proofs.lemmas.Int.{ints}
-use Rattle.events.specs.Event.{bidding_of, floated_by, office_of, ownership_of, par_set, party_at, payment_of, square_set, sv_price_set, tile_laid, token_placed, transfer_of}
+use Rattle.events.specs.Event.{IsQuiet, bidding_of, floated_by, office_of, ownership_of, par_set, party_at, payment_of}
+use Rattle.events.specs.Event.{square_set, sv_price_set, tile_laid, token_placed, train_moved, transfer_of}
 use Rattle.events.specs.declared.event.Event.{Event}
 use Rattle.events.specs.declared.event.Holder.TheVariants as holder
 use Rattle.events.specs.declared.event.Party.TheVariants as party
 use Rattle.events.specs.declared.event.Shareholder.TheVariants.{InitialOffering, BankPool, Seat as OfSeat}
-use Rattle.history.proofs.InOrder.{lays_before, tokens_before}
-use Rattle.history.proofs.Rolling.{no_trains, trains_kept}
-use Rattle.history.proofs.EventAtEnd.{bid_of_before, bids_of_before, cash_of_before, is_closed_before, is_floated_before, is_sold_before, par_of_before, president_of_before, shares_of_before, square_of_before, sv_price_of_before}
-use Rattle.history.specs.Bids.{bids_of, free_cash_of}
-use Rattle.history.specs.Laws.{QuietKeepsSound}
-use Rattle.history.specs.LookBack.{Game, cash_of, sv_price_of, with_event}
+use Rattle.totals.proofs.InOrder.{lays_before, tokens_before}
+use Rattle.history.proofs.Rolling.{no_trains}
+use Rattle.totals.proofs.EventAtEnd.{bid_of_before, bids_of_before, cash_of_before, is_closed_before, is_floated_before}
+use Rattle.totals.proofs.EventAtEnd.{is_sold_before, par_of_before, president_of_before, shares_of_before}
+use Rattle.totals.proofs.EventAtEnd.{square_of_before, sv_price_of_before}
+use Rattle.totals.specs.Bids.{bids_of, free_cash_of}
+use Rattle.totals.specs.LookBack.{Game, cash_of, sv_price_of, with_event}
 use Rattle.history.specs.Money.{AreWithin, IsWithin}
-use Rattle.history.specs.Operating.{lays_of, tokens_of}
-use Rattle.history.specs.Shares.{held_by, shares_of}
-use Rattle.history.specs.Sound.{AreLed, AreOffered, AreTenInAll, BiddersAreSeated, BidsAreSmall, BidsDiffer, CompaniesAreSolvent, FloatedAreLed, IsGivenAway, IsLed, IsSound, IsSvPrice, LiesFit, SeatsAreSolvent, TenthsAreHeld, least_offered}
+use Rattle.totals.specs.Operating.{lays_of, tokens_of}
+use Rattle.totals.specs.Shares.{held_by, shares_of}
+use Rattle.history.specs.Sound.{AreLed, AreOffered, AreTenInAll, BiddersAreSeated, BidsAreSmall, BidsDiffer}
+use Rattle.history.specs.Sound.{CompaniesAreSolvent, FloatedAreLed, IsGivenAway, IsLed, IsSound, IsSvPrice, LiesFit}
+use Rattle.history.specs.Sound.{SeatsAreSolvent, SharesAreHeld, least_offered}
 use Rattle.map_tables.proofs.NothingFits.{nothing_fits}
 use Rattle.map_tables.specs.Fit.{AreFitWithHomes}
 use Rattle.map_tables.specs.declared.lay.Lay.{Lay}
 use Rattle.tables.specs.Seat.{all_seats}
 use Rattle.tables.specs.declared.roster.Company.{Company}
-use Rattle.tables.specs.declared.roster.Company.TheVariants.{Pennsylvania, NewYorkCentral, CanadianPacific, BaltimoreOhio, ChesapeakeOhio, Erie, NewHaven, BostonMaine}
+use Rattle.tables.specs.declared.roster.Company.TheVariants.{Pennsylvania, NewYorkCentral, CanadianPacific}
+use Rattle.tables.specs.declared.roster.Company.TheVariants.{BaltimoreOhio, ChesapeakeOhio, Erie, NewHaven, BostonMaine}
 use Rattle.tables.specs.declared.roster.Private.TheVariants.{SchuylkillValley, MohawkHudson, CamdenAmboy}
 use Rattle.tables.specs.declared.seat.Seat.{Seat}
 
@@ -79,11 +85,11 @@ given_kept events event no_price no_owner given =
     λ zero. is_sold_before events event SchuylkillValley no_owner
     ∙ given (sym (sv_price_of_before events event no_price) ∙ zero)
 
--- without moving tenths they are held as before
-pub held_kept : (events : List Event) (event : Event) → transfer_of event ≡ None → TenthsAreHeld events
-    → TenthsAreHeld (events ++ event ∷ [])
+-- without moving shares they are held as before
+pub held_kept : (events : List Event) (event : Event) → transfer_of event ≡ None → SharesAreHeld events
+    → SharesAreHeld (events ++ event ∷ [])
 held_kept events event none held =
-    λ company place. subst (λ (tenths : ℤ). pos 0 ≤ℤ tenths) (sym (shares_of_before events event company place none))
+    λ company place. subst (λ (shares : ℤ). pos 0 ≤ℤ shares) (sym (shares_of_before events event company place none))
     (held company place)
 
 -- the seats hold as many together
@@ -107,7 +113,7 @@ ten_kept game event none ten =
     ∙ ap (λ held. (shares_of game.events company InitialOffering +ℤ shares_of game.events company BankPool) +ℤ
     held) (held_by_before game.events event company (all_seats game.seats) none) ∙ ten company
 
--- without a word on a private as many tenths are to stay in an initial offering
+-- without a word on a private as many shares are to stay in an initial offering
 pub least_offered_before : (events : List Event) (event : Event) (company : Company) → ownership_of event ≡ None
     → least_offered (events ++ event ∷ []) company ≡ least_offered events company
 least_offered_before events event Pennsylvania none =
@@ -121,13 +127,13 @@ least_offered_before events event Erie none = refl
 least_offered_before events event NewHaven none = refl
 least_offered_before events event BostonMaine none = refl
 
--- without a word on a private, a square or tenths, as many are offered
+-- without a word on a private, a square or shares, as many are offered
 pub offered_kept : (events : List Event) (event : Event) → ownership_of event ≡ None → square_set event ≡ None
     → transfer_of event ≡ None → AreOffered events → AreOffered (events ++ event ∷ [])
 offered_kept events event no_owner no_square no_transfer offered =
     λ company unplaced. subst (λ (least : ℕ). pos least ≤ℤ shares_of (events ++ event ∷ []) company InitialOffering)
     (sym (least_offered_before events event company no_owner))
-    (subst (λ (tenths : ℤ). pos (least_offered events company) ≤ℤ tenths)
+    (subst (λ (shares : ℤ). pos (least_offered events company) ≤ℤ shares)
     (sym (shares_of_before events event company InitialOffering no_transfer))
     (offered company (sym (square_of_before events event company no_square) ∙ unplaced)))
 
@@ -141,18 +147,18 @@ is_led_kept events event company no_par no_office no_transfer before =
       is_par = before.is_par;
       president = before.president;
       has_president = president_of_before events event company no_office ∙ before.has_president;
-      holds_two = subst (λ (tenths : ℤ). pos 2 ≤ℤ tenths)
+      holds_two = subst (λ (shares : ℤ). pos 2 ≤ℤ shares)
           (sym (shares_of_before events event company (OfSeat before.president) no_transfer)) before.holds_two;
     }
 
--- without a par value, a square, an office or tenths, companies with a square are led as before
+-- without a par value, a square, an office or shares, companies with a square are led as before
 pub led_kept : (events : List Event) (event : Event) → par_set event ≡ None → square_set event ≡ None
     → office_of event ≡ None → transfer_of event ≡ None → AreLed events → AreLed (events ++ event ∷ [])
 led_kept events event no_par no_square no_office no_transfer led =
     λ company square placed. is_led_kept events event company no_par no_office no_transfer
     (led company square (sym (square_of_before events event company no_square) ∙ placed))
 
--- without a par value, a float, an office or tenths, companies that have floated are led as before
+-- without a par value, a float, an office or shares, companies that have floated are led as before
 pub floated_kept : (events : List Event) (event : Event) → par_set event ≡ None → floated_by event ≡ None
     → office_of event ≡ None → transfer_of event ≡ None → FloatedAreLed events → FloatedAreLed (events ++ event ∷ [])
 floated_kept events event no_par no_float no_office no_transfer led =
@@ -185,25 +191,25 @@ none_fit : LiesFit []
 unfolding LiesFit
 none_fit = nothing_fits
 
--- a quiet event keeps each fact
-pub quiet_sound : QuietKeepsSound
-quiet_sound game event quiet sound =
+-- an event without any of the aspects is quiet
+pub no_word : (event : Event) → payment_of event ≡ None → ownership_of event ≡ None → bidding_of event ≡ None
+    → transfer_of event ≡ None → par_set event ≡ None → square_set event ≡ None → office_of event ≡ None
+    → floated_by event ≡ None → sv_price_set event ≡ None → train_moved event ≡ None → tile_laid event ≡ None
+    → token_placed event ≡ None → IsQuiet event
+no_word event payment ownership bidding transfer par square office float sv_price train tile token =
     record {
-      solvent = solvent_kept game event quiet.payment quiet.bidding sound.solvent;
-      companies = companies_kept game event quiet.payment sound.companies;
-      bids_differ = differ_kept game.events event quiet.bidding sound.bids_differ;
-      bids_small = small_kept game.events event quiet.bidding sound.bids_small;
-      seated = seated_kept game.seats game.events event quiet.bidding sound.seated;
-      price = price_kept game.events event quiet.sv_price sound.price;
-      given = given_kept game.events event quiet.sv_price quiet.ownership sound.given;
-      held = held_kept game.events event quiet.transfer sound.held;
-      ten = ten_kept game event quiet.transfer sound.ten;
-      offered = offered_kept game.events event quiet.ownership quiet.square quiet.transfer sound.offered;
-      led = led_kept game.events event quiet.par quiet.square quiet.office quiet.transfer sound.led;
-      floated = floated_kept game.events event quiet.par quiet.float quiet.office quiet.transfer sound.floated;
-      within = within_kept game.seats game.events event quiet.payment sound.within;
-      trains = trains_kept game.events event quiet.train sound.trains;
-      fit = fit_kept game.events event quiet.tile quiet.token sound.fit;
+      payment = payment;
+      ownership = ownership;
+      bidding = bidding;
+      transfer = transfer;
+      par = par;
+      square = square;
+      office = office;
+      float = float;
+      sv_price = sv_price;
+      train = train;
+      tile = tile;
+      token = token;
     }
 
 -- at first nobody bids

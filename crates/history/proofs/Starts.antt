@@ -1,5 +1,6 @@
--- The start of a company keeps a list sound, whether its president's two tenths are given or bought.
-use Rattle.std.proofs.Common.{◌≡◌, ℕ, ◌≤◌, ◌==◌, inl, inr, Bool, true, false, if◌then◌else◌, List, [], ◌∷◌, ◌++◌, Some, None, pos, ◌≤ℤ◌, ◌-ℤ◌, ◌+ℤ◌, refl, sym, subst, ap, ◌∙◌, arith}
+-- The start of a company keeps a list sound, whether its president's two shares are given or bought.
+use Rattle.std.proofs.Common.{◌≡◌, ℕ, ◌≤◌, ◌==◌, inl, inr, Bool, true, false, if◌then◌else◌, List, [], ◌∷◌, ◌++◌, Some}
+use Rattle.std.proofs.Common.{None, pos, ◌≤ℤ◌, ◌-ℤ◌, ◌+ℤ◌, refl, sym, subst, ap, ◌∙◌, arith}
 use Rattle.std.proofs.lemmas.Bool.Decides.{nat_tests}
 use Rattle.std.proofs.lemmas.Int.{ints}
 use Rattle.std.specs.Option.{option_or}
@@ -9,19 +10,25 @@ use Rattle.events.specs.declared.event.Event.TheVariants.{Given, Par, President}
 use Rattle.events.specs.declared.event.Shareholder.TheVariants.{InitialOffering, Seat as OfSeat}
 use Rattle.events.specs.declared.event.Transfer.{Transfer}
 use Rattle.history.proofs.Rolling.{trains_kept}
-use Rattle.history.proofs.Choices.{new_word, old_word, same_company_is, something, truth}
-use Rattle.history.proofs.EventAtEnd.{is_floated_before, last_said_at_end, par_of_before, president_of_before, shares_of_before, square_of_before}
-use Rattle.history.proofs.Gains.{Gains}
-use Rattle.history.proofs.Soundness.{companies_kept, differ_kept, fit_kept, given_kept, held_kept, least_offered_before, price_kept, seated_kept, small_kept, solvent_kept, ten_kept, within_after, within_kept}
-use Rattle.history.proofs.Tenths.{held_after, moved, shares_after, ten_after}
+use Rattle.totals.proofs.Choices.{new_word, old_word, same_company_is, something, truth}
+use Rattle.totals.proofs.EventAtEnd.{is_floated_before, last_said_at_end, par_of_before, president_of_before}
+use Rattle.totals.proofs.EventAtEnd.{shares_of_before, square_of_before}
+use Rattle.history.proofs.Gains.{Gains, only_gains}
+use Rattle.history.proofs.Soundness.{companies_kept, differ_kept, fit_kept, given_kept, held_kept, least_offered_before}
+use Rattle.history.proofs.Soundness.{price_kept, seated_kept, small_kept, solvent_kept, ten_kept, within_after}
+use Rattle.history.proofs.Soundness.{within_kept}
+use Rattle.history.proofs.ShareCount.{held_after, moved, shares_after, ten_after}
 use Rattle.history.specs.Laws.{StartKeepsSound}
-use Rattle.history.specs.LookBack.{Game, is_closed, is_sold, with_event}
-use Rattle.history.specs.Shares.{is_floated, par_of, par_said, president_of, president_said, shares_of, square_of, square_said}
-use Rattle.history.specs.Sound.{AreLed, AreOffered, CompaniesAreSolvent, FloatedAreLed, IsLed, IsSound, SeatsAreSolvent, least_offered}
+use Rattle.totals.specs.LookBack.{Game, is_closed, is_sold, with_event}
+use Rattle.totals.specs.Shares.{is_floated, par_of, par_said, president_of, president_said, shares_of, square_of}
+use Rattle.totals.specs.Shares.{square_said}
+use Rattle.history.specs.Sound.{AreLed, AreOffered, CompaniesAreSolvent, FloatedAreLed, IsLed, IsSound, SeatsAreSolvent}
+use Rattle.history.specs.Sound.{least_offered}
 use Rattle.tables.specs.Chart.{par_square_of}
 use Rattle.tables.specs.Roster.{same_company}
 use Rattle.tables.specs.declared.roster.Company.{Company}
-use Rattle.tables.specs.declared.roster.Company.TheVariants.{Pennsylvania, NewYorkCentral, CanadianPacific, BaltimoreOhio, ChesapeakeOhio, Erie, NewHaven, BostonMaine}
+use Rattle.tables.specs.declared.roster.Company.TheVariants.{Pennsylvania, NewYorkCentral, CanadianPacific}
+use Rattle.tables.specs.declared.roster.Company.TheVariants.{BaltimoreOhio, ChesapeakeOhio, Erie, NewHaven, BostonMaine}
 use Rattle.tables.specs.declared.roster.Private.TheVariants.{CamdenAmboy, MohawkHudson}
 use Rattle.tables.specs.declared.seat.Seat.{Seat}
 use Rattle.tables.specs.declared.squares.Square.{Square}
@@ -50,13 +57,13 @@ president_after events started seat company =
 
 -- the president's certificate
 abbrev pub certificate : Company → Seat → Transfer
-certificate company seat = record { company = company; from = InitialOffering; to = OfSeat seat; tenths = 2 }
+certificate company seat = record { company = company; from = InitialOffering; to = OfSeat seat; shares = 2 }
 
 -- a seat is itself
 itself : (n a : ℕ) → (if n == n then a else 0) ≡ a
 itself n a = grind (arith, nat_tests)
 
--- a company is started: its par, its two tenths by some event, its president
+-- a company is started: its par, its two shares by some event, its president
 module _ (game : Game) (started : Company) (seat : Seat) (price : ℕ) (square : Square) (event : Event)
     (par : par_square_of price ≡ Some square) (gains : Gains game.seats event (certificate started seat)) where
   abbrev first : Game
@@ -204,7 +211,7 @@ eight_or_nine : (test : Bool) → 8 ≤ (if test then 8 else 9)
 eight_or_nine true = omega arith
 eight_or_nine false = omega arith
 
--- at least eight tenths are in each initial offering
+-- at least eight shares are in each initial offering
 pub least_eight : (events : List Event) (company : Company) → 8 ≤ least_offered events company
 least_eight events Pennsylvania = eight_or_nine (is_sold events CamdenAmboy)
 least_eight events NewYorkCentral = eight_or_nine (is_closed events MohawkHudson)
@@ -271,25 +278,10 @@ start_sound_by game company seat price event gains is_par unplaced solvent compa
           (fit_kept game.events (Par company price) refl refl sound.fit));
     }
 
--- the two tenths are given
+-- the two shares are given
 pub started_sound : StartKeepsSound
 started_sound game company seat price is_par unplaced seated sound =
-    let gains : Gains game.seats (Given company seat 2) (certificate company seat) = record {
-      moves = refl;
-      from_bank = tt;
-      to_table = seated;
-      no_owner = refl;
-      no_bid = refl;
-      no_par = refl;
-      no_square = refl;
-      no_office = refl;
-      no_float = refl;
-      no_price = refl;
-      no_train = refl;
-      no_tile = refl;
-      no_token = refl;
-      pays = tt;
-    }
+    let gains : Gains game.seats (Given company seat 2) (certificate company seat) = only_gains _ _ _ refl tt seated refl refl refl refl refl refl refl refl refl refl tt
     in
     let par = with_event game (Par company price) in
     start_sound_by game company seat price (Given company seat 2) gains is_par unplaced

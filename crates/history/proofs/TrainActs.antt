@@ -1,87 +1,54 @@
 -- Runs, dividends, and trains that are bought, traded in, rusted or discarded keep a list sound; so do a phase that
 -- begins and a private that closes.
-use Rattle.std.proofs.Common.{◌≡◌, ℕ, ◌≤◌, Bool, true, false, ◌&&◌, if◌then◌else◌, List, [], ◌∷◌, ◌++◌, Option, Some, None, is_some, is_none, refl, sym, ap, ◌∙◌, arith}
+use Rattle.std.proofs.Common.{◌≡◌, ℕ, ◌≤◌, Bool, true, false, ◌&&◌, if◌then◌else◌, List, [], ◌∷◌, ◌++◌, Option, Some}
+use Rattle.std.proofs.Common.{None, is_some, is_none, refl, sym, ap, ◌∙◌, arith}
 use Rattle.std.proofs.lemmas.Int.{ints}
 use Rattle.std.specs.Option.{option_flatten, option_or}
 use Rattle.events.specs.Event.{ownership_of, party_of_seller}
 use Rattle.events.specs.declared.event.Event.{Event}
-use Rattle.events.specs.declared.event.Event.TheVariants.{Runs, Dividend, Traded, Train, Phase, Rusted, Discarded, Closed}
+use Rattle.events.specs.declared.event.Event.TheVariants.{Runs, Dividend, Traded, Train, Phase, Rusted, Discarded}
+use Rattle.events.specs.declared.event.Event.TheVariants.{Closed}
 use Rattle.events.specs.declared.event.Holder.{Holder}
 use Rattle.events.specs.declared.event.Shareholder.TheVariants.{InitialOffering}
 use Rattle.events.specs.declared.event.TrainPlace.TheVariants as place
 use Rattle.events.specs.declared.event.TrainSeller.{TrainSeller}
 use Rattle.events.specs.declared.event.TrainSeller.TheVariants as seller
 use Rattle.history.proofs.Acts.{fewer, stays_sold}
-use Rattle.history.proofs.EventAtEnd.{last_said_at_end, shares_of_before, square_of_before, sv_price_of_before}
-use Rattle.history.proofs.Payments.{can_pay, payment_sound}
+use Rattle.totals.proofs.EventAtEnd.{last_said_at_end, shares_of_before, square_of_before, sv_price_of_before}
+use Rattle.history.proofs.Payments.{can_pay, only_pays, payment_sound}
 use Rattle.history.proofs.Rolling.{trains_after_move, trains_after_sale, trains_kept}
-use Rattle.history.proofs.Soundness.{companies_kept, differ_kept, fit_kept, floated_kept, held_kept, led_kept, price_kept, quiet_sound, seated_kept, small_kept, solvent_kept, ten_kept, within_kept}
-use Rattle.history.specs.Laws.{ClosingKeepsSound, DiscardKeepsSound, DividendKeepsSound, PhaseKeepsSound, RunKeepsSound, RustingKeepsSound, TradeKeepsSound, TrainPurchaseKeepsSound}
-use Rattle.history.specs.LookBack.{is_closed, is_sold, last_said, owner_said}
+use Rattle.history.proofs.NearlySound.{quiet_sound}
+use Rattle.history.proofs.Soundness.{companies_kept, differ_kept, fit_kept, floated_kept, held_kept, led_kept, no_word}
+use Rattle.history.proofs.Soundness.{price_kept, seated_kept, small_kept, solvent_kept, ten_kept, within_kept}
+use Rattle.history.specs.Laws.{ClosingKeepsSound, DiscardKeepsSound, DividendKeepsSound, PhaseKeepsSound, RunKeepsSound}
+use Rattle.history.specs.Laws.{RustingKeepsSound, TradeKeepsSound, TrainPurchaseKeepsSound}
+use Rattle.totals.specs.LookBack.{is_closed, is_sold, last_said, owner_said}
 use Rattle.history.specs.Money.{IsParty}
 use Rattle.history.specs.Sound.{AreOffered, IsGivenAway, least_offered}
-use Rattle.history.specs.Trains.{IsThere, TrainsAreHeld}
+use Rattle.totals.specs.Trains.{IsThere, TrainsAreHeld}
 use Rattle.tables.specs.Roster.{same_private}
 use Rattle.tables.specs.declared.rolling_stock.Kind.{Kind}
 use Rattle.tables.specs.declared.roster.Company.{Company}
-use Rattle.tables.specs.declared.roster.Company.TheVariants.{Pennsylvania, NewYorkCentral, CanadianPacific, BaltimoreOhio, ChesapeakeOhio, Erie, NewHaven, BostonMaine}
+use Rattle.tables.specs.declared.roster.Company.TheVariants.{Pennsylvania, NewYorkCentral, CanadianPacific}
+use Rattle.tables.specs.declared.roster.Company.TheVariants.{BaltimoreOhio, ChesapeakeOhio, Erie, NewHaven, BostonMaine}
 use Rattle.tables.specs.declared.roster.Private.{Private}
 use Rattle.tables.specs.declared.roster.Private.TheVariants.{SchuylkillValley, MohawkHudson, CamdenAmboy}
 
 -- a run
 pub run_sound : RunKeepsSound
 run_sound game company revenue sound =
-    quiet_sound game (Runs company revenue) (record {
-      payment = refl;
-      ownership = refl;
-      bidding = refl;
-      transfer = refl;
-      par = refl;
-      square = refl;
-      office =
-          refl;
-      float = refl;
-      sv_price = refl;
-      train = refl;
-      tile = refl;
-      token = refl;
-    }) sound
+    quiet_sound game (Runs company revenue) (no_word _ refl refl refl refl refl refl refl refl refl refl refl refl) sound
 
 -- a phase
 pub phase_sound : PhaseKeepsSound
 phase_sound game kind sound =
-    quiet_sound game (Phase kind) (record {
-      payment = refl;
-      ownership = refl;
-      bidding = refl;
-      transfer = refl;
-      par =
-          refl;
-      square = refl;
-      office = refl;
-      float = refl;
-      sv_price = refl;
-      train = refl;
-      tile = refl;
-      token = refl;
-    })
-    sound
+    quiet_sound game (Phase kind) (no_word _ refl refl refl refl refl refl refl refl refl refl refl refl) sound
 
 -- a dividend
 pub dividend_sound : DividendKeepsSound
 dividend_sound game company paid amount party sound =
     payment_sound game (Dividend company paid amount)
-    (record {
-      no_owner = refl;
-      no_bid = refl;
-      no_transfer = refl;
-      no_par = refl;
-      no_square = refl;
-      no_office =
-          refl;
-      no_float = refl;
-      no_price = refl;
-    }) (λ seat. refl) (λ other. sound.companies other) (tt, party)
+    (only_pays _ refl refl refl refl refl refl refl refl) (λ seat. refl) (λ other. sound.companies other) (tt, party)
     (trains_kept game.events (Dividend company paid amount) refl sound.trains)
     (fit_kept game.events (Dividend company paid amount) refl refl sound.fit) sound
 
@@ -107,17 +74,7 @@ seller_is_party seats (seller.Company from) = tt
 pub train_purchase_sound : TrainPurchaseKeepsSound
 train_purchase_sound game company kind from price there enough sound =
     payment_sound game (Train company kind from price)
-    (record {
-      no_owner = refl;
-      no_bid = refl;
-      no_transfer = refl;
-      no_par = refl;
-      no_square = refl;
-      no_office =
-          refl;
-      no_float = refl;
-      no_price = refl;
-    }) (λ seat. refl)
+    (only_pays _ refl refl refl refl refl refl refl refl) (λ seat. refl)
     (λ other. can_pay game company other price enough sound.companies) (tt, seller_is_party game.seats from)
     (came_held game.events company kind from price there sound.trains)
     (fit_kept game.events (Train company kind from price) refl refl sound.fit) sound
@@ -125,51 +82,21 @@ train_purchase_sound game company kind from price there enough sound =
 -- a train that is traded in
 pub trade_sound : TradeKeepsSound
 trade_sound game company kind has sound =
-    payment_sound game (Traded company kind) (record {
-      no_owner = refl;
-      no_bid = refl;
-      no_transfer = refl;
-      no_par = refl;
-      no_square = refl;
-      no_office =
-          refl;
-      no_float = refl;
-      no_price = refl;
-    }) (λ seat. refl) (λ other. sound.companies other) tt
+    payment_sound game (Traded company kind) (only_pays _ refl refl refl refl refl refl refl refl) (λ seat. refl) (λ other. sound.companies other) tt
     (trains_after_move game.events (Traded company kind) (Some company) kind place.BankPool refl has sound.trains)
     (fit_kept game.events (Traded company kind) refl refl sound.fit) sound
 
 -- one that is discarded
 pub discard_sound : DiscardKeepsSound
 discard_sound game company kind has sound =
-    payment_sound game (Discarded company kind) (record {
-      no_owner = refl;
-      no_bid = refl;
-      no_transfer = refl;
-      no_par = refl;
-      no_square = refl;
-      no_office =
-          refl;
-      no_float = refl;
-      no_price = refl;
-    }) (λ seat. refl) (λ other. sound.companies other) tt
+    payment_sound game (Discarded company kind) (only_pays _ refl refl refl refl refl refl refl refl) (λ seat. refl) (λ other. sound.companies other) tt
     (trains_after_move game.events (Discarded company kind) (Some company) kind place.BankPool refl has
     sound.trains) (fit_kept game.events (Discarded company kind) refl refl sound.fit) sound
 
 -- one that rusts
 pub rusting_sound : RustingKeepsSound
 rusting_sound game owner kind has sound =
-    payment_sound game (Rusted owner kind) (record {
-      no_owner = refl;
-      no_bid = refl;
-      no_transfer = refl;
-      no_par = refl;
-      no_square = refl;
-      no_office =
-          refl;
-      no_float = refl;
-      no_price = refl;
-    }) (λ seat. refl) (λ other. sound.companies other) tt
+    payment_sound game (Rusted owner kind) (only_pays _ refl refl refl refl refl refl refl refl) (λ seat. refl) (λ other. sound.companies other) tt
     (trains_after_move game.events (Rusted owner kind) owner kind place.OutOfPlay refl has sound.trains)
     (fit_kept game.events (Rusted owner kind) refl refl sound.fit) sound
 
@@ -187,7 +114,7 @@ stays_closed events private other closed =
     (last_said_at_end (λ e. owner_said other (ownership_of e)) events (Closed private))
     ∙ closed_still (same_private private other) (last_said (λ e. owner_said other (ownership_of e)) events) closed
 
--- so no more tenths are to stay in an initial offering
+-- so no more shares are to stay in an initial offering
 least_after_closing : (events : List Event) (private : Private) (company : Company)
     → least_offered (events ++ Closed private ∷ []) company ≤ least_offered events company
 least_after_closing events private Pennsylvania =

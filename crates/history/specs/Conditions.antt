@@ -3,8 +3,8 @@
 -- D; FLOATED, that the company has floated.
 use Rattle.std.specs.Prelude.{ℕ, nat_le, Bool, true, false, List, Option, Some, None}
 use Rattle.events.specs.declared.event.Event.{Event}
-use Rattle.history.specs.Shares.{is_floated, square_of}
-use Rattle.history.specs.Trains.{phase_of}
+use Rattle.totals.specs.Shares.{is_floated, square_of}
+use Rattle.totals.specs.Trains.{phase_of}
 use Rattle.order_grammar.specs.declared.condition.Condition.{Condition}
 use Rattle.order_grammar.specs.declared.condition.Condition.TheVariants.{Price, Phase, Floated}
 use Rattle.tables.specs.Chart.{price_of}

@@ -1,25 +1,24 @@
--- Laws of games: what a list says once one more event stands at its end, and what keeps it sound.
-use Rattle.std.specs.Prelude.{◌≡◌, ◌≢◌, ◌≤◌, ◌<◌, ℕ, ◌+◌, List, [], ◌∷◌, ◌++◌, Option, Some, None, true, false, if◌then◌else◌, is_some, length, ◌≤ℤ◌, pos, ◌-ℤ◌, ◌+ℤ◌}
-use Rattle.std.specs.Option.{option_or}
-use Rattle.events.specs.Event.{IsQuiet, is_par_value, party_at, party_of_company, payment_of, place_of_source, square_set}
+-- Laws of games: what keeps a list sound, and what a sound list says.
+use Rattle.std.specs.Prelude.{◌≡◌, ◌≢◌, ◌≤◌, ◌<◌, ℕ, ◌+◌, List, [], ◌∷◌, ◌++◌, Option, Some, None, true, false}
+use Rattle.std.specs.Prelude.{if◌then◌else◌, is_some, length, ◌≤ℤ◌, pos, ◌-ℤ◌}
+use Rattle.events.specs.Event.{IsQuiet, is_par_value, party_at, party_of_company, place_of_source, square_set}
 use Rattle.events.specs.declared.event.Event.{Event}
-use Rattle.events.specs.declared.event.Event.TheVariants.{Bids, Sold, Price, Revenue, Given, Par, President, Bought, Sells, Exchanged, Floats, Moves, Home, Laid, Token, Withheld, Runs, Dividend, Traded, Train, Phase, Rusted, Discarded, Closed, PrivateBought, Forced, Aid, Bankrupt}
+use Rattle.events.specs.declared.event.Event.TheVariants.{Bids, Sold, Price, Revenue, Given, Par, President, Bought}
+use Rattle.events.specs.declared.event.Event.TheVariants.{Sells, Exchanged, Floats, Moves, Home, Laid, Token, Withheld}
+use Rattle.events.specs.declared.event.Event.TheVariants.{Runs, Dividend, Traded, Train, Phase, Rusted, Discarded}
+use Rattle.events.specs.declared.event.Event.TheVariants.{Closed, PrivateBought, Forced, Aid, Bankrupt}
 use Rattle.events.specs.declared.event.Holder.{Holder}
 use Rattle.events.specs.declared.event.Holder.TheVariants as holder
-use Rattle.events.specs.declared.event.Party.{Party}
 use Rattle.events.specs.declared.event.Party.TheVariants as party
-use Rattle.events.specs.declared.event.Shareholder.{Shareholder}
 use Rattle.events.specs.declared.event.Shareholder.TheVariants.{InitialOffering, Seat as OfSeat}
-use Rattle.events.specs.declared.event.TrainPlace.{TrainPlace}
 use Rattle.events.specs.declared.event.TrainSeller.{TrainSeller}
-use Rattle.history.specs.LookBack.{Game, cash_of, cheapest_of, is_sold, last_said, owner_of, paid_by, paid_to, sv_price_of, with_event}
-use Rattle.history.specs.Bids.{bid_of, bids_elsewhere_of, bids_of, bids_on as the_bids_on, free_cash_of}
+use Rattle.totals.specs.LookBack.{Game, cash_of, cheapest_of, is_sold, owner_of, sv_price_of, with_event}
+use Rattle.totals.specs.Bids.{bid_of, bids_elsewhere_of, free_cash_of}
 use Rattle.history.specs.Money.{IsParty, cash_together, parties}
-use Rattle.history.specs.Operating.{lays_of, rulings_in_round, rulings_then, tokens_of}
-use Rattle.history.specs.Shares.{arrival_of, is_floated, par_of, president_of, shares_of, square_of, square_said}
+use Rattle.totals.specs.Shares.{arrival_of, president_of, shares_of, square_of, square_said}
 use Rattle.history.specs.Sound.{IsSound, IsSvPrice, LiesFit, least_offered}
 use Rattle.history.specs.Record.{broken_recorded}
-use Rattle.history.specs.Trains.{IsThere, trains_at, trains_held}
+use Rattle.totals.specs.Trains.{IsThere, trains_held}
 use Rattle.map_tables.specs.declared.lay.Lay.{Lay}
 use Rattle.map_tables.specs.declared.place.Place.{Place}
 use Rattle.order_grammar.specs.declared.order.ShareSource.{ShareSource}
@@ -33,40 +32,9 @@ use Rattle.tables.specs.declared.roster.Private.TheVariants.{SchuylkillValley, M
 use Rattle.tables.specs.declared.seat.Seat.{Seat}
 use Rattle.tables.specs.declared.squares.Square.{Square}
 
--- what was said last: what the event at the end says, or else what was said before it
-abbrev pub LastWordIsLast : Type 0 → Type 0
-LastWordIsLast A =
-    (says : Event → Option A) (events : List Event) (event : Event) →
-    last_said says (events ++ event ∷ []) ≡ option_or (says event) (last_said says events)
-
--- a payment moves cash from the one that pays to the one that is paid
-abbrev pub CashMoves : Type 0
-CashMoves =
-    (seats : ℕ) (events : List Event) (event : Event) (party : Party) →
-    cash_of seats (events ++ event ∷ []) party ≡ (cash_of seats events party +ℤ pos
-    (paid_to party (payment_of event))) -ℤ pos (paid_by party (payment_of event))
-
--- a list says the same as before of what parties have and own, and of SV's price
-pub record SaysTheSame (before after : List Event) : Type 0 where
-  pub cash : (seats : ℕ) (party : Party) → cash_of seats after party ≡ cash_of seats before party
-  pub owner : (private : Private) → owner_of after private ≡ owner_of before private
-  pub sold : (private : Private) → is_sold after private ≡ is_sold before private
-  pub cheapest : cheapest_of after ≡ cheapest_of before
-  pub bid : (private : Private) (seat : Seat) → bid_of after private seat ≡ bid_of before private seat
-  pub bids : (seat : Seat) → bids_of after seat ≡ bids_of before seat
-  pub bids_on : (seats : ℕ) (private : Private) → the_bids_on seats after private ≡ the_bids_on seats before private
-  pub shares : (company : Company) (place : Shareholder)
-      → shares_of after company place ≡ shares_of before company place
-  pub par : (company : Company) → par_of after company ≡ par_of before company
-  pub square : (company : Company) → square_of after company ≡ square_of before company
-  pub president : (company : Company) → president_of after company ≡ president_of before company
-  pub floated : (company : Company) → is_floated after company ≡ is_floated before company
-  pub sv_price : sv_price_of after ≡ sv_price_of before
-  pub trains : (place : TrainPlace) (kind : Kind) → trains_at after place kind ≡ trains_at before place kind
-
--- a game after the bank has paid a seat for tenths of a company; perhaps that breaks the bank
+-- a game after the bank has paid a seat for shares of a company; perhaps that breaks the bank
 abbrev pub block_sold : Game → Company → Seat → ℕ → ℕ → Game
-block_sold game company seat tenths price = broken_recorded (with_event game (Sells company seat tenths price))
+block_sold game company seat shares price = broken_recorded (with_event game (Sells company seat shares price))
 
 -- the bank, the seats at the table and the companies have 12,000 together in a sound list
 abbrev pub SoundMoneyStays : Type 0
@@ -78,11 +46,6 @@ abbrev pub OwnersAreParties : Type 0
 OwnersAreParties =
     (game : Game) (private : Private) (owner : Holder) →
     IsSound game → owner_of game.events private ≡ Some owner → IsParty game.seats (party.Holder owner)
-
--- a quiet event changes none of it
-abbrev pub QuietSaysTheSame : Type 0
-QuietSaysTheSame =
-    (events : List Event) (event : Event) → IsQuiet event → SaysTheSame events (events ++ event ∷ [])
 
 -- a quiet event keeps a list sound
 abbrev pub QuietKeepsSound : Type 0
@@ -128,16 +91,16 @@ SvIsGivenAway =
     is_sold game.events SchuylkillValley ≡ false → seat.0 < game.seats → IsSound game
     → IsSound (with_event (with_event game (Price 0)) (Sold SchuylkillValley seat 0))
 
--- a gift to a seat at the table keeps a list sound, where the initial offering has so many tenths, and
--- of a company without a square enough are left
+-- a gift to a seat at the table keeps a list sound, where the initial offering has this many shares, and of a company
+-- without a square enough are left
 abbrev pub GiftKeepsSound : Type 0
 GiftKeepsSound =
-    (game : Game) (company : Company) (seat : Seat) (tenths : ℕ) →
-    seat.0 < game.seats → pos tenths ≤ℤ shares_of game.events company InitialOffering
-    → (square_of game.events company ≡ None → pos (least_offered game.events company + tenths) ≤ℤ shares_of
-    game.events company InitialOffering) → IsSound game → IsSound (with_event game (Given company seat tenths))
+    (game : Game) (company : Company) (seat : Seat) (shares : ℕ) →
+    seat.0 < game.seats → pos shares ≤ℤ shares_of game.events company InitialOffering
+    → (square_of game.events company ≡ None → pos (least_offered game.events company + shares) ≤ℤ shares_of
+    game.events company InitialOffering) → IsSound game → IsSound (with_event game (Given company seat shares))
 
--- so does the sale of CA with its tenth of PRR, where PRR has no square
+-- so does the sale of CA with its share of PRR, where PRR has no square
 abbrev pub CaIsSoldWithItsGift : Type 0
 CaIsSoldWithItsGift =
     (game : Game) (seat : Seat) (price : ℕ) →
@@ -146,8 +109,8 @@ CaIsSoldWithItsGift =
     (bids_elsewhere_of game.events seat CamdenAmboy)) → IsSound game
     → IsSound (with_event (with_event game (Sold CamdenAmboy seat price)) (Given Pennsylvania seat 1))
 
--- and so does the start of a company that has no square: its par value, two tenths for a seat at the
--- table, and that seat as its president
+-- and so does the start of a company that has no square: its par value, two shares for a seat at the table, and that
+-- seat as its president
 abbrev pub StartKeepsSound : Type 0
 StartKeepsSound =
     (game : Game) (company : Company) (seat : Seat) (price : ℕ) →
@@ -155,8 +118,8 @@ StartKeepsSound =
     → IsSound (with_event (with_event (with_event game (Par company price)) (Given company seat 2))
     (President company seat))
 
--- so does the start of a company that has no square by a purchase: its par value, two tenths of the initial
--- offering for a seat at the table that has their price free of its bids, and that seat as its president
+-- so does the start of a company that has no square by a purchase: its par value, two shares of the initial offering
+-- for a seat at the table that has their price free of its bids, and that seat as its president
 abbrev pub StartByPurchaseKeepsSound : Type 0
 StartByPurchaseKeepsSound =
     (game : Game) (company : Company) (seat : Seat) (price cost : ℕ) →
@@ -165,17 +128,17 @@ StartByPurchaseKeepsSound =
     → IsSound (with_event (with_event (with_event game (Par company price))
     (Bought company seat 2 source.InitialOffering cost)) (President company seat))
 
--- a purchase of tenths of a company that has a square, by a seat at the table that has their price free of
--- its bids, keeps a list sound, where there are so many
+-- a purchase of shares of a company that has a square, by a seat at the table that has their price free of its bids,
+-- keeps a list sound, where there are this many
 abbrev pub PurchaseKeepsSound : Type 0
 PurchaseKeepsSound =
-    (game : Game) (company : Company) (seat : Seat) (tenths : ℕ) (from : ShareSource) (price : ℕ) (square : Square) →
+    (game : Game) (company : Company) (seat : Seat) (shares : ℕ) (from : ShareSource) (price : ℕ) (square : Square) →
     square_of game.events company ≡ Some square → seat.0 < game.seats
-    → pos tenths ≤ℤ shares_of game.events company (place_of_source from)
+    → pos shares ≤ℤ shares_of game.events company (place_of_source from)
     → pos price ≤ℤ free_cash_of game.seats game.events seat → IsSound game
-    → IsSound (with_event game (Bought company seat tenths from price))
+    → IsSound (with_event game (Bought company seat shares from price))
 
--- MH's exchange keeps a list sound, where a seat at the table owns MH and there is a tenth of NYC
+-- MH's exchange keeps a list sound, where a seat at the table owns MH and there is a share of NYC
 abbrev pub ExchangeKeepsSound : Type 0
 ExchangeKeepsSound =
     (game : Game) (seat : Seat) (from : ShareSource) →
@@ -183,32 +146,32 @@ ExchangeKeepsSound =
     → pos 1 ≤ℤ shares_of game.events NewYorkCentral (place_of_source from) → IsSound game
     → IsSound (with_event game (Exchanged seat from))
 
--- a presidency that passes to a seat with no fewer tenths than the president has keeps a list sound
+-- a presidency that passes to a seat with no fewer shares than the president has keeps a list sound
 abbrev pub SuccessionKeepsSound : Type 0
 SuccessionKeepsSound =
     (game : Game) (company : Company) (old new : Seat) →
     president_of game.events company ≡ Some old → shares_of game.events company (OfSeat old) ≤ℤ shares_of game.events
     company (OfSeat new) → IsSound game → IsSound (with_event game (President company new))
 
--- a sale of tenths that a seat at the table has keeps a list sound, where the president keeps two; perhaps it
--- breaks the bank
+-- a sale of shares that a seat at the table has keeps a list sound, where the president keeps two; perhaps it breaks
+-- the bank
 abbrev pub BlockKeepsSound : Type 0
 BlockKeepsSound =
-    (game : Game) (company : Company) (seat : Seat) (tenths price : ℕ) →
-    seat.0 < game.seats → pos tenths ≤ℤ shares_of game.events company (OfSeat seat)
+    (game : Game) (company : Company) (seat : Seat) (shares price : ℕ) →
+    seat.0 < game.seats → pos shares ≤ℤ shares_of game.events company (OfSeat seat)
     → ((president : Seat) → president_of game.events company ≡ Some president
-    → pos 2 ≤ℤ shares_of (block_sold game company seat tenths price).events company (OfSeat president))
-    → IsSound game → IsSound (block_sold game company seat tenths price)
+    → pos 2 ≤ℤ shares_of (block_sold game company seat shares price).events company (OfSeat president))
+    → IsSound game → IsSound (block_sold game company seat shares price)
 
 -- so does a sale after which the presidency passes to a seat that then has two
 abbrev pub BlockWithSuccessionKeepsSound : Type 0
 BlockWithSuccessionKeepsSound =
-    (game : Game) (company : Company) (seat : Seat) (tenths price : ℕ) (president : Seat) →
-    seat.0 < game.seats → pos tenths ≤ℤ shares_of game.events company (OfSeat seat)
-    → pos 2 ≤ℤ shares_of (block_sold game company seat tenths price).events company (OfSeat president)
-    → IsSound game → IsSound (with_event (block_sold game company seat tenths price) (President company president))
+    (game : Game) (company : Company) (seat : Seat) (shares price : ℕ) (president : Seat) →
+    seat.0 < game.seats → pos shares ≤ℤ shares_of game.events company (OfSeat seat)
+    → pos 2 ≤ℤ shares_of (block_sold game company seat shares price).events company (OfSeat president)
+    → IsSound game → IsSound (with_event (block_sold game company seat shares price) (President company president))
 
--- a company that floats keeps a list sound, where at most four tenths are left in its initial offering
+-- a company that floats keeps a list sound, where at most four shares are left in its initial offering
 abbrev pub FloatKeepsSound : Type 0
 FloatKeepsSound =
     (game : Game) (company : Company) (amount : ℕ) →
@@ -316,30 +279,13 @@ AidKeepsSound =
     seat.0 < game.seats → pos amount ≤ℤ free_cash_of game.seats game.events seat → IsSound game
     → IsSound (with_event game (Aid seat company amount))
 
--- a tile that the event at the end lays is the last
-abbrev pub LaysGrow : Type 0
-LaysGrow = (events : List Event) (event : Event)
-    → lays_of (events ++ event ∷ []) ≡ lays_of events ++ lays_of (event ∷ [])
-
--- and a token that it places
-abbrev pub TokensGrow : Type 0
-TokensGrow =
-    (events : List Event) (event : Event) → tokens_of (events ++ event ∷ [])
-    ≡ tokens_of events ++ tokens_of (event ∷ [])
-
--- the event at the end begins the count of a seat's rulings anew, or adds one, or leaves it
-abbrev pub RulingsAreCounted : Type 0
-RulingsAreCounted =
-    (events : List Event) (event : Event) (seat : Seat) →
-    rulings_in_round (events ++ event ∷ []) seat ≡ rulings_then seat (rulings_in_round events seat) event
-
 -- two companies with squares have not come there by the same event
 abbrev pub ArrivalsDiffer : Type 0
 ArrivalsDiffer =
     (events : List Event) (a b : Company) (at there : Square) →
     square_of events a ≡ Some at → square_of events b ≡ Some there → a ≢ b → arrival_of events a ≢ arrival_of events b
 
--- a company has come to its square by the event at the end, if that sets it, or else when it did before
+-- a company has reached its square by the event at the end, if that sets it, or else when it did before
 abbrev pub ArrivalIsLast : Type 0
 ArrivalIsLast =
     (events : List Event) (event : Event) (company : Company) →

@@ -7,7 +7,7 @@ use Rattle.events.specs.declared.event.Holder.TheVariants as holder
 use Rattle.events.specs.declared.event.Party.{Party}
 use Rattle.events.specs.declared.event.Party.TheVariants as party
 use Rattle.events.specs.declared.event.Payment.{Payment}
-use Rattle.history.specs.LookBack.{cash_of}
+use Rattle.totals.specs.LookBack.{cash_of}
 use Rattle.tables.specs.Roster.{companies}
 use Rattle.tables.specs.Seat.{all_seats}
 

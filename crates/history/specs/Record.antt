@@ -7,7 +7,7 @@ use Rattle.events.specs.declared.event.Event.{Event}
 use Rattle.events.specs.declared.event.Event.TheVariants as event
 use Rattle.events.specs.declared.event.Holder.{Holder}
 use Rattle.events.specs.declared.event.Party.TheVariants as party
-use Rattle.history.specs.LookBack.{Game, cash_of, broken_in, owner_of}
+use Rattle.totals.specs.LookBack.{Game, cash_of, broken_in, owner_of}
 use Rattle.tables.specs.Roster.{privates, revenue_of}
 use Rattle.tables.specs.declared.roster.Private.{Private}
 use Rattle.tables.specs.declared.seat.Seat.{Seat}
@@ -49,6 +49,6 @@ revenues_recorded game = record { seats = game.seats; events = after_revenues ga
 abbrev pub with_left : Seat → ℕ → List Event → List Event
 with_left seat count events = if count == 0 then events else event.Left seat count ∷ events
 
--- a game in which so many lines are told of, if there are any
+-- a game in which this many lines are told of, if there are any
 abbrev pub left_recorded : Seat → ℕ → Game → Game
 left_recorded seat count game = record { seats = game.seats; events = game.events ++ with_left seat count [] }

@@ -1,15 +1,11 @@
--- A list of events is sound where
--- no seat has less cash than its standing bids tie, and no company owes anything;
--- standing bids are of seats at the table; those on a private differ, and none is over 99,999;
--- SV's price is 5, 10, 15 or 20, or 0 once it is sold;
--- each company's tenths are nowhere under 0 and ten in all, and of a company without a square at least
--- eight are in its initial offering, nine of PRR while CA is unsold and of NYC while MH is open;
--- a company that has a square or has floated has one of the six par values and a president with at least
--- two tenths;
--- every payment goes between the bank, seats at the table and companies;
--- nobody has fewer than no trains of a kind, and the bank has sold no more of them than there are;
--- the tiles and tokens that were laid fit on the map, with the home tokens that are still to come.
--- Each fact is about a few aspects of events: an event without those keeps it.
+-- A list of events is sound where no seat has less cash than its standing bids tie, and no company owes anything;
+-- standing bids are of seats at the table; those on a private differ, and none is over 99,999; SV's price is 5, 10, 15
+-- or 20, or 0 once it is sold; each company's shares are nowhere under 0 and ten in all, and of a company without a
+-- square at least eight are in its initial offering, nine of PRR while CA is unsold and of NYC while MH is open; a
+-- company that has a square or has floated has one of the six par values and a president with at least two shares;
+-- every payment goes between the bank, seats at the table and companies; nobody has fewer than no trains of a kind, and
+-- the bank has sold no more of them than there are; the tiles and tokens that were laid fit on the map, with the home
+-- tokens that are still to come. Each fact is about a few aspects of events: an event without those keeps it.
 use Rattle.std.specs.Prelude.{◌≡◌, ◌⊎◌, ℕ, ◌<◌, ◌≤◌, true, if◌then◌else◌, List, Some, None, pos, ◌≤ℤ◌}
 use Rattle.events.specs.Event.{is_par_value}
 use Rattle.events.specs.declared.event.Event.{Event}
@@ -17,12 +13,12 @@ use Rattle.events.specs.declared.event.Holder.TheVariants as holder
 use Rattle.events.specs.declared.event.Party.TheVariants as party
 use Rattle.events.specs.declared.event.Shareholder.{Shareholder}
 use Rattle.events.specs.declared.event.Shareholder.TheVariants.{InitialOffering, Seat as OfSeat}
-use Rattle.history.specs.Bids.{bid_of, free_cash_of}
-use Rattle.history.specs.LookBack.{Game, cash_of, is_closed, is_sold, sv_price_of}
+use Rattle.totals.specs.Bids.{bid_of, free_cash_of}
+use Rattle.totals.specs.LookBack.{Game, cash_of, is_closed, is_sold, sv_price_of}
 use Rattle.history.specs.Money.{AreWithin}
-use Rattle.history.specs.Operating.{lays_of, tokens_of}
-use Rattle.history.specs.Shares.{is_floated, par_of, president_of, shares_of, square_of, tenths_in_all}
-use Rattle.history.specs.Trains.{TrainsAreHeld}
+use Rattle.totals.specs.Operating.{lays_of, tokens_of}
+use Rattle.totals.specs.Shares.{is_floated, par_of, president_of, shares_of, square_of, shares_in_all}
+use Rattle.totals.specs.Trains.{TrainsAreHeld}
 use Rattle.map_tables.specs.Fit.{AreFitWithHomes}
 use Rattle.tables.specs.declared.roster.Company.{Company}
 use Rattle.tables.specs.declared.roster.Company.TheVariants.{Pennsylvania, NewYorkCentral}
@@ -64,27 +60,27 @@ IsSvPrice price = (price ≡ 20) ⊎ (price ≡ 15) ⊎ (price ≡ 10) ⊎ (pric
 abbrev pub IsGivenAway : List Event → Type 0
 IsGivenAway events = sv_price_of events ≡ 0 → is_sold events SchuylkillValley ≡ true
 
--- no place has fewer than 0 tenths of a company
-abbrev pub TenthsAreHeld : List Event → Type 0
-TenthsAreHeld events = (company : Company) (place : Shareholder) → pos 0 ≤ℤ shares_of events company place
+-- no place has fewer than 0 shares of a company
+abbrev pub SharesAreHeld : List Event → Type 0
+SharesAreHeld events = (company : Company) (place : Shareholder) → pos 0 ≤ℤ shares_of events company place
 
--- each company has ten tenths
+-- each company has ten shares
 abbrev pub AreTenInAll : Game → Type 0
-AreTenInAll game = (company : Company) → tenths_in_all game.seats game.events company ≡ pos 10
+AreTenInAll game = (company : Company) → shares_in_all game.seats game.events company ≡ pos 10
 
--- the tenths that stay in the initial offering of a company without a square
+-- the shares that stay in the initial offering of a company without a square
 abbrev pub least_offered : List Event → Company → ℕ
 least_offered events Pennsylvania = if is_sold events CamdenAmboy then 8 else 9
 least_offered events NewYorkCentral = if is_closed events MohawkHudson then 8 else 9
 least_offered events other = 8
 
--- so many are there
+-- this many are there
 abbrev pub AreOffered : List Event → Type 0
 AreOffered events =
     (company : Company) → square_of events company ≡ None
     → pos (least_offered events company) ≤ℤ shares_of events company InitialOffering
 
--- a company has one of the six par values, and a president with at least two tenths
+-- a company has one of the six par values, and a president with at least two shares
 pub record IsLed (events : List Event) (company : Company) : Type 0 where
   pub par : ℕ
   pub has_par : par_of events company ≡ Some par
@@ -113,7 +109,7 @@ pub record IsSound (game : Game) : Type 0 where
   pub seated : BiddersAreSeated game.seats game.events
   pub price : IsSvPrice (sv_price_of game.events)
   pub given : IsGivenAway game.events
-  pub held : TenthsAreHeld game.events
+  pub held : SharesAreHeld game.events
   pub ten : AreTenInAll game
   pub offered : AreOffered game.events
   pub led : AreLed game.events

@@ -2,33 +2,33 @@
 //! the game.
 ghost use Rattle.std.specs.Prelude.{◌++◌, ◌∷◌, ◌<◌, ◌^◌, [], ◌≡◌, IfOk, List, MatchOption, OnOk, length};
 ghost use Rattle.events.specs.declared.event.Event.{Event as TheEvent};
-ghost use Rattle.history.specs.Totals.{AreTotalsOf};
-ghost use Rattle.history.specs.BoxedTotals.{HasBox, KeepsTotalsOf};
+ghost use Rattle.totals.specs.Totals.{AreTotalsOf};
+ghost use Rattle.history.specs.BoxedTotals.{HasBox, HasTotalsOf};
 
-use crate::totals::Totals;
 use events::Event;
 use std::alloc::{AllocError, Global};
+use totals::Totals;
 
 /// The totals of a list of events. There is no box before the first event is to come.
 #[derive(Debug, Drop)]
 pub(crate) struct BoxedTotals {
-    kept: Option<Box<Totals>>,
+    boxed: Option<Box<Totals>>,
 }
 
 impl BoxedTotals {
     /// The totals of no events, which take no memory.
     pub(crate) fn start() -> BoxedTotals
-        ensures { KeepsTotalsOf result [] }
+        ensures { HasTotalsOf result [] }
     {
-        BoxedTotals { kept: None }
+        BoxedTotals { boxed: None }
     }
 
     /// The totals; none where nothing has happened.
     pub(crate) fn totals(&self) -> Option<&Totals>
-        ensures { (events : List TheEvent) → KeepsTotalsOf self.now events →
+        ensures { (events : List TheEvent) → HasTotalsOf self.now events →
             MatchOption result (events ≡ []) (λ totals. AreTotalsOf totals.now events) }
     {
-        match &self.kept {
+        match &self.boxed {
             Some(totals) => Some(&**totals),
             None => None,
         }
@@ -37,12 +37,12 @@ impl BoxedTotals {
     /// Makes the box, where there is none, so that an event can be noted. The totals stay those of
     /// the same events, also where the box gets no memory.
     pub(crate) fn reserve(&mut self, alloc: Global) -> Result<(), AllocError>
-        ensures kept { (events : List TheEvent) →
-            KeepsTotalsOf self.old events → KeepsTotalsOf self.new events }
+        ensures same { (events : List TheEvent) →
+            HasTotalsOf self.old events → HasTotalsOf self.new events }
         ensures room { OnOk result (HasBox self.new) }
     {
-        if self.kept.is_none() {
-            self.kept = Some(boxed(alloc)?);
+        if self.boxed.is_none() {
+            self.boxed = Some(boxed(alloc)?);
         }
         Ok(())
     }
@@ -51,10 +51,10 @@ impl BoxedTotals {
     pub(crate) fn apply(&mut self, event: &Event)
         requires { HasBox self.old }
         ensures { (events : List TheEvent) →
-            length events < 2 ^ 63 → KeepsTotalsOf self.old events →
-            KeepsTotalsOf self.new (events ++ event.now ∷ []) }
+            length events < 2 ^ 63 → HasTotalsOf self.old events →
+            HasTotalsOf self.new (events ++ event.now ∷ []) }
     {
-        if let Some(totals) = &mut self.kept {
+        if let Some(totals) = &mut self.boxed {
             totals.apply(event);
         }
     }

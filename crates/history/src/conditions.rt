@@ -3,14 +3,14 @@ ghost use Rattle.std.specs.Prelude.{◌≡◌};
 ghost use Rattle.std.specs.Option.{option_copied};
 ghost use Rattle.history.specs.Conditions.{has_begun, holds, is_met, is_priced_at_least};
 
-use crate::look_back::GameView;
+use crate::list::History;
 use order_grammar::Condition;
 use tables::{Amount, Kind, Square, price};
 
-impl GameView<'_> {
+impl History {
     /// Whether the condition of an order holds, if it has one.
     pub fn is_met(&self, condition: Option<&Condition>) -> bool
-        ensures { result ≡ is_met self.now.events.now (option_copied condition.entry) }
+        ensures { result ≡ is_met self.now.events (option_copied condition.entry) }
     {
         match condition {
             Some(condition) => self.holds(condition),
@@ -20,7 +20,7 @@ impl GameView<'_> {
 
     /// Whether a condition holds.
     fn holds(&self, condition: &Condition) -> bool
-        ensures { result ≡ holds self.now.events.now condition.now }
+        ensures { result ≡ holds self.now.events condition.now }
     {
         match *condition {
             Condition::Price(company, sum) => is_priced_at_least(sum, self.square(company)),

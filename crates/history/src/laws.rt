@@ -1,8 +1,19 @@
 //! Laws of games: each function does nothing, and its contract is the law.
 
 ghost use Rattle.history.specs.Money.{AllMoneyStays};
-ghost use Rattle.history.specs.Laws.{AidKeepsSound, ArrivalIsLast, ArrivalsDiffer, BankruptcyKeepsSound, BidKeepsSound, BlockKeepsSound, BlockWithSuccessionKeepsSound, CaIsSoldWithItsGift, CashMoves, ClosingKeepsSound, DiscardKeepsSound, DividendKeepsSound, ExchangeKeepsSound, FirstIsCheapest, FloatKeepsSound, ForcingKeepsSound, GiftKeepsSound, HomeKeepsSound, LastWordIsLast, LayKeepsSound, LaysGrow, MoveKeepsSound, OwnersAreParties, PhaseKeepsSound, PriceKeepsSound, PrivateKeepsSound, PurchaseKeepsSound, QuietKeepsSound, QuietSaysTheSame, RevenueKeepsSound, RulingsAreCounted, RunKeepsSound, RustingKeepsSound, SaleKeepsSound, SoundMoneyStays, StartByPurchaseKeepsSound, StartKeepsSound, SuccessionKeepsSound, SvIsGivenAway, TokenKeepsSound, TokensGrow, TradeKeepsSound, TrainPurchaseKeepsSound, WithholdingKeepsSound};
-ghost use Rattle.history.specs.Trains.{AllTrainsStay};
+ghost use Rattle.history.specs.Laws.{AidKeepsSound, ArrivalIsLast, ArrivalsDiffer, BankruptcyKeepsSound, BidKeepsSound};
+ghost use Rattle.history.specs.Laws.{BlockKeepsSound, BlockWithSuccessionKeepsSound, CaIsSoldWithItsGift};
+ghost use Rattle.history.specs.Laws.{ClosingKeepsSound, DiscardKeepsSound, DividendKeepsSound, ExchangeKeepsSound};
+ghost use Rattle.history.specs.Laws.{FirstIsCheapest, FloatKeepsSound, ForcingKeepsSound, GiftKeepsSound};
+ghost use Rattle.history.specs.Laws.{HomeKeepsSound, LayKeepsSound, MoveKeepsSound, OwnersAreParties, PhaseKeepsSound};
+ghost use Rattle.history.specs.Laws.{PriceKeepsSound, PrivateKeepsSound, PurchaseKeepsSound, QuietKeepsSound};
+ghost use Rattle.history.specs.Laws.{RevenueKeepsSound, RunKeepsSound, RustingKeepsSound, SaleKeepsSound};
+ghost use Rattle.history.specs.Laws.{SoundMoneyStays, StartByPurchaseKeepsSound, StartKeepsSound, SuccessionKeepsSound};
+ghost use Rattle.history.specs.Laws.{SvIsGivenAway, TokenKeepsSound, TradeKeepsSound, TrainPurchaseKeepsSound};
+ghost use Rattle.history.specs.Laws.{WithholdingKeepsSound};
+ghost use Rattle.totals.specs.AtEnd.{CashMoves, LastWordIsLast, LaysGrow, QuietSaysTheSame, RulingsAreCounted};
+ghost use Rattle.totals.specs.AtEnd.{TokensGrow};
+ghost use Rattle.totals.specs.Trains.{AllTrainsStay};
 
 /// What was said last of a thing is what the last event says, or else what was said before it.
 pub fn last_word_is_last<T>()
@@ -68,45 +79,45 @@ pub fn price_keeps_sound()
     ensures gift { SvIsGivenAway }
 {}
 
-/// A gift of tenths to a seat at the table keeps a list sound, where enough of them are left; so
-/// does the sale of CA with its tenth of PRR.
+/// A gift of shares to a seat at the table keeps a list sound, where enough of them are left; so
+/// does the sale of CA with its share of PRR.
 pub fn gift_keeps_sound()
     ensures gift { GiftKeepsSound }
     ensures ca { CaIsSoldWithItsGift }
 {}
 
 /// The start of a company by a seat at the table keeps a list sound, whether its president's two
-/// tenths are a gift or bought.
+/// shares are a gift or bought.
 pub fn start_keeps_sound()
     ensures gift { StartKeepsSound }
     ensures purchase { StartByPurchaseKeepsSound }
 {}
 
-/// A purchase of tenths of a started company keeps a list sound, where there are so many and a seat
-/// at the table has their price free of its bids.
+/// A purchase of shares of a started company keeps a list sound, where there are this many and a
+/// seat at the table has their price free of its bids.
 pub fn purchase_keeps_sound()
     ensures { PurchaseKeepsSound }
 {}
 
-/// The exchange of MH for a tenth of NYC keeps a list sound, where its owner is at the table and
-/// there is such a tenth.
+/// The exchange of MH for a share of NYC keeps a list sound, where its owner is at the table and
+/// there is such a share.
 pub fn exchange_keeps_sound()
     ensures { ExchangeKeepsSound }
 {}
 
-/// A presidency that passes to a seat with no fewer tenths keeps a list sound.
+/// A presidency that passes to a seat with no fewer shares keeps a list sound.
 pub fn succession_keeps_sound()
     ensures { SuccessionKeepsSound }
 {}
 
-/// A sale of tenths keeps a list sound, where the president keeps two; and so does one after which
+/// A sale of shares keeps a list sound, where the president keeps two; and so does one after which
 /// the presidency passes to a seat that has two.
 pub fn block_keeps_sound()
     ensures stays { BlockKeepsSound }
     ensures passes { BlockWithSuccessionKeepsSound }
 {}
 
-/// A float keeps a list sound, where at most four tenths are left in the initial offering.
+/// A float keeps a list sound, where at most four shares are left in the initial offering.
 pub fn float_keeps_sound()
     ensures { FloatKeepsSound }
 {}
@@ -176,13 +187,13 @@ pub fn map_state_grows()
 {}
 
 /// A line of a seat's sheet that is ruled is one more in the round, and a round begins the count
-/// anew.
+/// again.
 pub fn rulings_are_counted()
     ensures { RulingsAreCounted }
 {}
 
 /// Companies with squares have come there by different events, so that one came earlier; an event
-/// at the end by which a company comes to a square is later than all before.
+/// at the end by which a company reaches a square is later than all before.
 pub fn arrivals_differ()
     ensures differ { ArrivalsDiffer }
     ensures last { ArrivalIsLast }

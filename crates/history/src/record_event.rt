@@ -1,7 +1,7 @@
 //! Events that follow from the list alone.
 ghost use Rattle.std.specs.Prelude.{◌≡◌, ◌≤◌, OnErr, OnOk};
 ghost use Rattle.events.specs.Event.{IsQuiet, sum_of};
-ghost use Rattle.history.specs.LookBack.{with_event};
+ghost use Rattle.totals.specs.LookBack.{with_event};
 ghost use Rattle.history.specs.Sound.{IsSound};
 ghost use Rattle.history.specs.Record.{broken_recorded, left_recorded, revenue_recorded, revenues_recorded};
 
@@ -69,7 +69,7 @@ impl History {
         self.record_broken()
     }
 
-    /// Tells that so many lines of a seat's sheet were not taken up, if there are any. An `Err`
+    /// Tells that this many lines of a seat's sheet were not taken up, if there are any. An `Err`
     /// leaves the list as it was.
     pub fn record_left(&mut self, seat: Seat, lines: u32) -> Result<(), AllocError>
         requires { IsSound self.old }

@@ -1,14 +1,13 @@
 //! A way along a list of events, with the totals of those that were passed.
 ghost use Rattle.std.specs.Prelude.{◌≡◌, ◌+◌, ◌<◌, ◌≤◌, length, take};
-ghost use Rattle.history.specs.Totals.{AreTotalsOf};
-ghost use Rattle.history.specs.LookBack.{FitsMemory};
+ghost use Rattle.totals.specs.Totals.{AreTotalsOf};
+ghost use Rattle.totals.specs.LookBack.{FitsMemory};
 
-use crate::look_back::GameView;
-use crate::totals::Totals;
 use events::Event;
+use totals::{GameView, Totals};
 
-/// A list of events, of which the first so many were passed, and the totals of those. One who asks
-/// for a game as it stood, and later for the same game as it stood later, notes each event once.
+/// A list of events, whose first ones were passed, and the totals of those. One who asks for a game
+/// as it stood, and later for the same game as it stood later, notes each event once.
 #[derive(Clone, Copy, Debug)]
 pub struct Walk<'a> {
     /// All events.
@@ -35,7 +34,7 @@ impl<'a> Walk<'a> {
         }
     }
 
-    /// Goes to the place behind so many events, back to the start first where it lies before.
+    /// Goes to the place behind this many events, back to the start first where it lies before.
     pub fn go(&mut self, end: usize)
         requires { end ≤ length self.old.events.now }
         ensures events { self.new.events.now ≡ self.old.events.now }
@@ -70,7 +69,7 @@ impl<'a> Walk<'a> {
     }
 
     /// The game as it stood after the events that were passed.
-    pub fn past(&self, seats: usize) -> GameView<'_>
+    pub fn view(&self, seats: usize) -> GameView<'_>
         ensures seats { result.seats ≡ seats }
         ensures events { result.events.now ≡ take self.now.passed self.now.events.now }
     {

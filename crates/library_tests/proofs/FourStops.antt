@@ -15,7 +15,7 @@ use Rattle.map_tables.specs.declared.track.Link.{Link}
 use Rattle.reach.specs.Lawful.{IsLawful}
 use Rattle.reach.specs.Position.{InHex, IsAmong, at_stop, empty_hex, in_hex, no_stop}
 
--- a hex stands at its number
+-- a hex is at its number
 at_index : (hex : Hex) → get_or hexes (index_of hex) A9 ≡ hex
 unfolding hexes index_of
 at_index A9 = refl
@@ -33,7 +33,7 @@ unfolding four_stops
 in_hex_is hex =
     get_or-map on_map_in hexes (index_of hex) A9 empty_hex (index_low hex) ∙ ap on_map_in (at_index hex)
 
--- and at a stop what stands there
+-- and at a stop what is there
 pub at_stop_is : (stop : Stop) → at_stop four_stops stop ≡ standing_in (joined_hex stop.hex) stop.number
 at_stop_is stop = ap (λ (here : InHex). get_or here.stops (stop_index_of stop.number) no_stop)
     (in_hex_is (joined_hex stop.hex))
@@ -43,7 +43,7 @@ pub no_second : (hex : Hex) → standing_in hex Second ≡ no_stop
 no_second G11 = refl
 no_second hex = refl
 
--- the links of each hex stand in order
+-- the links of each hex are in order
 in_order : (hex : Hex) → AreLinksOf hex (on_map_in hex).links
 in_order G11 = record { in_order = refl; here = (refl, (refl, (refl, tt))); few = lit≤ tt }
 in_order G13 = record { in_order = refl; here = (refl, (refl, tt)); few = lit≤ tt }

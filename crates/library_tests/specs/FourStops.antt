@@ -68,6 +68,6 @@ abbrev pub told : Standing → there.AtStop
 told standing =
     record { value = standing.value; red = standing.red; slots = standing.slots; tokens = listed standing.token }
 
--- what stands at a stop, in the hex that names it
+-- what is at a stop, in the hex that names it
 abbrev pub standing_in : Hex → StopNumber → there.AtStop
 standing_in hex number = get_or (on_map_in hex).stops (stop_index_of number) no_stop

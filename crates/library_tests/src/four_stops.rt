@@ -13,7 +13,7 @@ use tables::{Amount, Company};
 /// two that lie side by side, and in H12 a piece of plain track goes by the city.
 pub struct FourStops;
 
-/// What stands at a stop.
+/// What is at a stop.
 #[derive(Clone, Copy)]
 struct Standing {
     value: Amount,
@@ -55,7 +55,7 @@ fn red_area(value: Amount) -> Standing
     }
 }
 
-/// What stands at the stop of a hex.
+/// What is at the stop of a hex.
 fn stop_of(hex: Hex) -> Standing
     ensures { told result ≡ standing_in hex First }
 {
@@ -69,7 +69,7 @@ fn stop_of(hex: Hex) -> Standing
     }
 }
 
-/// What stands at a stop.
+/// What is at a stop.
 fn standing_at(stop: Stop) -> Standing
     ensures { told result ≡ at_stop four_stops stop }
 {

@@ -3,11 +3,10 @@
 //! path. What a report shows is a game of `games/`, which `./check` plays.
 //!
 //! Reading order: `lines` (lines read and printed), `boards` (tiles and tokens), `best` (the greatest
-//! revenue), `best_agrees` (the same beside a slow search, on small boards and on four stops),
-//! `four_stops` (a network that is no board), `slow_search` (that search), `claims` (the runs of a
-//! claim, checked one after the other), `marks` (bits kept, read and printed), `marks_agree` (those that are
-//! written, beside those of `choice_tree`, the same tree made once more from its definition), `totals` (money,
-//! tenths, events).
+//! revenue), `best_agrees` (the same beside a slow search, on small boards and on four stops), `four_stops` (a
+//! network that is no board), `slow_search` (that search), `claims` (the runs of a claim, checked one after
+//! the other), `marks` (bits kept, read and printed), `marks_agree` (those that are written, beside those of
+//! `choice_tree`, the same tree made once more from its definition), `totals` (money, shares, events).
 #![tactic(auto)]
 
 #[cfg(test)]

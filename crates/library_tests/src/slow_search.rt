@@ -51,7 +51,7 @@ pub(crate) fn all_steps<N: Network>(alloc: Global, network: &N) -> Result<Vec<St
     Ok(steps)
 }
 
-/// For each stop at which a link begins, the walk that stands there.
+/// For each stop at which a link begins, the walk that is there.
 fn begun(alloc: Global, steps: &[Step]) -> Result<Vec<Walk>, AllocError> {
     let mut seen = Vec::new(alloc);
     let mut walks = Vec::new(alloc);

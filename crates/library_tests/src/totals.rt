@@ -1,9 +1,9 @@
-//! Money that is paid, tenths that change hands, and the room that a list of events has.
+//! Money that is paid, shares that change hands, and the room that a list of events has.
 
 ghost use Rattle.treasury.specs.Accounts.{HasAccount, IsSum};
 
 use certs::Holdings;
-use history::{Event, History, Holder, Party, Shareholder, Tenths, Transfer};
+use history::{Event, History, Holder, Party, ShareCount, Shareholder, Transfer};
 use std::alloc::{AllocError, Global};
 use tables::{Company, Money, Seat};
 use treasury::Accounts;
@@ -30,7 +30,7 @@ fn pays_what_there_is(rt: HostRuntime) {
     assert!(rt; paid(rt.alloc(), ANN, PRR, 670) == (true, 130, 670));
 }
 
-/// ANN presides over BO with two tenths, and then BOB has three.
+/// ANN presides over BO with two shares, and then BOB has three.
 #[test]
 fn presidency_follows_a_transfer(rt: HostRuntime) -> Result<(), AllocError> {
     let company = Company::BaltimoreOhio;
@@ -39,21 +39,21 @@ fn presidency_follows_a_transfer(rt: HostRuntime) -> Result<(), AllocError> {
     history.append(Event::Given {
         company,
         seat: ann,
-        tenths: 2,
+        shares: 2,
     })?;
     history.append(Event::President { company, seat: ann })?;
     let mut holdings = Holdings::of(&history);
     assert!(rt; holdings.president(company) == Some(ann));
-    let (from, to, tenths) = (Shareholder::InitialOffering, Shareholder::Seat(bob), 3);
-    assert!(rt; holdings.tenths(company, from) >= Tenths::from(tenths));
+    let (from, to, shares) = (Shareholder::InitialOffering, Shareholder::Seat(bob), 3);
+    assert!(rt; holdings.shares(company, from) >= ShareCount::from(shares));
     holdings.transfer(Transfer {
         company,
         from,
         to,
-        tenths,
+        shares,
     });
     assert!(rt; holdings.president(company) == Some(bob));
-    assert!(rt; holdings.tenths(company, from) == 5);
+    assert!(rt; holdings.shares(company, from) == 5);
     Ok(())
 }
 

@@ -47,7 +47,7 @@ row_within hex = (leb-true 65 (row_of hex) (row_above hex), leb-true (row_of hex
 pub column_within : (hex : Hex) → (1 ≤ column_of hex) × (column_of hex ≤ 24)
 column_within hex = (leb-true 1 (column_of hex) (column_above hex), leb-true (column_of hex) 24 (column_below hex))
 
--- each hex stands in the list of hexes at its place
+-- each hex is in the list of hexes at its place
 pub hex_at_index : (hex : Hex) → get_or hexes (index_of hex) A9 ≡ hex
 unfolding hexes index_of
 hex_at_index A9 = refl

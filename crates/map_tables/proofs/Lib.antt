@@ -5,7 +5,7 @@ pub mod HexTables
 mod LinksInOrder
 mod Ordering
 mod SamePrint
-mod StandOnce
+mod ListedOnce
 mod TileTables
 mod Turning
 mod Turns

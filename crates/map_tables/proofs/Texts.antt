@@ -1,5 +1,7 @@
 -- A text names a hex, a place, a tile or a rotation exactly where it is the text of that.
-use Rattle.std.proofs.Common.{◌≡◌, ℕ, ◌+◌, ◌*◌, ◌-◌, ◌/◌, ◌%◌, ◌^◌, ◌<◌, ◌≤◌, ◌==◌, ◌&&◌, ltb, nat_le, nat_lt, true, cond, inl, inr, List, [], ◌∷◌, ◌++◌, Option, Some, None, length, take, drop, decimal, append_assoc, refl, sym, ap, ◌∙◌, arith}
+use Rattle.std.proofs.Common.{◌≡◌, ℕ, ◌+◌, ◌*◌, ◌-◌, ◌/◌, ◌%◌, ◌^◌, ◌<◌, ◌≤◌, ◌==◌, ◌&&◌, ltb, nat_le, nat_lt, true}
+use Rattle.std.proofs.Common.{cond, inl, inr, List, [], ◌∷◌, ◌++◌, Option, Some, None, length, take, drop, decimal}
+use Rattle.std.proofs.Common.{append_assoc, refl, sym, ap, ◌∙◌, arith}
 use Rattle.std.specs.Option.{option_and_then}
 use Rattle.std.proofs.lemmas.Bool.{cases_Bool, cases_lt, and_parts, eqb-true, ltb-true, lt-ltb}
 use Rattle.std.proofs.lemmas.Bool.Decides.{nat_tests}
@@ -18,10 +20,12 @@ use Rattle.map_tables.specs.declared.tiles.TileNo.TheVariants.{T1}
 use Rattle.map_tables.specs.Hex.{hex_at, site_of, row_of, column_of}
 use Rattle.map_tables.specs.Place.{stop_index_of}
 use Rattle.map_tables.specs.Side.{rotation_of, turns_of}
-use Rattle.map_tables.specs.Text.{text_of_hex, stop_text, text_of_place, text_of_tile, text_of_rotation, is_digit, short_number, hex_of_text, stop_of_text, place_from, place_of_text, tile_of_text, rotation_of_text, TextsAreRead}
+use Rattle.map_tables.specs.Text.{text_of_hex, stop_text, text_of_place, text_of_tile, text_of_rotation, is_digit}
+use Rattle.map_tables.specs.Text.{short_number, hex_of_text, stop_of_text, place_from, place_of_text, tile_of_text}
+use Rattle.map_tables.specs.Text.{rotation_of_text, TextsAreRead}
 use Rattle.map_tables.specs.Tile.{tiles, number_of_tile, tile_numbered}
 use Rattle.map_tables.proofs.HexAt.{find_passes, hex_at-is, hex_at-site}
-use Rattle.map_tables.proofs.StandOnce.{tile_stands}
+use Rattle.map_tables.proofs.ListedOnce.{tile_stands}
 
 -- the digit of a number under 10
 digit_is : (d : ℕ) → d < 10 → is_digit (48 + d) ≡ true

@@ -1,4 +1,4 @@
--- Turning: the side so many sides on.
+-- Turning: the side this many sides on.
 use Rattle.std.proofs.Common.{◌≡◌, ◌+◌, ◌%◌, get_or, refl}
 use Rattle.map_tables.specs.declared.side.Side.{Side}
 use Rattle.map_tables.specs.declared.side.Side.TheVariants.{SouthWest, West, NorthWest, NorthEast, East, SouthEast}

@@ -1,6 +1,7 @@
 -- Which hexes are neighbours. The hex to the east is two columns on, the one to the north-east one row
 -- up and one column on. Some borders between neighbours are closed: no track crosses them.
-use Rattle.std.specs.Prelude.{◌+◌, ◌-◌, Bool, ◌&&◌, ◌||◌, if◌then◌else◌, Option, Some, None, option_and_then, List, [], ◌∷◌}
+use Rattle.std.specs.Prelude.{◌+◌, ◌-◌, Bool, ◌&&◌, ◌||◌, if◌then◌else◌, Option, Some, None, option_and_then, List, []}
+use Rattle.std.specs.Prelude.{◌∷◌}
 use Rattle.std.specs.List.{list_any}
 use Rattle.map_tables.specs.declared.border.Border.{Border}
 use Rattle.map_tables.specs.declared.hex.Hex.{Hex}

@@ -3,7 +3,8 @@
 -- or to a grey or red hex without track at the side that faces it. Each token has a slot of its own, in a
 -- city. Colours, the stock and kept slots are no matter here. A slot of each company's home is kept until its
 -- token lies there, so in a game what lies has to fit with the home tokens that are still to come.
-use Rattle.std.specs.Prelude.{◌≡◌, ℕ, ◌==◌, ◌&&◌, ◌||◌, Bool, true, false, not, nat_lt, List, [], ◌++◌, map, Option, Some, None}
+use Rattle.std.specs.Prelude.{◌≡◌, ℕ, ◌==◌, ◌&&◌, ◌||◌, Bool, true, false, not, nat_lt, List, [], ◌++◌, map, Option}
+use Rattle.std.specs.Prelude.{Some, None}
 use Rattle.std.specs.List.{filter, list_any}
 use Rattle.map_tables.specs.Border.{neighbour_of}
 use Rattle.map_tables.specs.Home.{home_of}
@@ -63,7 +64,7 @@ is_side side (AtNumber number) = false
 abbrev pub has_print_at : Hex → Side → Bool
 has_print_at hex side = list_any (λ link. is_side side link.a || is_side side link.b) (printed_links_of hex)
 
--- whether track may not come to a hex over this side of it
+-- whether track may not reach a hex over this side of it
 abbrev pub is_shut : Hex → Side → Bool
 is_shut hex side = not (is_open (print_of hex).kind) && not (has_print_at hex side)
 

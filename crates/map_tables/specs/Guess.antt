@@ -1,5 +1,6 @@
 -- How the code finds a hex by its row and column: it counts the columns from the first hex of the row.
-use Rattle.std.specs.Prelude.{ℕ, ◌+◌, ◌-◌, ◌/◌, ◌==◌, ◌&&◌, nat_lt, if◌then◌else◌, Option, Some, None, option_and_then, slice_index_or}
+use Rattle.std.specs.Prelude.{ℕ, ◌+◌, ◌-◌, ◌/◌, ◌==◌, ◌&&◌, nat_lt, if◌then◌else◌, Option, Some, None, option_and_then}
+use Rattle.std.specs.Prelude.{slice_index_or}
 use Rattle.map_tables.specs.declared.hex.Hex.{Hex}
 use Rattle.map_tables.specs.declared.hex.Hex.TheVariants.{A9, A17, B10, C7, D2, E3, F2, G3, H2, I1, J2, K13}
 use Rattle.map_tables.specs.Hex.{hexes, index_of, column_of}

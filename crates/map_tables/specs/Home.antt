@@ -2,11 +2,15 @@
 -- of each private.
 use Rattle.std.specs.Prelude.{List, [], ◌∷◌}
 use Rattle.tables.specs.declared.roster.Company.{Company}
-use Rattle.tables.specs.declared.roster.Company.TheVariants.{Pennsylvania, NewYorkCentral, CanadianPacific, BaltimoreOhio, ChesapeakeOhio, Erie, NewHaven, BostonMaine}
+use Rattle.tables.specs.declared.roster.Company.TheVariants.{Pennsylvania, NewYorkCentral, CanadianPacific}
+use Rattle.tables.specs.declared.roster.Company.TheVariants.{BaltimoreOhio, ChesapeakeOhio, Erie, NewHaven, BostonMaine}
 use Rattle.tables.specs.declared.roster.Private.{Private}
-use Rattle.tables.specs.declared.roster.Private.TheVariants.{SchuylkillValley, ChamplainStLawrence, DelawareHudson, MohawkHudson, CamdenAmboy, BaltimoreOhio as BaltimoreOhioPrivate}
+use Rattle.tables.specs.declared.roster.Private.TheVariants.{SchuylkillValley, ChamplainStLawrence, DelawareHudson}
+use Rattle.tables.specs.declared.roster.Private.TheVariants.{MohawkHudson, CamdenAmboy}
+use Rattle.tables.specs.declared.roster.Private.TheVariants.{BaltimoreOhio as BaltimoreOhioPrivate}
 use Rattle.map_tables.specs.declared.hex.Hex.{Hex}
-use Rattle.map_tables.specs.declared.hex.Hex.TheVariants.{H12, E19, A19, I15, F6, E11, G19, E23, G15, B20, F16, D18, H18, I13}
+use Rattle.map_tables.specs.declared.hex.Hex.TheVariants.{H12, E19, A19, I15, F6, E11, G19, E23, G15, B20, F16, D18}
+use Rattle.map_tables.specs.declared.hex.Hex.TheVariants.{H18, I13}
 use Rattle.map_tables.specs.declared.place.Stop.{Stop}
 use Rattle.map_tables.specs.declared.place.StopNumber.TheVariants.{First}
 use Rattle.map_tables.specs.Place.{stop_at}

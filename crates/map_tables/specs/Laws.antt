@@ -1,5 +1,6 @@
 -- What holds of the tables.
-use Rattle.std.specs.Prelude.{◌≡◌, ℕ, ◌+◌, ◌*◌, ◌<◌, ◌≤◌, Bool, true, ◌&&◌, nat_lt, Some, List, [], ◌∷◌, length, slice_get, count_by, ◌⊎◌, ◌↔◌}
+use Rattle.std.specs.Prelude.{◌≡◌, ℕ, ◌+◌, ◌*◌, ◌<◌, ◌≤◌, Bool, true, ◌&&◌, nat_lt, Some, List, [], ◌∷◌, length}
+use Rattle.std.specs.Prelude.{slice_get, count_by, ◌⊎◌, ◌↔◌}
 use Rattle.tables.specs.Steps.{iterate}
 use Rattle.tables.specs.declared.roster.Company.{Company}
 use Rattle.map_tables.specs.declared.hex.Hex.{Hex}
@@ -33,8 +34,8 @@ pub record HexStands (hex : Hex) : Type 0 where
   pub there : slice_get hexes (index_of hex) ≡ Some hex
   pub found : hex_at (row_of hex) (column_of hex) ≡ Some hex
 
-abbrev pub HexesStandOnce : Type 0
-HexesStandOnce = (length hexes ≡ 93) × ((hex : Hex) → HexStands hex)
+abbrev pub HexesAreListedOnce : Type 0
+HexesAreListedOnce = (length hexes ≡ 93) × ((hex : Hex) → HexStands hex)
 
 -- hexes pass for one exactly where they are one
 abbrev pub HexesAreToldApart : Type 0
@@ -46,18 +47,18 @@ pub record TileStands (tile : TileNo) : Type 0 where
   pub there : slice_get tiles (tile_index_of tile) ≡ Some tile
   pub found : tile_numbered (number_of_tile tile) ≡ Some tile
 
-abbrev pub TilesStandOnce : Type 0
-TilesStandOnce = (length tiles ≡ 46) × ((tile : TileNo) → TileStands tile)
+abbrev pub TilesAreListedOnce : Type 0
+TilesAreListedOnce = (length tiles ≡ 46) × ((tile : TileNo) → TileStands tile)
 
--- each hex stands in one group of the prints
-abbrev pub PrintsStandOnce : Type 0
-PrintsStandOnce = (hex : Hex) → count_by (λ group. is_one_of hex group.hexes) groups ≡ 1
+-- each hex is in one group of the prints
+abbrev pub PrintsAreListedOnce : Type 0
+PrintsAreListedOnce = (hex : Hex) → count_by (λ group. is_one_of hex group.hexes) groups ≡ 1
 
 -- six turns by a sixth
 abbrev pub SixTurnsAreNone : Type 0
 SixTurnsAreNone = (tile : TileNo) → iterate (turned_track One) 6 (tile_track_of tile) ≡ tile_track_of tile
 
--- a rotation is so many turns by a sixth
+-- a rotation is this many turns by a sixth
 abbrev pub TurnsAddUp : Type 0
 TurnsAddUp =
     (tile : TileNo) (rotation : Rotation) → turned_track rotation (tile_track_of tile)

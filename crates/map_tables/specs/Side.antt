@@ -27,7 +27,7 @@ next_side NorthEast = East
 next_side East = SouthEast
 next_side SouthEast = SouthWest
 
--- the side that comes so many sides later
+-- the side that comes this many sides later
 abbrev pub sides_on : ℕ → Side → Side
 sides_on zero side = side
 sides_on (suc n) side = next_side (sides_on n side)
@@ -53,7 +53,7 @@ turns_of Five = 5
 abbrev pub rotations : List Rotation
 rotations = Zero ∷ One ∷ Two ∷ Three ∷ Four ∷ Five ∷ []
 
--- the rotation by so many sixths of a turn, if it is under a full turn
+-- the rotation by this many sixths of a turn, if it is under a full turn
 abbrev pub rotation_of : ℕ → Option Rotation
 rotation_of turns =
     if turns == 0 then Some Zero else if turns == 1 then Some One else if turns == 2 then Some Two else

@@ -1,6 +1,7 @@
 -- The texts that name hexes, places, tiles and rotations in order sheets and reports, and what a text
 -- in upper case names.
-use Rattle.std.specs.Prelude.{◌≡◌, ◌↔◌, ℕ, ◌+◌, ◌*◌, ◌-◌, ◌==◌, Bool, ◌&&◌, nat_lt, nat_le, if◌then◌else◌, List, [], ◌∷◌, ◌++◌, length, take, drop, decimal, Option, Some, None, option_and_then}
+use Rattle.std.specs.Prelude.{◌≡◌, ◌↔◌, ℕ, ◌+◌, ◌*◌, ◌-◌, ◌==◌, Bool, ◌&&◌, nat_lt, nat_le, if◌then◌else◌, List, []}
+use Rattle.std.specs.Prelude.{◌∷◌, ◌++◌, length, take, drop, decimal, Option, Some, None, option_and_then}
 use Rattle.map_tables.specs.Hex.{column_of, hex_at, row_of}
 use Rattle.map_tables.specs.Place.{stop_index_of}
 use Rattle.map_tables.specs.Side.{rotation_of, turns_of}

@@ -5,14 +5,14 @@ ghost use Rattle.map_tables.specs.Hex.{hexes};
 ghost use Rattle.map_tables.specs.Laws.{
   HomesTakeTokens,
   HexesAreToldApart,
-  HexesStandOnce,
+  HexesAreListedOnce,
   LaidLinksAreInOrder,
   NeighboursPair,
   PrintedLinksAreInOrder,
-  PrintsStandOnce,
+  PrintsAreListedOnce,
   RedAreasAreJoined,
   SixTurnsAreNone,
-  TilesStandOnce,
+  TilesAreListedOnce,
   TurnsAddUp,
   ValuesAreAtMost80,
 };
@@ -30,11 +30,10 @@ pub fn neighbours_pair()
     ensures { NeighboursPair }
 {}
 
-/// Each hex stands once in the list of hexes, at its index, and is the one hex of its row and
-/// column.
-pub fn hexes_stand_once()
+/// Each hex is once in the list of hexes, at its index, and is the one hex of its row and column.
+pub fn hexes_are_listed_once()
     ensures all { Hex.ALL ≡ hexes }
-    ensures once { HexesStandOnce }
+    ensures once { HexesAreListedOnce }
 {}
 
 /// The test by which the definitions tell hexes apart does so.
@@ -42,15 +41,15 @@ pub fn hexes_are_told_apart()
     ensures { HexesAreToldApart }
 {}
 
-/// Each tile stands once in the list of tiles, at its index, and is the one tile of its number.
-pub fn tiles_stand_once()
+/// Each tile is once in the list of tiles, at its index, and is the one tile of its number.
+pub fn tiles_are_listed_once()
     ensures all { TileNo.ALL ≡ tiles }
-    ensures once { TilesStandOnce }
+    ensures once { TilesAreListedOnce }
 {}
 
 /// Each hex of the map has one print.
-pub fn prints_stand_once()
-    ensures { PrintsStandOnce }
+pub fn prints_are_listed_once()
+    ensures { PrintsAreListedOnce }
 {}
 
 /// The lists of sides and of rotations are those of the definitions.
@@ -69,13 +68,13 @@ pub fn turns_add_up()
     ensures { TurnsAddUp }
 {}
 
-/// The links of each print stand in order without repeats; of each the first end comes first, and
-/// it is a side.
+/// The links of each print are in order without repeats; of each the first end comes first, and it
+/// is a side.
 pub fn printed_links_are_in_order()
     ensures { PrintedLinksAreInOrder }
 {}
 
-/// The links of each tile, however it lies, stand in order without repeats; of each the first end
+/// The links of each tile, however it lies, are in order without repeats; of each the first end
 /// comes first, and it is a side.
 pub fn laid_links_are_in_order()
     ensures { LaidLinksAreInOrder }

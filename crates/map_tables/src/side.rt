@@ -53,7 +53,7 @@ impl Side {
     }
 }
 
-/// How far a tile is turned: by so many sixths of a full turn, clockwise.
+/// How far a tile is turned: by this many sixths of a full turn, clockwise.
 #[derive(Clone, Copy, Debug, PartialEq, Eq, Hash)]
 pub enum Rotation {
     Zero,
@@ -83,7 +83,7 @@ impl Rotation {
         self as usize
     }
 
-    /// The rotation by so many sixths of a turn; `None` for six or more.
+    /// The rotation by this many sixths of a turn; `None` for six or more.
     pub fn from_turns(turns: usize) -> Option<Rotation>
         ensures { result ≡ rotation_of turns }
     {

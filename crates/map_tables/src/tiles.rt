@@ -1,5 +1,6 @@
 ghost use Rattle.std.specs.Prelude.{◌≡◌, ◌<◌, ◌≤◌, length};
-ghost use Rattle.map_tables.specs.Tile.{entry, entry_of, number_of_tile, stops_of_kind, tile_index_of, tile_numbered, tile_track_of};
+ghost use Rattle.map_tables.specs.Tile.{entry, entry_of, number_of_tile, stops_of_kind, tile_index_of, tile_numbered};
+ghost use Rattle.map_tables.specs.Tile.{tile_track_of};
 
 use crate::segments::{
     E_0, E_1, NE_0, NE_1, NE_E, NE_SE, NW_0, NW_1, NW_E, NW_NE, SE_0, SW_0, SW_1, SW_E, SW_NE,

@@ -1,5 +1,6 @@
 -- Each move leads from the chart to the chart.
-use Rattle.std.proofs.Common.{◌≡◌, ℕ, zero, suc, ◌+◌, Bool, true, false, if◌then◌else◌, Some, None, is_some, unwrap_or, refl}
+use Rattle.std.proofs.Common.{◌≡◌, ℕ, zero, suc, ◌+◌, Bool, true, false, if◌then◌else◌, Some, None, is_some, unwrap_or}
+use Rattle.std.proofs.Common.{refl}
 use Rattle.market.specs.Moves.{StaysOnChart, above, at_left, down_of, fallen, square_left_of, right_of, up_of}
 use Rattle.tables.specs.Chart.{entry_at, is_on_chart, square_at}
 use Rattle.tables.specs.declared.squares.Square.{Square}

@@ -1,10 +1,11 @@
 -- A token that moves over the chart keeps a list sound.
-use Rattle.std.proofs.Common.{◌≡◌, ℕ, Bool, true, false, if◌then◌else◌, List, [], ◌∷◌, ◌++◌, Option, Some, None, refl, sym, subst, ap, ◌∙◌}
+use Rattle.std.proofs.Common.{◌≡◌, ℕ, Bool, true, false, if◌then◌else◌, List, [], ◌∷◌, ◌++◌, Option, Some, None, refl}
+use Rattle.std.proofs.Common.{sym, subst, ap, ◌∙◌}
 use Rattle.events.specs.declared.event.Event.{Event}
 use Rattle.events.specs.declared.event.Event.TheVariants as event
 use Rattle.history.proofs.Blocks.{move_sound as move_law}
-use Rattle.history.specs.LookBack.{Game}
-use Rattle.history.specs.Shares.{square_of}
+use Rattle.totals.specs.LookBack.{Game}
+use Rattle.totals.specs.Shares.{square_of}
 use Rattle.history.specs.Sound.{IsSound}
 use Rattle.market.specs.Token.{moved_from, moved_to, same_square, with_move}
 use Rattle.tables.specs.declared.roster.Company.{Company}

@@ -1,6 +1,5 @@
--- Moves over the chart. Right goes to the next square of the row, and from the row's right end up; left
--- to the one before, and from the left end down. A move to no square is not made. So many squares down
--- are so many single moves.
+-- Moves over the chart. Right goes to the next square of the row, and from the row's right end up; left to the one
+-- before, and from the left end down. A move to no square is not made. So many squares down are this many single moves.
 use Rattle.std.specs.Prelude.{◌≡◌, ℕ, zero, suc, ◌+◌, true, Option, None, unwrap_or}
 use Rattle.tables.specs.Chart.{is_on_chart, square_at}
 use Rattle.tables.specs.Steps.{iterate}
@@ -48,7 +47,7 @@ right_of square = unwrap_or (at_right square) (up_of square)
 abbrev pub square_left_of : Square → Square
 square_left_of square = unwrap_or (at_left square) (down_of square)
 
--- where so many moves down lead
+-- where this many moves down lead
 abbrev pub fallen : ℕ → Square → Square
 fallen squares square = iterate down_of squares square
 

@@ -1,8 +1,8 @@
--- A company's token moves over the chart: MOVES tells of it where it comes to another square.
+-- A company's token moves over the chart: MOVES tells of it where it reaches another square.
 use Rattle.std.specs.Prelude.{ℕ, ◌==◌, Bool, ◌&&◌, if◌then◌else◌, List, [], ◌∷◌, ◌++◌, Option, Some, None}
 use Rattle.events.specs.declared.event.Event.{Event}
 use Rattle.events.specs.declared.event.Event.TheVariants.{Moves}
-use Rattle.history.specs.Shares.{square_of}
+use Rattle.totals.specs.Shares.{square_of}
 use Rattle.tables.specs.declared.roster.Company.{Company}
 use Rattle.tables.specs.declared.squares.Square.{Square}
 

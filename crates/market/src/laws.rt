@@ -15,7 +15,7 @@ pub fn moves_stay_on_chart()
 {}
 
 /// The operating order has each floated company with a square once, and no other, and each comes
-/// before all that stand behind it.
+/// before all that are behind it.
 pub fn floated_companies_in_order()
     ensures { (events : List Event) → IsOperatingOrder events (operating_order_of events) }
 {}

@@ -33,7 +33,7 @@ pub fn down(from: Square) -> Square
     square_below(from).unwrap_or(from)
 }
 
-/// Where a token comes that moves down so many times, each a move of its own.
+/// Where a token comes that moves down this many times, each a move of its own.
 pub fn fall(from: Square, squares: u8) -> Square
     ensures { result ≡ fallen squares from }
 {

@@ -2,7 +2,7 @@
 use Rattle.std.proofs.Common.{◌≡◌, ℕ, Some, None}
 use Rattle.events.specs.declared.event.Event.TheVariants as event
 use Rattle.events.specs.declared.event.Holder.TheVariants as holder
-use Rattle.history.specs.LookBack.{Game, owner_of}
+use Rattle.totals.specs.LookBack.{Game, owner_of}
 use Rattle.operating.proofs.Consents.{companies_agree, owners_agree}
 use Rattle.operating.specs.ConsentLaws.{CompanyAgrees, OwnerAgrees}
 use Rattle.operating.specs.Phases.{with_trade}

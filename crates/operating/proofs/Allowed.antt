@@ -1,6 +1,7 @@
 -- What a lay or a token that the rules of the board allow is: no rule is broken, its cost is that of the
 -- board, and the company has it.
-use Rattle.std.proofs.Common.{◌≡◌, ℕ, ◌≤◌, ◌==◌, Bool, true, false, if◌then◌else◌, leb, List, ◌++◌, Option, Some, None, Ok, ℤ, pos, ◌≤ℤ◌, refl, sym, subst, ◌∙◌, arith}
+use Rattle.std.proofs.Common.{◌≡◌, ℕ, ◌≤◌, ◌==◌, Bool, true, false, if◌then◌else◌, leb, List, ◌++◌, Option, Some, None}
+use Rattle.std.proofs.Common.{Ok, ℤ, pos, ◌≤ℤ◌, refl, sym, subst, ◌∙◌, arith}
 use Rattle.std.proofs.lemmas.Bool.{leb-true}
 use Rattle.std.proofs.lemmas.Int.{ints}
 use Rattle.std.specs.Int.RustNames.{unsigned_abs}
@@ -8,7 +9,7 @@ use Rattle.std.specs.Int.Signed.{lt_z}
 use mir.Syntax.{w128}
 use mir.Val.{of_z, to_z}
 use Rattle.board.proofs.RuleTables.{earlier, kept}
-use Rattle.board.specs.MapState.{MapState}
+use Rattle.board_state.specs.MapState.{MapState}
 use Rattle.map_tables.specs.OnMap.{by_tile, tile_on}
 use Rattle.board.specs.LayRules.{IsLayAnswer, cost_or, map_rules, lay_cost_of, reach_rules as lay_reach_rules}
 use Rattle.board.specs.Powers.{is_dh_token}

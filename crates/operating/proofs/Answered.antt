@@ -1,7 +1,7 @@
 -- From the answer of the rules of the board to where a line leads.
 use Rattle.std.proofs.Common.{◌≡◌, ℕ, None, Result, Ok, Err, ℤ, pos, ◌≤ℤ◌, refl, sym, ap, subst, ◌∙◌}
 use Rattle.std.specs.Int.RustNames.{unsigned_abs}
-use Rattle.board.specs.MapState.{MapState}
+use Rattle.board_state.specs.MapState.{MapState}
 use Rattle.board.specs.LayRules.{IsLayAnswer, map_rules}
 use Rattle.board.specs.TokenRules.{IsTokenAnswer, slot_rules}
 use Rattle.board.specs.declared.asker.Asker.{Asker}
@@ -10,10 +10,10 @@ use Rattle.events.specs.declared.event.Event.TheVariants as event
 use Rattle.events.specs.declared.ruling.Refusal.TheVariants as refusal
 use Rattle.events.specs.declared.ruling.Ruling.{Ruling}
 use Rattle.events.specs.declared.ruling.Ruling.TheVariants.{Obeyed, Refused}
-use Rattle.history.proofs.EventAtEnd.{cash_of_before}
+use Rattle.totals.proofs.EventAtEnd.{cash_of_before}
 use Rattle.history.proofs.Payments.{lay_sound, token_sound}
-use Rattle.history.specs.LookBack.{Game, cash_of, with_event}
-use Rattle.history.specs.Operating.{lays_of}
+use Rattle.totals.specs.LookBack.{Game, cash_of, with_event}
+use Rattle.totals.specs.Operating.{lays_of}
 use Rattle.history.specs.Sound.{IsSound}
 use Rattle.map_tables.specs.declared.rules.LayRule.{LayRule}
 use Rattle.map_tables.specs.declared.rules.TokenRule.{TokenRule}

@@ -1,15 +1,17 @@
 -- A bankruptcy is the last event of a company's turn: no event before it is one.
-use Rattle.std.proofs.Common.{◌≡◌, inl, inr, ℕ, Bool, true, false, ◌||◌, if◌then◌else◌, List, [], ◌∷◌, ◌++◌, Option, Some, None, pos, refl, sym, ap, ◌∙◌}
+use Rattle.std.proofs.Common.{◌≡◌, inl, inr, ℕ, Bool, true, false, ◌||◌, if◌then◌else◌, List, [], ◌∷◌, ◌++◌, Option}
+use Rattle.std.proofs.Common.{Some, None, pos, refl, sym, ap, ◌∙◌}
 use Rattle.std.proofs.lemmas.Bool.{false≢true}
 use Rattle.std.proofs.lemmas.List.Folds.{list_any-append}
 use Rattle.std.specs.Int.Signed.{lt_z}
-use Rattle.board.proofs.Same.{or_true}
-use Rattle.events.specs.Event.{tells_bankrupt}
+use Rattle.board_state.proofs.Same.{or_true}
+use Rattle.events.specs.Event.{says_bankrupt}
 use Rattle.events.specs.declared.event.Event.{Event}
 use Rattle.events.specs.declared.event.Event.TheVariants as event
-use Rattle.history.specs.LookBack.{Game, bankrupt_in, with_event}
-use Rattle.history.specs.Shares.{president_of}
-use Rattle.operating.proofs.ForcedGames.{OfSales, gained_none, gained_of, of_bought, of_gained, of_raises, of_sale, operator}
+use Rattle.totals.specs.LookBack.{Game, bankrupt_in, with_event}
+use Rattle.totals.specs.Shares.{president_of}
+use Rattle.operating.proofs.ForcedGames.{OfSales, gained_none, gained_of, of_bought, of_gained, of_raises, of_sale}
+use Rattle.operating.proofs.ForcedGames.{operator}
 use Rattle.operating.proofs.ForcedLemmas.{size_before}
 use Rattle.operating.proofs.Operated.{or_false}
 use Rattle.operating.proofs.Presidency.{president_stays}
@@ -28,21 +30,21 @@ use Rattle.tables.specs.declared.round.Round.{Round}
 use Rattle.tables.specs.declared.seat.Seat.{Seat}
 
 -- no other event of a turn tells of one
-tells_none : (company : Company) (game : Game) (its : Event) → IsOfTurn company game its → tells_bankrupt its ≡ false
+tells_none : (company : Company) (game : Game) (its : Event) → IsOfTurn company game its → says_bankrupt its ≡ false
 tells_none company game (event.Bankrupt seat) is = absurd is
 tells_none company game other is = refl
 
 -- with one event more
-one_more : (events : List Event) (its : Event) → tells_bankrupt its ≡ false
+one_more : (events : List Event) (its : Event) → says_bankrupt its ≡ false
     → bankrupt_in (events ++ its ∷ []) ≡ bankrupt_in events
 one_more events its none =
-    list_any-append tells_bankrupt events (its ∷ [])
+    list_any-append says_bankrupt events (its ∷ [])
     ∙ ap (λ (b : Bool). bankrupt_in events || (b || false)) none
     ∙ or_false (bankrupt_in events)
 
 -- with a bankruptcy somebody is bankrupt
 pub now_bankrupt : (events : List Event) (seat : Seat) → bankrupt_in (events ++ event.Bankrupt seat ∷ []) ≡ true
-now_bankrupt events seat = list_any-append tells_bankrupt events (event.Bankrupt seat ∷ [])
+now_bankrupt events seat = list_any-append says_bankrupt events (event.Bankrupt seat ∷ [])
     ∙ or_true (bankrupt_in events)
 
 -- as many are bankrupt

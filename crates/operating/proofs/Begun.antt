@@ -1,7 +1,7 @@
 -- A company's turn that has begun, as its own record says it and as the game does.
 use Rattle.std.proofs.Common.{◌≡◌, ℕ, List, Some, Result, subst, ap, ◌∙◌}
-use Rattle.certificate.specs.declared.runner.RunnerFault.{RunnerFault}
-use Rattle.history.specs.LookBack.{Game}
+use Rattle.legal_runs.specs.declared.runner.RunnerFault.{RunnerFault}
+use Rattle.totals.specs.LookBack.{Game}
 use Rattle.operating.specs.Calls.{Earns, Makes}
 use Rattle.operating.specs.CompanyTurn.{state}
 use Rattle.operating.specs.Forced.{EndLeads}

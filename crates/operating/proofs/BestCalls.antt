@@ -1,8 +1,9 @@
 -- The call that an order to run the best makes of a runner.
-use Rattle.std.proofs.Common.{◌≡◌, ℕ, ℤ, pos, List, [], ◌∷◌, Option, Some, None, Result, Ok, Err, refl, sym, subst, ◌∙◌, inl}
-use Rattle.certificate.specs.Set.{IsGreatest}
-use Rattle.certificate.specs.declared.runner.RunnerFault.{RunnerFault}
-use Rattle.certificate.specs.declared.runner.RunnerFault.TheVariants.{Memory}
+use Rattle.std.proofs.Common.{◌≡◌, ℕ, ℤ, pos, List, [], ◌∷◌, Option, Some, None, Result, Ok, Err, refl, sym, subst, ◌∙◌}
+use Rattle.std.proofs.Common.{inl}
+use Rattle.legal_runs.specs.Set.{IsGreatest}
+use Rattle.legal_runs.specs.declared.runner.RunnerFault.{RunnerFault}
+use Rattle.legal_runs.specs.declared.runner.RunnerFault.TheVariants.{Memory}
 use Rattle.events.specs.declared.event.Event.{Event}
 use Rattle.map_tables.specs.declared.rules.RunRule.{RunRule}
 use Rattle.operating.proofs.Calls.{broken_off, joined}

@@ -1,27 +1,30 @@
 -- Who runs his best is credited no less than by any written runs: the runs that were obeyed one after another are a legal
 -- set of runs for the trains of the company.
-use Rattle.std.proofs.Common.{◌≡◌, ℕ, zero, suc, ◌+◌, ◌<◌, ◌≤◌, Bool, true, false, if◌then◌else◌, ◌==◌, inl, inr, List, [], ◌∷◌, ◌++◌, Option, None, Some, Result, Ok, Err, ℤ, pos, negsuc, ◌+ℤ◌, length, replicate, get_or, set, refl, sym, subst, ap, ◌∙◌, arith, get_or-set_other, length-set}
+use Rattle.std.proofs.Common.{◌≡◌, ℕ, zero, suc, ◌+◌, ◌<◌, ◌≤◌, Bool, true, false, if◌then◌else◌, ◌==◌, inl, inr, List}
+use Rattle.std.proofs.Common.{[], ◌∷◌, ◌++◌, Option, None, Some, Result, Ok, Err, ℤ, pos, negsuc, ◌+ℤ◌, length}
+use Rattle.std.proofs.Common.{replicate, get_or, set, refl, sym, subst, ap, ◌∙◌, arith, get_or-set_other, length-set}
 use Rattle.std.proofs.lemmas.Bool.{cases_eq, eq-eqb, leb-false}
 use Rattle.std.proofs.lemmas.Grind.{get_or-set_at}
 use Rattle.std.proofs.lemmas.Int.{ints}
 use Rattle.std.specs.Int.Signed.{le_z}
 use Rattle.std.specs.List.{AllByRecursion, fold}
-use Rattle.board.specs.MapState.{position_of}
-use Rattle.certificate.proofs.Kept.{crossed_used}
-use Rattle.certificate.proofs.Marks.{among_both, eqb_not}
-use Rattle.certificate.proofs.Relabelled.{kind_is}
-use Rattle.certificate.proofs.Sharing.{legal_by_marks, legal_over}
-use Rattle.certificate.specs.Legal.{IsLegalRun, all_crossed, crossed, earned}
-use Rattle.certificate.specs.Marks.{MarksAre}
-use Rattle.certificate.specs.Set.{IsGreatest, IsLegalSet, ShareNoBorder, TrainRun, in_number, revenue_of, trains_that_run}
+use Rattle.board_state.specs.MapState.{position_of}
+use Rattle.legal_runs.proofs.Kept.{crossed_used}
+use Rattle.legal_runs.proofs.Marks.{among_both, eqb_not}
+use Rattle.legal_runs.proofs.Relabelled.{kind_is}
+use Rattle.legal_runs.proofs.Sharing.{legal_by_marks, legal_over}
+use Rattle.legal_runs.specs.Legal.{IsLegalRun, all_crossed, crossed, earned}
+use Rattle.legal_runs.specs.Marks.{MarksAre}
+use Rattle.legal_runs.specs.Set.{IsGreatest, IsLegalSet, ShareNoBorder, TrainRun, in_number, revenue_of}
+use Rattle.legal_runs.specs.Set.{trains_that_run}
 use Rattle.events.specs.Event.{train_owner_place}
 use Rattle.events.specs.declared.event.Event.{Event}
 use Rattle.events.specs.declared.event.Event.TheVariants as event
 use Rattle.events.specs.declared.ruling.Refusal.TheVariants as refusal
 use Rattle.events.specs.declared.ruling.Ruling.{Ruling}
 use Rattle.events.specs.declared.ruling.Ruling.TheVariants.{Obeyed, Refused}
-use Rattle.history.proofs.EventAtEnd.{trains_at_before}
-use Rattle.history.specs.Trains.{so_many, trains_held}
+use Rattle.totals.proofs.EventAtEnd.{trains_at_before}
+use Rattle.totals.specs.Trains.{at_least_zero, trains_held}
 use Rattle.map_tables.specs.declared.rules.RunRule.{RunRule}
 use Rattle.map_tables.specs.declared.place.Place.{Place}
 use Rattle.operating.proofs.Fitting.{same_map_state}
@@ -47,7 +50,7 @@ use Rattle.tables.specs.declared.rolling_stock.Kind.{Kind}
 use Rattle.tables.specs.declared.rolling_stock.Kind.TheVariants.{Two, Three, Four, Five, Six, Diesel}
 use Rattle.tables.specs.declared.roster.Company.{Company}
 
--- of so many trains of one kind all are counted, or none
+-- of this many trains of one kind all are counted, or none
 number_of_all : (kind counted : Kind) (n : ℕ) → in_number counted (replicate n kind)
     ≡ (if same_kind kind counted then n else 0)
 number_of_all kind counted n = by_test (same_kind kind counted) n refl
@@ -68,9 +71,9 @@ number_behind counted kind n [] = omega (arith, number_of_all kind counted n)
 number_behind counted kind n (train ∷ trains) = omega (arith, number_behind counted kind n trains)
 
 module _ (events : List Event) (company : Company) where
-  -- how many trains of a kind a company has, and, where that kind is the one that is counted, so many
+  -- how many trains of a kind a company has, and, where that kind is the one that is counted, this many
   abbrev held_of : Kind → ℕ
-  held_of kind = so_many (trains_held events (Some company) kind)
+  held_of kind = at_least_zero (trains_held events (Some company) kind)
 
   abbrev if_counted : Kind → Kind → ℕ
   if_counted counted kind = if same_kind kind counted then held_of kind else 0
@@ -149,7 +152,7 @@ counted_more counts at other n m low is rest =
     ]
 
 -- where one more may run, fewer have run than are there
-some_left : (held : ℤ) (n : ℕ) → le_z held (pos n) ≡ false → n < so_many held
+some_left : (held : ℤ) (n : ℕ) → le_z held (pos n) ≡ false → n < at_least_zero held
 some_left (pos m) n some = leb-false m n some
 some_left (negsuc m) n some = cc
 
@@ -208,7 +211,7 @@ module _ (by : Operator) (first : InTurn) where
   set_more :
       (runs : List TrainRun) (kind : Kind) (steps : List Step) → IsLegalSet there by.company trains runs →
       IsLegalRun there by.company kind (all_crossed (walks_of runs)) steps
-      → in_number kind (trains_that_run runs) < so_many (held_first kind) →
+      → in_number kind (trains_that_run runs) < at_least_zero (held_first kind) →
       IsLegalSet there by.company trains (record { kind = kind; steps = steps } ∷ runs)
   set_more runs kind steps set legal room =
       let used = all_crossed (walks_of runs) in
@@ -251,7 +254,7 @@ module _ (by : Operator) (first : InTurn) where
   run_room :
       (runs : List TrainRun) (now : InTurn) (kind : Kind) (run : List Place) (ran : CompletedRun)
       → judged_run now by.company kind run ≡ Ok ran →
-      HaveRun runs now → in_number kind (trains_that_run runs) < so_many (held_first kind)
+      HaveRun runs now → in_number kind (trains_that_run runs) < at_least_zero (held_first kind)
   run_room runs now kind run ran judged have =
       let count : ℕ = in_number kind (trains_that_run runs) in
       some_left (held_first kind) count

@@ -1,14 +1,15 @@
 -- The trains of a company, one for one, and what its best runs earn.
-use Rattle.std.proofs.Common.{◌≡◌, ℕ, zero, suc, ◌+◌, ◌<◌, ◌≤◌, Bool, true, false, List, [], ◌∷◌, ◌++◌, Option, Some, None, length, replicate, ℤ, pos, ◌≤ℤ◌, refl, sym, ap, subst, ◌∙◌, arith, add-one}
+use Rattle.std.proofs.Common.{◌≡◌, ℕ, zero, suc, ◌+◌, ◌<◌, ◌≤◌, Bool, true, false, List, [], ◌∷◌, ◌++◌, Option, Some}
+use Rattle.std.proofs.Common.{None, length, replicate, ℤ, pos, ◌≤ℤ◌, refl, sym, ap, subst, ◌∙◌, arith, add-one}
 use Rattle.std.proofs.lemmas.Int.{ints}
 use Rattle.std.specs.Int.RustNames.{unsigned_abs}
 use mir.Syntax.{w128}
 use mir.Val.{of_z, to_z}
-use Rattle.board.specs.MapState.{MapState, position_of}
-use Rattle.certificate.specs.Greatest.{AGreatestExists, OneGreatest}
-use Rattle.certificate.specs.Law.{unused}
-use Rattle.certificate.specs.Set.{IsGreatest, IsGreatestMoney}
-use Rattle.history.specs.Trains.{so_many}
+use Rattle.board_state.specs.MapState.{MapState, position_of}
+use Rattle.legal_runs.specs.Greatest.{AGreatestExists, OneGreatest}
+use Rattle.legal_runs.specs.Law.{unused}
+use Rattle.legal_runs.specs.Set.{IsGreatest, IsGreatestMoney}
+use Rattle.totals.specs.Trains.{at_least_zero}
 use Rattle.map_tables.specs.declared.rules.RunRule.{RunRule}
 use Rattle.map_tables.specs.declared.rules.RunRule.TheVariants as run_rule
 use Rattle.operating.specs.Runs.{rule}
@@ -34,7 +35,7 @@ few_unused [] = omega arith
 few_unused (true ∷ marks) = omega (arith, few_unused marks)
 few_unused (false ∷ marks) = omega (arith, few_unused marks)
 
--- one more at the end of so many
+-- one more at the end of this many
 one_behind : {A : Type 0} (thing : A) (n : ℕ) → replicate n thing ++ thing ∷ [] ≡ replicate (suc n) thing
 one_behind thing zero = refl
 one_behind thing (suc n) = ap (λ (things : List _). thing ∷ things) (one_behind thing n)
@@ -43,7 +44,7 @@ regrouped : {A : Type 0} (xs ys zs : List A) → (xs ++ ys) ++ zs ≡ xs ++ (ys 
 regrouped [] ys zs = refl
 regrouped (x ∷ xs) ys zs = ap (λ (rest : List _). x ∷ rest) (regrouped xs ys zs)
 
--- one more train behind so many of its kind
+-- one more train behind this many of its kind
 pub one_more_train : (first : List Kind) (kind : Kind) (n : ℕ)
     → (first ++ replicate n kind) ++ kind ∷ [] ≡ first ++ replicate (n + 1) kind
 one_more_train first kind n =
@@ -63,8 +64,8 @@ small_greatest exists one position company trains revenue lawful greatest =
 
 -- as many trains of a kind behind others
 pub same_count : (trains : List Kind) (kind : Kind) (count other : ℤ) → count ≡ other →
-    trains ++ replicate (so_many count) kind ≡ trains ++ replicate (so_many other) kind
-same_count trains kind count other same = ap (λ (n : ℤ). trains ++ replicate (so_many n) kind) same
+    trains ++ replicate (at_least_zero count) kind ≡ trains ++ replicate (at_least_zero other) kind
+same_count trains kind count other same = ap (λ (n : ℤ). trains ++ replicate (at_least_zero n) kind) same
 
 module _ (exists : AGreatestExists) (one : OneGreatest) where
   -- a sum of money that is a greatest revenue is small

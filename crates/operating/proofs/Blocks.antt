@@ -5,10 +5,10 @@ use Rattle.sheets.specs.Part.{Part, parts_for}
 use Rattle.tables.specs.declared.roster.Company.{Company}
 use Rattle.tables.specs.declared.round.Round.{Round}
 use Rattle.turns.proofs.Small.{parts_small}
-use Rattle.turns.specs.Small.{AreSmall, GroupsAreSmall}
+use Rattle.turns.specs.Small.{AreSmall, WrittenTurnsAreSmall}
 
 -- those of the company's first block among some
-small_in : (company : Company) (parts : List Part) → GroupsAreSmall (map (λ (part : Part). part.lines) parts)
+small_in : (company : Company) (parts : List Part) → WrittenTurnsAreSmall (map (λ (part : Part). part.lines) parts)
     → AreSmall (block_in company parts)
 small_in company [] small = tt
 small_in company (part ∷ parts) small =

@@ -1,6 +1,7 @@
 -- What the purchase of a train is that breaks no rule: such a train is there, the company can pay it, and it has
 -- what it trades in. So the game can be played on once it is made.
-use Rattle.std.proofs.Common.{◌≡◌, ◌⊎◌, ℕ, ◌<◌, inl, inr, Bool, true, false, not, ◌&&◌, ◌||◌, nat_lt, if◌then◌else◌, List, [], ◌∷◌, ◌++◌, Option, Some, None, ℤ, pos, ◌≤ℤ◌, refl, sym, ap, subst, ◌∙◌, arith}
+use Rattle.std.proofs.Common.{◌≡◌, ◌⊎◌, ℕ, ◌<◌, inl, inr, Bool, true, false, not, ◌&&◌, ◌||◌, nat_lt, if◌then◌else◌}
+use Rattle.std.proofs.Common.{List, [], ◌∷◌, ◌++◌, Option, Some, None, ℤ, pos, ◌≤ℤ◌, refl, sym, ap, subst, ◌∙◌, arith}
 use Rattle.std.proofs.lemmas.Bool.Decides.{nat_tests}
 use Rattle.std.proofs.lemmas.Int.{ints}
 use Rattle.std.specs.Int.Signed.{lt_z}
@@ -11,15 +12,17 @@ use Rattle.events.specs.declared.event.Party.{Party}
 use Rattle.events.specs.declared.event.TrainPlace.TheVariants as place
 use Rattle.events.specs.declared.event.TrainSeller.{TrainSeller}
 use Rattle.events.specs.declared.event.TrainSeller.TheVariants as seller
-use Rattle.history.proofs.EventAtEnd.{cash_of_before, trains_at_end}
+use Rattle.totals.proofs.EventAtEnd.{cash_of_before, trains_at_end}
 use Rattle.history.proofs.Rolling.{same_kind_is, sold_at_end}
 use Rattle.history.proofs.TrainActs.{trade_sound, train_purchase_sound}
-use Rattle.history.specs.LookBack.{Game, cash_of, with_event}
+use Rattle.totals.specs.LookBack.{Game, cash_of, with_event}
 use Rattle.history.specs.Sound.{IsSound}
-use Rattle.history.specs.Trains.{IsThere, one_if, train_goes, trains_held, trains_sold}
+use Rattle.totals.specs.Trains.{IsThere, one_if, train_goes, trains_held, trains_sold}
 use Rattle.operating.specs.Discards.{has_train}
 use Rattle.operating.specs.Phases.{with_trade}
-use Rattle.operating.specs.Trains.{are_left, first_left_of, is_kind, is_left, is_not_sellers, is_on_sale, is_no_trade_in, may_be_traded, may_trade, numbered_kinds, cost_of, train_purchase_rules, train_judgement}
+use Rattle.operating.specs.Trains.{are_left, first_left_of, is_kind, is_left, is_not_sellers, is_on_sale}
+use Rattle.operating.specs.Trains.{is_no_trade_in, may_be_traded, may_trade, numbered_kinds, cost_of}
+use Rattle.operating.specs.Trains.{train_purchase_rules, train_judgement}
 use Rattle.operating.specs.declared.purchase.Purchase.{Purchase}
 use Rattle.tables.proofs.Rules.{none_broken}
 use Rattle.tables.specs.Roster.{same_company}
@@ -61,7 +64,7 @@ first_is_left events (first ∷ others) kind named =
     ]
     refl named
 
--- of so many that are left fewer are sold
+-- of this many that are left fewer are sold
 fewer_sold : (number : Option ℕ) (sold n : ℕ) → are_left number sold ≡ true → number ≡ Some n → sold < n
 fewer_sold None sold n left is = absurd (cc)
 fewer_sold (Some m) sold n left is =

@@ -1,13 +1,15 @@
 -- Each call of a course that leads on is answered, since one that is not breaks it off.
-use Rattle.std.proofs.Common.{◌≡◌, ℕ, zero, suc, Bool, true, false, List, [], ◌∷◌, ◌++◌, Some, None, Result, Ok, Err, refl, sym, subst, inl, inr}
+use Rattle.std.proofs.Common.{◌≡◌, ℕ, zero, suc, Bool, true, false, List, [], ◌∷◌, ◌++◌, Some, None, Result, Ok, Err}
+use Rattle.std.proofs.Common.{refl, sym, subst, inl, inr}
 use Rattle.std.specs.Prelude.{Option, pos}
-use Rattle.certificate.specs.declared.runner.RunnerFault.TheVariants.{Memory}
-use Rattle.history.specs.Shares.{president_of}
+use Rattle.legal_runs.specs.declared.runner.RunnerFault.TheVariants.{Memory}
+use Rattle.totals.specs.Shares.{president_of}
 use Rattle.map_tables.specs.declared.rules.RunRule.{RunRule}
 use Rattle.operating.specs.Answered.{AreAnswered, IsAnswered}
 use Rattle.operating.specs.Best.{best_judgement}
 use Rattle.operating.specs.Calls.{Call, Course, Then, TimesThen, Unasked}
-use Rattle.operating.specs.TurnCalls.{AskedCalls, Asks, BestCalls, BlockCalls, EndCalls, IsCredited, LineCalls, LinesCall, OrderCalls, ReadingCalls, TurnCalls, asked}
+use Rattle.operating.specs.TurnCalls.{AskedCalls, Asks, BestCalls, BlockCalls, EndCalls, IsCredited, LineCalls}
+use Rattle.operating.specs.TurnCalls.{LinesCall, OrderCalls, ReadingCalls, TurnCalls, asked}
 use Rattle.operating.specs.Turn.{is_held}
 use Rattle.operating.specs.declared.operator.Operator.{Operator}
 use Rattle.order_grammar.specs.declared.fault.Fault.{Fault}
@@ -43,7 +45,7 @@ then_answered first second one other from to calls course =
           (other joins.between to joins.later joins.goes_on))
     ]
 
--- a course so many times, and another
+-- a course this many times, and another
 pub times_answered : {A B F : Type 0} (course : Course A A F) (last : Course A B F) → IsAnswered course
     → IsAnswered last → (times : ℕ) → IsAnswered (TimesThen times course last)
 times_answered course last one end zero = end

@@ -9,14 +9,15 @@ use Rattle.events.specs.declared.event.Event.TheVariants as event
 use Rattle.events.specs.declared.event.Holder.{Holder}
 use Rattle.events.specs.declared.event.Holder.TheVariants as holder
 use Rattle.events.specs.declared.event.Ownership.{Ownership}
-use Rattle.history.proofs.BidWords.{same_private_is}
-use Rattle.history.proofs.EventAtEnd.{last_said_at_end}
-use Rattle.history.specs.LookBack.{Game, is_closed, last_said, owner_said}
+use Rattle.totals.proofs.Privates.{same_private_is}
+use Rattle.totals.proofs.EventAtEnd.{last_said_at_end}
+use Rattle.totals.specs.LookBack.{Game, is_closed, last_said, owner_said}
 use Rattle.operating.proofs.TrainSteps.{IsPassedOn}
 use Rattle.operating.proofs.TurnEvents.{IsOfTurn}
 use Rattle.operating.proofs.ForcedGames.{forced_names_none, of_game_turn}
 use Rattle.operating.proofs.TurnGames.{by_each}
-use Rattle.operating.specs.PrivateLaws.{ClosedHasNoOwner, ClosedStaysClosed, KeepsClosed, OthersKeepClosed, SalesKeepClosed, names_owner}
+use Rattle.operating.specs.PrivateLaws.{ClosedHasNoOwner, ClosedStaysClosed, KeepsClosed, OthersKeepClosed}
+use Rattle.operating.specs.PrivateLaws.{SalesKeepClosed, names_owner}
 use Rattle.tables.specs.Roster.{same_private}
 use Rattle.tables.specs.declared.roster.Company.{Company}
 use Rattle.tables.specs.declared.roster.Private.{Private}

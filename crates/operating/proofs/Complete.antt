@@ -1,18 +1,20 @@
 -- The trains of a kind that are with the bank, the pool and the companies are as many as there were at first until
 -- they rust, and none after.
-use Rattle.std.proofs.Common.{◌≡◌, ℕ, ◌<◌, Bool, true, false, ◌&&◌, List, [], ◌∷◌, ◌++◌, Option, None, unwrap_or, pos, ◌-ℤ◌, refl, sym, ap, subst, ◌∙◌, arith}
+use Rattle.std.proofs.Common.{◌≡◌, ℕ, ◌<◌, Bool, true, false, ◌&&◌, List, [], ◌∷◌, ◌++◌, Option, None, unwrap_or, pos}
+use Rattle.std.proofs.Common.{◌-ℤ◌, refl, sym, ap, subst, ◌∙◌, arith}
 use Rattle.std.proofs.lemmas.Int.{ints}
 use Rattle.events.specs.Event.{phase_set, train_owner_place, train_moved}
 use Rattle.events.specs.declared.event.Event.{Event}
 use Rattle.events.specs.declared.event.Event.TheVariants as event
 use Rattle.events.specs.declared.event.TrainPlace.TheVariants as place
-use Rattle.history.proofs.AllTrains.{trains_stay}
-use Rattle.history.proofs.EventAtEnd.{last_said_before, trains_at_before, trains_at_end}
+use Rattle.totals.proofs.AllTrains.{trains_stay}
+use Rattle.totals.proofs.EventAtEnd.{last_said_before, trains_at_before, trains_at_end}
 use Rattle.history.proofs.Rolling.{no_trains, sold_at_end, trains_kept}
-use Rattle.history.specs.LookBack.{Game, with_event}
-use Rattle.history.specs.Trains.{one_if, phase_of, same_train_place, train_comes, train_goes, trains_at, trains_sold}
+use Rattle.totals.specs.LookBack.{Game, with_event}
+use Rattle.totals.specs.Trains.{one_if, phase_of, same_train_place, train_comes, train_goes, trains_at, trains_sold}
 use Rattle.operating.proofs.TrainSteps.{IsPassedOn, OfClosings, OfDiscards, OfRustings, OfTrades}
-use Rattle.operating.specs.TrainLaws.{OthersKeepAll, OthersKeepStanding, TrainsAreAll, TrainsStandAtFirst, has_come, trains_there}
+use Rattle.operating.specs.TrainLaws.{OthersKeepAll, OthersKeepStanding, TrainsAreAll, AllTrainsAreThereAtFirst}
+use Rattle.operating.specs.TrainLaws.{has_come, trains_there}
 use Rattle.tables.specs.Train.{place_of_kind, rusting_of, same_kind}
 use Rattle.tables.specs.declared.rolling_stock.Kind.{Kind}
 use Rattle.tables.specs.declared.rolling_stock.Kind.TheVariants.{Two, Three, Four, Five, Six, Diesel}
@@ -94,7 +96,7 @@ all_at_first =
       in_order = λ earlier later number there numbered before sold. absurd (omega arith);
     }
 
-pub stand_at_first : TrainsStandAtFirst
+pub stand_at_first : AllTrainsAreThereAtFirst
 stand_at_first = record { held = no_trains; all = all_at_first }
 
 -- an event that begins no phase

@@ -3,8 +3,8 @@ use Rattle.std.proofs.Common.{◌≡◌, ℕ, ◌<◌, ◌==◌, Bool, true, fal
 use Rattle.std.proofs.lemmas.Bool.Decides.{nat_tests}
 use Rattle.events.specs.declared.event.Holder.{Holder}
 use Rattle.events.specs.declared.event.Holder.TheVariants as holder
-use Rattle.history.specs.LookBack.{Game, owner_of}
-use Rattle.history.specs.Shares.{president_of}
+use Rattle.totals.specs.LookBack.{Game, owner_of}
+use Rattle.totals.specs.Shares.{president_of}
 use Rattle.operating.proofs.Buying.{neither, so}
 use Rattle.operating.specs.ConsentLaws.{CompaniesAgree, CompanyAgrees, OwnerAgrees, OwnersAgree}
 use Rattle.operating.specs.Discards.{has_train}

@@ -1,5 +1,6 @@
 -- Whether the rules of the board find a piece of track or a stop reached can be tested.
-use Rattle.std.proofs.Common.{◌≡◌, Bool, true, false, ◌⊎◌, ◌↔◌, IsTrue, inl, inr, Option, Some, None, sym, ap, subst, refl, ◌∙◌}
+use Rattle.std.proofs.Common.{◌≡◌, Bool, true, false, ◌⊎◌, ◌↔◌, IsTrue, inl, inr, Option, Some, None, sym, ap, subst}
+use Rattle.std.proofs.Common.{refl, ◌∙◌}
 use Rattle.std.proofs.lemmas.Bool.{cases_eq}
 use Rattle.board.specs.LayRules.{IsConnected}
 use Rattle.board.specs.TokenRules.{IsReachedPlace}
@@ -13,7 +14,8 @@ use Rattle.map_tables.specs.declared.place.StopNumber.{StopNumber}
 use Rattle.map_tables.specs.declared.track.End.TheVariants.{Stop as AtStop}
 use Rattle.map_tables.specs.declared.track.Link.{Link}
 use Rattle.operating.proofs.Found.{Search, any_among, any_number, found}
-use Rattle.reach.proofs.Decided.{Decided, among_decided, both_decided, can_enter_decided, decided_by, either_decided, mark_decided}
+use Rattle.reach.proofs.Decided.{Decided, among_decided, both_decided, can_enter_decided, decided_by, either_decided}
+use Rattle.reach.proofs.Decided.{mark_decided}
 use Rattle.reach.proofs.Equal.{link_same, same_link}
 use Rattle.reach.proofs.Reaching.{link_marked, link_reached, stop_marked, stop_reached}
 use Rattle.reach.proofs.Spots.{same_order}

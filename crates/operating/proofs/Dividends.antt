@@ -1,6 +1,7 @@
--- What a company pays out: each dividend keeps a list sound, no place has more than ten tenths, and what is paid to
--- all is paid step by step.
-use Rattle.std.proofs.Common.{◌≡◌, ℕ, zero, suc, ◌+◌, ◌-◌, ◌<◌, ◌≤◌, ◌==◌, inl, inr, Bool, true, false, if◌then◌else◌, List, [], ◌∷◌, map, pos, ◌≤ℤ◌, refl, sym, subst, ap, ◌∙◌, arith}
+-- What a company pays out: each dividend keeps a list sound, no place has more than ten shares, and what is paid to all
+-- is paid step by step.
+use Rattle.std.proofs.Common.{◌≡◌, ℕ, zero, suc, ◌+◌, ◌-◌, ◌<◌, ◌≤◌, ◌==◌, inl, inr, Bool, true, false, if◌then◌else◌}
+use Rattle.std.proofs.Common.{List, [], ◌∷◌, map, pos, ◌≤ℤ◌, refl, sym, subst, ap, ◌∙◌, arith}
 use Rattle.std.proofs.lemmas.Bool.{cases_eq}
 use Rattle.std.proofs.lemmas.Int.{ints}
 use Rattle.std.specs.List.{range_with_len}
@@ -11,10 +12,10 @@ use Rattle.events.specs.declared.event.Holder.TheVariants as holder
 use Rattle.events.specs.declared.event.Party.TheVariants as party
 use Rattle.events.specs.declared.event.Shareholder.TheVariants.{InitialOffering, BankPool, Seat as OfSeat}
 use Rattle.history.proofs.TrainActs.{dividend_sound}
-use Rattle.history.specs.LookBack.{Game, with_event}
+use Rattle.totals.specs.LookBack.{Game, with_event}
 use Rattle.history.specs.Money.{IsParty}
-use Rattle.history.specs.Shares.{held_by, shares_of}
-use Rattle.history.specs.Sound.{IsSound, TenthsAreHeld}
+use Rattle.totals.specs.Shares.{held_by, shares_of}
+use Rattle.history.specs.Sound.{IsSound, SharesAreHeld}
 use Rattle.history.specs.Record.{broken_recorded}
 use Rattle.market.specs.Moves.{right_of}
 use Rattle.market.specs.Token.{with_move}
@@ -24,15 +25,15 @@ use Rattle.tables.specs.Seat.{all_seats, seat_at}
 use Rattle.tables.specs.declared.roster.Company.{Company}
 use Rattle.tables.specs.declared.seat.Seat.{Seat}
 
--- seats have no fewer than no tenths together
-held_not_under : (events : List Event) (company : Company) (seats : List Seat) → TenthsAreHeld events
+-- seats have no fewer than no shares together
+held_not_under : (events : List Event) (company : Company) (seats : List Seat) → SharesAreHeld events
     → pos 0 ≤ℤ held_by events company seats
 held_not_under events company [] held = omega (arith, ints)
 held_not_under events company (seat ∷ others) held =
     let here = held company (OfSeat seat) in omega (arith, ints, held_not_under events company others held)
 
 -- one of them has no more than all
-one_of_all : (events : List Event) (company : Company) (seat : Seat) (from count : ℕ) → TenthsAreHeld events
+one_of_all : (events : List Event) (company : Company) (seat : Seat) (from count : ℕ) → SharesAreHeld events
     → from ≤ seat.0 → seat.0 < from + count → shares_of events company (OfSeat seat) ≤ℤ held_by events company
     (map seat_at (range_with_len from count))
 one_of_all events company seat from zero held low high = absurd (omega arith)

@@ -1,9 +1,10 @@
 -- What lies on the map by a list still fits after a lay, a token or a home token of a company's turn; so these
 -- keep a list sound, and so does what a company withholds.
-use Rattle.std.proofs.Common.{◌≡◌, ℕ, ◌+◌, ◌<◌, Bool, true, false, if◌then◌else◌, List, [], ◌∷◌, ◌++◌, length, take, get_or, Option, None, unwrap_or, refl, sym, subst, ap, ◌∙◌}
+use Rattle.std.proofs.Common.{◌≡◌, ℕ, ◌+◌, ◌<◌, Bool, true, false, if◌then◌else◌, List, [], ◌∷◌, ◌++◌, length, take}
+use Rattle.std.proofs.Common.{get_or, Option, None, unwrap_or, refl, sym, subst, ap, ◌∙◌}
 use Rattle.std.proofs.lemmas.List.{append-nil, take_more}
 use Rattle.board.proofs.FitLaws.{home_keeps_fit, lay_keeps_fit, token_keeps_fit}
-use Rattle.board.specs.MapState.{map_state_of}
+use Rattle.board_state.specs.MapState.{map_state_of}
 use Rattle.board.specs.Homes.{Fits}
 use Rattle.board.specs.LayRules.{map_rules}
 use Rattle.board.specs.TokenRules.{slot_rules}
@@ -11,16 +12,15 @@ use Rattle.board.specs.declared.asker.Asker.{Asker}
 use Rattle.events.specs.Event.{phase_set, tile_laid, token_placed}
 use Rattle.events.specs.declared.event.Event.{Event}
 use Rattle.events.specs.declared.event.Event.TheVariants as event
-use Rattle.history.proofs.EventAtEnd.{last_said_before}
-use Rattle.history.proofs.InOrder.{lays_before, lays_grow, tokens_before, tokens_grow}
+use Rattle.totals.proofs.EventAtEnd.{last_said_before}
+use Rattle.totals.proofs.InOrder.{lays_before, lays_grow, tokens_before, tokens_grow}
 use Rattle.history.proofs.Payments.{home_sound, withholding_sound}
-use Rattle.history.proofs.Settled.{broken_quiet}
-use Rattle.history.proofs.Soundness.{quiet_sound}
-use Rattle.history.specs.LookBack.{Game, with_event}
-use Rattle.history.specs.Operating.{lays_of, tokens_of}
+use Rattle.history.proofs.NearlySound.{broken_quiet, quiet_sound}
+use Rattle.totals.specs.LookBack.{Game, with_event}
+use Rattle.totals.specs.Operating.{lays_of, tokens_of}
 use Rattle.history.specs.Sound.{IsSound, LiesFit}
 use Rattle.history.specs.Record.{breaks, broken_recorded}
-use Rattle.history.specs.Trains.{phase_of}
+use Rattle.totals.specs.Trains.{phase_of}
 use Rattle.map_tables.specs.Fit.{AreFitWithHomes}
 use Rattle.map_tables.specs.Home.{home_of}
 use Rattle.map_tables.specs.Place.{place_of}

@@ -1,5 +1,6 @@
 -- After the purchase of a train by the rules all trains are there until they rust, and none after.
-use Rattle.std.proofs.Common.{◌≡◌, ◌⊎◌, ℕ, zero, suc, ◌<◌, ◌≤◌, ◌==◌, inl, inr, Bool, true, false, ◌&&◌, nat_lt, if◌then◌else◌, List, Option, Some, None, pos, refl, sym, ap, subst, ◌∙◌, arith}
+use Rattle.std.proofs.Common.{◌≡◌, ◌⊎◌, ℕ, zero, suc, ◌<◌, ◌≤◌, ◌==◌, inl, inr, Bool, true, false, ◌&&◌, nat_lt}
+use Rattle.std.proofs.Common.{if◌then◌else◌, List, Option, Some, None, pos, refl, sym, ap, subst, ◌∙◌, arith}
 use Rattle.std.proofs.lemmas.Bool.Decides.{nat_tests}
 use Rattle.std.proofs.lemmas.Int.{ints}
 use Rattle.events.specs.Event.{place_of_seller, train_moved}
@@ -8,18 +9,22 @@ use Rattle.events.specs.declared.event.Event.TheVariants as event
 use Rattle.events.specs.declared.event.TrainPlace.TheVariants as place
 use Rattle.events.specs.declared.event.TrainSeller.{TrainSeller}
 use Rattle.events.specs.declared.event.TrainSeller.TheVariants as seller
-use Rattle.history.proofs.AllTrains.{trains_stay}
-use Rattle.history.proofs.Choices.{truth}
+use Rattle.totals.proofs.AllTrains.{trains_stay}
+use Rattle.totals.proofs.Choices.{truth}
 use Rattle.history.proofs.Rolling.{same_kind_is, sold_at_end, trains_kept}
-use Rattle.history.specs.LookBack.{Game, with_event}
-use Rattle.history.specs.Trains.{IsThere, TrainsAreHeld, one_if, phase_of, train_goes, trains_at, trains_in_play, trains_sold}
+use Rattle.totals.specs.LookBack.{Game, with_event}
+use Rattle.totals.specs.Trains.{IsThere, TrainsAreHeld, one_if, phase_of, train_goes, trains_at, trains_in_play}
+use Rattle.totals.specs.Trains.{trains_sold}
 use Rattle.operating.proofs.Buying.{may_buy, so}
-use Rattle.operating.proofs.Complete.{Alike, alike_closed, alike_discarded, alike_on, alike_phase, alike_rusted, there_is}
+use Rattle.operating.proofs.Complete.{Alike, alike_closed, alike_discarded, alike_on, alike_phase, alike_rusted}
+use Rattle.operating.proofs.Complete.{there_is}
 use Rattle.operating.proofs.Held.{bought_held, purchase_held}
 use Rattle.operating.proofs.Rust.{none_in_play}
 use Rattle.operating.proofs.Sales.{between_sold, earlier_sold, is_bought, one_sold, sold_or_not}
-use Rattle.operating.proofs.TrainSteps.{IsPassedOn, later_begins, of_choice, of_fold, of_kind, of_limits, of_next, of_phase, of_privates, of_train_owner, phase_bought, phase_then}
-use Rattle.operating.specs.Phases.{begins_phase, bought, rusts_at, with_kind_rusted, with_kind_rusted_at, with_limits_kept, with_phase, with_privates_closed, with_rusted}
+use Rattle.operating.proofs.TrainSteps.{IsPassedOn, later_begins, of_choice, of_fold, of_kind, of_limits, of_next}
+use Rattle.operating.proofs.TrainSteps.{of_phase, of_privates, of_train_owner, phase_bought, phase_then}
+use Rattle.operating.specs.Phases.{begins_phase, bought, rusts_at, with_kind_rusted, with_kind_rusted_at}
+use Rattle.operating.specs.Phases.{with_limits_kept, with_phase, with_privates_closed, with_rusted}
 use Rattle.operating.specs.TrainLaws.{PurchasesKeepAll, TrainsAreAll, has_come}
 use Rattle.operating.specs.Trains.{is_on_sale, train_purchase_rules, train_judgement}
 use Rattle.operating.specs.declared.purchase.Purchase.{Purchase}

@@ -1,17 +1,18 @@
 -- What the president pays of a forced purchase: what the company lacks and no more, which is small and which he has.
-use Rattle.std.proofs.Common.{◌≡◌, ℕ, ◌≤◌, ◌<◌, inl, inr, Bool, true, false, if◌then◌else◌, ℤ, pos, negsuc, ◌≤ℤ◌, ◌<ℤ◌, ◌+ℤ◌, ◌-ℤ◌, refl, sym, ap, subst, ◌∙◌, arith}
+use Rattle.std.proofs.Common.{◌≡◌, ℕ, ◌≤◌, ◌<◌, inl, inr, Bool, true, false, if◌then◌else◌, ℤ, pos, negsuc, ◌≤ℤ◌, ◌<ℤ◌}
+use Rattle.std.proofs.Common.{◌+ℤ◌, ◌-ℤ◌, refl, sym, ap, subst, ◌∙◌, arith}
 use Rattle.std.proofs.lemmas.Bool.{cases_eq}
 use Rattle.std.proofs.lemmas.Int.{ints}
 use Rattle.std.specs.Int.Signed.{lt_z}
 use Rattle.events.specs.Event.{party_of_company}
 use Rattle.events.specs.declared.event.Event.{Event}
 use Rattle.events.specs.declared.event.Event.TheVariants as event
-use Rattle.history.proofs.EventAtEnd.{cash_of_at_end}
+use Rattle.totals.proofs.EventAtEnd.{cash_of_at_end}
 use Rattle.history.proofs.ForcedActs.{aid_sound}
-use Rattle.history.specs.Bids.{free_cash_of}
-use Rattle.history.specs.LookBack.{Game, cash_of, with_event}
+use Rattle.totals.specs.Bids.{free_cash_of}
+use Rattle.totals.specs.LookBack.{Game, cash_of, with_event}
 use Rattle.history.specs.Sound.{IsSound}
-use Rattle.history.specs.Trains.{so_many}
+use Rattle.totals.specs.Trains.{at_least_zero}
 use Rattle.operating.proofs.ForcedBuying.{cheapest_low, company_itself, less_is, not_less_is}
 use Rattle.operating.specs.Forced.{cheapest, falls_short, lack_of, with_aid}
 use Rattle.operating.specs.ForcedLaws.{AidIsWhatLacks, NoAidWithoutLack}
@@ -20,13 +21,13 @@ use Rattle.operating.specs.declared.operator.Operator.{Operator}
 use Rattle.tables.specs.Roster.{same_company}
 use Rattle.tables.specs.declared.roster.Company.{Company}
 
--- so many, of a sum that is at most a number, are at most as many
-so_low : (sum : ℤ) (most : ℕ) → sum ≤ℤ pos most → so_many sum ≤ most
+-- this many, of a sum that is at most a number, are at most as many
+so_low : (sum : ℤ) (most : ℕ) → sum ≤ℤ pos most → at_least_zero sum ≤ most
 so_low (pos n) most low = omega (arith, ints, low)
 so_low (negsuc n) most low = omega arith
 
 -- what is lacking is small
-pub lack_small : (game : Game) (company : Company) → IsSound game → so_many (lack_of game company) ≤ 1100
+pub lack_small : (game : Game) (company : Company) → IsSound game → at_least_zero (lack_of game company) ≤ 1100
 unfolding lack_of
 lack_small game company sound =
     let cash : ℤ = cash_of game.seats game.events (party_of_company company) in
@@ -34,11 +35,11 @@ lack_small game company sound =
     so_low (pos (cost_of (cheapest game.events)) -ℤ cash) 1100 (omega (arith, ints, some, cheapest_low game.events))
 
 -- nothing is paid where nothing is lacking
-over_none : (sum : ℤ) → so_many sum ≡ 0 → lt_z (pos 0) sum ≡ false
+over_none : (sum : ℤ) → at_least_zero sum ≡ 0 → lt_z (pos 0) sum ≡ false
 over_none (pos n) none = not_less_is (pos 0) (pos n) (omega (arith, ints, none))
 over_none (negsuc n) none = not_less_is (pos 0) (negsuc n) (omega (arith, ints))
 
-over_some : (sum : ℤ) → (so_many sum ≡ 0 → ⊥) → lt_z (pos 0) sum ≡ true
+over_some : (sum : ℤ) → (at_least_zero sum ≡ 0 → ⊥) → lt_z (pos 0) sum ≡ true
 over_some (pos n) some =
     elim (cases_eq n 0) [
       | inl none ↦ absurd (some none)
@@ -46,29 +47,29 @@ over_some (pos n) some =
     ]
 over_some (negsuc n) some = absurd (some refl)
 
-pub no_aid : (by : Operator) (game : Game) → so_many (lack_of game by.company) ≡ 0 → game ≡ with_aid by game
+pub no_aid : (by : Operator) (game : Game) → at_least_zero (lack_of game by.company) ≡ 0 → game ≡ with_aid by game
 unfolding with_aid
 no_aid by game none =
     ap (λ (b : Bool). if b then with_event game (event.Aid by.president by.company
-    (so_many (lack_of game by.company))) else game)
+    (at_least_zero (lack_of game by.company))) else game)
     (sym (over_none (lack_of game by.company) none))
 
-pub aid_recorded : (by : Operator) (game new : Game) (amount : ℕ) → amount ≡ so_many (lack_of game by.company)
+pub aid_recorded : (by : Operator) (game new : Game) (amount : ℕ) → amount ≡ at_least_zero (lack_of game by.company)
     → (amount ≡ 0 → ⊥) → new ≡ with_event game (event.Aid by.president by.company amount) → new ≡ with_aid by game
 unfolding with_aid
 aid_recorded by game new amount is some told =
     told
     ∙ ap (λ (n : ℕ). with_event game (event.Aid by.president by.company n)) is
     ∙ ap (λ (b : Bool). if b then with_event game (event.Aid by.president by.company
-    (so_many (lack_of game by.company))) else game)
+    (at_least_zero (lack_of game by.company))) else game)
     (sym (over_some (lack_of game by.company) (λ none. some (is ∙ none))))
 
 -- the president who does not fall short has it
-has_it : (free lack : ℤ) → pos 0 ≤ℤ free → lt_z free lack ≡ false → pos (so_many lack) ≤ℤ free
+has_it : (free lack : ℤ) → pos 0 ≤ℤ free → lt_z free lack ≡ false → pos (at_least_zero lack) ≤ℤ free
 has_it free (pos n) some enough = let least : pos n ≤ℤ free = grind (arith, ints, enough) in least
 has_it free (negsuc n) some enough = some
 
-pub aid_keeps_sound : (by : Operator) (game new : Game) (amount : ℕ) → amount ≡ so_many (lack_of game by.company)
+pub aid_keeps_sound : (by : Operator) (game new : Game) (amount : ℕ) → amount ≡ at_least_zero (lack_of game by.company)
     → by.president.0 < game.seats → falls_short by game ≡ false
     → new ≡ with_event game (event.Aid by.president by.company amount) → IsSound game → IsSound new
 unfolding falls_short
@@ -81,7 +82,7 @@ aid_keeps_sound by game new amount is seated enough told sound =
 
 -- a company that was paid what it lacks has exactly the price
 paid_exactly : (cash lack : ℤ) (cost : ℕ) (same : Bool) → same ≡ true → lack ≡ (pos cost -ℤ cash)
-    → lt_z (pos 0) lack ≡ true → ((cash +ℤ pos (if same then so_many lack else 0)) -ℤ pos 0) ≡ pos cost
+    → lt_z (pos 0) lack ≡ true → ((cash +ℤ pos (if same then at_least_zero lack else 0)) -ℤ pos 0) ≡ pos cost
 paid_exactly cash lack cost false is lacks more = absurd cc
 paid_exactly cash (pos amount) cost true is lacks more = omega (arith, ints, lacks)
 paid_exactly cash (negsuc under) cost true is lacks more =
@@ -92,7 +93,7 @@ unfolding with_aid lack_of
 aid_is_what_lacks by game more =
     let cost : ℕ = cost_of (cheapest game.events) in
     let cash : ℤ = cash_of game.seats game.events (party_of_company by.company) in
-    let its : Event = event.Aid by.president by.company (so_many (pos cost -ℤ cash)) in
+    let its : Event = event.Aid by.president by.company (at_least_zero (pos cost -ℤ cash)) in
     ap (λ (b : Bool). let paid : Game = if b then with_event game its else game in cash_of paid.seats paid.events
     (party_of_company by.company)) more
     ∙ cash_of_at_end game.seats game.events its (party_of_company by.company)
@@ -103,4 +104,4 @@ pub no_aid_without_lack : NoAidWithoutLack
 unfolding with_aid
 no_aid_without_lack by game none =
     ap (λ (b : Bool). if b then with_event game (event.Aid by.president by.company
-    (so_many (lack_of game by.company))) else game) none
+    (at_least_zero (lack_of game by.company))) else game) none

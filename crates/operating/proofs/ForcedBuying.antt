@@ -1,6 +1,8 @@
 -- The train that a company must buy is for sale, and once its president has paid what it lacks no rule of a purchase
 -- is broken.
-use Rattle.std.proofs.Common.{◌≡◌, ◌⊎◌, ℕ, ◌≤◌, Bool, true, false, not, ◌&&◌, ◌||◌, nat_lt, cond, if◌then◌else◌, List, [], ◌∷◌, ◌++◌, Option, Some, None, ℤ, pos, negsuc, ◌≤ℤ◌, ◌<ℤ◌, ◌+ℤ◌, ◌-ℤ◌, inl, inr, refl, sym, ap, subst, ◌∙◌, arith}
+use Rattle.std.proofs.Common.{◌≡◌, ◌⊎◌, ℕ, ◌≤◌, Bool, true, false, not, ◌&&◌, ◌||◌, nat_lt, cond, if◌then◌else◌, List}
+use Rattle.std.proofs.Common.{[], ◌∷◌, ◌++◌, Option, Some, None, ℤ, pos, negsuc, ◌≤ℤ◌, ◌<ℤ◌, ◌+ℤ◌, ◌-ℤ◌, inl, inr, refl}
+use Rattle.std.proofs.Common.{sym, ap, subst, ◌∙◌, arith}
 use Rattle.std.proofs.lemmas.Bool.{ltb-false, lt-ltb}
 use Rattle.std.proofs.lemmas.Bool.Decides.{nat_tests}
 use Rattle.std.proofs.lemmas.Int.{ints}
@@ -13,13 +15,15 @@ use Rattle.events.specs.declared.event.TrainPlace.TheVariants as place
 use Rattle.events.specs.declared.event.TrainSeller.{TrainSeller}
 use Rattle.events.specs.declared.event.TrainSeller.TheVariants as seller
 use Rattle.events.specs.declared.ruling.TrainRule.{TrainRule}
-use Rattle.events.specs.declared.ruling.TrainRule.TheVariants.{NotOnSale, TrainLimit, CashTooSmall, NoConsent, NotSellers, NoTradeIn}
-use Rattle.history.proofs.EventAtEnd.{cash_of_at_end, trains_at_before}
+use Rattle.events.specs.declared.ruling.TrainRule.TheVariants.{NotOnSale, TrainLimit, CashTooSmall, NoConsent}
+use Rattle.events.specs.declared.ruling.TrainRule.TheVariants.{NotSellers, NoTradeIn}
+use Rattle.totals.proofs.EventAtEnd.{cash_of_at_end, trains_at_before}
 use Rattle.history.proofs.Rolling.{sold_at_end}
-use Rattle.history.specs.LookBack.{Game, cash_of, with_event}
-use Rattle.history.specs.Trains.{one_if, phase_of, so_many, train_count, train_goes, trains_held, trains_sold}
+use Rattle.totals.specs.LookBack.{Game, cash_of, with_event}
+use Rattle.totals.specs.Trains.{one_if, phase_of, at_least_zero, train_count, train_goes, trains_held, trains_sold}
 use Rattle.operating.specs.Forced.{cheapest, first_on_sale, has_trains, lack_of, plain, with_aid}
-use Rattle.operating.specs.Trains.{are_left, cost_of, first_left, first_left_of, is_at_train_limit, is_kind, is_left, is_on_sale, is_too_dear, numbered_kinds, sells, sells_diesels, train_judgement}
+use Rattle.operating.specs.Trains.{are_left, cost_of, first_left, first_left_of, is_at_train_limit, is_kind, is_left}
+use Rattle.operating.specs.Trains.{is_on_sale, is_too_dear, numbered_kinds, sells, sells_diesels, train_judgement}
 use Rattle.operating.specs.declared.operator.Operator.{Operator}
 use Rattle.operating.specs.declared.purchase.Purchase.{Purchase}
 use Rattle.operating.proofs.ForcedLemmas.{size_before}
@@ -272,7 +276,7 @@ company_itself company = grind (arith, nat_tests)
 
 -- what a company has once it was paid what it lacks
 paid_up : (cash lack : ℤ) (cost : ℕ) (same : Bool) → same ≡ true → lack ≡ (pos cost -ℤ cash)
-    → lt_z (pos 0) lack ≡ true → lt_z ((cash +ℤ pos (if same then so_many lack else 0)) -ℤ pos 0) (pos cost) ≡ false
+    → lt_z (pos 0) lack ≡ true → lt_z ((cash +ℤ pos (if same then at_least_zero lack else 0)) -ℤ pos 0) (pos cost) ≡ false
 paid_up cash lack cost false is lacks more = absurd cc
 paid_up cash (pos amount) cost true is lacks more =
     not_less_is ((cash +ℤ pos amount) -ℤ pos 0) (pos cost) (omega (arith, ints, lacks))
@@ -293,7 +297,7 @@ aided by game =
     let cost : ℕ = cost_of purchase in
     let cash : ℤ = cash_of game.seats game.events (party_of_company by.company) in
     let lack : ℤ = pos cost -ℤ cash in
-    let its : Event = event.Aid by.president by.company (so_many lack) in
+    let its : Event = event.Aid by.president by.company (at_least_zero lack) in
     elim (lt_z (pos 0) lack) as (λ (b : Bool). lt_z (pos 0) lack ≡ b
     → is_too_dear (if b then with_event game its else game) by.company purchase ≡ false) [
       | true ↦ λ more.
@@ -310,7 +314,7 @@ aid_keeps : (by : Operator) (game : Game) → has_trains game.events by.company 
     × (is_on_sale (with_aid by game).events (cheapest game.events).from (cheapest game.events).kind ≡ true)
 unfolding with_aid
 aid_keeps by game none =
-    let its : Event = event.Aid by.president by.company (so_many (lack_of game by.company)) in
+    let its : Event = event.Aid by.president by.company (at_least_zero (lack_of game by.company)) in
     elim (lt_z (pos 0) (lack_of game by.company)) as
     (λ (b : Bool). (has_trains (if b then with_event game its else game).events by.company ≡ false)
     × (is_on_sale (if b then with_event game its else game).events (cheapest game.events).from

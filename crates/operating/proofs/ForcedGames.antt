@@ -1,7 +1,8 @@
 -- What holds of each event of a company's turn and of each purchase by the rules, of the sales by which money is raised
 -- and of a bankruptcy, and of one after the other, holds of the end of its turn, where it may have to buy a train, and so
 -- of the whole turn.
-use Rattle.std.proofs.Common.{◌≡◌, ℕ, zero, suc, ◌*◌, ◌==◌, Bool, true, false, if◌then◌else◌, List, [], ◌∷◌, ◌++◌, Option, Some, None, is_some, is_none, Result, Ok, inl, inr, pos, refl, sym, subst}
+use Rattle.std.proofs.Common.{◌≡◌, ℕ, zero, suc, ◌*◌, ◌==◌, Bool, true, false, if◌then◌else◌, List, [], ◌∷◌, ◌++◌}
+use Rattle.std.proofs.Common.{Option, Some, None, is_some, is_none, Result, Ok, inl, inr, pos, refl, sym, subst}
 use Rattle.std.specs.Int.Signed.{lt_z}
 use Rattle.certs.specs.President.{successor_of}
 use Rattle.certs.specs.Purchase.{market_price_of}
@@ -13,10 +14,10 @@ use Rattle.events.specs.declared.event.Event.TheVariants as event
 use Rattle.events.specs.declared.ruling.Refusal.{Refusal}
 use Rattle.events.specs.declared.ruling.Ruling.{Ruling}
 use Rattle.events.specs.declared.ruling.Ruling.TheVariants.{Obeyed, Refused}
-use Rattle.history.specs.LookBack.{Game, with_event}
-use Rattle.history.specs.Shares.{president_of, square_of}
+use Rattle.totals.specs.LookBack.{Game, with_event}
+use Rattle.totals.specs.Shares.{president_of, square_of}
 use Rattle.history.specs.Record.{breaks}
-use Rattle.history.specs.Trains.{so_many}
+use Rattle.totals.specs.Trains.{at_least_zero}
 use Rattle.market.specs.Moves.{fallen}
 use Rattle.market.specs.Token.{moved_from, same_square}
 use Rattle.operating.proofs.ForcedBuying.{IsPlain, cheapest_plain, forced_allowed}
@@ -24,7 +25,10 @@ use Rattle.operating.proofs.ForcedLemmas.{still_none}
 use Rattle.operating.proofs.ForcedSteps.{next_allowed, raise_obeyed, still_allowed}
 use Rattle.operating.proofs.TrainSteps.{of_choice}
 use Rattle.operating.proofs.TurnGames.{OfEvents, of_paid_turn}
-use Rattle.operating.specs.Forced.{EndLeads, after_forced, after_raise_line, after_raises, cheapest, concluded, falls_short, has_trains, lack_of, next_to_sell, one_tenth, raise_rule, raise_ruled, sale_rule, sold_further, sold_singly, with_aid, with_one_sold, with_ruling, with_sale}
+use Rattle.operating.specs.Forced.{EndLeads, after_forced, after_raise_line, after_raises, cheapest, concluded}
+use Rattle.operating.specs.Forced.{falls_short, has_trains, lack_of, next_to_sell, one_share, raise_rule, raise_ruled}
+use Rattle.operating.specs.Forced.{sale_rule, sold_further, sold_singly, with_aid, with_one_sold, with_ruling}
+use Rattle.operating.specs.Forced.{with_sale}
 use Rattle.operating.specs.Phases.{after_train}
 use Rattle.operating.specs.Trains.{train_judgement}
 use Rattle.operating.specs.PrivateLaws.{names_owner}
@@ -136,15 +140,15 @@ module _ (by : Operator) (R : Game → Game → Type 0) (of : OfEvents by.compan
   pub of_sale : OfSales by R
   of_sale game sale none =
       let company = sale.company in
-      let sells : Event = event.Sells company by.president sale.tenths
-      (sale.tenths * market_price_of game.events company) in
+      let sells : Event = event.Sells company by.president sale.shares
+      (sale.shares * market_price_of game.events company) in
       let told : Game = with_event game sells in
-      let paid : Game = with_events game (sold game.seats game.events by.president company sale.tenths) in
+      let paid : Game = with_events game (sold game.seats game.events by.president company sale.shares) in
       let led : Game = with_events game (with_president game.seats paid.events company) in
       let first : R game paid = of_break game told.events (of.others game sells tt refl refl refl) in
       let second : R paid led = of_succession paid company (president_of paid.events company) in
       of.on.both game led (with_sale by game sale) (of.on.both game paid led first second)
-      (of_token_moved (fallen sale.tenths) led company (square_of led.events company))
+      (of_token_moved (fallen sale.shares) led company (square_of led.events company))
 
 -- once the purchase is told and the money is raised
 abbrev pub gained_of : Operator → List Numbered → Game → Game
@@ -164,19 +168,19 @@ module _ (by : Operator) (R : Game → Game → Type 0) (of : OfEvents by.compan
       → raise_rule due by game line.condition sale ≡ broken →
       R game (raise_ruled by game line sale broken)
   of_raise_ruled due game line sale None none =
-      let obeyed : Ruling = Obeyed line.condition (order.Raise sale.company sale.tenths) in
+      let obeyed : Ruling = Obeyed line.condition (order.Raise sale.company sale.shares) in
       let ruled : Game = with_ruling by game line obeyed in
       of.on.both game ruled (with_sale by ruled sale)
       (of.others game (event.Ruled by.president line.number obeyed) tt refl refl refl)
       (sales ruled sale (still_allowed by game line obeyed sale (raise_obeyed due by game line.condition sale none)))
   of_raise_ruled due game line sale (Some rule) some =
       of.others game (event.Ruled by.president line.number
-      (Refused rule line.condition (order.Raise sale.company sale.tenths))) tt refl refl refl
+      (Refused rule line.condition (order.Raise sale.company sale.shares))) tt refl refl refl
 
   of_raise_line : (due : Bool) (game : Game) (line : Numbered) (reading : Result Order Fault)
       → R game (after_raise_line due by game line reading)
-  of_raise_line due game line (Ok (order.Raise company tenths)) =
-      let sale : Sale = record { company = company; tenths = tenths } in
+  of_raise_line due game line (Ok (order.Raise company shares)) =
+      let sale : Sale = record { company = company; shares = shares } in
       of_raise_ruled due game line sale (raise_rule due by game line.condition sale) refl
   of_raise_line due game line other = of.on.same game
 
@@ -187,11 +191,11 @@ module _ (by : Operator) (R : Game → Game → Type 0) (of : OfEvents by.compan
       of.on.both game next (after_raises due by next lines) (of_raise_line due game line line.reading)
       (of_raises due lines next)
 
-  -- of single tenths
+  -- of single shares
   of_one_sold : (game : Game) (found : Option Company) → next_to_sell by game ≡ found
       → R game (with_one_sold by game found)
   of_one_sold game None none = of.on.same game
-  of_one_sold game (Some company) found = sales game (one_tenth company) (next_allowed by game company found)
+  of_one_sold game (Some company) found = sales game (one_share company) (next_allowed by game company found)
 
   of_further : (game : Game) → R game (sold_further by game)
   unfolding sold_further
@@ -221,7 +225,7 @@ module _ (by : Operator) (R : Game → Game → Type 0) (of : OfEvents by.compan
   of_aid : (game : Game) → R game (with_aid by game)
   unfolding with_aid
   of_aid game =
-      let its : Event = event.Aid by.president by.company (so_many (lack_of game by.company)) in
+      let its : Event = event.Aid by.president by.company (at_least_zero (lack_of game by.company)) in
       of_choice R (lt_z (pos 0) (lack_of game by.company)) game (with_event game its) game
       (of.others game its tt refl refl refl) (of.on.same game)
 

@@ -1,5 +1,6 @@
 -- What a forced purchase needs, and what stays as it was while money is raised for it.
-use Rattle.std.proofs.Common.{◌≡◌, ℕ, zero, suc, ◌*◌, ◌==◌, Bool, true, false, if◌then◌else◌, List, [], ◌∷◌, ◌++◌, Option, Some, None, Result, Ok, ℤ, pos, ◌+ℤ◌, refl, ap, ◌∙◌}
+use Rattle.std.proofs.Common.{◌≡◌, ℕ, zero, suc, ◌*◌, ◌==◌, Bool, true, false, if◌then◌else◌, List, [], ◌∷◌, ◌++◌}
+use Rattle.std.proofs.Common.{Option, Some, None, Result, Ok, ℤ, pos, ◌+ℤ◌, refl, ap, ◌∙◌}
 use Rattle.std.specs.Int.Signed.{lt_z}
 use Rattle.certs.specs.SaleAct.{after_sale, sold, with_president, with_successor}
 use Rattle.certs.specs.President.{successor_of}
@@ -10,14 +11,15 @@ use Rattle.events.specs.declared.event.Event.{Event}
 use Rattle.events.specs.declared.event.Event.TheVariants as event
 use Rattle.events.specs.declared.ruling.Refusal.{Refusal}
 use Rattle.events.specs.declared.ruling.Ruling.TheVariants.{Obeyed, Refused}
-use Rattle.history.proofs.EventAtEnd.{trains_at_before}
-use Rattle.history.specs.LookBack.{Game, with_event}
-use Rattle.history.specs.Shares.{president_of, square_of}
+use Rattle.totals.proofs.EventAtEnd.{trains_at_before}
+use Rattle.totals.specs.LookBack.{Game, with_event}
+use Rattle.totals.specs.Shares.{president_of, square_of}
 use Rattle.history.specs.Record.{breaks, with_broken}
-use Rattle.history.specs.Trains.{train_count, trains_held, trains_of_kinds}
+use Rattle.totals.specs.Trains.{train_count, trains_held, trains_of_kinds}
 use Rattle.market.specs.Moves.{fallen}
 use Rattle.market.specs.Token.{moved_from, same_square}
-use Rattle.operating.specs.Forced.{after_raise_line, after_raises, has_trains, next_to_sell, raise_rule, raise_ruled, sold_further, sold_singly, with_one_sold, falls_short}
+use Rattle.operating.specs.Forced.{after_raise_line, after_raises, has_trains, next_to_sell, raise_rule, raise_ruled}
+use Rattle.operating.specs.Forced.{sold_further, sold_singly, with_one_sold, falls_short}
 use Rattle.operating.specs.declared.operator.Operator.{Operator}
 use Rattle.order_grammar.specs.declared.fault.Fault.{Fault}
 use Rattle.order_grammar.specs.declared.order.Order.{Order}
@@ -73,33 +75,33 @@ module _ (owner : Option Company) where
       (size_before events (event.Moves company (move square)) owner refl)
 
   -- a sale moves no train
-  pub size_sale : (seats : ℕ) (events : List Event) (seat : Seat) (company : Company) (tenths : ℕ)
-      → size (after_sale seats events seat company tenths) ≡ size events
-  size_sale seats events seat company tenths =
-      let told : List Event = events ++ event.Sells company seat tenths (tenths * market_price_of events company)
+  pub size_sale : (seats : ℕ) (events : List Event) (seat : Seat) (company : Company) (shares : ℕ)
+      → size (after_sale seats events seat company shares) ≡ size events
+  size_sale seats events seat company shares =
+      let told : List Event = events ++ event.Sells company seat shares (shares * market_price_of events company)
       ∷ [] in
-      let paid : List Event = sold seats events seat company tenths in
+      let paid : List Event = sold seats events seat company shares in
       let led : List Event = with_president seats paid company in
-      size_move (fallen tenths) led company (square_of led company)
+      size_move (fallen shares) led company (square_of led company)
       ∙ size_succession seats paid company (president_of paid company)
       ∙ size_broken seats told
-      ∙ size_before events (event.Sells company seat tenths (tenths * market_price_of events company)) owner refl
+      ∙ size_before events (event.Sells company seat shares (shares * market_price_of events company)) owner refl
 
   size_raise_ruled : (by : Operator) (game : Game) (line : Numbered) (sale : Sale) (broken : Option Refusal)
       → size (raise_ruled by game line sale broken).events ≡ size game.events
   size_raise_ruled by game line sale None =
       let ruled : Event = event.Ruled by.president line.number
-      (Obeyed line.condition (order.Raise sale.company sale.tenths)) in
-      size_sale game.seats (game.events ++ ruled ∷ []) by.president sale.company sale.tenths
+      (Obeyed line.condition (order.Raise sale.company sale.shares)) in
+      size_sale game.seats (game.events ++ ruled ∷ []) by.president sale.company sale.shares
       ∙ size_before game.events ruled owner refl
   size_raise_ruled by game line sale (Some rule) =
       size_before game.events (event.Ruled by.president line.number
-      (Refused rule line.condition (order.Raise sale.company sale.tenths))) owner refl
+      (Refused rule line.condition (order.Raise sale.company sale.shares))) owner refl
 
   size_raise_line : (due : Bool) (by : Operator) (game : Game) (line : Numbered) (reading : Result Order Fault)
       → size (after_raise_line due by game line reading).events ≡ size game.events
-  size_raise_line due by game line (Ok (order.Raise company tenths)) =
-      let sale : Sale = record { company = company; tenths = tenths } in
+  size_raise_line due by game line (Ok (order.Raise company shares)) =
+      let sale : Sale = record { company = company; shares = shares } in
       size_raise_ruled by game line sale (raise_rule due by game line.condition sale)
   size_raise_line due by game line other = refl
 
@@ -129,7 +131,7 @@ module _ (owner : Option Company) where
   size_steps by zero game = refl
   size_steps by (suc n) game = size_further by (iterate (sold_further by) n game) ∙ size_steps by n game
 
-  -- nor do the sales of single tenths
+  -- nor do the sales of single shares
   pub size_singly : (by : Operator) (game : Game) → size (sold_singly by game).events ≡ size game.events
   unfolding sold_singly
   size_singly by game = size_steps by 40 game

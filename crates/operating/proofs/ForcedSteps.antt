@@ -1,6 +1,7 @@
 -- The steps of a forced purchase, from what each part of them does.
-use Rattle.std.proofs.Common.{◌≡◌, ℕ, zero, suc, Bool, true, false, ◌&&◌, if◌then◌else◌, List, [], ◌∷◌, ◌++◌, Option, Some, None, option_map, is_none, refl, sym, ap, subst, ◌∙◌}
-use Rattle.certificate.proofs.Named.{found_passes}
+use Rattle.std.proofs.Common.{◌≡◌, ℕ, zero, suc, Bool, true, false, ◌&&◌, if◌then◌else◌, List, [], ◌∷◌, ◌++◌, Option}
+use Rattle.std.proofs.Common.{Some, None, option_map, is_none, refl, sym, ap, subst, ◌∙◌}
+use Rattle.legal_runs.proofs.Named.{found_passes}
 use Rattle.certs.proofs.SaleAllowed.{sale_allowed, same_judgement}
 use Rattle.certs.specs.Sale.{sale_judgement}
 use Rattle.certs.specs.SaleAct.{MaySell, after_sale}
@@ -13,10 +14,12 @@ use Rattle.events.specs.declared.ruling.Ruling.{Ruling}
 use Rattle.events.specs.declared.ruling.Ruling.TheVariants.{Obeyed}
 use Rattle.events.specs.declared.ruling.StockRule.{StockRule}
 use Rattle.events.specs.declared.ruling.StockRule.TheVariants.{NotOfStock}
-use Rattle.history.proofs.EventAtEnd.{last_said_before, quiet_same}
+use Rattle.totals.proofs.EventAtEnd.{last_said_before, quiet_same}
 use Rattle.history.specs.Conditions.{is_met}
-use Rattle.history.specs.LookBack.{Game, with_event}
-use Rattle.operating.specs.Forced.{after_forced, after_raise, after_raises, cheapest, concluded, falls_short, needed_rule, next_to_sell, one_tenth, raise_rule, raise_ruled, sale_rule, sold_further, sold_singly, with_aid, with_one_sold, with_ruling, with_sale}
+use Rattle.totals.specs.LookBack.{Game, with_event}
+use Rattle.operating.specs.Forced.{after_forced, after_raise, after_raises, cheapest, concluded, falls_short}
+use Rattle.operating.specs.Forced.{needed_rule, next_to_sell, one_share, raise_rule, raise_ruled, sale_rule}
+use Rattle.operating.specs.Forced.{sold_further, sold_singly, with_aid, with_one_sold, with_ruling, with_sale}
 use Rattle.operating.specs.Phases.{after_train}
 use Rattle.operating.specs.declared.operator.Operator.{Operator}
 use Rattle.operating.specs.declared.purchase.Purchase.{Purchase}
@@ -68,11 +71,11 @@ raise_obeyed due by game condition sale none =
 -- and sells what it says
 pub raised : (due : Bool) (by : Operator) (old told new : Game) (line : Numbered) (sale : Sale)
     → raise_rule due by old line.condition sale ≡ None
-    → told ≡ with_ruling by old line (Obeyed line.condition (order.Raise sale.company sale.tenths))
-    → new.seats ≡ told.seats → new.events ≡ after_sale told.seats told.events by.president sale.company sale.tenths
+    → told ≡ with_ruling by old line (Obeyed line.condition (order.Raise sale.company sale.shares))
+    → new.seats ≡ told.seats → new.events ≡ after_sale told.seats told.events by.president sale.company sale.shares
     → new ≡ after_raise due by old line sale
 raised due by old told new line sale none is_told seats events =
-    made_of new told.seats (after_sale told.seats told.events by.president sale.company sale.tenths) seats events
+    made_of new told.seats (after_sale told.seats told.events by.president sale.company sale.shares) seats events
     ∙ ap (λ (game : Game). with_sale by game sale) is_told
     ∙ ap (raise_ruled by old line sale) (sym none)
 
@@ -81,17 +84,17 @@ pub nothing : {A : Type 0} (found : Option A) → is_none found ≡ true → fou
 nothing None is = refl
 nothing (Some thing) is = absurd cc
 
--- the tenth of the first company of which the president may sell can be sold
-pub may_sell_tenth : (by : Operator) (game : Game) (company : Company) (sale : Sale) → sale ≡ one_tenth company
+-- the share of the first company of which the president may sell can be sold
+pub may_sell_share : (by : Operator) (game : Game) (company : Company) (sale : Sale) → sale ≡ one_share company
     → next_to_sell by game ≡ Some company → MaySell game.seats game.events by.president sale
 unfolding next_to_sell sale_rule
-may_sell_tenth by game company sale is found =
-    let passes : is_none (sale_judgement game.seats game.events by.president (one_tenth company) (Some by.company))
-    ≡ true = found_passes (λ its. is_none (sale_judgement game.seats game.events by.president (one_tenth its)
+may_sell_share by game company sale is found =
+    let passes : is_none (sale_judgement game.seats game.events by.president (one_share company) (Some by.company))
+    ≡ true = found_passes (λ its. is_none (sale_judgement game.seats game.events by.president (one_share its)
     (Some by.company))) companies company found in
     subst (λ (its : Sale). MaySell game.seats game.events by.president its) (sym is)
-    (sale_allowed game.seats game.events by.president (one_tenth company) (Some by.company)
-    (nothing (sale_judgement game.seats game.events by.president (one_tenth company) (Some by.company)) passes))
+    (sale_allowed game.seats game.events by.president (one_share company) (Some by.company)
+    (nothing (sale_judgement game.seats game.events by.president (one_share company) (Some by.company)) passes))
 
 -- a sale that breaks no rule breaks none after a ruling
 pub still_allowed : (by : Operator) (game : Game) (line : Numbered) (ruling : Ruling) (sale : Sale) →
@@ -120,21 +123,21 @@ still_allowed by game line ruling sale none =
     (last_said_before round_begun_by (game.events ++ its ∷ []) game.events its refl refl)
     ∙ none
 
--- nor does that of the tenth which is sold next
+-- nor does that of the share which is sold next
 pub next_allowed : (by : Operator) (game : Game) (company : Company) → next_to_sell by game ≡ Some company
-    → sale_rule by game (one_tenth company) ≡ None
+    → sale_rule by game (one_share company) ≡ None
 unfolding next_to_sell
 next_allowed by game company found =
-    nothing (sale_rule by game (one_tenth company))
-    (found_passes (λ its. is_none (sale_rule by game (one_tenth its))) companies company found)
+    nothing (sale_rule by game (one_share company))
+    (found_passes (λ its. is_none (sale_rule by game (one_share its))) companies company found)
 
 -- one is sold
-pub one_sold : (by : Operator) (old new : Game) (company : Company) (sale : Sale) → sale ≡ one_tenth company
+pub one_sold : (by : Operator) (old new : Game) (company : Company) (sale : Sale) → sale ≡ one_share company
     → next_to_sell by old ≡ Some company → new.seats ≡ old.seats
-    → new.events ≡ after_sale old.seats old.events by.president sale.company sale.tenths
+    → new.events ≡ after_sale old.seats old.events by.president sale.company sale.shares
     → new ≡ with_one_sold by old (next_to_sell by old)
 one_sold by old new company sale is found seats events =
-    made_of new old.seats (after_sale old.seats old.events by.president sale.company sale.tenths) seats events
+    made_of new old.seats (after_sale old.seats old.events by.president sale.company sale.shares) seats events
     ∙ ap (λ (its : Sale). with_sale by old its) is
     ∙ ap (with_one_sold by old) (sym found)
 

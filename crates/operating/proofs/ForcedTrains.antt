@@ -1,23 +1,26 @@
 -- A company that is made to buy has a train at the end of its turn: what rusts by its purchase is of another kind, and it
 -- has none too many to be discarded.
-use Rattle.std.proofs.Common.{◌≡◌, inl, inr, ◌⊎◌, ℕ, zero, suc, ◌≤◌, Bool, true, false, ◌&&◌, if◌then◌else◌, List, [], ◌∷◌, Option, Some, None, Result, Ok, ℤ, pos, negsuc, ◌≤ℤ◌, ◌-ℤ◌, refl, sym, ap, subst, ◌∙◌, arith}
+use Rattle.std.proofs.Common.{◌≡◌, inl, inr, ◌⊎◌, ℕ, zero, suc, ◌≤◌, Bool, true, false, ◌&&◌, if◌then◌else◌, List, []}
+use Rattle.std.proofs.Common.{◌∷◌, Option, Some, None, Result, Ok, ℤ, pos, negsuc, ◌≤ℤ◌, ◌-ℤ◌, refl, sym, ap, subst}
+use Rattle.std.proofs.Common.{◌∙◌, arith}
 use Rattle.std.proofs.lemmas.Bool.Decides.{nat_tests}
 use Rattle.std.proofs.lemmas.Int.{ints}
 use Rattle.std.specs.Int.Signed.{lt_z}
-use Rattle.board.specs.MapState.{position_of}
-use Rattle.certificate.specs.TwoTrain.{CanRun}
+use Rattle.board_state.specs.MapState.{position_of}
+use Rattle.legal_runs.specs.TwoTrain.{CanRun}
 use Rattle.events.specs.Event.{place_of_seller, train_owner_place, train_moved}
 use Rattle.events.specs.declared.event.Event.{Event}
 use Rattle.events.specs.declared.event.Event.TheVariants as event
 use Rattle.events.specs.declared.event.TrainSeller.{TrainSeller}
 use Rattle.events.specs.declared.event.TrainSeller.TheVariants as seller
 use Rattle.events.specs.declared.ruling.Ruling.{Ruling}
-use Rattle.history.proofs.Choices.{same_company_is, truth}
-use Rattle.history.proofs.EventAtEnd.{trains_at_before, trains_at_end}
+use Rattle.totals.proofs.Choices.{same_company_is, truth}
+use Rattle.totals.proofs.EventAtEnd.{trains_at_before, trains_at_end}
 use Rattle.history.proofs.Rolling.{same_kind_is, same_train_place_is}
-use Rattle.history.specs.LookBack.{Game, bankrupt_in, with_event}
-use Rattle.history.specs.Shares.{president_of}
-use Rattle.history.specs.Trains.{TrainsAreHeld, one_if, phase_of, same_train_place, so_many, train_count, trains_at, trains_held}
+use Rattle.totals.specs.LookBack.{Game, bankrupt_in, with_event}
+use Rattle.totals.specs.Shares.{president_of}
+use Rattle.totals.specs.Trains.{TrainsAreHeld, one_if, phase_of, same_train_place, at_least_zero, train_count}
+use Rattle.totals.specs.Trains.{trains_at, trains_held}
 use Rattle.operating.proofs.Bankruptcies.{now_bankrupt}
 use Rattle.operating.proofs.Fitting.{same_map_state}
 use Rattle.operating.proofs.ForcedBuying.{cheapest_plain, company_itself, limit_low}
@@ -28,11 +31,15 @@ use Rattle.operating.proofs.TrainSteps.{IsPassedOn, of_bop, of_fold, of_iterate,
 use Rattle.operating.proofs.TurnGames.{of_paid_turn}
 use Rattle.operating.proofs.TurnLaws.{StillStand, more_stand, stands_by}
 use Rattle.operating.specs.Discards.{next_discard}
-use Rattle.operating.specs.Forced.{EndLeads, IsDue, after_forced, after_raise_line, after_raises, cheapest, concluded, falls_short, has_trains, lack_of, plain, raise_rule, with_aid, with_ruling}
+use Rattle.operating.specs.Forced.{EndLeads, IsDue, after_forced, after_raise_line, after_raises, cheapest, concluded}
+use Rattle.operating.specs.Forced.{falls_short, has_trains, lack_of, plain, raise_rule, with_aid, with_ruling}
 use Rattle.operating.specs.ForcedLaws.{TurnsEndWithTrains}
 use Rattle.operating.specs.MapState.{map_state_now}
-use Rattle.operating.specs.Phases.{after_train, begins_phase, bought, excess_of, rusts_at, with_discarded, with_kind_rusted, with_kind_rusted_at, with_limit_kept, with_limits_kept, with_next_discarded, with_one_rusted, with_phase, with_privates_closed, with_rusted, with_trains_rusted}
-use Rattle.operating.specs.TrainLaws.{TrainsStand}
+use Rattle.operating.specs.Phases.{after_train, begins_phase, bought, excess_of, rusts_at, with_discarded}
+use Rattle.operating.specs.Phases.{with_kind_rusted, with_kind_rusted_at, with_limit_kept, with_limits_kept}
+use Rattle.operating.specs.Phases.{with_next_discarded, with_one_rusted, with_phase, with_privates_closed, with_rusted}
+use Rattle.operating.specs.Phases.{with_trains_rusted}
+use Rattle.operating.specs.TrainLaws.{AllTrainsAreThere}
 use Rattle.operating.specs.Trains.{cost_of}
 use Rattle.operating.specs.Turn.{BlockEnds, settled}
 use Rattle.operating.specs.declared.operator.Operator.{Operator}
@@ -69,8 +76,8 @@ and_true : (b : Bool) → (b && true) ≡ b
 and_true true = refl
 and_true false = refl
 
--- so many of a count that is not over 0
-few_are_none : (count : ℤ) → count ≤ℤ pos 0 → so_many count ≡ 0
+-- this many of a count that is not over 0
+few_are_none : (count : ℤ) → count ≤ℤ pos 0 → at_least_zero count ≡ 0
 few_are_none (pos n) few = omega (arith, ints, few)
 few_are_none (negsuc n) few = refl
 
@@ -134,7 +141,7 @@ module _ (company : Company) (own : Kind) where
             subst (λ (its : Kind). has its (Some company) (with_trains_rusted owner rusting game)
             ≡ pos (one_if (same_kind own its))) is
             (none_still rusting owner game (zero_of rusting another) ∙ ap (λ (b : Bool). pos (one_if b)) (sym another))
-        | inr apart ↦ other_kind rusting kind owner (so_many (has rusting owner game)) game apart ∙ one kind
+        | inr apart ↦ other_kind rusting kind owner (at_least_zero (has rusting owner game)) game apart ∙ one kind
       ]
 
   by_rusts : (game : Game) → Stays game (with_rusted own game)
@@ -164,7 +171,7 @@ module _ (company : Company) (own : Kind) where
       one
 
   -- which no limit excludes
-  none_over : (size : ℤ) (limit : ℕ) → size ≡ pos 1 → 1 ≤ limit → so_many (size -ℤ pos limit) ≡ 0
+  none_over : (size : ℤ) (limit : ℕ) → size ≡ pos 1 → 1 ≤ limit → at_least_zero (size -ℤ pos limit) ≡ 0
   none_over size limit one low = few_are_none (size -ℤ pos limit) (omega (arith, ints, one, low))
 
   -- a discard of another company
@@ -278,7 +285,7 @@ none_with_aid : (by : Operator) (game : Game) (kind : Kind) → trains_held game
     → trains_held (with_aid by game).events (Some by.company) kind ≡ pos 0
 unfolding with_aid
 none_with_aid by game kind none =
-    let its : Event = event.Aid by.president by.company (so_many (lack_of game by.company)) in
+    let its : Event = event.Aid by.president by.company (at_least_zero (lack_of game by.company)) in
     elim (lt_z (pos 0) (lack_of game by.company)) as
     (λ (b : Bool). trains_held (if b then with_event game its else game).events (Some by.company) kind ≡ pos 0) [
       | true ↦ trains_at_before game.events its (train_owner_place (Some by.company)) kind refl ∙ none
@@ -334,7 +341,7 @@ alike_ruled by game line ruling =
 alike_line : (by : Operator) (game : Game) (line : Numbered) (reading : Result Order Fault)
     → Alike game (after_raise_line false by game line reading)
 unfolding raise_rule
-alike_line by game line (Ok (order.Raise company tenths)) = alike_ruled by game line _
+alike_line by game line (Ok (order.Raise company shares)) = alike_ruled by game line _
 alike_line by game line other = alike_same game
 
 alike_raises : (by : Operator) (lines : List Numbered) (game : Game) → Alike game (after_raises false by game lines)
@@ -381,20 +388,20 @@ served_free by lines game new is free =
     ]
 
 served : (by : Operator) (lines : List Numbered) (game new : Game) → EndLeads by lines game new
-    → TrainsStand game.events → Served by.company new
+    → AllTrainsAreThere game.events → Served by.company new
 unfolding after_forced
 served by lines game new (inl due) stand =
     let gained : Game = gained_of by lines game in
     let sales = of_sale by StillStand (stands_by by.company)
     (λ now company seat. more_stand now (event.President company seat) tt refl refl refl) in
-    let still : TrainsStand gained.events = of_gained by StillStand (stands_by by.company) sales lines game stand in
+    let still : AllTrainsAreThere gained.events = of_gained by StillStand (stands_by by.company) sales lines game stand in
     served_bought by gained new due.1 still.held (gained_none by lines game due.0.0)
 served by lines game new (inr none) stand = served_free by lines game new none.1 none.0
 
 -- so it is in each turn of a company that has a president
 of_block : (file : List ℕ) (round : Round) (company : Company) (game new : Game) (president : Option Seat)
     (seat : Seat) → president ≡ Some seat →
-    BlockEnds file round company game president new → TrainsStand game.events → Served company new
+    BlockEnds file round company game president new → AllTrainsAreThere game.events → Served company new
 of_block file round company game new None seat is ends stand = absurd cc
 of_block file round company game new (Some its) seat is ends stand =
     served (operator company its) (block_for file round its.0 company) game new ends stand

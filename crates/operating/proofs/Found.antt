@@ -17,13 +17,15 @@ use Rattle.map_tables.specs.declared.track.End.{End}
 use Rattle.map_tables.specs.declared.track.End.TheVariants.{Side as AtSide, Stop as AtStop}
 use Rattle.map_tables.specs.declared.track.Link.{Link}
 use Rattle.reach.proofs.Collected.{all_tokens, none_marked, own_hex, spot_of, token_arrives}
-use Rattle.reach.proofs.Decided.{Decided, both_decided, can_enter_decided, either_decided, mark_decided, not_decided, token_decided}
+use Rattle.reach.proofs.Decided.{Decided, both_decided, can_enter_decided, either_decided, mark_decided, not_decided}
+use Rattle.reach.proofs.Decided.{token_decided}
 use Rattle.reach.proofs.Hexes.{index_low, same_index, side_low, stop_index_low}
 use Rattle.reach.proofs.Marking.{one_more, spreads_followed}
 use Rattle.reach.specs.Lawful.{IsLawful}
 use Rattle.reach.specs.Position.{HasToken, IsAmong, Position, links_of}
 use Rattle.reach.specs.Reached.{stop_order}
-use Rattle.reach.specs.Search.{AllArrive, CanEnter, HasAllTokens, IsClosed, IsKept, IsMarked, IsMarking, marked, number_at, spot_number}
+use Rattle.reach.specs.Search.{AllArrive, CanEnter, HasAllTokens, IsClosed, IsKept, IsMarked, IsMarking, marked}
+use Rattle.reach.specs.Search.{number_at, spot_number}
 use Rattle.reach.specs.Walk.{IsTrack, entered_at, left_at}
 use Rattle.reach.specs.declared.walk.Spot.{Spot}
 use Rattle.reach.specs.declared.walk.Step.{Step}

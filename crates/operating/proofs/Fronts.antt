@@ -1,16 +1,17 @@
 -- A board that has the first of what was laid has them still when events are added, and has all once it was told the rest.
-use Rattle.std.proofs.Common.{◌≡◌, ◌-◌, ◌<◌, List, [], ◌∷◌, ◌++◌, length, Some, None, refl, ap, sym, subst, ◌∙◌, arith, length-append}
+use Rattle.std.proofs.Common.{◌≡◌, ◌-◌, ◌<◌, List, [], ◌∷◌, ◌++◌, length, Some, None, refl, ap, sym, subst, ◌∙◌, arith}
+use Rattle.std.proofs.Common.{length-append}
 use Rattle.std.proofs.lemmas.List.{append_assoc, append-nil}
 use Rattle.std.proofs.lemmas.List.Elements.{filter_map-append}
-use Rattle.board.specs.MapState.{MapState, map_state_of}
+use Rattle.board_state.specs.MapState.{MapState, map_state_of}
 use Rattle.events.specs.Event.{tile_laid, token_placed}
 use Rattle.events.specs.declared.event.Event.{Event}
-use Rattle.history.specs.LookBack.{Game}
-use Rattle.history.specs.Operating.{lays_of, tokens_of}
+use Rattle.totals.specs.LookBack.{Game}
+use Rattle.totals.specs.Operating.{lays_of, tokens_of}
 use Rattle.operating.proofs.TurnGames.{of_steps}
 use Rattle.operating.proofs.TurnLaws.{adds_by}
 use Rattle.operating.proofs.TurnSteps.{of_line, of_settled}
-use Rattle.operating.specs.MapState.{BeginsWith, IsFront, map_state_now}
+use Rattle.operating.specs.MapState.{BeginsWith, IsPrefix, map_state_now}
 use Rattle.operating.specs.InTurn.{InTurn, in_turn}
 use Rattle.operating.specs.Laws.{OnlyAdds}
 use Rattle.operating.specs.Turn.{ReadingLeads, settled}
@@ -23,7 +24,7 @@ use Rattle.sheets.specs.Part.{Numbered}
 use Rattle.tables.specs.declared.rolling_stock.Kind.{Kind}
 use Rattle.tables.specs.declared.roster.Company.{Company}
 
--- what stands behind a front
+-- what is behind a prefix
 behind : {A : Type 0} (front rest : List A) → slice_get (front ++ rest) (length front) ≡ slice_get rest 0
 behind [] rest = refl
 behind (x ∷ xs) rest = behind xs rest
@@ -62,22 +63,22 @@ fewer_left front told all x is begins =
     omega (arith, ap length is, ap length begins.is, length-append front (x ∷ []), length-append told begins.rest)
 
 -- all are a front
-pub whole_front : {A : Type 0} (front all : List A) → front ≡ all → BeginsWith front all
-whole_front front all is = record { rest = []; is = sym is ∙ sym (append-nil front) }
+pub whole_prefix : {A : Type 0} (front all : List A) → front ≡ all → BeginsWith front all
+whole_prefix front all is = record { rest = []; is = sym is ∙ sym (append-nil front) }
 
 -- what lies now is a front
-pub now_front : (laid : MapState) (events : List Event) → laid ≡ map_state_now events → IsFront laid events
+pub now_front : (laid : MapState) (events : List Event) → laid ≡ map_state_now events → IsPrefix laid events
 now_front laid events is =
     record {
-      lays = whole_front laid.lays (lays_of events) (ap (λ (g : MapState). g.lays) is);
-      tokens = whole_front laid.tokens (tokens_of events) (ap (λ (g : MapState). g.tokens) is);
+      lays = whole_prefix laid.lays (lays_of events) (ap (λ (g : MapState). g.lays) is);
+      tokens = whole_prefix laid.tokens (tokens_of events) (ap (λ (g : MapState). g.tokens) is);
     }
 
 -- before anything is told there is a front
 pub no_front : (laid : MapState) (phase : Kind) (events : List Event) → laid ≡ map_state_of [] [] phase
-    → IsFront laid events
+    → IsPrefix laid events
 no_front laid phase events is =
-    subst (λ (g : MapState). IsFront g events) (sym is)
+    subst (λ (g : MapState). IsPrefix g events) (sym is)
     (record {
       lays = record { rest = lays_of events; is = refl };
       tokens =
@@ -89,9 +90,9 @@ longer front all more begins =
     record { rest = begins.rest ++ more; is = ap (λ xs. xs ++ more) begins.is ∙ append_assoc front begins.rest more }
 
 -- a front stays one when events are added
-pub front_on : (laid : MapState) (old new : Game) → OnlyAdds old new → IsFront laid old.events → IsFront laid new.events
+pub front_on : (laid : MapState) (old new : Game) → OnlyAdds old new → IsPrefix laid old.events → IsPrefix laid new.events
 front_on laid old new adds front =
-    subst (λ (game : Game). IsFront laid game.events) (sym adds.added)
+    subst (λ (game : Game). IsPrefix laid game.events) (sym adds.added)
     (record {
       lays = subst (λ ls. BeginsWith laid.lays ls) (sym (filter_map-append tile_laid old.events adds.more))
           (longer laid.lays (lays_of old.events) (lays_of adds.more) front.lays);

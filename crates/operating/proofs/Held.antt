@@ -6,14 +6,15 @@ use Rattle.events.specs.declared.event.Event.TheVariants as event
 use Rattle.events.specs.declared.event.TrainPlace.TheVariants as place
 use Rattle.history.proofs.Rolling.{trains_after_move, trains_kept}
 use Rattle.history.proofs.TrainActs.{came_held}
-use Rattle.history.specs.LookBack.{Game, with_event}
-use Rattle.history.specs.Trains.{TrainsAreHeld, so_many, trains_held}
+use Rattle.totals.specs.LookBack.{Game, with_event}
+use Rattle.totals.specs.Trains.{TrainsAreHeld, at_least_zero, trains_held}
 use Rattle.operating.proofs.Buying.{may_buy, there_traded}
 use Rattle.operating.proofs.PhaseLemmas.{below_many, first_of_either}
 use Rattle.operating.proofs.Rust.{so_many_less}
 use Rattle.operating.proofs.TrainSteps.{IsPassedOn, OfClosings, OfNextDiscards, OfStables, of_bop, of_choice, of_phase}
 use Rattle.operating.specs.Discards.{next_discard}
-use Rattle.operating.specs.Phases.{after_train, begins_phase, bought, with_discarded, with_one_rusted, with_phase, with_trade}
+use Rattle.operating.specs.Phases.{after_train, begins_phase, bought, with_discarded, with_one_rusted, with_phase}
+use Rattle.operating.specs.Phases.{with_trade}
 use Rattle.operating.specs.Trains.{cost_of, train_judgement}
 use Rattle.operating.specs.declared.purchase.Purchase.{Purchase}
 use Rattle.tables.specs.Steps.{iterate}
@@ -35,7 +36,7 @@ closing_held game private held = trains_kept game.events (event.Closed private) 
 
 -- after some trains of a stable have rusted, no more than it had
 some_rusted_held : (owner : Option Company) (kind : Kind) (n : ℕ) (game : Game)
-    → n ≤ so_many (trains_held game.events owner kind) → StillHeld game (iterate (with_one_rusted owner kind) n game)
+    → n ≤ at_least_zero (trains_held game.events owner kind) → StillHeld game (iterate (with_one_rusted owner kind) n game)
 some_rusted_held owner kind zero game few held = held
 some_rusted_held owner kind (suc n) game few held =
     let before = iterate (with_one_rusted owner kind) n game in
@@ -53,7 +54,7 @@ some_rusted_held owner kind (suc n) game few held =
 -- after all of a stable have
 train_count_held : (kind : Kind) → OfStables StillHeld kind
 train_count_held kind owner game held =
-    some_rusted_held owner kind (so_many (trains_held game.events owner kind)) game (omega arith) held
+    some_rusted_held owner kind (at_least_zero (trains_held game.events owner kind)) game (omega arith) held
 
 -- after a company has discarded the next
 discarded_held : (game : Game) (company : Company) (found : Option Kind) → next_discard game.events company ≡ found

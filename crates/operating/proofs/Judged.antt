@@ -1,24 +1,26 @@
 -- What a run is that is obeyed: it breaks no rule of runs, so that it is legal, and a train may do it.
-use Rattle.std.proofs.Common.{◌≡◌, ℕ, ◌+◌, ◌*◌, ◌≤◌, Bool, true, false, ◌||◌, List, [], ◌∷◌, Option, Some, None, Ok, ℤ, pos, ◌≤ℤ◌, refl, sym, subst, ap, ◌∙◌, arith}
+use Rattle.std.proofs.Common.{◌≡◌, ℕ, ◌+◌, ◌*◌, ◌≤◌, Bool, true, false, ◌||◌, List, [], ◌∷◌, Option, Some, None, Ok, ℤ}
+use Rattle.std.proofs.Common.{pos, ◌≤ℤ◌, refl, sym, subst, ap, ◌∙◌, arith}
 use Rattle.std.proofs.lemmas.Int.{ints}
 use Rattle.std.specs.Int.RustNames.{unsigned_abs}
 use Rattle.std.specs.Int.Signed.{le_z}
 use Rattle.std.specs.Option.{option_or}
 use mir.Syntax.{w128}
 use mir.Val.{of_z, to_z}
-use Rattle.certificate.proofs.Kept.{length_marked}
-use Rattle.certificate.proofs.Lawful.{legal_where_unbroken}
-use Rattle.certificate.specs.Fault.{named_steps, run_fault, steps_of}
-use Rattle.certificate.specs.Law.{NameLegalRun, RunsEarnByBorders, unused}
-use Rattle.certificate.specs.Legal.{IsLegalRun, crossed, earned}
-use Rattle.certificate.specs.Marks.{borders_used, marked}
-use Rattle.history.specs.Trains.{trains_held}
+use Rattle.legal_runs.proofs.Kept.{length_marked}
+use Rattle.legal_runs.proofs.Lawful.{legal_where_unbroken}
+use Rattle.legal_runs.specs.Fault.{named_steps, run_fault, steps_of}
+use Rattle.legal_runs.specs.Law.{NameLegalRun, RunsEarnByBorders, unused}
+use Rattle.legal_runs.specs.Legal.{IsLegalRun, crossed, earned}
+use Rattle.legal_runs.specs.Marks.{borders_used, marked}
+use Rattle.totals.specs.Trains.{trains_held}
 use Rattle.map_tables.specs.declared.rules.RunRule.{RunRule}
 use Rattle.map_tables.specs.declared.rules.RunRule.TheVariants as run_rule
 use Rattle.map_tables.specs.declared.place.Place.{Place}
 use Rattle.operating.specs.Done.{Done, IsBounded}
 use Rattle.operating.specs.InTurn.{InTurn}
-use Rattle.operating.specs.Runs.{IsCounted, broken_by, has_run, is_past_runs, judged_run, position_now, ran_by, ran_unless, rule, rules_of_turn, run_judgement, runs_most, steps_now}
+use Rattle.operating.specs.Runs.{IsCounted, broken_by, has_run, is_past_runs, judged_run, position_now, ran_by}
+use Rattle.operating.specs.Runs.{ran_unless, rule, rules_of_turn, run_judgement, runs_most, steps_now}
 use Rattle.operating.specs.declared.runs.CompletedRun.{CompletedRun}
 use Rattle.reach.specs.Lawful.{IsLawful}
 use Rattle.reach.specs.Position.{Position}

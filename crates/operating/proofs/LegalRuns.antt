@@ -1,10 +1,11 @@
 -- The marks of a turn are those of the borders that the walks of its obeyed runs cross: they are none at first, a run
 -- that is obeyed adds its own, and no other order touches them.
-use Rattle.std.proofs.Common.{◌≡◌, ℕ, Bool, true, false, List, [], ◌∷◌, ◌++◌, Option, Some, None, Result, Ok, Err, length, replicate, zero, suc, refl, sym, subst, ap}
-use Rattle.certificate.proofs.Kept.{crossed_used}
-use Rattle.certificate.proofs.Sharing.{legal_by_marks}
-use Rattle.certificate.specs.Legal.{all_crossed, crossed}
-use Rattle.certificate.specs.Marks.{IsUsed, MarksAre}
+use Rattle.std.proofs.Common.{◌≡◌, ℕ, Bool, true, false, List, [], ◌∷◌, ◌++◌, Option, Some, None, Result, Ok, Err}
+use Rattle.std.proofs.Common.{length, replicate, zero, suc, refl, sym, subst, ap}
+use Rattle.legal_runs.proofs.Kept.{crossed_used}
+use Rattle.legal_runs.proofs.Sharing.{legal_by_marks}
+use Rattle.legal_runs.specs.Legal.{all_crossed, crossed}
+use Rattle.legal_runs.specs.Marks.{IsUsed, MarksAre}
 use Rattle.map_tables.specs.declared.rules.RunRule.{RunRule}
 use Rattle.map_tables.specs.declared.place.Place.{Place}
 use Rattle.operating.proofs.Judged.{judged_borders, judged_legal}

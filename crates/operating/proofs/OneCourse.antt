@@ -1,13 +1,15 @@
--- Courses of play that make one list of calls and lead to one end, and a front of those calls where they are broken off.
-use Rattle.std.proofs.Common.{◌≡◌, ℕ, zero, suc, List, [], ◌∷◌, ◌++◌, append_assoc, Result, Ok, Err, sym, ap, subst, ◌∙◌, inl, inr}
-use Rattle.certificate.specs.declared.runner.RunnerFault.{RunnerFault}
-use Rattle.operating.specs.Calls.{Call, Course, IsFront, SomeTimesThen, Then, TimesThen, Unasked, unanswered}
+-- Courses of play that make one list of calls and lead to one end, and a prefix of those calls where they are broken
+-- off.
+use Rattle.std.proofs.Common.{◌≡◌, ℕ, zero, suc, List, [], ◌∷◌, ◌++◌, append_assoc, Result, Ok, Err, sym, ap, subst}
+use Rattle.std.proofs.Common.{◌∙◌, inl, inr}
+use Rattle.legal_runs.specs.declared.runner.RunnerFault.{RunnerFault}
+use Rattle.operating.specs.Calls.{Call, Course, IsPrefix, SomeTimesThen, Then, TimesThen, Unasked, unanswered}
 
 -- calls before those of a front
 behind :
     {Fault : Type 0} (memory : Fault) (Tells : Fault → RunnerFault → Call → Type 0) (fault : Fault)
     (earlier some all : List Call) →
-    IsFront memory Tells fault some all → IsFront memory Tells fault (earlier ++ some) (earlier ++ all)
+    IsPrefix memory Tells fault some all → IsPrefix memory Tells fault (earlier ++ some) (earlier ++ all)
 behind memory Tells fault earlier some all front =
     elim front [
       | inl first ↦ inl (
@@ -38,7 +40,7 @@ behind memory Tells fault earlier some all front =
 ahead :
     {Fault : Type 0} (memory : Fault) (Tells : Fault → RunnerFault → Call → Type 0) (fault : Fault)
     (some all more : List Call) →
-    IsFront memory Tells fault some all → IsFront memory Tells fault some (all ++ more)
+    IsPrefix memory Tells fault some all → IsPrefix memory Tells fault some (all ++ more)
 ahead memory Tells fault some all more front =
     elim front [
       | inl first ↦ inl (
@@ -67,18 +69,18 @@ ahead memory Tells fault some all more front =
 pub none_first :
     {Fault : Type 0} (memory : Fault) (Tells : Fault → RunnerFault → Call → Type 0) (fault : Fault)
     (some all : List Call) →
-    fault ≡ memory → some ≡ [] → IsFront memory Tells fault some all
+    fault ≡ memory → some ≡ [] → IsPrefix memory Tells fault some all
 none_first memory Tells fault some all refused none =
     inl (refused, record { later = all; are = sym (ap (λ (calls : List Call). calls ++ all) none) })
 
--- from each place two courses lead to one end by the same calls; and where the first is broken off, its calls are a front of
--- those of the other
+-- from each place two courses lead to one end by the same calls; and where the first is broken off, its calls are a
+-- prefix of those of the other
 pub record Agree {A B Fault : Type 0} (memory : Fault) (Tells : Fault → RunnerFault → Call → Type 0)
     (one other : Course A B Fault) : Type 0 where
   pub once : (from : A) (a b : B) (some others : List Call) → one from (Ok a) some → other from (Ok b) others
       → (a ≡ b) × (some ≡ others)
   pub front : (from : A) (fault : Fault) (to : B) (some all : List Call) → one from (Err fault) some
-      → other from (Ok to) all → IsFront memory Tells fault some all
+      → other from (Ok to) all → IsPrefix memory Tells fault some all
 
 module _ {Fault : Type 0} (memory : Fault) (Tells : Fault → RunnerFault → Call → Type 0) where
   -- a course without calls that leads to one end agrees with itself
@@ -116,7 +118,7 @@ module _ {Fault : Type 0} (memory : Fault) (Tells : Fault → RunnerFault → Ca
               | inl never ↦ absurd never
               | inr way_too ↦ elim one [
                 | inl breaks ↦
-                    subst (λ (calls : List Call). IsFront memory Tells fault some calls) (sym way_too.all)
+                    subst (λ (calls : List Call). IsPrefix memory Tells fault some calls) (sym way_too.all)
                     (ahead memory Tells fault some way_too.earlier way_too.later
                     (firsts.front from fault way_too.between some way_too.earlier breaks way_too.leads))
                 | inr way ↦
@@ -126,8 +128,8 @@ module _ {Fault : Type 0} (memory : Fault) (Tells : Fault → RunnerFault → Ca
                     (subst (λ (at : B). second_too at (Ok to) way_too.later) (sym mid.0) way_too.goes_on) in
                     let whole : all ≡ way.earlier ++ way_too.later =
                     way_too.all ∙ ap (λ (calls : List Call). calls ++ way_too.later) (sym mid.1) in
-                    subst (λ (calls : List Call). IsFront memory Tells fault calls all) (sym way.all)
-                    (subst (λ (calls : List Call). IsFront memory Tells fault (way.earlier ++ way.later) calls)
+                    subst (λ (calls : List Call). IsPrefix memory Tells fault calls all) (sym way.all)
+                    (subst (λ (calls : List Call). IsPrefix memory Tells fault (way.earlier ++ way.later) calls)
                     (sym whole)
                     (behind memory Tells fault way.earlier way.later way_too.later later))
               ]

@@ -1,10 +1,11 @@
--- A company's turn makes one list of calls, and a front of them where it is broken off.
-use Rattle.std.proofs.Common.{◌≡◌, ℕ, Bool, true, false, List, [], ◌∷◌, Option, Some, None, Result, Ok, Err, pos, refl, sym, ap, ◌∙◌, inl, inr}
-use Rattle.certificate.proofs.Greatest.{one_greatest}
-use Rattle.certificate.specs.declared.runner.RunnerFault.{RunnerFault}
-use Rattle.certificate.specs.declared.runner.RunnerFault.TheVariants.{Memory}
+-- A company's turn makes one list of calls, and a prefix of them where it is broken off.
+use Rattle.std.proofs.Common.{◌≡◌, ℕ, Bool, true, false, List, [], ◌∷◌, Option, Some, None, Result, Ok, Err, pos, refl}
+use Rattle.std.proofs.Common.{sym, ap, ◌∙◌, inl, inr}
+use Rattle.legal_runs.proofs.Greatest.{one_greatest}
+use Rattle.legal_runs.specs.declared.runner.RunnerFault.{RunnerFault}
+use Rattle.legal_runs.specs.declared.runner.RunnerFault.TheVariants.{Memory}
 use Rattle.events.specs.declared.ruling.Ruling.TheVariants.{Faulty}
-use Rattle.history.specs.Shares.{president_of}
+use Rattle.totals.specs.Shares.{president_of}
 use Rattle.map_tables.specs.declared.rules.RunRule.{RunRule}
 use Rattle.operating.proofs.OneCourse.{Agree, none_first, then_agree, unasked_agrees}
 use Rattle.operating.proofs.Outcome.{AllLawful, block_end_once, order_once}
@@ -13,7 +14,9 @@ use Rattle.operating.specs.Calls.{Call, Course, Unasked}
 use Rattle.operating.specs.InTurn.{InTurn, told}
 use Rattle.operating.specs.Runs.{position_now}
 use Rattle.operating.specs.Turn.{AskedLeads, BlockEnds, OrderLeads, begun, is_held, settled}
-use Rattle.operating.specs.TurnCalls.{AskedCalls, Asks, BegunCalls, BestCalls, BlockCalls, EndCalls, IsCredited, LineCalls, LinesCall, OneListOfTurnCalls, OrderCalls, ReadingCalls, RefusedTurnCallsAreAFront, TurnCalls, asked}
+use Rattle.operating.specs.TurnCalls.{AskedCalls, Asks, BegunCalls, BestCalls, BlockCalls, EndCalls, IsCredited}
+use Rattle.operating.specs.TurnCalls.{LineCalls, LinesCall, OneListOfTurnCalls, OrderCalls, ReadingCalls}
+use Rattle.operating.specs.TurnCalls.{RefusedTurnCallsAreAPrefix, TurnCalls, asked}
 use Rattle.operating.specs.declared.operator.Operator.{Operator}
 use Rattle.order_grammar.specs.declared.fault.Fault.{Fault}
 use Rattle.order_grammar.specs.declared.order.Order.{Order}
@@ -27,7 +30,7 @@ use Rattle.tables.specs.declared.seat.Seat.{Seat}
 abbrev TellsOf : Round → Company → RunnerFault → RunnerFault → Call → Type 0
 TellsOf round company fault why call = (fault ≡ why) × (call.round ≡ round) × (call.company ≡ company)
 
--- from each place such a course leads to one end by one list of calls, and by a front of them where it is broken off
+-- from each place such a course leads to one end by one list of calls, and by a prefix of them where it is broken off
 abbrev IsOne : {A B : Type 0} → Round → Company → Course A B RunnerFault → Type 0
 IsOne round company course = Agree Memory (TellsOf round company) course course
 
@@ -192,7 +195,7 @@ pub one_list : AllLawful → OneListOfTurnCalls
 one_list all file round company old a b some others first second =
     let one = turn_called_once all file round company in one.once old a b some others first second
 
--- and a front of them where it is broken off
-pub a_front : AllLawful → RefusedTurnCallsAreAFront
-a_front all file round company old new fault refused whole broken led =
+-- and a prefix of them where it is broken off
+pub a_prefix : AllLawful → RefusedTurnCallsAreAPrefix
+a_prefix all file round company old new fault refused whole broken led =
     let one = turn_called_once all file round company in one.front old fault new refused whole broken led

@@ -1,5 +1,6 @@
 -- Which companies have operated after a company's turn: those that had before, and the company.
-use Rattle.std.proofs.Common.{◌≡◌, ℕ, ◌==◌, Bool, true, false, not, ◌||◌, if◌then◌else◌, List, [], ◌∷◌, ◌++◌, Option, Some, None, is_some, refl, sym}
+use Rattle.std.proofs.Common.{◌≡◌, ℕ, ◌==◌, Bool, true, false, not, ◌||◌, if◌then◌else◌, List, [], ◌∷◌, ◌++◌, Option}
+use Rattle.std.proofs.Common.{Some, None, is_some, refl, sym}
 use Rattle.std.proofs.Common.{ap, subst, ◌∙◌}
 use Rattle.std.specs.Option.{option_flatten, option_map, option_or}
 use Rattle.events.specs.Event.{operated_by, round_begun_by}
@@ -7,10 +8,10 @@ use Rattle.events.specs.declared.event.Event.{Event}
 use Rattle.events.specs.declared.event.Event.TheVariants as event
 use Rattle.events.specs.declared.ruling.PayRule.{PayRule}
 use Rattle.events.specs.declared.ruling.PayRule.TheVariants.{NothingToPay}
-use Rattle.history.proofs.EventAtEnd.{last_said_at_end}
-use Rattle.history.specs.LookBack.{Game, in_round, last_said, with_event}
-use Rattle.history.specs.Shares.{president_of}
-use Rattle.history.specs.Operating.{has_operated, turn_said}
+use Rattle.totals.proofs.EventAtEnd.{last_said_at_end}
+use Rattle.totals.specs.LookBack.{Game, in_round, last_said, with_event}
+use Rattle.totals.specs.Shares.{president_of}
+use Rattle.totals.specs.Operating.{has_operated, turn_said}
 use Rattle.operating.proofs.TurnEvents.{begins_none, own_alone}
 use Rattle.operating.proofs.ForcedGames.{OfForced, forced_begins_none, forced_operates_none, of_block_end, of_game_turn}
 use Rattle.operating.proofs.TurnGames.{OfEvents, after_withheld, by_each, of_steps}
@@ -45,7 +46,7 @@ word_more true word before none = absurd (cc)
 word_more false None before none = sym (or_false (is_some (option_flatten before)))
 word_more false (Some company) before none = sym (or_true (is_some (option_flatten before)))
 
--- a company has operated once one more event stands at the end
+-- a company has operated once one more event is at the end
 one_more : (company : Company) (events : List Event) (its : Event) → is_some (round_begun_by its) ≡ false →
     has_operated (events ++ its ∷ []) company ≡ (has_operated events company
     || is_some (turn_said company (operated_by its)))

@@ -1,17 +1,19 @@
 -- A company's turn has one outcome: the rules of the board give one answer to a lay and to a token, and all else
 -- follows.
-use Rattle.std.proofs.Common.{◌≡◌, ℕ, Bool, true, false, ◌↔◌, IsTrue, List, [], ◌∷◌, ◌++◌, Option, Some, None, Result, Ok, Err, inl, inr, refl, sym, ap, subst, ◌∙◌}
+use Rattle.std.proofs.Common.{◌≡◌, ℕ, Bool, true, false, ◌↔◌, IsTrue, List, [], ◌∷◌, ◌++◌, Option, Some, None, Result}
+use Rattle.std.proofs.Common.{Ok, Err, inl, inr, refl, sym, ap, subst, ◌∙◌}
 use Rattle.board.proofs.RuleTables.{earlier}
-use Rattle.board.specs.MapState.{MapState, position_of, with_lay}
-use Rattle.board.specs.LayRules.{IsConnected, IsLayAnswer, cost_or, map_rules, lay_cost_of, lay_rules, reach_rules as lay_reach_rules}
-use Rattle.board.specs.TokenRules.{IsReachedPlace, IsTokenAnswer, reach_rules as token_reach_rules, slot_rules, token_cost_of, token_rules}
+use Rattle.board_state.specs.MapState.{MapState, position_of, with_lay}
+use Rattle.board.specs.LayRules.{IsConnected, IsLayAnswer, cost_or, map_rules, lay_cost_of, lay_rules}
+use Rattle.board.specs.LayRules.{reach_rules as lay_reach_rules}
+use Rattle.board.specs.TokenRules.{IsReachedPlace, IsTokenAnswer, reach_rules as token_reach_rules, slot_rules}
+use Rattle.board.specs.TokenRules.{token_cost_of, token_rules}
 use Rattle.board.specs.declared.asker.Asker.{Asker}
-use Rattle.certificate.proofs.Finite.{Decided}
-use Rattle.certificate.proofs.Greatest.{a_greatest_exists, one_greatest}
-use Rattle.certificate.proofs.RunDecided.{can_run_decided}
-use Rattle.history.specs.LookBack.{Game}
+use Rattle.legal_runs.proofs.Greatest.{a_greatest_exists, one_greatest}
+use Rattle.legal_runs.proofs.RunDecided.{can_run_decided}
+use Rattle.totals.specs.LookBack.{Game}
 use Rattle.map_tables.specs.declared.rules.RunRule.{RunRule}
-use Rattle.history.specs.Shares.{president_of}
+use Rattle.totals.specs.Shares.{president_of}
 use Rattle.map_tables.specs.declared.lay.Lay.{Lay}
 use Rattle.map_tables.specs.declared.place.Place.{Place}
 use Rattle.operating.proofs.Decided.{IsTested, piece_tested, place_tested}
@@ -22,7 +24,8 @@ use Rattle.operating.specs.Judgement.{asker_of}
 use Rattle.operating.specs.Runs.{position_now}
 use Rattle.operating.specs.Laws.{CompanyTurnEnds, OneCompanyTurn}
 use Rattle.operating.specs.Forced.{EndLeads, IsDue, after_forced, after_raises, has_trains}
-use Rattle.operating.specs.Turn.{AskedLeads, BlockEnds, BlockLeads, IsCompanyTurn, LinesLead, OrderLeads, ReadingLeads, begun, is_held, lay_answered, settled}
+use Rattle.operating.specs.Turn.{AskedLeads, BlockEnds, BlockLeads, IsCompanyTurn, LinesLead, OrderLeads, ReadingLeads}
+use Rattle.operating.specs.Turn.{begun, is_held, lay_answered, settled}
 use Rattle.operating.specs.Turn.{token_answered}
 use Rattle.operating.specs.declared.operator.Operator.{Operator}
 use Rattle.order_grammar.specs.declared.fault.Fault.{Fault}
@@ -30,6 +33,7 @@ use Rattle.order_grammar.specs.declared.order.Order.{Order}
 use Rattle.order_grammar.specs.declared.order.Order.TheVariants as order
 use Rattle.reach.specs.Lawful.{IsLawful}
 use Rattle.reach.specs.Position.{Position}
+use Rattle.reach.proofs.Decided.{Decided}
 use Rattle.sheets.specs.Block.{block_for}
 use Rattle.sheets.specs.Part.{Numbered}
 use Rattle.tables.specs.Rules.{Rule, first_broken}

@@ -1,5 +1,6 @@
--- What a company pays out is at most the revenue: a tenth of it is paid at most ten times.
-use Rattle.std.proofs.Common.{◌≡◌, ℕ, ◌+◌, ◌*◌, ◌≤◌, ◌==◌, Bool, true, false, if◌then◌else◌, List, [], ◌∷◌, ℤ, pos, negsuc, ◌≤ℤ◌, ◌-ℤ◌, refl, sym, ap, ◌∙◌, arith}
+-- What a company pays out is at most the revenue: a share of it is paid at most ten times.
+use Rattle.std.proofs.Common.{◌≡◌, ℕ, ◌+◌, ◌*◌, ◌≤◌, ◌==◌, Bool, true, false, if◌then◌else◌, List, [], ◌∷◌, ℤ, pos}
+use Rattle.std.proofs.Common.{negsuc, ◌≤ℤ◌, ◌-ℤ◌, refl, sym, ap, ◌∙◌, arith}
 use Rattle.std.proofs.Math.Nat.{add-mul, mul-div-le, mul-le-mul_right}
 use Rattle.std.proofs.lemmas.Bool.{eqb-true}
 use Rattle.std.proofs.lemmas.Int.{ints}
@@ -10,20 +11,20 @@ use Rattle.events.specs.declared.event.Holder.TheVariants as holder
 use Rattle.events.specs.declared.event.Party.TheVariants as party
 use Rattle.events.specs.declared.event.Shareholder.{Shareholder}
 use Rattle.events.specs.declared.event.Shareholder.TheVariants.{InitialOffering, BankPool, Seat as OfSeat}
-use Rattle.history.proofs.EventAtEnd.{cash_of_at_end, shares_of_before}
-use Rattle.history.proofs.Settled.{told_same}
-use Rattle.history.specs.LookBack.{Game, cash_of, with_event}
-use Rattle.history.specs.Shares.{held_by, shares_of}
-use Rattle.history.specs.Sound.{TenthsAreHeld}
+use Rattle.totals.proofs.EventAtEnd.{cash_of_at_end, shares_of_before}
+use Rattle.history.proofs.NearlySound.{told_same}
+use Rattle.totals.specs.LookBack.{Game, cash_of, with_event}
+use Rattle.totals.specs.Shares.{held_by, shares_of}
+use Rattle.history.specs.Sound.{SharesAreHeld}
 use Rattle.history.specs.Record.{broken_recorded}
-use Rattle.history.specs.Trains.{so_many}
-use Rattle.operating.specs.Dividend.{NoMoreIsPaid, all_paid, dividend_of, paid_for, paid_to, paid_to_seats, per_tenth}
+use Rattle.totals.specs.Trains.{at_least_zero}
+use Rattle.operating.specs.Dividend.{NoMoreIsPaid, all_paid, dividend_of, paid_for, paid_to, paid_to_seats, per_share}
 use Rattle.tables.specs.Seat.{all_seats}
 use Rattle.tables.specs.declared.roster.Company.{Company}
 use Rattle.tables.specs.declared.seat.Seat.{Seat}
 
--- a number of tenths that is not under 0 is as many
-as_many : (tenths : ℤ) → pos 0 ≤ℤ tenths → pos (so_many tenths) ≡ tenths
+-- a number of shares that is not under 0 is as many
+as_many : (shares : ℤ) → pos 0 ≤ℤ shares → pos (at_least_zero shares) ≡ shares
 as_many (pos n) least = refl
 as_many (negsuc n) least = absurd (omega (arith, ints))
 
@@ -48,7 +49,7 @@ module _ (company : Company) where
       ]
       refl
 
-  -- and tenths lie as before
+  -- and shares lie as before
   paid_shares : (game : Game) (to : Holder) (amount : ℕ) (place : Shareholder)
       → shares_of (paid_to company to amount game).events company place ≡ shares_of game.events company place
   paid_shares game to amount place =
@@ -60,13 +61,13 @@ module _ (company : Company) where
             ∙ shares_of_before game.events (event.Dividend company to amount) company place refl
       ]
 
-  -- how many tenths some seats hold
+  -- how many shares some seats hold
   abbrev count : List Event → List Seat → ℕ
   count events [] = 0
-  count events (seat ∷ others) = so_many (shares_of events company (OfSeat seat)) + count events others
+  count events (seat ∷ others) = at_least_zero (shares_of events company (OfSeat seat)) + count events others
 
   -- they are those that the seats hold together
-  count_is : (events : List Event) (seats : List Seat) → TenthsAreHeld events
+  count_is : (events : List Event) (seats : List Seat) → SharesAreHeld events
       → pos (count events seats) ≡ held_by events company seats
   count_is events [] held = refl
   count_is events (seat ∷ others) held =
@@ -84,23 +85,23 @@ module _ (company : Company) where
     sum events [] = 0
     sum events (seat ∷ others) = dividend_of events company (OfSeat seat) revenue + sum events others
 
-    -- as many times a tenth as they hold tenths
-    sum_is : (events : List Event) (seats : List Seat) → sum events seats ≡ count events seats * per_tenth revenue
+    -- as many times a share as they hold shares
+    sum_is : (events : List Event) (seats : List Seat) → sum events seats ≡ count events seats * per_share revenue
     sum_is events [] = omega arith
     sum_is events (seat ∷ others) =
         ap (λ (rest : ℕ). dividend_of events company (OfSeat seat) revenue + rest) (sum_is events others)
-        ∙ sym (add-mul (so_many (shares_of events company (OfSeat seat))) (count events others) (per_tenth revenue))
+        ∙ sym (add-mul (at_least_zero (shares_of events company (OfSeat seat))) (count events others) (per_share revenue))
 
-    -- the same where tenths lie as before
+    -- the same where shares lie as before
     sum_same : (before after : List Event) → ((place : Shareholder)
         → shares_of after company place ≡ shares_of before company place) → (seats : List Seat)
         → sum after seats ≡ sum before seats
     sum_same before after same [] = refl
     sum_same before after same (seat ∷ others) =
-        ap (λ (tenths : ℤ). so_many tenths * per_tenth revenue + sum after others) (same (OfSeat seat))
+        ap (λ (shares : ℤ). at_least_zero shares * per_share revenue + sum after others) (same (OfSeat seat))
         ∙ ap (λ (rest : ℕ). dividend_of before company (OfSeat seat) revenue + rest) (sum_same before after same others)
 
-    -- tenths lie as before once seats are paid
+    -- shares lie as before once seats are paid
     seats_shares : (game : Game) (seats : List Seat) (place : Shareholder)
         → shares_of (paid_to_seats company revenue game seats).events company place
         ≡ shares_of game.events company place
@@ -134,7 +135,7 @@ module _ (company : Company) where
         let seats = paid_to_seats company revenue game (all_seats game.seats) in
         let amount = dividend_of seats.events company BankPool revenue in
         let same : amount ≡ dividend_of game.events company BankPool revenue =
-        ap (λ (tenths : ℤ). so_many tenths * per_tenth revenue)
+        ap (λ (shares : ℤ). at_least_zero shares * per_share revenue)
         (seats_shares game (all_seats game.seats) BankPool) in
         omega (
           arith,
@@ -145,13 +146,13 @@ module _ (company : Company) where
           same,
         )
 
-    -- ten tenths of a revenue are at most the revenue
-    ten_most : (seats pool : ℕ) → seats + pool ≤ 10 → seats * per_tenth revenue + pool * per_tenth revenue ≤ revenue
+    -- ten shares of a revenue are at most the revenue
+    ten_most : (seats pool : ℕ) → seats + pool ≤ 10 → seats * per_share revenue + pool * per_share revenue ≤ revenue
     ten_most seats pool few =
         omega (
           arith,
-          add-mul seats pool (per_tenth revenue),
-          mul-le-mul_right (per_tenth revenue) few,
+          add-mul seats pool (per_share revenue),
+          mul-le-mul_right (per_share revenue) few,
           mul-div-le
               revenue 10,
         )
@@ -163,7 +164,7 @@ no_more_is_paid game company revenue sound =
     let ten = sound.ten company in
     let offered = sound.held company InitialOffering in
     let pool = as_many (shares_of game.events company BankPool) (sound.held company BankPool) in
-    let few : count company game.events seats + so_many (shares_of game.events company BankPool) ≤ 10 =
+    let few : count company game.events seats + at_least_zero (shares_of game.events company BankPool) ≤ 10 =
     omega (arith, ints, count_is company game.events seats sound.held) in
     omega (
       arith,
@@ -171,5 +172,5 @@ no_more_is_paid game company revenue sound =
       all_cash company revenue game.seats game,
       sum_is company revenue game.events seats,
       ten_most
-          company revenue (count company game.events seats) (so_many (shares_of game.events company BankPool)) few,
+          company revenue (count company game.events seats) (at_least_zero (shares_of game.events company BankPool)) few,
     )

@@ -1,5 +1,7 @@
 -- The game can be played on after what a phase brings: a train rusts or is discarded that is there.
-use Rattle.std.proofs.Common.{SFits, ◌≡◌, ℕ, not, ◌+◌, ◌<◌, ◌≤◌, Bool, true, false, if◌then◌else◌, List, [], ◌∷◌, ◌++◌, Option, Some, None, ℤ, pos, negsuc, ◌≤ℤ◌, ◌-ℤ◌, ◌+ℤ◌, refl, sym, ap, subst, ◌∙◌, arith, rules}
+use Rattle.std.proofs.Common.{SFits, ◌≡◌, ℕ, not, ◌+◌, ◌<◌, ◌≤◌, Bool, true, false, if◌then◌else◌, List, [], ◌∷◌, ◌++◌}
+use Rattle.std.proofs.Common.{Option, Some, None, ℤ, pos, negsuc, ◌≤ℤ◌, ◌-ℤ◌, ◌+ℤ◌, refl, sym, ap, subst, ◌∙◌, arith}
+use Rattle.std.proofs.Common.{rules}
 use Rattle.std.proofs.lemmas.Int.{ints, to_z-of_z}
 use mir.Syntax.{w64, w128}
 use mir.Val.{of_z, to_z}
@@ -8,13 +10,14 @@ use Rattle.std.specs.Option.{option_or}
 use Rattle.events.specs.Event.{train_owner_place, train_moved}
 use Rattle.events.specs.declared.event.Event.{Event}
 use Rattle.events.specs.declared.event.Event.TheVariants as event
-use Rattle.history.proofs.EventAtEnd.{trains_at_end}
+use Rattle.totals.proofs.EventAtEnd.{trains_at_end}
 use Rattle.history.proofs.TrainActs.{discard_sound, rusting_sound}
-use Rattle.history.specs.LookBack.{Game, IsModerate, with_event}
-use Rattle.history.specs.Trains.{one_if, phase_of, so_many, train_count, train_comes, train_goes, trains_held}
+use Rattle.totals.specs.LookBack.{Game, IsModerate, with_event}
+use Rattle.totals.specs.Trains.{one_if, phase_of, at_least_zero, train_count, train_comes, train_goes, trains_held}
 use Rattle.operating.specs.Discards.{first_held, has_train, next_discard}
 use Rattle.history.specs.Sound.{IsSound}
-use Rattle.operating.specs.Phases.{after_train, begins_phase, bought, excess_of, with_limits_kept, with_one_rusted, with_phase, with_privates_closed, with_rusted}
+use Rattle.operating.specs.Phases.{after_train, begins_phase, bought, excess_of, with_limits_kept, with_one_rusted}
+use Rattle.operating.specs.Phases.{with_phase, with_privates_closed, with_rusted}
 use Rattle.operating.specs.Trains.{traded_count}
 use Rattle.operating.specs.declared.purchase.Purchase.{Purchase}
 use Rattle.tables.specs.Train.{kinds, limit_of}
@@ -89,7 +92,7 @@ over_kept : (size : ℤ) (limit : ℕ) → IsModerate size → limit ≤ 4
     → to_z w128 (of_z w128 (to_z w128 (of_z w128 size) -ℤ to_z w128 limit)) ≡ size -ℤ pos limit
 over_kept size limit within small = omega (arith, ints)
 
--- at least so many are not fewer
+-- at least this many are not fewer
 at_least : (a b : ℤ) → le_z a b ≡ not (lt_z b a)
 at_least a b = search rules
 
@@ -98,7 +101,7 @@ trade_small : (trade_in : Option Kind) → traded_count trade_in ≤ 1
 trade_small None = omega arith
 trade_small (Some kind) = omega arith
 
--- so many trains less those that are traded in are at the limit, counted so
+-- this many trains less those that are traded in are at the limit, counted so
 pub at_limit : (sum size : ℤ) (trade_in : Option Kind) (phase : Kind) (traded : ℤ) (limit : ℕ) → sum ≡ size
     → IsModerate size → traded ≡ pos (traded_count trade_in) → limit ≡ limit_of phase
     → le_z (to_z w128 limit) (to_z w128 (of_z w128 (to_z w128 (of_z w128 sum) -ℤ to_z w128 (of_z w128 traded))))
@@ -120,15 +123,15 @@ counted_whole count sum few fits is = to_z-of_z w128 sum fits ∙ (is ∙ to_z-o
 pub excess_is : (game : Game) (company : Company) (size : ℤ) (phase : Kind) (limit : ℕ)
     → size ≡ train_count game.events (Some company) → IsModerate size → phase ≡ phase_of game.events
     → limit ≡ limit_of phase → excess_of game company
-    ≡ so_many (to_z w128 (of_z w128 (to_z w128 (of_z w128 size) -ℤ to_z w128 limit)))
+    ≡ at_least_zero (to_z w128 (of_z w128 (to_z w128 (of_z w128 size) -ℤ to_z w128 limit)))
 excess_is game company size phase limit is_size within is_phase is_limit =
-    sym (ap so_many
+    sym (ap at_least_zero
     (over_kept size limit within (subst (λ n. n ≤ 4) (sym is_limit) (limit_small phase))
     ∙ ap (λ (n : ℕ). size -ℤ pos n) (is_limit ∙ ap limit_of is_phase)
     ∙ ap (λ (count : ℤ). count -ℤ pos (limit_of (phase_of game.events))) is_size))
 
--- fewer than so many
-pub below_many : (count : ℤ) (i : ℕ) → i < so_many count → pos (i + 1) ≤ℤ count
+-- fewer than this many
+pub below_many : (count : ℤ) (i : ℕ) → i < at_least_zero count → pos (i + 1) ≤ℤ count
 below_many (pos n) i below = omega (arith, ints)
 below_many (negsuc n) i below = absurd (omega arith)
 
@@ -144,7 +147,7 @@ none_rusted owner kind game sound = record { left = omega (arith, ints); sound =
 
 -- one more
 pub one_rusts : (owner : Option Company) (kind : Kind) (rusted : ℕ) (before now new : Game)
-    → rusted < so_many (trains_held before.events owner kind) → new ≡ with_one_rusted owner kind now
+    → rusted < at_least_zero (trains_held before.events owner kind) → new ≡ with_one_rusted owner kind now
     → HaveRusted owner kind rusted before now → HaveRusted owner kind (rusted + 1) before new
 one_rusts owner kind rusted before now new below is so_far =
     subst (HaveRusted owner kind (rusted + 1) before) (sym is)

@@ -1,7 +1,7 @@
 -- A company's turn, from its parts.
 use Rattle.std.proofs.Common.{◌≡◌, ℕ, ◌<◌, true, IfSome, List, Option, Some, None, ap, subst, sym, ◌∙◌}
-use Rattle.history.specs.LookBack.{Game}
-use Rattle.history.specs.Shares.{is_floated, president_of}
+use Rattle.totals.specs.LookBack.{Game}
+use Rattle.totals.specs.Shares.{is_floated, president_of}
 use Rattle.history.specs.Sound.{IsSound}
 use Rattle.operating.proofs.Seated.{president_seated}
 use Rattle.operating.proofs.TurnGames.{of_home, of_steps}

@@ -1,22 +1,23 @@
 -- No sale by which money is raised for a company moves its presidency, so its turn leaves its president.
-use Rattle.std.proofs.Common.{◌≡◌, ℕ, ◌*◌, ◌==◌, Bool, true, false, ◌&&◌, ◌||◌, if◌then◌else◌, List, [], ◌∷◌, ◌++◌, Option, Some, None, ℤ, pos, ◌≤ℤ◌, ◌<ℤ◌, ◌+ℤ◌, ◌-ℤ◌, refl, sym, ap, subst, ◌∙◌, arith}
+use Rattle.std.proofs.Common.{◌≡◌, ℕ, ◌*◌, ◌==◌, Bool, true, false, ◌&&◌, ◌||◌, if◌then◌else◌, List, [], ◌∷◌, ◌++◌}
+use Rattle.std.proofs.Common.{Option, Some, None, ℤ, pos, ◌≤ℤ◌, ◌<ℤ◌, ◌+ℤ◌, ◌-ℤ◌, refl, sym, ap, subst, ◌∙◌, arith}
 use Rattle.std.proofs.lemmas.Bool.Decides.{nat_tests}
 use Rattle.std.proofs.lemmas.Int.{ints}
 use Rattle.std.specs.Int.Signed.{le_z, lt_z}
 use Rattle.certs.specs.Counted.{presides}
-use Rattle.certs.specs.President.{others_from, seat_tenths_of, successor_of, with_most}
+use Rattle.certs.specs.President.{others_from, seat_shares_of, successor_of, with_most}
 use Rattle.certs.specs.Purchase.{market_price_of}
-use Rattle.certs.specs.Sale.{kept_after, leaves_none, must_stay, moves_operating, one_has, sale_judgement, sale_rules}
+use Rattle.certs.specs.Sale.{kept_after, none_is_left, must_stay, moves_operating, one_has, sale_judgement, sale_rules}
 use Rattle.certs.specs.SaleAct.{sold, with_president, with_successor}
 use Rattle.certs.specs.declared.deal.Sale.{Sale}
 use Rattle.events.specs.Event.{office_of}
 use Rattle.events.specs.declared.event.Event.{Event}
 use Rattle.events.specs.declared.event.Event.TheVariants as event
 use Rattle.events.specs.declared.event.Shareholder.TheVariants.{Seat as OfSeat}
-use Rattle.history.proofs.Choices.{same_company_is}
-use Rattle.history.proofs.EventAtEnd.{last_said_before, president_of_before, shares_of_at_end, shares_of_before}
-use Rattle.history.specs.LookBack.{Game}
-use Rattle.history.specs.Shares.{president_of, president_said, shares_of, square_of}
+use Rattle.totals.proofs.Choices.{same_company_is}
+use Rattle.totals.proofs.EventAtEnd.{last_said_before, president_of_before, shares_of_at_end, shares_of_before}
+use Rattle.totals.specs.LookBack.{Game}
+use Rattle.totals.specs.Shares.{president_of, president_said, shares_of, square_of}
 use Rattle.history.specs.Record.{breaks}
 use Rattle.market.specs.Moves.{fallen}
 use Rattle.market.specs.Token.{moved_from, same_square}
@@ -40,37 +41,37 @@ neither true b none = absurd cc
 neither false b none = (refl, none)
 
 -- a seat stays first with most where none of the others has more than it
-most_stays : (events : List Event) (company : Company) (tenths : Seat → ℤ) (first : Seat) (others : List Seat) →
-    ((other : Seat) → tenths other ≤ℤ shares_of events company (OfSeat other)) →
-    one_has events company (tenths first +ℤ pos 1) others ≡ false → with_most tenths first others ≡ first
-most_stays events company tenths first [] fewer none = refl
-most_stays events company tenths first (other ∷ others) fewer none =
-    let parts = neither (le_z (tenths first +ℤ pos 1) (shares_of events company (OfSeat other)))
-    (one_has events company (tenths first +ℤ pos 1) others) none in
-    let under : shares_of events company (OfSeat other) <ℤ (tenths first +ℤ pos 1) = grind (arith, ints, parts.0) in
-    let no_more : lt_z (tenths first) (tenths other) ≡ false =
-    not_less_is (tenths first) (tenths other) (omega (arith, ints, fewer other, under)) in
-    ap (λ (b : Bool). with_most tenths (if b then other else first) others) no_more
-    ∙ most_stays events company tenths first others fewer parts.1
+most_stays : (events : List Event) (company : Company) (shares : Seat → ℤ) (first : Seat) (others : List Seat) →
+    ((other : Seat) → shares other ≤ℤ shares_of events company (OfSeat other)) →
+    one_has events company (shares first +ℤ pos 1) others ≡ false → with_most shares first others ≡ first
+most_stays events company shares first [] fewer none = refl
+most_stays events company shares first (other ∷ others) fewer none =
+    let parts = neither (le_z (shares first +ℤ pos 1) (shares_of events company (OfSeat other)))
+    (one_has events company (shares first +ℤ pos 1) others) none in
+    let under : shares_of events company (OfSeat other) <ℤ (shares first +ℤ pos 1) = grind (arith, ints, parts.0) in
+    let no_more : lt_z (shares first) (shares other) ≡ false =
+    not_less_is (shares first) (shares other) (omega (arith, ints, fewer other, under)) in
+    ap (λ (b : Bool). with_most shares (if b then other else first) others) no_more
+    ∙ most_stays events company shares first others fewer parts.1
 
 -- what a sale takes from a place, and brings to a seat
-none_brought : (b : Bool) (tenths : ℕ) → (if b then (if false then tenths else 0) else 0) ≡ 0
-none_brought true tenths = refl
-none_brought false tenths = refl
+none_brought : (b : Bool) (shares : ℕ) → (if b then (if false then shares else 0) else 0) ≡ 0
+none_brought true shares = refl
+none_brought false shares = refl
 
-all_taken : (a b : Bool) (tenths : ℕ) → a ≡ true → b ≡ true → (if a then (if b then tenths else 0) else 0) ≡ tenths
-all_taken true true tenths first second = refl
-all_taken true false tenths first second = absurd cc
-all_taken false b tenths first second = absurd cc
+all_taken : (a b : Bool) (shares : ℕ) → a ≡ true → b ≡ true → (if a then (if b then shares else 0) else 0) ≡ shares
+all_taken true true shares first second = refl
+all_taken true false shares first second = absurd cc
+all_taken false b shares first second = absurd cc
 
 -- where nothing comes there are no more then, and the rest is what did not go
 fewer_then : (before after : ℤ) (brought taken : ℕ) → after ≡ ((before +ℤ pos brought) -ℤ pos taken) → brought ≡ 0
     → after ≤ℤ before
 fewer_then before after brought taken is none = omega (arith, ints, is, none)
 
-rest_then : (before after : ℤ) (brought taken tenths : ℕ) → after ≡ ((before +ℤ pos brought) -ℤ pos taken)
-    → brought ≡ 0 → taken ≡ tenths → after ≡ before -ℤ pos tenths
-rest_then before after brought taken tenths is none all = omega (arith, ints, is, none, all)
+rest_then : (before after : ℤ) (brought taken shares : ℕ) → after ≡ ((before +ℤ pos brought) -ℤ pos taken)
+    → brought ≡ 0 → taken ≡ shares → after ≡ before -ℤ pos shares
+rest_then before after brought taken shares is none all = omega (arith, ints, is, none, all)
 
 -- a number is itself
 itself : (n : ℕ) → (n == n) ≡ true
@@ -81,12 +82,12 @@ module _ (game : Game) (seat : Seat) (sale : Sale) where
   company = sale.company
 
   abbrev told : List Event
-  told = game.events ++ event.Sells company seat sale.tenths (sale.tenths * market_price_of game.events company) ∷ []
+  told = game.events ++ event.Sells company seat sale.shares (sale.shares * market_price_of game.events company) ∷ []
 
   abbrev paid : List Event
-  paid = sold game.seats game.events seat company sale.tenths
+  paid = sold game.seats game.events seat company sale.shares
 
-  -- a bank that breaks moves no tenths and no presidency
+  -- a bank that breaks moves no shares and no presidency
   same_shares : (other : Seat) → shares_of paid company (OfSeat other) ≡ shares_of told company (OfSeat other)
   same_shares other =
       elim (breaks game.seats told) as (λ (b : Bool). shares_of (if b then told ++ event.Broken ∷ [] else told)
@@ -102,34 +103,34 @@ module _ (game : Game) (seat : Seat) (sale : Sale) where
         | true ↦ president_of_before told event.Broken its refl
         | false ↦ refl
       ]
-      ∙ president_of_before game.events (event.Sells company seat sale.tenths
-      (sale.tenths * market_price_of game.events company)) its refl
+      ∙ president_of_before game.events (event.Sells company seat sale.shares
+      (sale.shares * market_price_of game.events company)) its refl
 
-  -- after it nobody has more tenths
+  -- after it nobody has more shares
   no_more_held : (other : Seat) → shares_of paid company (OfSeat other) ≤ℤ shares_of game.events company (OfSeat other)
   no_more_held other =
       subst (λ (held : ℤ). held ≤ℤ shares_of game.events company (OfSeat other)) (sym (same_shares other))
       (fewer_then (shares_of game.events company (OfSeat other)) (shares_of told company (OfSeat other)) _ _
-      (shares_of_at_end game.events (event.Sells company seat sale.tenths
-      (sale.tenths * market_price_of game.events company)) company (OfSeat other))
-      (none_brought (same_company company company) sale.tenths))
+      (shares_of_at_end game.events (event.Sells company seat sale.shares
+      (sale.shares * market_price_of game.events company)) company (OfSeat other))
+      (none_brought (same_company company company) sale.shares))
 
   -- and the seat has what it keeps
   keeps_rest : shares_of paid company (OfSeat seat) ≡ kept_after game.events seat sale
   keeps_rest =
       same_shares seat
-      ∙ rest_then (shares_of game.events company (OfSeat seat)) (shares_of told company (OfSeat seat)) _ _ sale.tenths
-      (shares_of_at_end game.events (event.Sells company seat sale.tenths
-      (sale.tenths * market_price_of game.events company)) company (OfSeat seat))
-      (none_brought (same_company company company) sale.tenths)
-      (all_taken (same_company company company) (seat.0 == seat.0) sale.tenths (company_itself company) (itself seat.0))
+      ∙ rest_then (shares_of game.events company (OfSeat seat)) (shares_of told company (OfSeat seat)) _ _ sale.shares
+      (shares_of_at_end game.events (event.Sells company seat sale.shares
+      (sale.shares * market_price_of game.events company)) company (OfSeat seat))
+      (none_brought (same_company company company) sale.shares)
+      (all_taken (same_company company company) (seat.0 == seat.0) sale.shares (company_itself company) (itself seat.0))
 
   -- so it still presides, where the sale is not to move the presidency
   stays_president : one_has game.events company (kept_after game.events seat sale +ℤ pos 1)
       (others_from game.seats seat) ≡ false →
       successor_of game.seats paid company seat ≡ seat
   stays_president none =
-      most_stays game.events company (seat_tenths_of paid company) seat (others_from game.seats seat) no_more_held
+      most_stays game.events company (seat_shares_of paid company) seat (others_from game.seats seat) no_more_held
       (ap (λ (kept : ℤ). one_has game.events company (kept +ℤ pos 1) (others_from game.seats seat)) keeps_rest ∙ none)
 
   -- after what follows of its presidency a company has the same president
@@ -195,7 +196,7 @@ none_over by game sale none same leads =
     ap (presides by.president) found ∙ itself by.president.0 in
     let moves : moves_operating game.seats game.events by.president sale (Some by.company) ≡ false =
     no_move (presides by.president (president_of game.events sale.company))
-    (leaves_none game.seats game.events by.president sale)
+    (none_is_left game.seats game.events by.president sale)
     (moves_operating game.seats game.events by.president sale (Some by.company))
     (stays_where_allowed by game sale none) he
     in
@@ -218,7 +219,7 @@ sale_leaves : (by : Operator) (game : Game) (sale : Sale) → sale_rule by game 
     → president_of game.events by.company ≡ Some by.president →
     president_of (with_sale by game sale).events by.company ≡ Some by.president
 sale_leaves by game sale none leads =
-    let paid : List Event = sold game.seats game.events by.president sale.company sale.tenths in
+    let paid : List Event = sold game.seats game.events by.president sale.company sale.shares in
     let led : List Event = with_president game.seats paid sale.company in
     let kept : president_of paid by.company ≡ Some by.president =
     same_president game by.president sale by.company ∙ leads in
@@ -232,7 +233,7 @@ sale_leaves by game sale none leads =
     ]
     refl
     in
-    token_leaves (fallen sale.tenths) led sale.company by.company (square_of led sale.company) ∙ stays
+    token_leaves (fallen sale.shares) led sale.company by.company (square_of led sale.company) ∙ stays
 
 -- nobody becomes president by another event of a turn
 no_office : (operating : Company) (game : Game) (its : Event) → IsOfTurn operating game its → office_of its ≡ None

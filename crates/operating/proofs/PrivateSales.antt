@@ -1,6 +1,8 @@
 -- The purchase of a private that breaks no rule: the company can pay it, so the game can be played on once it is
 -- made; and the rules say the same after the ruling of the line.
-use Rattle.std.proofs.Common.{◌≡◌, ℕ, ◌+◌, ◌≤◌, ◌==◌, ◌||◌, Bool, true, false, not, nat_lt, if◌then◌else◌, List, [], ◌∷◌, ◌++◌, Option, Some, None, is_some, unwrap_or, ℤ, pos, ◌≤ℤ◌, refl, sym, ap, ◌∙◌, arith}
+use Rattle.std.proofs.Common.{◌≡◌, ℕ, ◌+◌, ◌≤◌, ◌==◌, ◌||◌, Bool, true, false, not, nat_lt, if◌then◌else◌, List, []}
+use Rattle.std.proofs.Common.{◌∷◌, ◌++◌, Option, Some, None, is_some, unwrap_or, ℤ, pos, ◌≤ℤ◌, refl, sym, ap, ◌∙◌}
+use Rattle.std.proofs.Common.{arith}
 use Rattle.std.proofs.lemmas.Bool.Decides.{nat_tests}
 use Rattle.std.specs.Int.Signed.{lt_z}
 use Rattle.std.specs.Option.{option_flatten, option_map}
@@ -12,15 +14,17 @@ use Rattle.events.specs.declared.event.Event.TheVariants.{Ruled}
 use Rattle.events.specs.declared.event.Holder.{Holder}
 use Rattle.events.specs.declared.event.Holder.TheVariants as holder
 use Rattle.events.specs.declared.ruling.PrivateRule.{PrivateRule}
-use Rattle.events.specs.declared.ruling.PrivateRule.TheVariants.{TooEarly, WrongPrice, NoConsent, NeverSold, CashTooSmall}
+use Rattle.events.specs.declared.ruling.PrivateRule.TheVariants.{TooEarly, WrongPrice, NoConsent, NeverSold}
+use Rattle.events.specs.declared.ruling.PrivateRule.TheVariants.{CashTooSmall}
 use Rattle.events.specs.declared.ruling.Ruling.TheVariants.{Obeyed}
-use Rattle.history.proofs.EventAtEnd.{cash_of_before, last_said_before, president_of_before}
-use Rattle.history.specs.LookBack.{Game, cash_of, in_round, owner_of, owner_said, with_event}
-use Rattle.history.specs.Shares.{president_of}
-use Rattle.history.specs.Trains.{phase_of}
+use Rattle.totals.proofs.EventAtEnd.{cash_of_before, last_said_before, president_of_before}
+use Rattle.totals.specs.LookBack.{Game, cash_of, in_round, owner_of, owner_said, with_event}
+use Rattle.totals.specs.Shares.{president_of}
+use Rattle.totals.specs.Trains.{phase_of}
 use Rattle.operating.proofs.Buying.{not_less}
 use Rattle.operating.specs.InTurn.{InTurn, in_turn, told}
-use Rattle.operating.specs.Privates.{after_private, is_given, is_given_by, is_wrong_price, private_bought, private_judgement, private_ruled, private_rules}
+use Rattle.operating.specs.Privates.{after_private, is_given, is_given_by, is_wrong_price, private_bought}
+use Rattle.operating.specs.Privates.{private_judgement, private_ruled, private_rules}
 use Rattle.operating.specs.declared.operator.Operator.{Operator}
 use Rattle.order_grammar.specs.declared.order.Offer.{Offer}
 use Rattle.order_grammar.specs.declared.order.Offer.TheVariants as offer
@@ -35,7 +39,8 @@ use Rattle.tables.specs.declared.rolling_stock.Kind.{Kind}
 use Rattle.tables.specs.declared.rolling_stock.Kind.TheVariants.{Two, Three}
 use Rattle.tables.specs.declared.roster.Company.{Company}
 use Rattle.tables.specs.declared.roster.Private.{Private}
-use Rattle.tables.specs.declared.roster.Private.TheVariants.{SchuylkillValley, ChamplainStLawrence, DelawareHudson, MohawkHudson, CamdenAmboy, BaltimoreOhio}
+use Rattle.tables.specs.declared.roster.Private.TheVariants.{SchuylkillValley, ChamplainStLawrence, DelawareHudson}
+use Rattle.tables.specs.declared.roster.Private.TheVariants.{MohawkHudson, CamdenAmboy, BaltimoreOhio}
 use Rattle.tables.specs.declared.seat.Seat.{Seat}
 
 -- twice a face value is small
@@ -47,7 +52,7 @@ face_small MohawkHudson = omega arith
 face_small CamdenAmboy = omega arith
 face_small BaltimoreOhio = omega arith
 
--- what is not over so many is as small
+-- what is not over this many is as small
 no_more : (few many : Bool) (face price : ℕ) → nat_lt (face + face) price ≡ many → (few || many) ≡ false
     → price ≤ face + face
 no_more true many face price is kept = absurd (cc)

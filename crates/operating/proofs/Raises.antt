@@ -1,7 +1,8 @@
 -- A line that is read as a RAISE begins with that word, or with IF.
-use Rattle.std.proofs.Common.{◌≡◌, ◌↔◌, ℕ, Bool, true, false, ◌||◌, List, [], ◌∷◌, Option, Some, None, Result, Ok, Err, codes, ltb, inl, inr, refl, sym, ap, ◌∙◌}
+use Rattle.std.proofs.Common.{◌≡◌, ◌↔◌, ℕ, Bool, true, false, ◌||◌, List, [], ◌∷◌, Option, Some, None, Result, Ok, Err}
+use Rattle.std.proofs.Common.{codes, ltb, inl, inr, refl, sym, ap, ◌∙◌}
 use Rattle.std.proofs.lemmas.Bool.{cases_Bool}
-use Rattle.history.specs.LookBack.{Game}
+use Rattle.totals.specs.LookBack.{Game}
 use Rattle.operating.specs.Forced.{after_raise_line, may_spell_raise}
 use Rattle.operating.specs.declared.operator.Operator.{Operator}
 use Rattle.order_grammar.specs.Condition.{Ordered}
@@ -38,19 +39,19 @@ begins_with first others [] is = absurd is
 begins_with first others (word ∷ words) is = is.0
 
 -- words that spell a RAISE, under a condition or not, begin so
-begins : (version : Version) (condition : Option Condition) (company : Company) (tenths : ℕ) (words : List (List ℕ)) →
-    AreWordsUnder version condition (order.Raise company tenths) words → may_begin (first_of_words words) ≡ true
-begins version None company tenths words are = ap may_begin (begins_with (codes "RAISE") _ words are.1)
-begins One (Some condition) company tenths words are = absurd are
-begins Two (Some condition) company tenths words are = ap may_begin (begins_with (codes "IF") _ words are)
+begins : (version : Version) (condition : Option Condition) (company : Company) (shares : ℕ) (words : List (List ℕ)) →
+    AreWordsUnder version condition (order.Raise company shares) words → may_begin (first_of_words words) ≡ true
+begins version None company shares words are = ap may_begin (begins_with (codes "RAISE") _ words are.1)
+begins One (Some condition) company shares words are = absurd are
+begins Two (Some condition) company shares words are = ap may_begin (begins_with (codes "IF") _ words are)
 
 module _ (law : ReadWhereSpelt) (due : Bool) (by : Operator) (game : Game) (line : Numbered) (version : Version)
     (text : List ℕ) (differs : may_spell_raise text ≡ false) where
   -- an order that is spelt by a line with another first word changes nothing
   other_order : (condition : Option Condition) (its : Order) → AreWordsUnder version condition its (words_of text) →
       after_raise_line due by game line (Ok its) ≡ game
-  other_order condition (order.Raise company tenths) are =
-      let same : true ≡ false = sym (begins version condition company tenths (words_of text) are) ∙ differs in
+  other_order condition (order.Raise company shares) are =
+      let same : true ≡ false = sym (begins version condition company shares (words_of text) are) ∙ differs in
       absurd cc
   other_order condition other are = refl
 
@@ -60,7 +61,7 @@ module _ (law : ReadWhereSpelt) (due : Bool) (by : Operator) (game : Game) (line
   unchanged (Ok spelt) is = other_order spelt.condition spelt.order ((law version text spelt).0 is).loosely.words
   unchanged (Err fault) is = refl
 
-  -- nor does it where it stands
+  -- nor does it where it is
   pub no_raise : (number : ℕ) → after_raise_line due by game line
       (reading_at number (order_read (reading_in version text))) ≡ game
   no_raise number =

@@ -1,14 +1,16 @@
 -- Once the trains of a kind have rusted none is in play.
-use Rattle.std.proofs.Common.{◌≡◌, ℕ, zero, suc, inl, inr, Bool, true, false, ◌&&◌, List, [], ◌∷◌, Option, Some, None, ℤ, pos, negsuc, ◌≤ℤ◌, ◌-ℤ◌, refl, sym, ap, subst, ◌∙◌, arith}
+use Rattle.std.proofs.Common.{◌≡◌, ℕ, zero, suc, inl, inr, Bool, true, false, ◌&&◌, List, [], ◌∷◌, Option, Some, None}
+use Rattle.std.proofs.Common.{ℤ, pos, negsuc, ◌≤ℤ◌, ◌-ℤ◌, refl, sym, ap, subst, ◌∙◌, arith}
 use Rattle.std.proofs.lemmas.Int.{ints}
 use Rattle.std.specs.List.{fold}
 use Rattle.events.specs.Event.{train_owner_place, train_moved}
 use Rattle.events.specs.declared.event.Event.TheVariants as event
-use Rattle.history.proofs.Choices.{truth}
-use Rattle.history.proofs.EventAtEnd.{trains_at_end}
+use Rattle.totals.proofs.Choices.{truth}
+use Rattle.totals.proofs.EventAtEnd.{trains_at_end}
 use Rattle.history.proofs.Rolling.{same_train_place_is}
-use Rattle.history.specs.LookBack.{Game}
-use Rattle.history.specs.Trains.{one_if, same_train_place, so_many, train_comes, train_goes, trains_at, trains_held, trains_in_play}
+use Rattle.totals.specs.LookBack.{Game}
+use Rattle.totals.specs.Trains.{one_if, same_train_place, at_least_zero, train_comes, train_goes, trains_at}
+use Rattle.totals.specs.Trains.{trains_held, trains_in_play}
 use Rattle.operating.proofs.PhaseLemmas.{one_less}
 use Rattle.operating.specs.Phases.{with_company_rusted, with_kind_rusted, with_one_rusted, with_trains_rusted}
 use Rattle.tables.specs.Roster.{companies}
@@ -47,7 +49,7 @@ other_keeps kind owner other game apart =
       ap one_if (none_comes kind owner other),
     )
 
--- by so many that rust
+-- by this many that rust
 others_keep : (kind : Kind) (owner other : Option Company) (n : ℕ) (game : Game)
     → same_train_place (train_owner_place owner) (train_owner_place other) ≡ false
     → has kind other (iterate (with_one_rusted owner kind) n game) ≡ has kind other game
@@ -56,7 +58,7 @@ others_keep kind owner other (suc n) game apart =
     other_keeps kind owner other (iterate (with_one_rusted owner kind) n game) apart
     ∙ others_keep kind owner other n game apart
 
--- so many of a stable rust
+-- this many of a stable rust
 pub so_many_less : (kind : Kind) (owner : Option Company) (n : ℕ) (game : Game)
     → has kind owner (iterate (with_one_rusted owner kind) n game) ≡ has kind owner game -ℤ pos n
 so_many_less kind owner zero game = omega (arith, ints)
@@ -70,7 +72,7 @@ so_many_less kind owner (suc n) game =
     )
 
 -- a count that is not under 0
-so_many_back : (count : ℤ) → pos 0 ≤ℤ count → pos (so_many count) ≡ count
+so_many_back : (count : ℤ) → pos 0 ≤ℤ count → pos (at_least_zero count) ≡ count
 so_many_back (pos n) low = refl
 so_many_back (negsuc n) low = absurd (omega (arith, ints, low))
 
@@ -81,7 +83,7 @@ all_go kind owner game low =
     omega (
       arith,
       ints,
-      so_many_less kind owner (so_many (has kind owner game)) game,
+      so_many_less kind owner (at_least_zero (has kind owner game)) game,
       so_many_back
           (has kind owner game) low,
     )
@@ -96,7 +98,7 @@ by_train_owner P kind owner other game here kept =
       | inl same ↦
           subst (λ place. P (trains_at (with_trains_rusted owner kind game).events place kind))
           (same_train_place_is (train_owner_place owner) (train_owner_place other) same) (here same)
-      | inr apart ↦ subst P (sym (others_keep kind owner other (so_many (has kind owner game)) game apart)) kept
+      | inr apart ↦ subst P (sym (others_keep kind owner other (at_least_zero (has kind owner game)) game apart)) kept
     ]
 
 -- nobody has fewer than none

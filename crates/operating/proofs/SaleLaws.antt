@@ -8,13 +8,14 @@ use Rattle.events.specs.Event.{bidding_of}
 use Rattle.events.specs.declared.event.Event.{Event}
 use Rattle.events.specs.declared.event.Event.TheVariants as event
 use Rattle.events.specs.declared.event.TrainSeller.TheVariants as seller
-use Rattle.history.specs.LookBack.{Game}
+use Rattle.totals.specs.LookBack.{Game}
 use Rattle.operating.proofs.TrainSteps.{IsPassedOn}
 use Rattle.operating.proofs.TurnEvents.{IsOfTurn, is_agreed}
 use Rattle.operating.proofs.ForcedGames.{forced_bids_none, forced_sells_none, of_game_turn}
 use Rattle.operating.proofs.TurnGames.{by_each}
 use Rattle.operating.specs.BidLaws.{SaysNoBid, TurnsSayNoBid}
-use Rattle.operating.specs.SaleLaws.{AreAgreed, IsAgreed, OthersKeepAgreed, SellersAgree, TurnsKeepAgreed, sells_to_company}
+use Rattle.operating.specs.SaleLaws.{AreAgreed, IsAgreed, OthersKeepAgreed, SellersAgree, TurnsKeepAgreed}
+use Rattle.operating.specs.SaleLaws.{sells_to_company}
 use Rattle.tables.specs.declared.roster.Company.{Company}
 
 -- one more event that is agreed

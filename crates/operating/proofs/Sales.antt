@@ -1,6 +1,7 @@
 -- What the purchase of a train changes by itself: the bank has sold one more where it sells it, and nothing leaves
 -- play.
-use Rattle.std.proofs.Common.{◌≡◌, ◌⊎◌, ℕ, ◌+◌, ◌<◌, ◌≤◌, ◌==◌, inl, inr, Bool, true, false, ◌&&◌, nat_lt, if◌then◌else◌, List, Option, Some, None, refl, sym, ap, subst, ◌∙◌, arith}
+use Rattle.std.proofs.Common.{◌≡◌, ◌⊎◌, ℕ, ◌+◌, ◌<◌, ◌≤◌, ◌==◌, inl, inr, Bool, true, false, ◌&&◌, nat_lt}
+use Rattle.std.proofs.Common.{if◌then◌else◌, List, Option, Some, None, refl, sym, ap, subst, ◌∙◌, arith}
 use Rattle.std.proofs.lemmas.Bool.Decides.{Decides-eqb, nat_tests}
 use Rattle.std.proofs.lemmas.Int.{ints}
 use Rattle.events.specs.Event.{place_of_seller}
@@ -10,11 +11,11 @@ use Rattle.events.specs.declared.event.TrainMove.{TrainMove}
 use Rattle.events.specs.declared.event.TrainPlace.TheVariants as place
 use Rattle.events.specs.declared.event.TrainSeller.{TrainSeller}
 use Rattle.events.specs.declared.event.TrainSeller.TheVariants as seller
-use Rattle.history.proofs.Choices.{truth}
-use Rattle.history.proofs.EventAtEnd.{trains_at_end}
+use Rattle.totals.proofs.Choices.{truth}
+use Rattle.totals.proofs.EventAtEnd.{trains_at_end}
 use Rattle.history.proofs.Rolling.{same_kind_is, sold_at_end}
-use Rattle.history.specs.LookBack.{Game, with_event}
-use Rattle.history.specs.Trains.{TrainsAreHeld, one_if, train_goes, trains_at, trains_sold}
+use Rattle.totals.specs.LookBack.{Game, with_event}
+use Rattle.totals.specs.Trains.{TrainsAreHeld, one_if, train_goes, trains_at, trains_sold}
 use Rattle.operating.proofs.Buying.{both, either}
 use Rattle.operating.proofs.Complete.{Alike, alike_closed, alike_on, alike_traded, never}
 use Rattle.operating.proofs.TrainSteps.{of_bop, of_trade}

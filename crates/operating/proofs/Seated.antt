@@ -1,6 +1,7 @@
--- Who holds tenths in a sound list sits at the table: ten tenths of each company are at any table that is large enough for
--- all events, and ten at the table of the game, so none are elsewhere.
-use Rattle.std.proofs.Common.{◌≡◌, ℕ, zero, suc, ◌+◌, ◌-◌, ◌<◌, ◌≤◌, Bool, true, false, nat_lt, List, [], ◌∷◌, ◌++◌, Option, Some, None, ℤ, pos, ◌≤ℤ◌, ◌+ℤ◌, refl, sym, ap, subst, ◌∙◌, arith}
+-- Who holds shares in a sound list sits at the table: ten shares of each company are at any table that is large enough
+-- for all events, and ten at the table of the game, so none are elsewhere.
+use Rattle.std.proofs.Common.{◌≡◌, ℕ, zero, suc, ◌+◌, ◌-◌, ◌<◌, ◌≤◌, Bool, true, false, nat_lt, List, [], ◌∷◌, ◌++◌}
+use Rattle.std.proofs.Common.{Option, Some, None, ℤ, pos, ◌≤ℤ◌, ◌+ℤ◌, refl, sym, ap, subst, ◌∙◌, arith}
 use Rattle.std.proofs.lemmas.Bool.{ltb-true, ltb-false}
 use Rattle.std.proofs.lemmas.Int.{ints}
 use Rattle.std.proofs.lemmas.List.{append-nil, append_assoc}
@@ -11,9 +12,9 @@ use Rattle.events.specs.declared.event.Shareholder.{Shareholder}
 use Rattle.events.specs.declared.event.Shareholder.TheVariants.{InitialOffering, BankPool, Seat as OfSeat}
 use Rattle.events.specs.declared.event.Transfer.{Transfer}
 use Rattle.history.proofs.Soundness.{ten_kept}
-use Rattle.history.proofs.Tenths.{IsAtTable, ten_after}
-use Rattle.history.specs.LookBack.{Game}
-use Rattle.history.specs.Shares.{held_by, is_floated, president_of, shares_of, tenths_in_all}
+use Rattle.history.proofs.ShareCount.{IsAtTable, ten_after}
+use Rattle.totals.specs.LookBack.{Game}
+use Rattle.totals.specs.Shares.{held_by, is_floated, president_of, shares_of, shares_in_all}
 use Rattle.history.specs.Sound.{AreTenInAll, IsLed, IsSound}
 use Rattle.tables.specs.Seat.{all_seats, seat_at}
 use Rattle.tables.specs.declared.roster.Company.{Company}
@@ -93,7 +94,7 @@ module _ (events : List Event) (company : Company)
       subst (λ (n : ℕ). together seats ≤ℤ together n) (sym next)
       (omega (arith, ints, grown seats more, one_seat_more (seats + more), held (OfSeat (seat_at (seats + more)))))
 
--- who holds a tenth is at the table
+-- who holds a share is at the table
 pub holder_seated : (game : Game) (company : Company) (seat : Seat) → IsSound game
     → pos 1 ≤ℤ shares_of game.events company (OfSeat seat) → seat.0 < game.seats
 holder_seated game company seat sound holds = by_test (nat_lt seat.0 game.seats) refl
@@ -103,8 +104,8 @@ holder_seated game company seat sound holds = by_test (nat_lt seat.0 game.seats)
         let events : List Event = game.events in
         let n : ℕ = (seat.0 + 1) + bound_of events in
         let held : (place : Shareholder) → pos 0 ≤ℤ shares_of events company place = sound.held company in
-        let all : tenths_in_all n events company ≡ pos 10 = ten_along n events [] (omega arith) (ten_first n) company in
-        let here : tenths_in_all game.seats events company ≡ pos 10 = sound.ten company in
+        let all : shares_in_all n events company ≡ pos 10 = ten_along n events [] (omega arith) (ten_first n) company in
+        let here : shares_in_all game.seats events company ≡ pos 10 = sound.ten company in
         let up_to : game.seats + (seat.0 - game.seats) ≡ seat.0 = omega arith in
         let first : held_by events company (all_seats game.seats) ≤ℤ held_by events company (all_seats seat.0) =
         subst (λ (m : ℕ). held_by events company (all_seats game.seats) ≤ℤ held_by events company (all_seats m))

@@ -1,6 +1,8 @@
 -- The rules of the purchase of a train say the same after a ruling, so a line that breaks none leads where its
 -- purchase does.
-use Rattle.std.proofs.Common.{◌≡◌, ℕ, ◌+◌, Bool, true, false, not, nat_lt, ◌==◌, if◌then◌else◌, is_some, ◌||◌, ◌&&◌, cond, List, [], ◌∷◌, ◌++◌, Option, Some, None, ℤ, pos, ◌-ℤ◌, ◌+ℤ◌, unwrap_or, refl, sym, ap, ◌∙◌, arith}
+use Rattle.std.proofs.Common.{◌≡◌, ℕ, ◌+◌, Bool, true, false, not, nat_lt, ◌==◌, if◌then◌else◌, is_some, ◌||◌, ◌&&◌}
+use Rattle.std.proofs.Common.{cond, List, [], ◌∷◌, ◌++◌, Option, Some, None, ℤ, pos, ◌-ℤ◌, ◌+ℤ◌, unwrap_or, refl, sym}
+use Rattle.std.proofs.Common.{ap, ◌∙◌, arith}
 use Rattle.std.proofs.lemmas.List.Sums.{sum_by-append}
 use Rattle.std.specs.Int.Signed.{lt_z}
 use Rattle.std.specs.Option.{option_flatten, option_map}
@@ -15,13 +17,18 @@ use Rattle.events.specs.declared.event.TrainSeller.TheVariants as seller
 use Rattle.events.specs.declared.ruling.Ruling.{Ruling}
 use Rattle.events.specs.declared.ruling.Ruling.TheVariants.{Obeyed}
 use Rattle.events.specs.declared.ruling.TrainRule.{TrainRule}
-use Rattle.events.specs.declared.ruling.TrainRule.TheVariants.{NotOnSale, TrainLimit, CashTooSmall, NoConsent, NotSellers, NoTradeIn}
-use Rattle.history.proofs.EventAtEnd.{balance_before, cash_of_before, last_said_before, president_of_before}
-use Rattle.history.specs.LookBack.{Game, in_round, with_event}
-use Rattle.history.specs.Offers.{has_consent}
-use Rattle.history.specs.Shares.{president_of}
-use Rattle.history.specs.Trains.{one_if, phase_of, train_count, train_comes, train_goes, trains_held, trains_of_kinds, trains_sold}
-use Rattle.operating.specs.Trains.{are_left, cost_of, first_left, first_left_of, is_at_train_limit, is_kind, is_left, is_no_trade_in, is_not_given, is_not_sellers, is_on_sale, is_too_dear, lacks_consent, may_be_traded, numbered_kinds, presidents_agree, sells_diesels, traded_count, train_judgement}
+use Rattle.events.specs.declared.ruling.TrainRule.TheVariants.{NotOnSale, TrainLimit, CashTooSmall, NoConsent}
+use Rattle.events.specs.declared.ruling.TrainRule.TheVariants.{NotSellers, NoTradeIn}
+use Rattle.totals.proofs.EventAtEnd.{balance_before, cash_of_before, last_said_before, president_of_before}
+use Rattle.totals.specs.LookBack.{Game, in_round, with_event}
+use Rattle.totals.specs.Offers.{has_consent}
+use Rattle.totals.specs.Shares.{president_of}
+use Rattle.totals.specs.Trains.{one_if, phase_of, train_count, train_comes, train_goes, trains_held, trains_of_kinds}
+use Rattle.totals.specs.Trains.{trains_sold}
+use Rattle.operating.specs.Trains.{are_left, cost_of, first_left, first_left_of, is_at_train_limit, is_kind, is_left}
+use Rattle.operating.specs.Trains.{is_no_trade_in, is_not_given, is_not_sellers, is_on_sale, is_too_dear, lacks_consent}
+use Rattle.operating.specs.Trains.{may_be_traded, numbered_kinds, presidents_agree, sells_diesels, traded_count}
+use Rattle.operating.specs.Trains.{train_judgement}
 use Rattle.operating.specs.InTurn.{InTurn, in_turn, told}
 use Rattle.operating.specs.Phases.{after_train}
 use Rattle.operating.specs.Turn.{after_buying, purchase_of, train_ruled}

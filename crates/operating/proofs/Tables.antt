@@ -1,13 +1,13 @@
 -- A board that has the first of what was laid before a company's turn, or before its end, has it still after that.
 use Rattle.std.proofs.Common.{◌≡◌, ℕ, List, Option, sym, subst}
-use Rattle.board.specs.MapState.{MapState}
-use Rattle.history.specs.LookBack.{Game}
+use Rattle.board_state.specs.MapState.{MapState}
+use Rattle.totals.specs.LookBack.{Game}
 use Rattle.operating.proofs.ForcedGames.{of_block_end}
 use Rattle.operating.proofs.Fronts.{front_on}
 use Rattle.operating.proofs.TurnGames.{of_home, of_withheld}
 use Rattle.operating.proofs.TurnLaws.{adds_by, more_adds}
 use Rattle.operating.specs.Act.{with_home, withheld}
-use Rattle.operating.specs.MapState.{IsFront}
+use Rattle.operating.specs.MapState.{IsPrefix}
 use Rattle.operating.specs.Laws.{OnlyAdds}
 use Rattle.operating.specs.Turn.{BlockEnds}
 use Rattle.tables.specs.declared.roster.Company.{Company}
@@ -19,13 +19,13 @@ home_adds old first company is = subst (OnlyAdds old) (sym is) (of_home company 
 
 -- once the home token lies
 pub home_front : (laid : MapState) (old first : Game) (company : Company) → first ≡ with_home old company
-    → IsFront laid old.events → IsFront laid first.events
+    → IsPrefix laid old.events → IsPrefix laid first.events
 home_front laid old first company is front = front_on laid old first (home_adds old first company is) front
 
 -- and once a company without a president has withheld
 pub idle_front : (laid : MapState) (old first new : Game) (company : Company) (amount : ℕ)
-    → first ≡ with_home old company → new ≡ withheld first company amount → IsFront laid old.events
-    → IsFront laid new.events
+    → first ≡ with_home old company → new ≡ withheld first company amount → IsPrefix laid old.events
+    → IsPrefix laid new.events
 idle_front laid old first new company amount is_first is_new front =
     front_on laid first new (subst (OnlyAdds first) (sym is_new)
     (of_withheld company OnlyAdds (adds_by company) first amount))
@@ -33,8 +33,8 @@ idle_front laid old first new company amount is_first is_new front =
 
 -- and after what a block brings at the end of the turn
 pub end_front : (file : List ℕ) (round : Round) (company : Company) (laid : MapState) (paid new : Game)
-    (president : Option Seat) → BlockEnds file round company paid president new → IsFront laid paid.events
-    → IsFront laid new.events
+    (president : Option Seat) → BlockEnds file round company paid president new → IsPrefix laid paid.events
+    → IsPrefix laid new.events
 end_front file round company laid paid new president ends front =
     front_on laid paid new (of_block_end company OnlyAdds (adds_by company) more_adds file round paid president new
     ends) front

@@ -1,5 +1,6 @@
 -- The tiles of a number on the map and in the stock, after a lay and after a company's turn.
-use Rattle.std.proofs.Common.{◌≡◌, ℕ, ◌+◌, ◌≤◌, Bool, true, false, ◌&&◌, cond, List, [], ◌∷◌, ◌++◌, Option, Some, ℤ, pos, ◌+ℤ◌, ◌-ℤ◌}
+use Rattle.std.proofs.Common.{◌≡◌, ℕ, ◌+◌, ◌≤◌, Bool, true, false, ◌&&◌, cond, List, [], ◌∷◌, ◌++◌, Option, Some, ℤ}
+use Rattle.std.proofs.Common.{pos, ◌+ℤ◌, ◌-ℤ◌}
 use Rattle.std.proofs.Common.{◌≤ℤ◌, refl, sym, ap, subst, ◌∙◌, arith}
 use Rattle.std.proofs.lemmas.Bool.{eqb-true}
 use Rattle.std.proofs.lemmas.Int.{ints}
@@ -7,14 +8,14 @@ use Rattle.std.proofs.lemmas.List.{append-nil, reverse-append, reverse-reverse}
 use Rattle.std.proofs.lemmas.List.Sums.{sum_by-cons, sum_by_push}
 use Rattle.std.specs.List.{cons_option, count_by}
 use Rattle.board.proofs.Stocked.{lay_keeps_stock}
-use Rattle.board.proofs.Tiles.{last_lies}
+use Rattle.board_state.proofs.Tiles.{last_lies}
 use Rattle.map_tables.specs.OnMap.{tile_on}
 use Rattle.board.specs.LayRules.{is_tile, on_map_of}
 use Rattle.events.specs.declared.event.Event.{Event}
 use Rattle.events.specs.declared.event.Event.TheVariants as event
-use Rattle.history.proofs.InOrder.{lays_grow}
-use Rattle.history.specs.LookBack.{Game, with_event}
-use Rattle.history.specs.Operating.{lays_of}
+use Rattle.totals.proofs.InOrder.{lays_grow}
+use Rattle.totals.specs.LookBack.{Game, with_event}
+use Rattle.totals.specs.Operating.{lays_of}
 use Rattle.map_tables.specs.Hex.{hexes, index_of, same_hex}
 use Rattle.map_tables.specs.Tile.{entry_of}
 use Rattle.map_tables.specs.declared.hex.Hex.{Hex}
@@ -27,7 +28,8 @@ use Rattle.operating.proofs.ForcedGames.{of_game_turn}
 use Rattle.operating.proofs.TurnGames.{of_purchase}
 use Rattle.operating.specs.MapState.{map_state_now}
 use Rattle.operating.specs.Turn.{purchase_of}
-use Rattle.operating.specs.TileLaws.{LaysKeepTiles, OthersKeepTiles, TilesAreAll, TilesAreAllAtFirst, TurnsKeepTiles, returned_by, returned_of}
+use Rattle.operating.specs.TileLaws.{LaysKeepTiles, OthersKeepTiles, TilesAreAll, TilesAreAllAtFirst, TurnsKeepTiles}
+use Rattle.operating.specs.TileLaws.{returned_by, returned_of}
 use Rattle.operating.specs.TileLaws.{stock_of, taken_of}
 use Rattle.reach.proofs.Hexes.{same_index}
 

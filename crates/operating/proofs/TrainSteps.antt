@@ -1,5 +1,6 @@
 -- What holds of each event that the purchase of a train brings, and of one after the other, holds of all of them.
-use Rattle.std.proofs.Common.{◌≡◌, ℕ, zero, suc, ◌≤◌, ◌<◌, ◌==◌, Bool, true, false, ◌&&◌, nat_lt, if◌then◌else◌, List, [], ◌∷◌, ◌++◌, Option, Some, None, is_some, unwrap_or, refl, ap, ◌∙◌, arith}
+use Rattle.std.proofs.Common.{◌≡◌, ℕ, zero, suc, ◌≤◌, ◌<◌, ◌==◌, Bool, true, false, ◌&&◌, nat_lt, if◌then◌else◌, List}
+use Rattle.std.proofs.Common.{[], ◌∷◌, ◌++◌, Option, Some, None, is_some, unwrap_or, refl, ap, ◌∙◌, arith}
 use Rattle.std.proofs.lemmas.Bool.Decides.{nat_tests}
 use Rattle.std.specs.List.{fold}
 use Rattle.events.specs.Event.{phase_set}
@@ -7,11 +8,15 @@ use Rattle.events.specs.declared.event.Event.{Event}
 use Rattle.events.specs.declared.event.Event.TheVariants as event
 use Rattle.events.specs.declared.event.TrainSeller.{TrainSeller}
 use Rattle.events.specs.declared.event.TrainSeller.TheVariants as seller
-use Rattle.history.proofs.EventAtEnd.{last_said_at_end, last_said_before}
-use Rattle.history.specs.LookBack.{Game, owner_of, with_event}
-use Rattle.history.specs.Trains.{phase_of, so_many, trains_held, trains_sold}
+use Rattle.totals.proofs.EventAtEnd.{last_said_at_end, last_said_before}
+use Rattle.totals.specs.LookBack.{Game, owner_of, with_event}
+use Rattle.totals.specs.Trains.{phase_of, at_least_zero, trains_held, trains_sold}
 use Rattle.operating.specs.Discards.{next_discard}
-use Rattle.operating.specs.Phases.{begins_phase, bought, excess_of, rusts_at, with_all_closed, with_bop_closed, with_closed, with_company_rusted, with_discarded, with_kind_rusted, with_kind_rusted_at, with_limit_kept, with_limits_kept, with_next_discarded, with_one_rusted, with_phase, with_privates_closed, with_rusted, with_trains_rusted, with_trade}
+use Rattle.operating.specs.Phases.{begins_phase, bought, excess_of, rusts_at, with_all_closed, with_bop_closed}
+use Rattle.operating.specs.Phases.{with_closed, with_company_rusted, with_discarded, with_kind_rusted}
+use Rattle.operating.specs.Phases.{with_kind_rusted_at, with_limit_kept, with_limits_kept, with_next_discarded}
+use Rattle.operating.specs.Phases.{with_one_rusted, with_phase, with_privates_closed, with_rusted, with_trains_rusted}
+use Rattle.operating.specs.Phases.{with_trade}
 use Rattle.operating.specs.TrainLaws.{PhasesGoOn}
 use Rattle.operating.specs.Trains.{cost_of}
 use Rattle.operating.specs.declared.purchase.Purchase.{Purchase}
@@ -89,7 +94,7 @@ of_privates R on closes phase game =
 pub of_train_owner : (R : Game → Game → Type 0) → IsPassedOn R → (kind : Kind) → OfRustings R kind → OfStables R kind
 of_train_owner R on kind rusts owner game =
     of_iterate R (with_one_rusted owner kind) on (λ now. rusts now owner)
-    (so_many (trains_held game.events owner kind)) game
+    (at_least_zero (trains_held game.events owner kind)) game
 
 -- of those of a kind
 pub of_kind : (R : Game → Game → Type 0) → IsPassedOn R → (kind : Kind) → OfStables R kind → (game : Game)

@@ -1,18 +1,21 @@
 -- The calls of a company's turn, line by line and part by part.
-use Rattle.std.proofs.Common.{◌≡◌, ℕ, Bool, true, false, List, [], ◌∷◌, ◌++◌, Option, Some, None, Result, Ok, Err, pos, refl, sym, subst, inl, inr}
+use Rattle.std.proofs.Common.{◌≡◌, ℕ, Bool, true, false, List, [], ◌∷◌, ◌++◌, Option, Some, None, Result, Ok, Err, pos}
+use Rattle.std.proofs.Common.{refl, sym, subst, inl, inr}
 use Rattle.std.proofs.lemmas.List.{append-nil}
-use Rattle.certificate.specs.declared.runner.RunnerFault.{RunnerFault}
-use Rattle.certificate.specs.declared.runner.RunnerFault.TheVariants.{Memory}
-use Rattle.history.specs.LookBack.{Game}
-use Rattle.history.specs.Shares.{president_of}
+use Rattle.legal_runs.specs.declared.runner.RunnerFault.{RunnerFault}
+use Rattle.legal_runs.specs.declared.runner.RunnerFault.TheVariants.{Memory}
+use Rattle.totals.specs.LookBack.{Game}
+use Rattle.totals.specs.Shares.{president_of}
 use Rattle.map_tables.specs.declared.rules.RunRule.{RunRule}
 use Rattle.operating.proofs.Calls.{broken_off, joined, silent}
 use Rattle.operating.specs.Act.{with_home}
 use Rattle.operating.specs.Best.{BestRuled, best_judgement}
 use Rattle.operating.specs.Calls.{Call, Earns, Makes, Unasked}
 use Rattle.operating.specs.InTurn.{InTurn, at_start, in_turn}
-use Rattle.operating.specs.Turn.{AskedLeads, BlockEnds, BlockLeads, IsCompanyTurn, LinesLead, OrderLeads, ReadingLeads, begun, is_held, settled}
-use Rattle.operating.specs.TurnCalls.{AskedCalls, BegunCalls, BestCalls, BlockCalls, EndCalls, LineCalls, LinesCall, OrderCalls, ReadingCalls, SomeTurnCalls, TurnCalls, asked}
+use Rattle.operating.specs.Turn.{AskedLeads, BlockEnds, BlockLeads, IsCompanyTurn, LinesLead, OrderLeads, ReadingLeads}
+use Rattle.operating.specs.Turn.{begun, is_held, settled}
+use Rattle.operating.specs.TurnCalls.{AskedCalls, BegunCalls, BestCalls, BlockCalls, EndCalls, LineCalls, LinesCall}
+use Rattle.operating.specs.TurnCalls.{OrderCalls, ReadingCalls, SomeTurnCalls, TurnCalls, asked}
 use Rattle.operating.specs.declared.operator.Operator.{Operator}
 use Rattle.operating.specs.declared.progress.Progress.{Progress}
 use Rattle.order_grammar.specs.declared.fault.Fault.{Fault}

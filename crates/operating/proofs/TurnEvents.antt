@@ -3,8 +3,8 @@ use Rattle.std.proofs.Common.{◌≡◌, Bool, false, if◌then◌else◌, Some,
 use Rattle.events.specs.Event.{operated_by, round_begun_by}
 use Rattle.events.specs.declared.event.Event.{Event}
 use Rattle.events.specs.declared.event.Event.TheVariants as event
-use Rattle.history.specs.LookBack.{Game}
-use Rattle.history.specs.Operating.{turn_said}
+use Rattle.totals.specs.LookBack.{Game}
+use Rattle.totals.specs.Operating.{turn_said}
 use Rattle.operating.specs.SaleLaws.{IsAgreed}
 use Rattle.tables.specs.Roster.{same_company}
 use Rattle.tables.specs.declared.roster.Company.{Company}
@@ -30,7 +30,7 @@ IsOfTurn company game (event.PrivateBought private its seller price) =
     IsAgreed game.events (event.PrivateBought private its seller price)
 IsOfTurn company game (event.Discarded its kind) = Unit
 IsOfTurn company game (event.Forced its) = Unit
-IsOfTurn company game (event.Sells its seat tenths amount) = Unit
+IsOfTurn company game (event.Sells its seat shares amount) = Unit
 IsOfTurn company game (event.Aid seat its amount) = Unit
 IsOfTurn company game other = ⊥
 

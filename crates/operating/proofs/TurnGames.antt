@@ -8,8 +8,8 @@ use Rattle.events.specs.declared.event.Event.TheVariants as event
 use Rattle.events.specs.declared.event.Holder.{Holder}
 use Rattle.events.specs.declared.event.Holder.TheVariants as holder
 use Rattle.events.specs.declared.event.Shareholder.TheVariants as place
-use Rattle.history.specs.LookBack.{Game, with_event}
-use Rattle.history.specs.Shares.{square_of}
+use Rattle.totals.specs.LookBack.{Game, with_event}
+use Rattle.totals.specs.Shares.{square_of}
 use Rattle.history.specs.Record.{breaks, broken_recorded}
 use Rattle.map_tables.specs.Home.{home_of}
 use Rattle.map_tables.specs.Place.{place_of}
@@ -17,7 +17,8 @@ use Rattle.map_tables.specs.declared.lay.Lay.{Lay}
 use Rattle.market.specs.Moves.{square_left_of, right_of}
 use Rattle.market.specs.Token.{moved_from, same_square, with_move}
 use Rattle.operating.proofs.AgreedSales.{train_agreed}
-use Rattle.operating.proofs.TrainSteps.{IsPassedOn, OfClosings, of_bop, of_choice, of_next, of_phase, of_train_owner, of_trade}
+use Rattle.operating.proofs.TrainSteps.{IsPassedOn, OfClosings, of_bop, of_choice, of_next, of_phase, of_train_owner}
+use Rattle.operating.proofs.TrainSteps.{of_trade}
 use Rattle.operating.proofs.TurnEvents.{IsOfTurn}
 use Rattle.operating.proofs.TurnSteps.{OfSteps, of_turn}
 use Rattle.operating.specs.Act.{has_home_token, with_home, withheld}
@@ -29,7 +30,8 @@ use Rattle.operating.specs.SaleLaws.{IsAgreed}
 use Rattle.operating.specs.Trains.{cost_of, train_judgement}
 use Rattle.operating.specs.Turn.{IsCompanyTurn, begun, purchase_of, settled}
 use Rattle.operating.specs.declared.purchase.Purchase.{Purchase}
-use Rattle.std.proofs.Common.{◌≡◌, ℕ, ◌==◌, Bool, true, false, if◌then◌else◌, List, [], ◌∷◌, ◌++◌, Option, Some, None, refl}
+use Rattle.std.proofs.Common.{◌≡◌, ℕ, ◌==◌, Bool, true, false, if◌then◌else◌, List, [], ◌∷◌, ◌++◌, Option, Some, None}
+use Rattle.std.proofs.Common.{refl}
 use Rattle.tables.specs.Rules.{first_broken}
 use Rattle.tables.specs.Seat.{all_seats}
 use Rattle.order_grammar.specs.declared.order.TrainSource.{TrainSource}

@@ -1,13 +1,14 @@
 -- Laws of a company's turn: it only adds events and begins no round, trains stand as they did, phases go on, and no
 -- tile is lost.
-use Rattle.std.proofs.Common.{◌≡◌, ◌≤◌, ◌||◌, Bool, false, List, [], ◌∷◌, ◌++◌, Result, is_some, refl, sym, ap, ◌∙◌, arith}
+use Rattle.std.proofs.Common.{◌≡◌, ◌≤◌, ◌||◌, Bool, false, List, [], ◌∷◌, ◌++◌, Result, is_some, refl, sym, ap, ◌∙◌}
+use Rattle.std.proofs.Common.{arith}
 use Rattle.std.proofs.lemmas.List.{append_assoc, append-nil}
 use Rattle.std.proofs.lemmas.List.Folds.{list_any-append}
 use Rattle.events.specs.Event.{round_begun_by}
 use Rattle.events.specs.declared.event.Event.{Event}
 use Rattle.events.specs.declared.event.Event.TheVariants as event
-use Rattle.history.specs.LookBack.{Game}
-use Rattle.history.specs.Trains.{phase_of}
+use Rattle.totals.specs.LookBack.{Game}
+use Rattle.totals.specs.Trains.{phase_of}
 use Rattle.operating.proofs.Complete.{others_keep_standing, phase_kept}
 use Rattle.operating.proofs.Fleet.{purchases_keep_all}
 use Rattle.operating.proofs.TrainSteps.{IsPassedOn, phases_go_on}
@@ -17,7 +18,7 @@ use Rattle.operating.proofs.TurnGames.{OfEvents, by_each, of_steps}
 use Rattle.operating.proofs.TurnSteps.{of_line}
 use Rattle.operating.specs.InTurn.{InTurn}
 use Rattle.operating.specs.Laws.{OnlyAdds, TurnOnlyAdds}
-use Rattle.operating.specs.TrainLaws.{PhasesGoOnInTurns, TrainsStand, TurnsKeepAll}
+use Rattle.operating.specs.TrainLaws.{PhasesGoOnInTurns, AllTrainsAreThere, TurnsKeepAll}
 use Rattle.operating.specs.Turn.{ReadingLeads, purchase_of}
 use Rattle.operating.specs.declared.operator.Operator.{Operator}
 use Rattle.order_grammar.specs.declared.fault.Fault.{Fault}
@@ -79,9 +80,9 @@ line_seats by turn line reading new leads =
     ap (λ (game : Game). game.seats) (of_line by _ (of_steps by.company OnlyAdds (adds_by by.company)) turn line
     reading new leads).added
 
--- trains stand in a later game if they did before
+-- trains are in a later game if they did before
 abbrev pub StillStand : Game → Game → Type 0
-StillStand before after = TrainsStand before.events → TrainsStand after.events
+StillStand before after = AllTrainsAreThere before.events → AllTrainsAreThere after.events
 
 -- so they do after each event of a turn, and after each of a forced purchase
 pub stands_by : (company : Company) → OfEvents company StillStand

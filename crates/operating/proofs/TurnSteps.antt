@@ -1,8 +1,9 @@
 -- A company's turn, step by step: the one place that goes over what becomes of its lines. What holds of each of its
 -- steps, and of one after the other, holds of all of them.
-use Rattle.std.proofs.Common.{◌≡◌, ℕ, Bool, true, false, if◌then◌else◌, List, [], ◌∷◌, Option, Some, None, Result, Ok, Err, ℤ, refl, sym, subst, ◌∙◌}
+use Rattle.std.proofs.Common.{◌≡◌, ℕ, Bool, true, false, if◌then◌else◌, List, [], ◌∷◌, Option, Some, None, Result, Ok}
+use Rattle.std.proofs.Common.{Err, ℤ, refl, sym, subst, ◌∙◌}
 use Rattle.std.specs.Int.RustNames.{unsigned_abs}
-use Rattle.board.specs.MapState.{MapState}
+use Rattle.board_state.specs.MapState.{MapState}
 use Rattle.board.specs.LayRules.{IsLayAnswer, map_rules}
 use Rattle.board.specs.TokenRules.{IsTokenAnswer, slot_rules}
 use Rattle.board.specs.declared.asker.Asker.{Asker}
@@ -16,9 +17,9 @@ use Rattle.events.specs.declared.ruling.PrivateRule.{PrivateRule}
 use Rattle.events.specs.declared.ruling.Ruling.{Ruling}
 use Rattle.events.specs.declared.ruling.Ruling.TheVariants.{Obeyed}
 use Rattle.events.specs.declared.ruling.TrainRule.{TrainRule}
-use Rattle.history.specs.LookBack.{Game, owner_of, with_event}
-use Rattle.history.specs.Operating.{lays_of}
-use Rattle.history.specs.Shares.{president_of}
+use Rattle.totals.specs.LookBack.{Game, owner_of, with_event}
+use Rattle.totals.specs.Operating.{lays_of}
+use Rattle.totals.specs.Shares.{president_of}
 use Rattle.map_tables.specs.declared.rules.LayRule.{LayRule}
 use Rattle.map_tables.specs.declared.rules.RunRule.{RunRule}
 use Rattle.map_tables.specs.declared.rules.TokenRule.{TokenRule}
@@ -40,7 +41,8 @@ use Rattle.operating.specs.Phases.{after_train}
 use Rattle.operating.specs.Privates.{private_judgement, private_ruled, sold_by}
 use Rattle.operating.specs.Runs.{judged_run, run_done, run_ruled}
 use Rattle.operating.specs.Trains.{train_judgement}
-use Rattle.operating.specs.Turn.{AskedLeads, BlockLeads, IsCompanyTurn, LinesLead, OrderLeads, ReadingLeads, begun, is_held, lay_answered, purchase_of}
+use Rattle.operating.specs.Turn.{AskedLeads, BlockLeads, IsCompanyTurn, LinesLead, OrderLeads, ReadingLeads, begun}
+use Rattle.operating.specs.Turn.{is_held, lay_answered, purchase_of}
 use Rattle.operating.specs.Turn.{settled, token_answered, train_ruled}
 use Rattle.operating.specs.declared.operator.Operator.{Operator}
 use Rattle.operating.specs.declared.progress.Progress.{Progress}
@@ -226,7 +228,7 @@ module _ (by : Operator) (R : InTurn → InTurn → Type 0) (steps : OfSteps by.
   of_order turn line (order.BuyOwnedPrivate private price) new leads =
       subst (R turn) (sym leads) (of_private turn line private price
       (private_judgement turn.game by.company private price) refl)
-  of_order turn line (order.Raise company tenths) new leads = subst (R turn) (sym leads) (steps.same turn)
+  of_order turn line (order.Raise company shares) new leads = subst (R turn) (sym leads) (steps.same turn)
   of_order turn line other new leads = subst (R turn) (sym leads) (of_ruling turn line _)
 
   -- of an order that is asked for its condition

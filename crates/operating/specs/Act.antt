@@ -5,8 +5,8 @@
 use Rattle.std.specs.Prelude.{ℕ, Bool, if◌then◌else◌, List}
 use Rattle.events.specs.declared.event.Event.{Event}
 use Rattle.events.specs.declared.event.Event.TheVariants as event
-use Rattle.history.specs.LookBack.{Game, with_event}
-use Rattle.history.specs.Operating.{tokens_of}
+use Rattle.totals.specs.LookBack.{Game, with_event}
+use Rattle.totals.specs.Operating.{tokens_of}
 use Rattle.history.specs.Record.{broken_recorded}
 use Rattle.map_tables.specs.Home.{home_of}
 use Rattle.map_tables.specs.OnMap.{has_token}

@@ -4,13 +4,13 @@
 use Rattle.std.specs.Prelude.{◌≡◌, ℕ, Bool, true, not, ◌||◌, List, [], ◌∷◌, ◌++◌, Option, Some, None, replicate}
 use Rattle.std.specs.List.{fold}
 use Rattle.board.specs.declared.asker.TurnStep.TheVariants as step
-use Rattle.certificate.specs.Set.{IsGreatest}
+use Rattle.legal_runs.specs.Set.{IsGreatest}
 use Rattle.events.specs.declared.event.Event.{Event}
 use Rattle.events.specs.declared.event.Event.TheVariants as event
 use Rattle.events.specs.declared.ruling.Refusal.TheVariants as refusal
 use Rattle.events.specs.declared.ruling.Ruling.TheVariants.{Obeyed, Refused}
-use Rattle.history.specs.LookBack.{Game, with_event}
-use Rattle.history.specs.Trains.{so_many, trains_held}
+use Rattle.totals.specs.LookBack.{Game, with_event}
+use Rattle.totals.specs.Trains.{at_least_zero, trains_held}
 use Rattle.map_tables.specs.declared.rules.RunRule.{RunRule}
 use Rattle.map_tables.specs.declared.rules.RunRule.TheVariants as run_rule
 use Rattle.operating.specs.Forced.{has_trains}
@@ -27,7 +27,7 @@ use Rattle.tables.specs.declared.roster.Company.{Company}
 
 -- some trains, and behind them those of a kind that a company has
 abbrev pub with_those_held : List Event → Company → List Kind → Kind → List Kind
-with_those_held events company trains kind = trains ++ replicate (so_many (trains_held events (Some company) kind)) kind
+with_those_held events company trains kind = trains ++ replicate (at_least_zero (trains_held events (Some company) kind)) kind
 
 -- the trains that a company has, kind by kind
 abbrev pub trains_now : List Event → Company → List Kind

@@ -1,7 +1,7 @@
 -- Who runs his best is credited no less than by any runs that he could write out in that turn.
 use Rattle.std.specs.Prelude.{◌≡◌, ◌≤◌, List, None, Ok}
 use Rattle.std.specs.List.{AllByRecursion}
-use Rattle.history.specs.LookBack.{Game}
+use Rattle.totals.specs.LookBack.{Game}
 use Rattle.map_tables.specs.declared.place.Place.{Place}
 use Rattle.operating.specs.Best.{BestLeads, best_judgement}
 use Rattle.operating.specs.InTurn.{InTurn}

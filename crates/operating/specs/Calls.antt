@@ -2,7 +2,7 @@
 -- fault that breaks it off; and it makes calls of the runner, in order. Of courses one after another, the calls of the
 -- second come after those of the first; where the first is broken off, the second does not begin.
 use Rattle.std.specs.Prelude.{◌≡◌, ◌⊎◌, ℕ, zero, suc, ℤ, List, [], ◌∷◌, ◌++◌, Result, Ok, Err}
-use Rattle.certificate.specs.declared.runner.RunnerFault.{RunnerFault}
+use Rattle.legal_runs.specs.declared.runner.RunnerFault.{RunnerFault}
 use Rattle.reach.specs.Position.{Position}
 use Rattle.tables.specs.declared.rolling_stock.Kind.{Kind}
 use Rattle.tables.specs.declared.roster.Company.{Company}
@@ -59,7 +59,7 @@ pub record Joins {A B C Fault : Type 0} (first : Course A B Fault) (second : Cou
 abbrev pub Then : {A B C Fault : Type 0} → Course A B Fault → Course B C Fault → Course A C Fault
 Then first second from outcome calls = Breaks first from outcome calls ⊎ Joins first second from outcome calls
 
--- a course so many times, and then another
+-- a course this many times, and then another
 abbrev pub TimesThen : {A B Fault : Type 0} → ℕ → Course A A Fault → Course A B Fault → Course A B Fault
 TimesThen zero course last = last
 TimesThen (suc times) course last = Then course (TimesThen times course last)
@@ -91,10 +91,10 @@ pub record AreCutShort (why : RunnerFault) (some all : List Call) : Type 0 where
   pub are : all ≡ earlier ++ next ∷ later
   pub cut : some ≡ earlier ++ unanswered why next ∷ []
 
--- the calls of a course that was broken off are a front of all its calls: where memory was refused, the first of them; or
--- those up to one that was not answered, of which the fault tells
-abbrev pub IsFront : {Fault : Type 0} → Fault → (Fault → RunnerFault → Call → Type 0) → Fault → List Call → List Call
+-- the calls of a course that was broken off are a prefix of all its calls: where memory was refused, the first of them;
+-- or those up to one that was not answered, of which the fault tells
+abbrev pub IsPrefix : {Fault : Type 0} → Fault → (Fault → RunnerFault → Call → Type 0) → Fault → List Call → List Call
     → Type 0
-IsFront memory Tells fault some all =
+IsPrefix memory Tells fault some all =
     ((fault ≡ memory) × AreFirst some all)
     ⊎ ((why : RunnerFault) × (short : AreCutShort why some all) × Tells fault why short.next)

@@ -2,7 +2,7 @@
 -- how far the turn has come, and a board that has the first of the tiles and tokens that were laid.
 use Rattle.std.specs.Prelude.{◌≡◌}
 use Rattle.history.specs.Sound.{IsSound}
-use Rattle.operating.specs.MapState.{IsFront}
+use Rattle.operating.specs.MapState.{IsPrefix}
 use Rattle.operating.specs.InTurn.{InTurn, in_turn}
 use Rattle.operating.specs.declared.company_turn.CompanyTurn.{CompanyTurn}
 
@@ -13,7 +13,7 @@ state turn = in_turn turn.history turn.progress
 -- a turn is in order
 pub record IsInOrder (turn : CompanyTurn) : Type 0 where
   pub sound : IsSound turn.history
-  pub front : IsFront turn.board.value turn.history.events
+  pub front : IsPrefix turn.board.value turn.history.events
 
 -- a turn has gone on: it is that of the same company in the same round, its list is sound, and its board has the first of
 -- what had been laid before
@@ -21,4 +21,4 @@ pub record GoesOn (old new : CompanyTurn) : Type 0 where
   pub by : new.by ≡ old.by
   pub round : new.round ≡ old.round
   pub sound : IsSound new.history
-  pub front : IsFront new.board.value old.history.events
+  pub front : IsPrefix new.board.value old.history.events

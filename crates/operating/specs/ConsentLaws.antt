@@ -3,9 +3,9 @@
 -- round; and the price is not 0. Where no rule refuses a private, a player owns it, and he has agreed in the same way.
 use Rattle.std.specs.Prelude.{◌≡◌, ℕ, ◌<◌, true, false, Some, None}
 use Rattle.events.specs.declared.event.Holder.TheVariants as holder
-use Rattle.history.specs.LookBack.{Game, owner_of}
-use Rattle.history.specs.Offers.{has_consent}
-use Rattle.history.specs.Shares.{president_of}
+use Rattle.totals.specs.LookBack.{Game, owner_of}
+use Rattle.totals.specs.Offers.{has_consent}
+use Rattle.totals.specs.Shares.{president_of}
 use Rattle.operating.specs.Discards.{has_train}
 use Rattle.operating.specs.Privates.{private_judgement}
 use Rattle.operating.specs.Trains.{train_judgement}

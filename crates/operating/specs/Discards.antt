@@ -2,7 +2,8 @@
 -- company and the company has such a train. When a company has too many trains, the obeyed lines of its
 -- president in this round serve first, in order, each once; one is passed over where the company has no such
 -- train, and may serve later in the round. Where no line serves, the company discards of its least kind.
-use Rattle.std.specs.Prelude.{◌==◌, Bool, false, not, ◌||◌, if◌then◌else◌, List, [], ◌∷◌, ◌++◌, Option, Some, None, is_some, pos}
+use Rattle.std.specs.Prelude.{◌==◌, Bool, false, not, ◌||◌, if◌then◌else◌, List, [], ◌∷◌, ◌++◌, Option, Some, None}
+use Rattle.std.specs.Prelude.{is_some, pos}
 use Rattle.std.specs.Int.Signed.{lt_z}
 use Rattle.std.specs.List.{fold}
 use Rattle.std.specs.Option.{option_or}
@@ -11,8 +12,8 @@ use Rattle.events.specs.declared.event.Event.{Event}
 use Rattle.events.specs.declared.event.Event.TheVariants.{Discarded}
 use Rattle.events.specs.declared.ruling.TrainRule.{TrainRule}
 use Rattle.events.specs.declared.ruling.TrainRule.TheVariants.{NoDiscard}
-use Rattle.history.specs.Shares.{president_of, president_said}
-use Rattle.history.specs.Trains.{trains_held}
+use Rattle.totals.specs.Shares.{president_of, president_said}
+use Rattle.totals.specs.Trains.{trains_held}
 use Rattle.order_grammar.specs.declared.order.Order.{Order}
 use Rattle.order_grammar.specs.declared.order.Order.TheVariants as order
 use Rattle.tables.specs.Roster.{same_company}

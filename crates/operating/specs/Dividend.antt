@@ -1,9 +1,10 @@
--- What becomes of what the trains of a company earned in its turn. Where it pays, the bank pays each seat a tenth
--- of the revenue for each tenth of the company that the seat holds, seat by seat, and then the company as much for
--- those of the bank pool; those of the initial offering are paid nothing. Its token on the chart moves right. Where
--- it withholds, the bank pays the company all of it, and its token moves left. Either needs a turn that is not past
--- its pay, and to pay, a revenue over 0; the turn is then past it.
-use Rattle.std.specs.Prelude.{ℕ, ◌==◌, ◌*◌, ◌/◌, Bool, ◌||◌, nat_lt, if◌then◌else◌, List, [], ◌∷◌, Option, option_map, pos, ◌-ℤ◌, ◌≤ℤ◌}
+-- What becomes of what the trains of a company earned in its turn. Where it pays, the bank pays each seat a share of
+-- the revenue for each share of the company that the seat holds, seat by seat, and then the company as much for those
+-- of the bank pool; those of the initial offering are paid nothing. Its token on the chart moves right. Where it
+-- withholds, the bank pays the company all of it, and its token moves left. Either needs a turn that is not past its
+-- pay, and to pay, a revenue over 0; the turn is then past it.
+use Rattle.std.specs.Prelude.{ℕ, ◌==◌, ◌*◌, ◌/◌, Bool, ◌||◌, nat_lt, if◌then◌else◌, List, [], ◌∷◌, Option, option_map}
+use Rattle.std.specs.Prelude.{pos, ◌-ℤ◌, ◌≤ℤ◌}
 use Rattle.board.specs.Turn.{place_of_step}
 use Rattle.board.specs.declared.asker.TurnStep.TheVariants as step
 use Rattle.events.specs.declared.event.Event.{Event}
@@ -16,11 +17,11 @@ use Rattle.events.specs.declared.event.Shareholder.TheVariants as place
 use Rattle.events.specs.declared.ruling.PayRule.{PayRule}
 use Rattle.events.specs.declared.ruling.PayRule.TheVariants.{NothingToPay}
 use Rattle.events.specs.declared.ruling.Refusal.TheVariants as refusal
-use Rattle.history.specs.LookBack.{Game, cash_of, with_event}
-use Rattle.history.specs.Shares.{shares_of}
+use Rattle.totals.specs.LookBack.{Game, cash_of, with_event}
+use Rattle.totals.specs.Shares.{shares_of}
 use Rattle.history.specs.Sound.{IsSound}
 use Rattle.history.specs.Record.{broken_recorded}
-use Rattle.history.specs.Trains.{so_many}
+use Rattle.totals.specs.Trains.{at_least_zero}
 use Rattle.market.specs.Moves.{right_of}
 use Rattle.market.specs.Token.{with_move}
 use Rattle.operating.specs.Act.{withheld}
@@ -34,20 +35,20 @@ use Rattle.tables.specs.Seat.{all_seats}
 use Rattle.tables.specs.declared.roster.Company.{Company}
 use Rattle.tables.specs.declared.seat.Seat.{Seat}
 
--- what each tenth of a company is paid of a revenue
-abbrev pub per_tenth : ℕ → ℕ
-per_tenth revenue = revenue / 10
+-- what each share of a company is paid of a revenue
+abbrev pub per_share : ℕ → ℕ
+per_share revenue = revenue / 10
 
--- what the tenths of a company at a place are paid
+-- what the shares of a company at a place are paid
 abbrev pub dividend_of : List Event → Company → Shareholder → ℕ → ℕ
-dividend_of events company place revenue = so_many (shares_of events company place) * per_tenth revenue
+dividend_of events company place revenue = at_least_zero (shares_of events company place) * per_share revenue
 
 -- after a dividend of the bank to a holder, if it is over 0; perhaps that breaks the bank
 abbrev pub paid_to : Company → Holder → ℕ → Game → Game
 paid_to company holder amount game =
     if amount == 0 then game else broken_recorded (with_event game (event.Dividend company holder amount))
 
--- after the dividend for the tenths at a place goes to a holder
+-- after the dividend for the shares at a place goes to a holder
 abbrev pub paid_for : Company → Holder → Shareholder → ℕ → Game → Game
 paid_for company holder place revenue game =
     paid_to company holder (dividend_of game.events company place revenue) game

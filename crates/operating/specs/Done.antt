@@ -2,7 +2,7 @@
 -- borders that are used; and what the runs earned. They earned at most 160 dollars for each border that is used, or
 -- else the greatest revenue, which is at most 50,000 dollars.
 use Rattle.std.specs.Prelude.{◌≡◌, ℕ, ◌+◌, ◌*◌, ◌≤◌, Bool, List, length, ℤ}
-use Rattle.certificate.specs.Law.{unused}
+use Rattle.legal_runs.specs.Law.{unused}
 
 pub record Done : Type 0 where
   pub trains : List ℤ

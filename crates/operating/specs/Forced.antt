@@ -1,14 +1,15 @@
 -- The purchase that a company must make. It is due at the end of its turn where it has no train and could run a
 -- 2-train. It buys the cheapest train that the bank or the pool sells, the bank's where both sell it. What the company
--- lacks its president pays, by his cash less his standing bids. While he falls short he sells: the RAISE lines of the
--- block serve in order, each by its condition and then by the rules of a sale, of which none may move the presidency
--- of the company; a line is refused, whatever its condition, once he does not fall short, and where no purchase is
--- due. Then he sells one tenth at a time, of the first company in roster order of which he may. If he still falls short
--- he is bankrupt, and nothing is bought.
-use Rattle.std.specs.Prelude.{◌≡◌, ◌⊎◌, ℕ, Bool, true, false, ◌&&◌, ◌||◌, if◌then◌else◌, List, [], ◌∷◌, Option, Some, None, option_map, Result, Ok, is_none, find, codes, ℤ, pos, ◌-ℤ◌}
+-- lacks its president pays, by his cash minus his standing bids. While he falls short he sells: the RAISE lines of the
+-- block serve in order, each by its condition and then by the rules of a sale, of which none may move the presidency of
+-- the company; a line is refused, whatever its condition, once he does not fall short, and where no purchase is due.
+-- Then he sells one share at a time, of the first company in roster order of which he may. If he still falls short he
+-- is bankrupt, and nothing is bought.
+use Rattle.std.specs.Prelude.{◌≡◌, ◌⊎◌, ℕ, Bool, true, false, ◌&&◌, ◌||◌, if◌then◌else◌, List, [], ◌∷◌, Option, Some}
+use Rattle.std.specs.Prelude.{None, option_map, Result, Ok, is_none, find, codes, ℤ, pos, ◌-ℤ◌}
 use Rattle.std.specs.Int.Signed.{lt_z}
-use Rattle.board.specs.MapState.{position_of}
-use Rattle.certificate.specs.TwoTrain.{CanRun}
+use Rattle.board_state.specs.MapState.{position_of}
+use Rattle.legal_runs.specs.TwoTrain.{CanRun}
 use Rattle.certs.specs.Sale.{sale_judgement}
 use Rattle.certs.specs.SaleAct.{after_sale}
 use Rattle.certs.specs.declared.deal.Sale.{Sale}
@@ -22,10 +23,10 @@ use Rattle.events.specs.declared.ruling.Refusal.TheVariants as refusal
 use Rattle.events.specs.declared.ruling.Ruling.{Ruling}
 use Rattle.events.specs.declared.ruling.StockRule.{StockRule}
 use Rattle.events.specs.declared.ruling.StockRule.TheVariants.{NotOfStock}
-use Rattle.history.specs.Bids.{free_cash_of}
+use Rattle.totals.specs.Bids.{free_cash_of}
 use Rattle.history.specs.Conditions.{is_met}
-use Rattle.history.specs.LookBack.{Game, cash_of, with_event}
-use Rattle.history.specs.Trains.{so_many, train_count, trains_held}
+use Rattle.totals.specs.LookBack.{Game, cash_of, with_event}
+use Rattle.totals.specs.Trains.{at_least_zero, train_count, trains_held}
 use Rattle.operating.specs.MapState.{map_state_now}
 use Rattle.operating.specs.Phases.{after_train}
 use Rattle.operating.specs.Trains.{cost_of, numbered_kinds, sells}
@@ -88,7 +89,7 @@ sale_rule by game sale = sale_judgement game.seats game.events by.president sale
 -- the list after a sale of the president
 abbrev pub with_sale : Operator → Game → Sale → Game
 with_sale by game sale =
-    record { seats = game.seats; events = after_sale game.seats game.events by.president sale.company sale.tenths }
+    record { seats = game.seats; events = after_sale game.seats game.events by.president sale.company sale.shares }
 
 -- the first rule that a RAISE under this condition breaks, where it is needed: the condition is asked, and then the
 -- rules of a sale
@@ -108,7 +109,7 @@ with_ruling by game line ruling = with_event game (event.Ruled by.president line
 -- after a RAISE in this line, where this rule refuses it, if one does
 abbrev pub raise_ruled : Operator → Game → Numbered → Sale → Option Refusal → Game
 raise_ruled by game line sale broken =
-    let ruling = judged line.condition (order.Raise sale.company sale.tenths) broken in
+    let ruling = judged line.condition (order.Raise sale.company sale.shares) broken in
     done (λ (after : Game) (its : Order). with_sale by after sale) (with_ruling by game line ruling) (obeyed_by ruling)
 
 -- after a sale of a RAISE in this line
@@ -117,8 +118,8 @@ after_raise due by game line sale = raise_ruled by game line sale (raise_rule du
 
 -- after this line of the block with this reading: others than RAISE were ruled at their place
 abbrev pub after_raise_line : Bool → Operator → Game → Numbered → Result Order Fault → Game
-after_raise_line due by game line (Ok (order.Raise company tenths)) =
-    after_raise due by game line (record { company = company; tenths = tenths })
+after_raise_line due by game line (Ok (order.Raise company shares)) =
+    after_raise due by game line (record { company = company; shares = shares })
 after_raise_line due by game line other = game
 
 -- the first word of a line is one with which a RAISE begins: that word, or IF
@@ -133,32 +134,32 @@ after_raises due by game [] = game
 after_raises due by game (line ∷ lines) =
     after_raises due by (after_raise_line due by game line line.reading) lines
 
--- one tenth of a company
-abbrev pub one_tenth : Company → Sale
-one_tenth company = record { company = company; tenths = 1 }
+-- one share of a company
+abbrev pub one_share : Company → Sale
+one_share company = record { company = company; shares = 1 }
 
--- the first of these companies of which the president may sell a tenth
+-- the first of these companies of which the president may sell a share
 abbrev pub first_to_sell : Operator → Game → List Company → Option Company
-first_to_sell by game among = find (λ company. is_none (sale_rule by game (one_tenth company))) among
+first_to_sell by game among = find (λ company. is_none (sale_rule by game (one_share company))) among
 
 -- the first company in roster order of which he may
 unfoldable pub next_to_sell : Operator → Game → Option Company
 next_to_sell by game = first_to_sell by game companies
 
--- after he has sold a tenth of this company, if of any
+-- after he has sold a share of this company, if of any
 abbrev pub with_one_sold : Operator → Game → Option Company → Game
 with_one_sold by game None = game
-with_one_sold by game (Some company) = with_sale by game (one_tenth company)
+with_one_sold by game (Some company) = with_sale by game (one_share company)
 
--- after he has sold one tenth more, where he falls short and may
+-- after he has sold one share more, where he falls short and may
 unfoldable pub sold_further : Operator → Game → Game
 sold_further by game = if falls_short by game then with_one_sold by game (next_to_sell by game) else game
 
--- so many tenths at most can be sold: the pool takes up to five of each company
+-- this many shares at most can be sold: the pool takes up to five of each company
 abbrev pub sales_most : ℕ
 sales_most = 40
 
--- after he has sold tenths one at a time, until he does not fall short or may sell none
+-- after he has sold shares one at a time, until he does not fall short or may sell none
 unfoldable pub sold_singly : Operator → Game → Game
 sold_singly by game = iterate (sold_further by) sales_most game
 
@@ -166,7 +167,7 @@ sold_singly by game = iterate (sold_further by) sales_most game
 unfoldable pub with_aid : Operator → Game → Game
 with_aid by game =
     if lt_z (pos 0) (lack_of game by.company)
-    then with_event game (event.Aid by.president by.company (so_many (lack_of game by.company)))
+    then with_event game (event.Aid by.president by.company (at_least_zero (lack_of game by.company)))
     else game
 
 -- after the purchase, or the bankruptcy of the president

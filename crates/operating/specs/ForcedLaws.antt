@@ -1,16 +1,16 @@
 -- What holds of each company's turn, be it made to buy a train or not.
 use Rattle.std.specs.Prelude.{◌≡◌, ◌⊎◌, ℕ, true, false, List, [], ◌∷◌, ◌++◌, Some, pos}
 use Rattle.std.specs.Int.Signed.{lt_z}
-use Rattle.board.specs.MapState.{position_of}
-use Rattle.certificate.specs.TwoTrain.{CanRun}
+use Rattle.board_state.specs.MapState.{position_of}
+use Rattle.legal_runs.specs.TwoTrain.{CanRun}
 use Rattle.events.specs.Event.{party_of_company}
 use Rattle.events.specs.declared.event.Event.{Event}
 use Rattle.events.specs.declared.event.Event.TheVariants as event
-use Rattle.history.specs.LookBack.{Game, bankrupt_in, cash_of}
-use Rattle.history.specs.Shares.{president_of}
+use Rattle.totals.specs.LookBack.{Game, bankrupt_in, cash_of}
+use Rattle.totals.specs.Shares.{president_of}
 use Rattle.operating.specs.Forced.{cheapest, has_trains, lack_of, with_aid}
 use Rattle.operating.specs.MapState.{map_state_now}
-use Rattle.operating.specs.TrainLaws.{TrainsStand}
+use Rattle.operating.specs.TrainLaws.{AllTrainsAreThere}
 use Rattle.operating.specs.Trains.{cost_of}
 use Rattle.operating.specs.Turn.{IsCompanyTurn}
 use Rattle.operating.specs.declared.operator.Operator.{Operator}
@@ -59,7 +59,7 @@ NoAidWithoutLack = (by : Operator) (game : Game) → lt_z (pos 0) (lack_of game 
 abbrev pub TurnsEndWithTrains : Type 0
 TurnsEndWithTrains =
     (file : List ℕ) (round : Round) (company : Company) (old new : Game) (president : Seat) →
-    TrainsStand old.events → president_of old.events company ≡ Some president
+    AllTrainsAreThere old.events → president_of old.events company ≡ Some president
     → IsCompanyTurn file round company old new →
     (has_trains new.events company ≡ true)
     ⊎ ((bankrupt_in new.events ≡ true) ⊎ (¬ CanRun (position_of (map_state_now new.events)) company))

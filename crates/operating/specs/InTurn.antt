@@ -1,5 +1,5 @@
--- In a company's turn: the game so far, how far the turn has come, and what its trains have done. The steps of the
--- turn are lay, token, run, pay and trains, and a pointer goes over them.
+-- In a company's turn: the game so far, how far the turn has come, and what its trains have done. The steps of the turn
+-- are lay, token, run, pay and trains, and a step goes over them.
 use Rattle.std.specs.Prelude.{Bool, false, not, ◌||◌, nat_lt, List, Option, replicate, pos}
 use Rattle.board.specs.Powers.{is_cs_lay, is_dh_lay}
 use Rattle.board.specs.Turn.{place_of_step}
@@ -8,7 +8,7 @@ use Rattle.board.specs.declared.asker.TurnStep.TheVariants as step
 use Rattle.events.specs.declared.event.Event.TheVariants as event
 use Rattle.events.specs.declared.ruling.Refusal.{Refusal}
 use Rattle.events.specs.declared.ruling.Ruling.{Ruling}
-use Rattle.history.specs.LookBack.{Game, with_event}
+use Rattle.totals.specs.LookBack.{Game, with_event}
 use Rattle.map_tables.specs.declared.lay.Lay.{Lay}
 use Rattle.operating.specs.declared.operator.Operator.{Operator}
 use Rattle.operating.specs.declared.progress.Progress.{Progress}

@@ -5,7 +5,7 @@ use Rattle.board.specs.declared.asker.Asker.{Asker}
 use Rattle.events.specs.Event.{party_of_company}
 use Rattle.events.specs.declared.event.Holder.{Holder}
 use Rattle.events.specs.declared.event.Holder.TheVariants as holder
-use Rattle.history.specs.LookBack.{Game, cash_of, owner_of}
+use Rattle.totals.specs.LookBack.{Game, cash_of, owner_of}
 use Rattle.operating.specs.declared.progress.Progress.{Progress}
 use Rattle.tables.specs.Roster.{privates, same_company}
 use Rattle.tables.specs.declared.roster.Company.{Company}

@@ -3,8 +3,8 @@ use Rattle.std.specs.Prelude.{◌≡◌, ℕ, true, false, ◌||◌, List, ◌++
 use Rattle.std.specs.List.{list_any}
 use Rattle.events.specs.Event.{round_begun_by}
 use Rattle.events.specs.declared.event.Event.{Event}
-use Rattle.history.specs.LookBack.{Game}
-use Rattle.history.specs.Operating.{has_operated}
+use Rattle.totals.specs.LookBack.{Game}
+use Rattle.totals.specs.Operating.{has_operated}
 use Rattle.operating.specs.Act.{has_home_token}
 use Rattle.operating.specs.Turn.{IsCompanyTurn}
 use Rattle.tables.specs.Roster.{same_company}

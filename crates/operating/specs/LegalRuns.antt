@@ -1,8 +1,8 @@
 -- The runs of a company's turn share no border. Line by line the walks of the runs that are obeyed are set down, the
 -- latest in front; a run that is obeyed is legal where the borders are used that these walks cross.
 use Rattle.std.specs.Prelude.{◌≡◌, Bool, true, false, List, [], ◌∷◌, ◌++◌, Result, Ok, Err}
-use Rattle.certificate.specs.Legal.{IsLegalRun, all_crossed}
-use Rattle.history.specs.LookBack.{Game}
+use Rattle.legal_runs.specs.Legal.{IsLegalRun, all_crossed}
+use Rattle.totals.specs.LookBack.{Game}
 use Rattle.map_tables.specs.declared.rules.RunRule.{RunRule}
 use Rattle.map_tables.specs.declared.place.Place.{Place}
 use Rattle.operating.specs.InTurn.{InTurn}

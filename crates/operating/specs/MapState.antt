@@ -1,10 +1,10 @@
 -- What lies on the map by a list of events: the tiles and tokens that were laid, in the phase that has come. A board that
 -- is kept through a turn has the first of them, and is told the others when it is asked for.
 use Rattle.std.specs.Prelude.{◌≡◌, List, ◌++◌}
-use Rattle.board.specs.MapState.{MapState, map_state_of}
+use Rattle.board_state.specs.MapState.{MapState, map_state_of}
 use Rattle.events.specs.declared.event.Event.{Event}
-use Rattle.history.specs.Operating.{lays_of, tokens_of}
-use Rattle.history.specs.Trains.{phase_of}
+use Rattle.totals.specs.Operating.{lays_of, tokens_of}
+use Rattle.totals.specs.Trains.{phase_of}
 
 -- what lies
 abbrev pub map_state_now : List Event → MapState
@@ -16,6 +16,6 @@ pub record BeginsWith {A : Type 0} (front all : List A) : Type 0 where
   pub is : all ≡ front ++ rest
 
 -- a board has the first of the tiles and tokens that were laid
-pub record IsFront (laid : MapState) (events : List Event) : Type 0 where
+pub record IsPrefix (laid : MapState) (events : List Event) : Type 0 where
   pub lays : BeginsWith laid.lays (lays_of events)
   pub tokens : BeginsWith laid.tokens (tokens_of events)

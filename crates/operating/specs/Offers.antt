@@ -9,8 +9,8 @@ use Rattle.events.specs.declared.ruling.PrivateRule.TheVariants as private_rule
 use Rattle.events.specs.declared.ruling.Refusal.{Refusal}
 use Rattle.events.specs.declared.ruling.Refusal.TheVariants as refusal
 use Rattle.events.specs.declared.ruling.TrainRule.TheVariants as train_rule
-use Rattle.history.specs.LookBack.{owner_of}
-use Rattle.history.specs.Shares.{president_of}
+use Rattle.totals.specs.LookBack.{owner_of}
+use Rattle.totals.specs.Shares.{president_of}
 use Rattle.operating.specs.Discards.{is_president}
 use Rattle.order_grammar.specs.declared.order.Offer.{Offer}
 use Rattle.order_grammar.specs.declared.order.Offer.TheVariants as offer

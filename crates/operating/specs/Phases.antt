@@ -3,14 +3,15 @@
 -- of a later kind from the bank begins its phase: the trains that it rusts leave play, company by company and
 -- then those of the pool; with the first 5 all privates close; and then each company with more trains than
 -- the new phase allows discards those that are too many to the pool.
-use Rattle.std.specs.Prelude.{ℕ, ◌==◌, Bool, false, ◌&&◌, nat_lt, if◌then◌else◌, List, Option, Some, None, is_some, pos, ◌-ℤ◌}
+use Rattle.std.specs.Prelude.{ℕ, ◌==◌, Bool, false, ◌&&◌, nat_lt, if◌then◌else◌, List, Option, Some, None, is_some, pos}
+use Rattle.std.specs.Prelude.{◌-ℤ◌}
 use Rattle.std.specs.List.{fold}
 use Rattle.events.specs.declared.event.Event.{Event}
 use Rattle.events.specs.declared.event.Event.TheVariants as event
 use Rattle.events.specs.declared.event.TrainSeller.{TrainSeller}
 use Rattle.events.specs.declared.event.TrainSeller.TheVariants as seller
-use Rattle.history.specs.LookBack.{Game, owner_of, with_event}
-use Rattle.history.specs.Trains.{phase_of, so_many, train_count, trains_held, trains_sold}
+use Rattle.totals.specs.LookBack.{Game, owner_of, with_event}
+use Rattle.totals.specs.Trains.{phase_of, at_least_zero, train_count, trains_held, trains_sold}
 use Rattle.operating.specs.Discards.{next_discard}
 use Rattle.operating.specs.Trains.{cost_of}
 use Rattle.operating.specs.declared.purchase.Purchase.{Purchase}
@@ -50,7 +51,7 @@ with_one_rusted owner kind game = with_event game (event.Rusted owner kind)
 -- with RUSTED of each train of the kind that a company has, or the pool
 abbrev pub with_trains_rusted : Option Company → Kind → Game → Game
 with_trains_rusted owner kind game =
-    iterate (with_one_rusted owner kind) (so_many (trains_held game.events owner kind)) game
+    iterate (with_one_rusted owner kind) (at_least_zero (trains_held game.events owner kind)) game
 
 -- with RUSTED of each train of the kind that a company has
 abbrev pub with_company_rusted : Kind → Game → Company → Game
@@ -88,7 +89,7 @@ with_next_discarded company game = with_discarded game company (next_discard gam
 
 -- how many trains a company has over the limit of the phase
 abbrev pub excess_of : Game → Company → ℕ
-excess_of game company = so_many (train_count game.events (Some company) -ℤ pos (limit_of (phase_of game.events)))
+excess_of game company = at_least_zero (train_count game.events (Some company) -ℤ pos (limit_of (phase_of game.events)))
 
 -- with DISCARDED of each train that a company has over the limit
 abbrev pub with_limit_kept : Game → Company → Game

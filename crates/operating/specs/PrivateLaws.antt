@@ -5,7 +5,7 @@ use Rattle.events.specs.Event.{ownership_of}
 use Rattle.events.specs.declared.event.Event.{Event}
 use Rattle.events.specs.declared.event.Event.TheVariants as event
 use Rattle.events.specs.declared.event.Ownership.{Ownership}
-use Rattle.history.specs.LookBack.{Game, is_closed, is_sold, owner_of}
+use Rattle.totals.specs.LookBack.{Game, is_closed, is_sold, owner_of}
 use Rattle.operating.specs.Turn.{IsCompanyTurn}
 use Rattle.tables.specs.declared.roster.Company.{Company}
 use Rattle.tables.specs.declared.roster.Private.{Private}

@@ -9,12 +9,13 @@ use Rattle.events.specs.declared.event.Event.TheVariants as event
 use Rattle.events.specs.declared.event.Holder.{Holder}
 use Rattle.events.specs.declared.event.Holder.TheVariants as holder
 use Rattle.events.specs.declared.ruling.PrivateRule.{PrivateRule}
-use Rattle.events.specs.declared.ruling.PrivateRule.TheVariants.{TooEarly, WrongPrice, NoConsent, NeverSold, CashTooSmall}
+use Rattle.events.specs.declared.ruling.PrivateRule.TheVariants.{TooEarly, WrongPrice, NoConsent, NeverSold}
+use Rattle.events.specs.declared.ruling.PrivateRule.TheVariants.{CashTooSmall}
 use Rattle.events.specs.declared.ruling.Refusal.TheVariants as refusal
-use Rattle.history.specs.LookBack.{Game, cash_of, owner_of, with_event}
-use Rattle.history.specs.Offers.{has_consent}
-use Rattle.history.specs.Shares.{president_of}
-use Rattle.history.specs.Trains.{phase_of}
+use Rattle.totals.specs.LookBack.{Game, cash_of, owner_of, with_event}
+use Rattle.totals.specs.Offers.{has_consent}
+use Rattle.totals.specs.Shares.{president_of}
+use Rattle.totals.specs.Trains.{phase_of}
 use Rattle.operating.specs.InTurn.{InTurn, in_turn, ruled}
 use Rattle.operating.specs.declared.operator.Operator.{Operator}
 use Rattle.order_grammar.specs.declared.order.Offer.{Offer}

@@ -2,23 +2,24 @@
 -- in the turn, as all have once the best has been run, and a run that breaks no rule of runs, by what lies and by the
 -- borders that the runs before it have used. It then earns what its stops are worth; the train has run, its borders
 -- are used, and the turn is past its token. What all runs earn is the revenue of the turn.
-use Rattle.std.specs.Prelude.{◌≡◌, ◌+◌, ◌-◌, ◌*◌, ◌≤◌, ◌^◌, Bool, ◌||◌, nat_lt, List, [], ◌∷◌, length, Option, Some, None, Result, Ok, Err, ℤ, pos, ◌+ℤ◌, ◌≤ℤ◌, slice_index_or, slice_set}
+use Rattle.std.specs.Prelude.{◌≡◌, ◌+◌, ◌-◌, ◌*◌, ◌≤◌, ◌^◌, Bool, ◌||◌, nat_lt, List, [], ◌∷◌, length, Option, Some}
+use Rattle.std.specs.Prelude.{None, Result, Ok, Err, ℤ, pos, ◌+ℤ◌, ◌≤ℤ◌, slice_index_or, slice_set}
 use Rattle.std.specs.List.{list_any}
 use Rattle.std.specs.Option.{option_or}
 use lib.Signed.{le_z, lt_z}
-use Rattle.board.specs.MapState.{position_of}
+use Rattle.board_state.specs.MapState.{position_of}
 use Rattle.board.specs.Turn.{place_of_step}
 use Rattle.board.specs.declared.asker.TurnStep.TheVariants as step
-use Rattle.certificate.specs.Fault.{named_steps, run_fault}
-use Rattle.certificate.specs.Legal.{crossed, earned}
-use Rattle.certificate.specs.Law.{unused}
-use Rattle.certificate.specs.Marks.{borders_used, marked}
+use Rattle.legal_runs.specs.Fault.{named_steps, run_fault}
+use Rattle.legal_runs.specs.Legal.{crossed, earned}
+use Rattle.legal_runs.specs.Law.{unused}
+use Rattle.legal_runs.specs.Marks.{borders_used, marked}
 use Rattle.events.specs.declared.event.Event.{Event}
 use Rattle.events.specs.declared.event.Event.TheVariants as event
 use Rattle.events.specs.declared.ruling.Refusal.TheVariants as refusal
 use Rattle.events.specs.declared.ruling.Ruling.TheVariants.{Obeyed, Refused}
-use Rattle.history.specs.LookBack.{Game, with_event}
-use Rattle.history.specs.Trains.{trains_held}
+use Rattle.totals.specs.LookBack.{Game, with_event}
+use Rattle.totals.specs.Trains.{trains_held}
 use Rattle.map_tables.specs.declared.rules.RunRule.{RunRule}
 use Rattle.map_tables.specs.declared.rules.RunRule.TheVariants as run_rule
 use Rattle.map_tables.specs.declared.place.Place.{Place}
@@ -94,7 +95,7 @@ abbrev pub ran_unless_fault : Position → Company → Kind → List Bool → Li
 ran_unless_fault position company kind used run =
     ran_unless (ran_by position kind used run) (broken_by position company kind used run)
 
--- the first rule that a run of a train of a kind breaks: those of the turn stand before those of runs
+-- the first rule that a run of a train of a kind breaks: those of the turn are before those of runs
 abbrev pub run_judgement : InTurn → Company → Kind → List Place → Option RunRule
 run_judgement turn company kind run =
     option_or (first_broken (rules_of_turn turn.game company turn.progress kind))

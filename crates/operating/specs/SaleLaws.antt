@@ -5,10 +5,9 @@ use Rattle.events.specs.declared.event.Event.{Event}
 use Rattle.events.specs.declared.event.Event.TheVariants as event
 use Rattle.events.specs.declared.event.Holder.TheVariants as holder
 use Rattle.events.specs.declared.event.TrainSeller.TheVariants as seller
-use Rattle.history.specs.LookBack.{owner_of}
+use Rattle.totals.specs.LookBack.{owner_of, Game}
 use Rattle.operating.specs.ConsentLaws.{CompanyAgrees, OwnerAgrees}
 use Rattle.operating.specs.Turn.{IsCompanyTurn}
-use Rattle.history.specs.LookBack.{Game}
 use Rattle.tables.specs.declared.roster.Company.{Company}
 use Rattle.tables.specs.declared.roster.Private.{Private}
 use Rattle.tables.specs.declared.round.Round.{Round}

@@ -18,7 +18,7 @@ use Rattle.tables.specs.declared.round.Round.{Round}
 use Rattle.tables.specs.declared.seat.Seat.{Seat}
 use Rattle.turns.specs.Ruling.{line_ruling, recorded}
 
--- the orders that may stand before the first head
+-- the orders that may be before the first head
 abbrev pub has_place_before : Order → Bool
 has_place_before (order.Discard company kind) = true
 has_place_before (order.Offer sale) = true

@@ -1,14 +1,14 @@
 -- A game and the board of its map, as they go from the turn of one company to that of the next.
 use Rattle.std.specs.Prelude.{Result, Ok, Err}
-use Rattle.history.specs.LookBack.{Game}
+use Rattle.totals.specs.LookBack.{Game}
 use Rattle.history.specs.Sound.{IsSound}
-use Rattle.operating.specs.MapState.{IsFront}
+use Rattle.operating.specs.MapState.{IsPrefix}
 use Rattle.operating.specs.declared.table.Table.{Table}
 
 -- its list is sound, and its board has the first of the tiles and tokens that were laid
 pub record IsLaidOut (table : Table) : Type 0 where
   pub sound : IsSound table.history
-  pub front : IsFront table.board.value table.history.events
+  pub front : IsPrefix table.board.value table.history.events
 
 -- the game to which a turn has led, if it was not broken off
 abbrev pub game_on : {Fault : Type 0} → Result Table Fault → Result Game Fault

@@ -8,8 +8,8 @@ use Rattle.board.specs.declared.asker.Asker.{Asker}
 use Rattle.events.specs.Event.{tile_laid}
 use Rattle.events.specs.declared.event.Event.{Event}
 use Rattle.events.specs.declared.event.Event.TheVariants.{Laid}
-use Rattle.history.specs.LookBack.{Game, with_event}
-use Rattle.history.specs.Operating.{lays_of}
+use Rattle.totals.specs.LookBack.{Game, with_event}
+use Rattle.totals.specs.Operating.{lays_of}
 use Rattle.map_tables.specs.Tile.{entry_of}
 use Rattle.map_tables.specs.declared.lay.Lay.{Lay}
 use Rattle.map_tables.specs.declared.tiles.TileNo.{TileNo}
@@ -23,7 +23,7 @@ use Rattle.tables.specs.declared.round.Round.{Round}
 abbrev pub taken_of : List Lay → TileNo → ℕ
 taken_of lays tile = count_by (λ lay. is_tile tile (Some lay)) lays
 
--- how many of a number returned there, where the latest lay stands first: those that lay where a later one was laid
+-- how many of a number returned there, where the latest lay is first: those that lay where a later one was laid
 abbrev pub returned_by : TileNo → List Lay → ℕ
 returned_by tile [] = 0
 returned_by tile (lay ∷ before) = returned_by tile before + cond (is_tile tile (tile_on (reverse before) lay.hex)) 1 0

@@ -1,10 +1,11 @@
 -- Laws of trains. Phases never go back. The trains of a kind that are with the bank, in its pool and with the
 -- companies are as many as there were at first until they rust, and none after.
-use Rattle.std.specs.Prelude.{◌≡◌, ℕ, ◌<◌, ◌≤◌, Bool, true, false, not, nat_lt, List, [], ◌∷◌, ◌++◌, Option, Some, None, ℤ, pos, ◌+ℤ◌, ◌-ℤ◌}
+use Rattle.std.specs.Prelude.{◌≡◌, ℕ, ◌<◌, ◌≤◌, Bool, true, false, not, nat_lt, List, [], ◌∷◌, ◌++◌, Option, Some, None}
+use Rattle.std.specs.Prelude.{ℤ, pos, ◌+ℤ◌, ◌-ℤ◌}
 use Rattle.events.specs.Event.{phase_set, train_moved}
 use Rattle.events.specs.declared.event.Event.{Event}
-use Rattle.history.specs.LookBack.{Game}
-use Rattle.history.specs.Trains.{TrainsAreHeld, phase_of, trains_in_play, trains_sold}
+use Rattle.totals.specs.LookBack.{Game}
+use Rattle.totals.specs.Trains.{TrainsAreHeld, phase_of, trains_in_play, trains_sold}
 use Rattle.operating.specs.Phases.{after_train}
 use Rattle.operating.specs.Trains.{train_judgement}
 use Rattle.operating.specs.Turn.{IsCompanyTurn}
@@ -35,7 +36,7 @@ has_come phase (Some rusting) = not (nat_lt (place_of_kind phase) (place_of_kind
 abbrev pub have_rusted : List Event → Kind → Bool
 have_rusted events kind = has_come (phase_of events) (rusting_of kind)
 
--- the trains of a kind that are with the bank, in its pool and with the companies, where there were so many at first
+-- the trains of a kind that are with the bank, in its pool and with the companies, where there were this many at first
 abbrev pub trains_there : List Event → Kind → ℕ → ℤ
 trains_there events kind number = (pos number -ℤ pos (trains_sold events kind)) +ℤ trains_in_play events kind
 
@@ -54,13 +55,13 @@ pub record TrainsAreAll (events : List Event) : Type 0 where
       → trains_sold events earlier ≡ number
 
 -- they are as many, and nobody has fewer than none
-pub record TrainsStand (events : List Event) : Type 0 where
+pub record AllTrainsAreThere (events : List Event) : Type 0 where
   pub held : TrainsAreHeld events
   pub all : TrainsAreAll events
 
 -- so it is at first
-abbrev pub TrainsStandAtFirst : Type 0
-TrainsStandAtFirst = TrainsStand []
+abbrev pub AllTrainsAreThereAtFirst : Type 0
+AllTrainsAreThereAtFirst = AllTrainsAreThere []
 
 -- after each event by which no train moves and no phase begins they are still as many
 abbrev pub OthersKeepAll : Type 0
@@ -71,18 +72,18 @@ OthersKeepAll =
 -- and nobody has fewer than none
 abbrev pub OthersKeepStanding : Type 0
 OthersKeepStanding =
-    (events : List Event) (event : Event) → train_moved event ≡ None → phase_set event ≡ None → TrainsStand events
-    → TrainsStand (events ++ event ∷ [])
+    (events : List Event) (event : Event) → train_moved event ≡ None → phase_set event ≡ None → AllTrainsAreThere events
+    → AllTrainsAreThere (events ++ event ∷ [])
 
 -- so it is after the purchase of a train by the rules
 abbrev pub PurchasesKeepAll : Type 0
 PurchasesKeepAll =
     (game : Game) (buyer : Company) (purchase : Purchase) →
-    train_judgement game buyer purchase ≡ None → TrainsStand game.events
-    → TrainsStand (after_train game buyer purchase).events
+    train_judgement game buyer purchase ≡ None → AllTrainsAreThere game.events
+    → AllTrainsAreThere (after_train game buyer purchase).events
 
 -- and after a company's turn
 abbrev pub TurnsKeepAll : Type 0
 TurnsKeepAll =
     (file : List ℕ) (round : Round) (company : Company) (old new : Game) →
-    IsCompanyTurn file round company old new → TrainsStand old.events → TrainsStand new.events
+    IsCompanyTurn file round company old new → AllTrainsAreThere old.events → AllTrainsAreThere new.events

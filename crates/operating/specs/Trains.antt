@@ -2,18 +2,20 @@
 -- that it has sold also a D, of which there is any number; the bank pool sells what lies in it. A 4, 5 or 6 that
 -- the company has may be traded in for a D of the bank, which is cheaper then. Another company sells a train that
 -- it has, at the price that the order names, which is at least 1, where its president consents.
-use Rattle.std.specs.Prelude.{ℕ, ◌==◌, ◌≤◌, unwrap_or, Bool, true, false, not, ◌&&◌, ◌||◌, nat_lt, if◌then◌else◌, List, [], ◌∷◌, Option, Some, None, pos, ◌-ℤ◌}
+use Rattle.std.specs.Prelude.{ℕ, ◌==◌, ◌≤◌, unwrap_or, Bool, true, false, not, ◌&&◌, ◌||◌, nat_lt, if◌then◌else◌, List}
+use Rattle.std.specs.Prelude.{[], ◌∷◌, Option, Some, None, pos, ◌-ℤ◌}
 use Rattle.std.specs.Int.Signed.{lt_z}
 use Rattle.events.specs.Event.{party_of_company}
 use Rattle.events.specs.declared.event.Event.{Event}
 use Rattle.events.specs.declared.event.TrainSeller.{TrainSeller}
 use Rattle.events.specs.declared.event.TrainSeller.TheVariants as seller
 use Rattle.events.specs.declared.ruling.TrainRule.{TrainRule}
-use Rattle.events.specs.declared.ruling.TrainRule.TheVariants.{NotOnSale, TrainLimit, CashTooSmall, NoConsent, NotSellers, NoTradeIn}
-use Rattle.history.specs.LookBack.{Game, cash_of}
-use Rattle.history.specs.Offers.{has_consent}
-use Rattle.history.specs.Shares.{president_of}
-use Rattle.history.specs.Trains.{phase_of, train_count, trains_held, trains_sold}
+use Rattle.events.specs.declared.ruling.TrainRule.TheVariants.{NotOnSale, TrainLimit, CashTooSmall, NoConsent}
+use Rattle.events.specs.declared.ruling.TrainRule.TheVariants.{NotSellers, NoTradeIn}
+use Rattle.totals.specs.LookBack.{Game, cash_of}
+use Rattle.totals.specs.Offers.{has_consent}
+use Rattle.totals.specs.Shares.{president_of}
+use Rattle.totals.specs.Trains.{phase_of, train_count, trains_held, trains_sold}
 use Rattle.operating.specs.Discards.{has_train}
 use Rattle.operating.specs.declared.purchase.Purchase.{Purchase}
 use Rattle.order_grammar.specs.declared.order.Offer.{Offer}
@@ -26,7 +28,7 @@ use Rattle.tables.specs.declared.rolling_stock.Kind.TheVariants.{Two, Three, Fou
 use Rattle.tables.specs.declared.roster.Company.{Company}
 use Rattle.tables.specs.declared.seat.Seat.{Seat}
 
--- some of so many are left, where so many are sold
+-- some of this many are left, where this many are sold
 abbrev pub are_left : Option ℕ → ℕ → Bool
 are_left None sold = true
 are_left (Some number) sold = nat_lt sold number

@@ -1,14 +1,15 @@
--- A company's turn. At its first one it places its home token. Then the block that its president's sheet has
--- for it is ruled, line by line, each on the list that the one before left: a line's own fault first, then an order
--- without a place in a block, and then the condition of the line, which is asked of that list. Where it is not met
--- the line is refused, and nothing else happens. The steps of the turn are lay, token, run, pay and trains, and a
--- pointer goes over them: a lay needs the first step and is made once; a token needs one of the first two, and the
--- turn is then past both; a run, or that of the best, needs one of the first three, and the turn is then past its
--- token; to pay or to withhold needs one of the first four, and the turn is then past them. A company whose turn is
--- not past its pay withholds by itself before a TRAIN line is ruled whose condition is met, whatever becomes of that,
--- and when the block ends. It buys a private anywhere in the block, which leaves the pointer. The RAISE lines of the
--- block are ruled last, when the company buys the train that it must, or need not.
-use Rattle.std.specs.Prelude.{◌≡◌, ℕ, Bool, true, false, not, ◌&&◌, if◌then◌else◌, List, [], ◌∷◌, Option, Some, None, option_map, Result, Ok, Err, ℤ}
+-- A company's turn. At its first one it places its home token. Then the block that its president's sheet has for it is
+-- ruled, line by line, each on the list that the one before left: a line's own fault first, then an order without a
+-- place in a block, and then the condition of the line, which is asked of that list. Where it is not met the line is
+-- refused, and nothing else happens. The steps of the turn are lay, token, run, pay and trains, and a step goes over
+-- them: a lay needs the first step and is made once; a token needs one of the first two, and the turn is then past
+-- both; a run, or that of the best, needs one of the first three, and the turn is then past its token; to pay or to
+-- withhold needs one of the first four, and the turn is then past them. A company whose turn is not past its pay
+-- withholds by itself before a TRAIN line is ruled whose condition is met, whatever becomes of that, and when the block
+-- ends. It buys a private anywhere in the block, which leaves the step. The RAISE lines of the block are ruled last,
+-- when the company buys the train that it must, or need not.
+use Rattle.std.specs.Prelude.{◌≡◌, ℕ, Bool, true, false, not, ◌&&◌, if◌then◌else◌, List, [], ◌∷◌, Option, Some, None}
+use Rattle.std.specs.Prelude.{option_map, Result, Ok, Err, ℤ}
 use Rattle.std.specs.Int.RustNames.{unsigned_abs}
 use Rattle.board.specs.LayRules.{IsLayAnswer}
 use Rattle.board.specs.TokenRules.{IsTokenAnswer}
@@ -18,9 +19,9 @@ use Rattle.events.specs.declared.ruling.Refusal.TheVariants as refusal
 use Rattle.events.specs.declared.ruling.Ruling.TheVariants.{Obeyed, Refused, Faulty}
 use Rattle.events.specs.declared.ruling.TrainRule.{TrainRule}
 use Rattle.history.specs.Conditions.{is_met}
-use Rattle.history.specs.LookBack.{Game}
-use Rattle.history.specs.Operating.{lays_of}
-use Rattle.history.specs.Shares.{president_of}
+use Rattle.totals.specs.LookBack.{Game}
+use Rattle.totals.specs.Operating.{lays_of}
+use Rattle.totals.specs.Shares.{president_of}
 use Rattle.map_tables.specs.declared.rules.LayRule.{LayRule}
 use Rattle.map_tables.specs.declared.rules.TokenRule.{TokenRule}
 use Rattle.map_tables.specs.declared.lay.Lay.{Lay}
@@ -119,10 +120,10 @@ OrderLeads by turn line order.Pay new = new ≡ after_pay by turn line order.Pay
 OrderLeads by turn line order.Withhold new = new ≡ after_withhold by turn line order.Withhold
 OrderLeads by turn line (order.BuyTrain kind from) new = new ≡ after_buying by (settled by.company turn) line kind from
 OrderLeads by turn line (order.BuyOwnedPrivate private price) new = new ≡ after_private by turn line private price
-OrderLeads by turn line (order.Raise company tenths) new = new ≡ turn
+OrderLeads by turn line (order.Raise company shares) new = new ≡ turn
 OrderLeads by turn line other new = new ≡ told by turn line (Faulty OutOfPlace)
 
--- the orders that are ruled where they stand in the block: a RAISE waits for the end, and others have no place
+-- the orders that are ruled where they are in the block: a RAISE waits for the end, and others have no place
 abbrev pub is_ruled_there : Order → Bool
 is_ruled_there (order.Lay lay) = true
 is_ruled_there (order.Token place) = true
@@ -134,7 +135,7 @@ is_ruled_there (order.BuyTrain kind from) = true
 is_ruled_there (order.BuyOwnedPrivate private price) = true
 is_ruled_there other = false
 
--- an order that is to be ruled there stands under a condition that is not met by these events
+-- an order that is to be ruled there is under a condition that is not met by these events
 abbrev pub is_held : List Event → Option Condition → Order → Bool
 is_held events condition its = is_ruled_there its && not (is_met events condition)
 

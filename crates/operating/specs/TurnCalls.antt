@@ -1,17 +1,18 @@
 -- The calls that a company's turn makes of a runner: one for each RUN BEST that is obeyed, in order, for the position
 -- that lies then and the trains that the company has then. A line that is refused, be it by its condition, or orders
 -- something else, makes none. Once a call is not answered the turn is broken off; so it is where memory is refused.
-use Rattle.std.specs.Prelude.{◌≡◌, ◌≢◌, ◌⊎◌, ℕ, ℤ, pos, Bool, true, false, List, [], ◌∷◌, Option, Some, None, Result, Ok, Err}
-use Rattle.certificate.specs.Set.{IsGreatest}
-use Rattle.certificate.specs.declared.runner.RunnerFault.{RunnerFault}
-use Rattle.certificate.specs.declared.runner.RunnerFault.TheVariants.{Memory}
+use Rattle.std.specs.Prelude.{◌≡◌, ◌≢◌, ◌⊎◌, ℕ, ℤ, pos, Bool, true, false, List, [], ◌∷◌, Option, Some, None, Result}
+use Rattle.std.specs.Prelude.{Ok, Err}
+use Rattle.legal_runs.specs.Set.{IsGreatest}
+use Rattle.legal_runs.specs.declared.runner.RunnerFault.{RunnerFault}
+use Rattle.legal_runs.specs.declared.runner.RunnerFault.TheVariants.{Memory}
 use Rattle.events.specs.declared.event.Event.{Event}
 use Rattle.events.specs.declared.ruling.Ruling.TheVariants.{Faulty}
-use Rattle.history.specs.LookBack.{Game}
-use Rattle.history.specs.Shares.{president_of}
+use Rattle.totals.specs.LookBack.{Game}
+use Rattle.totals.specs.Shares.{president_of}
 use Rattle.map_tables.specs.declared.rules.RunRule.{RunRule}
 use Rattle.operating.specs.Best.{BestRuled, best_earned, best_judgement, trains_now}
-use Rattle.operating.specs.Calls.{Call, Course, IsFront, Then, Unasked}
+use Rattle.operating.specs.Calls.{Call, Course, IsPrefix, Then, Unasked}
 use Rattle.operating.specs.InTurn.{InTurn, told}
 use Rattle.operating.specs.Runs.{position_now}
 use Rattle.operating.specs.Turn.{AskedLeads, BlockEnds, IsCompanyTurn, OrderLeads, begun, is_held, settled}
@@ -109,11 +110,11 @@ abbrev pub led_to : InTurn → Result (Unit {0}) RunnerFault → Result InTurn R
 led_to turn (Ok done) = Ok turn
 led_to turn (Err fault) = Err fault
 
--- the calls of a turn that was broken off are a front of all its calls: one that was not answered is for this company in
--- this round
+-- the calls of a turn that was broken off are a prefix of all its calls: one that was not answered is for this company
+-- in this round
 abbrev pub IsTurnFront : Round → Company → RunnerFault → List Call → List Call → Type 0
 IsTurnFront round company =
-    IsFront Memory (λ fault why call. (fault ≡ why) × (call.round ≡ round) × (call.company ≡ company))
+    IsPrefix Memory (λ fault why call. (fault ≡ why) × (call.round ≡ round) × (call.company ≡ company))
 
 -- a turn makes one list of calls, and leads to one game
 abbrev pub OneListOfTurnCalls : Type 0
@@ -128,9 +129,9 @@ SomeTurnCalls =
     (file : List ℕ) (round : Round) (company : Company) (old new : Game) →
     IsCompanyTurn file round company old new → (calls : List Call) × TurnCalls file round company old (Ok new) calls
 
--- where it is broken off, it has made a front of them
-abbrev pub RefusedTurnCallsAreAFront : Type 0
-RefusedTurnCallsAreAFront =
+-- where it is broken off, it has made a prefix of them
+abbrev pub RefusedTurnCallsAreAPrefix : Type 0
+RefusedTurnCallsAreAPrefix =
     (file : List ℕ) (round : Round) (company : Company) (old new : Game) (fault : RunnerFault)
     (refused whole : List Call) →
     TurnCalls file round company old (Err fault) refused → TurnCalls file round company old (Ok new) whole →

@@ -1,5 +1,5 @@
 ghost use Rattle.std.specs.Prelude.{◌≡◌, map};
-ghost use Rattle.history.specs.LookBack.{owner_in};
+ghost use Rattle.totals.specs.LookBack.{owner_in};
 ghost use Rattle.operating.specs.Judgement.{asker_of, is_companys, is_players};
 ghost use Rattle.tables.specs.Roster.{privates};
 
@@ -12,7 +12,7 @@ use tables::{Company, Private};
 pub(crate) fn asker(history: &History, company: Company, progress: Progress) -> Asker
     ensures { result ≡ asker_of history.now company progress }
 {
-    let owners = history.owners();
+    let owners = history.now().owners();
     Asker {
         company,
         cash: history.cash(Party::of_company(company)),

@@ -1,10 +1,10 @@
 //! The best runs of a company.
 ghost use Rattle.std.specs.Prelude.{◌≡◌, ◌++◌, ◌≤◌, ◌≤ℤ◌, IfErr, IfOk, OnOk, pos, replicate, true};
-ghost use Rattle.certificate.specs.Set.{IsGreatest};
-ghost use Rattle.certificate.specs.declared.runner.RunnerFault.TheVariants.{Refused as runner_refuses};
+ghost use Rattle.legal_runs.specs.Set.{IsGreatest};
+ghost use Rattle.legal_runs.specs.declared.runner.RunnerFault.TheVariants.{Refused as runner_refuses};
 ghost use Rattle.events.specs.declared.ruling.Refusal.TheVariants as refusal;
 ghost use Rattle.events.specs.declared.ruling.Ruling.TheVariants.{Refused};
-ghost use Rattle.history.specs.Trains.{so_many};
+ghost use Rattle.totals.specs.Trains.{at_least_zero};
 ghost use Rattle.operating.specs.Best.{BestLeads, best_earned, best_judgement, has_none_to_run, trains_now};
 ghost use Rattle.operating.specs.Calls.{Makes};
 ghost use Rattle.operating.specs.CompanyTurn.{GoesOn, IsInOrder, state};
@@ -19,8 +19,8 @@ use crate::forced::has_trains;
 use crate::map_state::update_map_state;
 use crate::progress::Progress;
 use crate::running::record_runs;
-use certificate::{Runner, RunnerFault};
-use history::{GameView, History, Refusal, RunRule, TrainCount, so_many};
+use history::{GameView, History, Refusal, RunRule, TrainCount, at_least_zero};
+use legal_runs::{Runner, RunnerFault};
 use order_grammar::Order;
 use reach::Network;
 use sheets::ReadLine;
@@ -29,7 +29,7 @@ use std::alloc::{AllocError, Global};
 use tables::{Amount, Company, Kind, Money};
 use turns::record;
 
-/// The most trains that a company may have in any phase: so many are kept without memory.
+/// The most trains that a company may have in any phase: this many are kept without memory.
 const TRAINS_MOST: usize = 4;
 
 /// The trains of a company.
@@ -37,7 +37,7 @@ type CompanyTrains = SmallVec<Kind, TRAINS_MOST>;
 
 impl CompanyTurn {
     /// Rules an order to run the best in this line, and runs it if it is obeyed: the company is
-    /// credited the greatest revenue, which the runner tells. The errors are the runner's, and want of
+    /// credited the greatest revenue, which the runner gives. The errors are the runner's, and refused
     /// memory.
     pub(crate) fn rule_best<R: Runner>(
         &mut self,
@@ -99,7 +99,7 @@ impl CompanyTurn {
     }
 
     /// The greatest revenue of the company's trains by what lies, in dollars: at most 50,000. The
-    /// errors are the runner's, and want of memory.
+    /// errors are the runner's, and refused memory.
     fn best_revenue<R: Runner>(&mut self, runner: &mut R) -> Result<Amount, RunnerFault>
         requires { IsInOrder self.old }
         ensures greatest { let events = self.old.history.events in
@@ -113,8 +113,8 @@ impl CompanyTurn {
         ensures refuses { IfErr result (λ fault. fault ≡ runner_refuses → R.may_refuse ≡ true) }
     {
         // Laws, which do nothing when they run: by them the greatest revenue is small.
-        certificate::laws::a_greatest_exists();
-        certificate::laws::one_greatest();
+        legal_runs::laws::a_greatest_exists();
+        legal_runs::laws::one_greatest();
         let board = &mut *self.board;
         update_map_state(board, &self.history)?;
         board.keeps_laws();
@@ -154,7 +154,7 @@ fn amount(money: Money) -> Amount
     money as Amount
 }
 
-/// The trains that a company has, kind by kind. The only error is want of memory.
+/// The trains that a company has, kind by kind. It fails only if memory is refused.
 fn trains_of(alloc: Global, past: &GameView, company: Company) -> Result<CompanyTrains, AllocError>
     ensures { IfOk result (λ trains. trains.items ≡ trains_now past.now.events.now company) }
 {
@@ -165,12 +165,12 @@ fn trains_of(alloc: Global, past: &GameView, company: Company) -> Result<Company
     Ok(trains)
 }
 
-/// Adds so many trains of a kind at the end; none where the number is under 0.
+/// Adds this many trains of a kind at the end; none where the number is under 0.
 fn push_trains(trains: &mut CompanyTrains, kind: Kind, count: TrainCount) -> Result<(), AllocError>
     ensures { OnOk result (trains.new.items
-        ≡ trains.old.items ++ replicate (so_many count) kind) }
+        ≡ trains.old.items ++ replicate (at_least_zero count) kind) }
 {
-    for _ in 0..so_many(Money::from(count)) {
+    for _ in 0..at_least_zero(Money::from(count)) {
         trains.push(kind)?;
     }
     Ok(())

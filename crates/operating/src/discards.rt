@@ -7,7 +7,7 @@ ghost use Rattle.operating.specs.Discards.{is_president, kinds_then};
 ghost use Rattle.operating.specs.Discards.{line_of, lines_of, next_discard, presides_then};
 ghost use Rattle.operating.specs.Discards.{without_first};
 ghost use Rattle.events.specs.Event.{obeyed_of, office_of};
-ghost use Rattle.history.specs.Shares.{president_said};
+ghost use Rattle.totals.specs.Shares.{president_said};
 ghost use Rattle.tables.specs.Train.{same_kind};
 
 use history::{Event, GameView, History, Ruling, TrainRule};

@@ -1,7 +1,7 @@
 ghost use Rattle.std.specs.Prelude.{◌≡◌, ◌<◌, ◌≤◌, ◌≤ℤ◌, IfOk, OnOk, pos};
 ghost use Rattle.events.specs.declared.event.Party.TheVariants as party;
 ghost use Rattle.history.specs.Money.{IsParty};
-ghost use Rattle.history.specs.Shares.{shares_of};
+ghost use Rattle.totals.specs.Shares.{shares_of};
 ghost use Rattle.operating.specs.Dividend.{after_pay, after_withhold, all_paid, dividend_of, paid_for};
 ghost use Rattle.operating.specs.Dividend.{paid_out, paid_to, pay_judgement, withhold_judgement};
 ghost use Rattle.history.specs.Sound.{IsSound};
@@ -13,7 +13,7 @@ use crate::company_turn::CompanyTurn;
 use crate::operator::Operator;
 use crate::progress::Progress;
 use crate::withholding::withhold;
-use history::{Event, History, Holder, PayRule, Refusal, Shareholder, so_many};
+use history::{Event, History, Holder, PayRule, Refusal, Shareholder, at_least_zero};
 use market::move_token_right;
 use order_grammar::Order;
 use sheets::ReadLine;
@@ -21,8 +21,8 @@ use std::alloc::AllocError;
 use tables::{Amount, Company, Seat};
 use turns::record;
 
-/// How many tenths a company has.
-const TENTHS: Amount = 10;
+/// How many shares a company has.
+const SHARES: Amount = 10;
 
 impl CompanyTurn {
     /// Rules an order to pay in this line, and pays if it is obeyed.
@@ -99,7 +99,7 @@ fn withhold_rule(progress: &Progress) -> Option<PayRule>
     }
 }
 
-/// The bank pays a revenue for the tenths of a company, and its token on the chart moves right.
+/// The bank pays a revenue for the shares of a company, and its token on the chart moves right.
 fn pay_out(history: &mut History, company: Company, revenue: Amount) -> Result<(), AllocError>
     requires few { history.old.seats ≤ 6 }
     requires small { revenue ≤ 100000 }
@@ -112,7 +112,7 @@ fn pay_out(history: &mut History, company: Company, revenue: Amount) -> Result<(
     Ok(())
 }
 
-/// The bank pays the seats for their tenths of a company, seat by seat, and the company for those
+/// The bank pays the seats for their shares of a company, seat by seat, and the company for those
 /// of the bank pool.
 fn pay_all(history: &mut History, company: Company, revenue: Amount) -> Result<(), AllocError>
     requires few { history.old.seats ≤ 6 }
@@ -130,7 +130,7 @@ fn pay_all(history: &mut History, company: Company, revenue: Amount) -> Result<(
     pay_for(history, company, holder, place, revenue)
 }
 
-/// The bank pays a holder for the tenths of a company at a place, of which there are at most ten.
+/// The bank pays a holder for the shares of a company at a place, of which there are at most ten.
 fn pay_for(
     history: &mut History,
     company: Company,
@@ -149,15 +149,15 @@ fn pay_for(
     pay_to(history, company, holder, amount)
 }
 
-/// What the tenths of a company at a place are paid, of which there are at most ten.
+/// What the shares of a company at a place are paid, of which there are at most ten.
 fn dividend(history: &History, company: Company, place: Shareholder, revenue: Amount) -> Amount
     requires most { shares_of history.now.events company place ≤ℤ pos 10 }
     requires small { revenue ≤ 100000 }
     ensures sum { result ≡ dividend_of history.now.events company place revenue }
     ensures small { result ≤ 100000 }
 {
-    let tenths = so_many(history.shares(company, place)) as Amount;
-    tenths * (revenue / TENTHS)
+    let shares = at_least_zero(history.shares(company, place)) as Amount;
+    shares * (revenue / SHARES)
 }
 
 /// The bank pays a holder, if there is something to pay; perhaps that breaks it.

@@ -2,10 +2,13 @@
 ghost use Rattle.std.specs.Prelude.{◌≡◌, ◌≤◌, ◌<◌, ◌↔◌, IfOk, IsTrue, Ok, OnOk, false};
 ghost use Rattle.std.specs.Option.{option_copied};
 ghost use Rattle.history.specs.Sound.{IsSound};
-ghost use Rattle.history.specs.Trains.{so_many as as_many};
+ghost use Rattle.totals.specs.Trains.{at_least_zero as as_many};
 ghost use Rattle.operating.specs.CompanyTurn.{IsInOrder};
-ghost use Rattle.operating.specs.Forced.{EndLeads, IsDue, after_forced, after_raise, after_raise_line, after_raises, cheapest, concluded, falls_short, first_on_sale, first_to_sell, has_trains, lack_of, may_spell_raise, needed_rule, next_to_sell, one_tenth, plain, raise_rule, sale_rule, sold_further, sold_singly, with_aid, with_one_sold};
-ghost use Rattle.operating.specs.MapState.{IsFront};
+ghost use Rattle.operating.specs.Forced.{EndLeads, IsDue, after_forced, after_raise, after_raise_line, after_raises};
+ghost use Rattle.operating.specs.Forced.{cheapest, concluded, falls_short, first_on_sale, first_to_sell, has_trains};
+ghost use Rattle.operating.specs.Forced.{lack_of, may_spell_raise, needed_rule, next_to_sell, one_share, plain};
+ghost use Rattle.operating.specs.Forced.{raise_rule, sale_rule, sold_further, sold_singly, with_aid, with_one_sold};
+ghost use Rattle.operating.specs.MapState.{IsPrefix};
 ghost use Rattle.operating.specs.Trains.{IsSmallPurchase};
 ghost use Rattle.order_grammar.specs.declared.order.Order.TheVariants.{Raise};
 ghost use Rattle.sheets.specs.Part.{line_unread, line_with};
@@ -16,9 +19,9 @@ use crate::operator::Operator;
 use crate::phases::buy_train;
 use crate::purchase::{NUMBERED, Purchase, sells};
 use board::Board;
-use certificate::can_run;
 use certs::{Sale, may_sell, sell_block};
-use history::{Event, GameView, History, Party, Refusal, StockRule, TrainSeller, so_many};
+use history::{Event, GameView, History, Party, Refusal, StockRule, TrainSeller, at_least_zero};
+use legal_runs::can_run;
 use order_grammar::{Condition, Order, begins_with_word};
 use sheets::{PartsLeft, ReadLine, UnreadLine};
 use std::alloc::{AllocError, Global};
@@ -27,7 +30,7 @@ use turns::record;
 
 impl CompanyTurn {
     /// Ends the turn once the company has paid or withheld: it buys a train if it must, and the RAISE
-    /// lines of its orders are ruled. An `Err` comes from want of memory alone.
+    /// lines of its orders are ruled. It fails only if memory is refused.
     pub(crate) fn end(&mut self, orders: &mut PartsLeft) -> Result<(), AllocError>
         requires few { self.old.history.seats ≤ 6 }
         requires at_table { self.old.by.president.0 < self.old.history.seats }
@@ -35,7 +38,7 @@ impl CompanyTurn {
         ensures turn { OnOk result (EndLeads self.old.by orders.old.before self.old.history
             self.new.history) }
         ensures sound { OnOk result (IsSound self.new.history) }
-        ensures front { OnOk result (IsFront self.new.board.value self.old.history.events) }
+        ensures front { OnOk result (IsPrefix self.new.board.value self.old.history.events) }
     {
         let due = is_due(&mut *self.board, &self.history, self.by.company)?;
         if due {
@@ -49,9 +52,9 @@ impl CompanyTurn {
 
 /// Whether a company must buy a train: it has none, and could run one of kind 2.
 fn is_due(board: &mut Board, history: &History, company: Company) -> Result<bool, AllocError>
-    requires { IsFront board.old history.now.events }
+    requires { IsPrefix board.old history.now.events }
     ensures due { IfOk result (λ due. IsTrue due ↔ IsDue history.now company) }
-    ensures front { OnOk result (IsFront board.new history.now.events) }
+    ensures front { OnOk result (IsPrefix board.new history.now.events) }
 {
     if has_trains(&history.now(), company) {
         return Ok(false);
@@ -160,9 +163,9 @@ fn rule_order_if_raise(
     ensures sound { OnOk result (IsSound history.new) }
 {
     match order {
-        Order::Raise { company, tenths } => {
-            let (company, tenths) = (*company, *tenths);
-            rule_raise(history, by, line, Sale { company, tenths }, due)?;
+        Order::Raise { company, shares } => {
+            let (company, shares) = (*company, *shares);
+            rule_raise(history, by, line, Sale { company, shares }, due)?;
             Ok(())
         }
         _ => Ok(()),
@@ -182,16 +185,16 @@ fn rule_raise(
     requires sound { IsSound history.old }
     ensures seats { OnOk result (history.new.seats ≡ history.old.seats) }
     ensures after { OnOk result (history.new
-        ≡ after_raise due by history.old (line_with line (Raise sale.company sale.tenths)) sale) }
+        ≡ after_raise due by history.old (line_with line (Raise sale.company sale.shares)) sale) }
     ensures sound { OnOk result (IsSound history.new) }
 {
-    let (company, tenths) = (sale.company, sale.tenths);
+    let (company, shares) = (sale.company, sale.shares);
     let broken = raise_rule(history, by, line.condition.as_ref(), sale, due);
     if record(
         history,
         by.president,
         line,
-        &Order::Raise { company, tenths },
+        &Order::Raise { company, shares },
         broken,
     )? {
         sell_block(history, by.president, sale)?;
@@ -247,10 +250,10 @@ fn sale_rule(history: &History, by: Operator, sale: Sale) -> Option<StockRule>
     }
 }
 
-/// So many tenths at most can be sold: the pool takes up to five of each company.
+/// So many shares at most can be sold: the pool takes up to five of each company.
 const SALES_MOST: usize = 40;
 
-/// The president sells tenths one at a time, until he does not fall short or may sell none.
+/// The president sells shares one at a time, until he does not fall short or may sell none.
 fn sell_singly(history: &mut History, by: Operator) -> Result<(), AllocError>
     requires few { history.old.seats ≤ 6 }
     requires at_table { by.president.0 < history.old.seats }
@@ -260,15 +263,15 @@ fn sell_singly(history: &mut History, by: Operator) -> Result<(), AllocError>
     ensures sound { OnOk result (IsSound history.new) }
 {
     if falls_short(history, by) {
-        sell_tenths(history, by)?;
+        sell_shares(history, by)?;
         return Ok(());
     }
     Ok(())
 }
 
-/// The president sells tenths one at a time, as many as can be sold.
+/// The president sells shares one at a time, as many as can be sold.
 #[tactic(auto, unfolding(crate::specs::Forced::sold_singly))]
-fn sell_tenths(history: &mut History, by: Operator) -> Result<(), AllocError>
+fn sell_shares(history: &mut History, by: Operator) -> Result<(), AllocError>
     requires few { history.old.seats ≤ 6 }
     requires at_table { by.president.0 < history.old.seats }
     requires sound { IsSound history.old }
@@ -284,7 +287,7 @@ fn sell_tenths(history: &mut History, by: Operator) -> Result<(), AllocError>
     Ok(())
 }
 
-/// The president sells one tenth more, where he falls short and may.
+/// The president sells one share more, where he falls short and may.
 #[tactic(auto, unfolding(crate::specs::Forced::sold_further))]
 fn sell_further(history: &mut History, by: Operator) -> Result<(), AllocError>
     requires few { history.old.seats ≤ 6 }
@@ -301,7 +304,7 @@ fn sell_further(history: &mut History, by: Operator) -> Result<(), AllocError>
     Ok(())
 }
 
-/// The president sells one tenth more, where he may.
+/// The president sells one share more, where he may.
 fn sell_next(history: &mut History, by: Operator) -> Result<(), AllocError>
     requires few { history.old.seats ≤ 6 }
     requires at_table { by.president.0 < history.old.seats }
@@ -312,20 +315,20 @@ fn sell_next(history: &mut History, by: Operator) -> Result<(), AllocError>
     ensures sound { OnOk result (IsSound history.new) }
 {
     if let Some(company) = next_to_sell(history, by) {
-        sell_block(history, by.president, tenth_of(company))?;
+        sell_block(history, by.president, share_of(company))?;
         return Ok(());
     }
     Ok(())
 }
 
-/// One tenth of a company.
-fn tenth_of(company: Company) -> Sale
-    ensures { result ≡ one_tenth company }
+/// One share of a company.
+fn share_of(company: Company) -> Sale
+    ensures { result ≡ one_share company }
 {
-    Sale { company, tenths: 1 }
+    Sale { company, shares: 1 }
 }
 
-/// The first company in roster order of which the president may sell a tenth.
+/// The first company in roster order of which the president may sell a share.
 #[tactic(auto, unfolding(crate::specs::Forced::next_to_sell))]
 fn next_to_sell(history: &History, by: Operator) -> Option<Company>
     ensures { result ≡ next_to_sell by history.now }
@@ -333,11 +336,11 @@ fn next_to_sell(history: &History, by: Operator) -> Option<Company>
     first_to_sell(history, by, &Company::ALL)
 }
 
-/// The first of these companies of which the president may sell a tenth.
+/// The first of these companies of which the president may sell a share.
 fn first_to_sell(history: &History, by: Operator, among: &[Company]) -> Option<Company>
     ensures { result ≡ first_to_sell by history.now among.now }
 {
-    among.iter().copied().find(|company| sale_rule(history, by, tenth_of(*company)).is_none())
+    among.iter().copied().find(|company| sale_rule(history, by, share_of(*company)).is_none())
 }
 
 /// The president pays what the company lacks, and it buys; or he falls short, and is bankrupt.
@@ -387,7 +390,7 @@ fn lacking(history: &History, company: Company) -> Amount
     ensures amount { result ≡ as_many (lack_of history.now company) }
     ensures small { result ≤ 1100 }
 {
-    so_many(lack(history, company)) as Amount
+    at_least_zero(lack(history, company)) as Amount
 }
 
 /// Whether the president has less free of his bids than the company lacks.
@@ -395,7 +398,7 @@ fn lacking(history: &History, company: Company) -> Amount
 fn falls_short(history: &History, by: Operator) -> bool
     ensures { result ≡ falls_short by history.now }
 {
-    history.free_cash(by.president) < lack(history, by.company)
+    history.now().free_cash(by.president) < lack(history, by.company)
 }
 
 /// What a company lacks for the cheapest train that is for sale; 0 or less where it has enough.

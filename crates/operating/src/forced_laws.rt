@@ -1,5 +1,6 @@
 //! Laws of turns in which a company is made to buy, each the contract of a function that does nothing.
-ghost use Rattle.operating.specs.ForcedLaws.{AidIsWhatLacks, BankruptcyEndsTurns, NoAidWithoutLack, PresidentStays, TurnsEndWithTrains};
+ghost use Rattle.operating.specs.ForcedLaws.{AidIsWhatLacks, BankruptcyEndsTurns, NoAidWithoutLack, PresidentStays};
+ghost use Rattle.operating.specs.ForcedLaws.{TurnsEndWithTrains};
 
 /// Whoever presides over a company as its turn begins does so at its end: no sale by which money is
 /// raised for its train moves its presidency.

@@ -2,7 +2,7 @@
 ghost use Rattle.operating.specs.Dividend.{NoMoreIsPaid};
 ghost use Rattle.operating.specs.Laws.{CompanyOperates, CompanyTurnEnds, HomeTokenLies, OneCompanyTurn, TurnOnlyAdds};
 ghost use Rattle.operating.specs.LegalRuns.{ObeyedRunsAreLegal};
-ghost use Rattle.operating.specs.TurnCalls.{OneListOfTurnCalls, RefusedTurnCallsAreAFront, SomeTurnCalls};
+ghost use Rattle.operating.specs.TurnCalls.{OneListOfTurnCalls, RefusedTurnCallsAreAPrefix, SomeTurnCalls};
 
 pub use crate::best_laws::best_earns_no_less;
 pub use crate::consent_laws::sellers_agree;
@@ -51,11 +51,11 @@ pub fn company_turn_ends()
 }
 
 /// A company's turn makes one list of calls of its runner, and there is one for each turn. Where the
-/// turn is broken off, the calls made are a front of that list.
+/// turn is broken off, the calls made are a prefix of that list.
 pub fn one_list_of_turn_calls()
     ensures one { OneListOfTurnCalls }
     ensures some { SomeTurnCalls }
-    ensures front { RefusedTurnCallsAreAFront }
+    ensures front { RefusedTurnCallsAreAPrefix }
 {
     map_tables::laws::neighbours_pair();
     map_tables::laws::printed_links_are_in_order();
@@ -70,7 +70,7 @@ pub fn obeyed_runs_are_legal()
 {}
 
 /// In a sound list a company that pays out what its trains earned gets no more than that from the
-/// bank for those who hold its tenths.
+/// bank for those who hold its shares.
 pub fn no_more_is_paid()
     ensures { NoMoreIsPaid }
 {}

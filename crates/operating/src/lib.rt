@@ -1,14 +1,12 @@
 //! Operating rounds: the turn of a company.
 //!
-//! At its first turn a company places its home token. Then the block is ruled that its president
-//! has for it: it may lay a tile, place a token, run its trains, by orders of their own or at their
-//! best, pay out or withhold what they earned, and buy trains and privates. A line may stand under
-//! a condition, which is asked as the line is taken up, before all that it brings. The steps of the
-//! turn stand in order, and a pointer goes over them; an order for a step that is past is refused.
-//! A company that has neither paid nor withheld does so by itself before it buys trains, and at the
-//! end; its token on the chart then moves left. Last, a company without a train that could run one
-//! must buy one, for which its president may have to pay and to sell what he holds; if he cannot
-//! pay, he is bankrupt.
+//! At its first turn a company places its home token. Then the block is ruled that its president has for it: it may lay
+//! a tile, place a token, run its trains, by orders of their own or at their best, pay out or withhold what they
+//! earned, and buy trains and privates. A line may be under a condition, which is asked as the line is taken up, before
+//! all that it brings. The steps of the turn are in order, and a step goes over them; an order for a step that is past
+//! is refused. A company that has neither paid nor withheld does so by itself before it buys trains, and at the end;
+//! its token on the chart then moves left. Last, a company without a train that could run one must buy one, for which
+//! its president may have to pay and to sell what he holds; if he cannot pay, he is bankrupt.
 //!
 //! Reading order: `operator` (whose turn it is), `runs` (what its trains have done), `progress`
 //! (how far the turn has come), `company_turn` (all that lasts for the turn: the functions that rule

@@ -1,19 +1,19 @@
 //! What lies on the map, as a board that is kept through a turn: before a line asks it, it is told
 //! what was laid since it was last asked.
 ghost use Rattle.std.specs.Prelude.{◌≡◌, OnOk};
-ghost use Rattle.history.specs.Operating.{lays_of, tokens_of};
-ghost use Rattle.operating.specs.MapState.{IsFront, BeginsWith, map_state_now};
+ghost use Rattle.totals.specs.Operating.{lays_of, tokens_of};
+ghost use Rattle.operating.specs.MapState.{IsPrefix, BeginsWith, map_state_now};
 
 use board::Board;
 use history::History;
 use std::alloc::AllocError;
 
 /// Tells a board, which has the first of the tiles and tokens that were laid, the others and the
-/// phase. It is what lies on the map then. The only error is want of memory.
+/// phase. It is what lies on the map then. It fails only if memory is refused.
 pub(crate) fn update_map_state(board: &mut Board, history: &History) -> Result<(), AllocError>
-    requires { IsFront board.old history.now.events }
+    requires { IsPrefix board.old history.now.events }
     ensures map_state { OnOk result (board.new ≡ map_state_now history.now.events) }
-    ensures front { OnOk result (IsFront board.new history.now.events) }
+    ensures front { OnOk result (IsPrefix board.new history.now.events) }
 {
     put_lays(board, history)?;
     put_tokens(board, history)?;

@@ -13,7 +13,7 @@ pub(crate) fn judge_offer(history: &History, seat: Seat, sale: Offer) -> Option<
 {
     match sale {
         Offer::Train { seller, price, .. } => {
-            if price == 0 || !is_president(history.president(seller), seat) {
+            if price == 0 || !is_president(history.now().president(seller), seat) {
                 return Some(Refusal::Train(TrainRule::NoConsent));
             }
         }

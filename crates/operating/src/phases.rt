@@ -1,6 +1,6 @@
 //! What the purchase of a train brings: the phase that it begins, and what follows from that.
 ghost use Rattle.std.specs.Prelude.{◌≡◌, OnOk, None};
-ghost use Rattle.history.specs.Trains.{so_many};
+ghost use Rattle.totals.specs.Trains.{at_least_zero};
 ghost use Rattle.history.specs.Sound.{IsSound};
 ghost use Rattle.operating.specs.Phases.{after_train, begins_phase, bought, excess_of};
 ghost use Rattle.operating.specs.Phases.{rusts_at, with_all_closed, with_bop_closed, with_closed};
@@ -14,7 +14,7 @@ ghost use Rattle.tables.specs.Train.{rusting_of};
 
 use crate::discards::next_discard;
 use crate::purchase::Purchase;
-use history::{Event, History, TrainSeller, so_many};
+use history::{Event, History, TrainSeller, at_least_zero};
 use std::alloc::{AllocError, Global};
 use tables::{Company, Kind, Money, Private, limit, rusts};
 
@@ -45,7 +45,7 @@ fn begins_phase(history: &History, from: TrainSeller, kind: Kind) -> bool
 {
     match from {
         TrainSeller::Bank => {
-            history.trains_sold(kind) == 0 && history.phase().place() < kind.place()
+            history.now().trains_sold(kind) == 0 && history.phase().place() < kind.place()
         }
         TrainSeller::BankPool | TrainSeller::Company(_) => false,
     }
@@ -182,7 +182,7 @@ fn rust_trains_of(
     ensures after { OnOk result (history.new ≡ with_trains_rusted owner kind history.old) }
     ensures sound { OnOk result (IsSound history.new) }
 {
-    for _ in 0..so_many(Money::from(history.trains(owner, kind))) {
+    for _ in 0..at_least_zero(Money::from(history.trains(owner, kind))) {
         history.append(Event::Rusted { owner, kind })?;
     }
     Ok(())
@@ -230,7 +230,7 @@ fn keep_limit(alloc: Global, history: &mut History, company: Company) -> Result<
     ensures after { OnOk result (history.new ≡ with_limit_kept history.old company) }
     ensures sound { OnOk result (IsSound history.new) }
 {
-    for _ in 0..so_many(excess(history, company)) {
+    for _ in 0..at_least_zero(excess(history, company)) {
         discard(alloc, history, company)?;
     }
     Ok(())
@@ -238,7 +238,7 @@ fn keep_limit(alloc: Global, history: &mut History, company: Company) -> Result<
 
 /// How many trains a company has over the limit of the phase; under 0 where it may have more.
 fn excess(history: &History, company: Company) -> Money
-    ensures { excess_of history.now company ≡ so_many result }
+    ensures { excess_of history.now company ≡ at_least_zero result }
 {
     Money::from(history.now().train_count(Some(company))) - limit(history.phase()) as Money
 }

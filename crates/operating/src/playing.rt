@@ -1,6 +1,6 @@
 ghost use Rattle.std.specs.Prelude.{◌≡◌, IfErr, IfOk, length, true};
-ghost use Rattle.certificate.specs.declared.runner.RunnerFault.TheVariants.{Refused};
-ghost use Rattle.history.specs.Shares.{is_floated};
+ghost use Rattle.legal_runs.specs.declared.runner.RunnerFault.TheVariants.{Refused};
+ghost use Rattle.totals.specs.Shares.{is_floated};
 ghost use Rattle.history.specs.Sound.{IsSound};
 ghost use Rattle.operating.specs.Calls.{Makes};
 ghost use Rattle.operating.specs.Table.{IsLaidOut, game_on};
@@ -13,16 +13,16 @@ use crate::home::place_home;
 use crate::operator::Operator;
 use crate::table::Table;
 use crate::withholding::withhold;
-use certificate::{Runner, RunnerFault};
 use history::History;
+use legal_runs::{Runner, RunnerFault};
 use sheets::Sheets;
 use std::alloc::Global;
 use tables::{Company, Round};
 
 /// Plays the turn of a company in an operating round, with the sheets for it. The list of events
 /// must be sound, and its seats those of the sheets' players; the company has floated. It is meant
-/// for one that has not operated in this round. The runner tells the greatest revenue where the
-/// company is ordered to run its best. An `Err` comes from want of memory, or from a runner that
+/// for one that has not operated in this round. The runner gives the greatest revenue where the
+/// company is ordered to run its best. An `Err` comes from refused memory, or from a runner that
 /// refuses to answer, and the game is dropped.
 pub fn play_company<R: Runner>(
     alloc: Global,
@@ -69,7 +69,7 @@ pub fn play_on<R: Runner>(
     ensures refuses { IfErr result (λ fault. fault ≡ Refused → R.may_refuse ≡ true) }
 {
     let Table { mut history, board } = table;
-    let president = history.president(company);
+    let president = history.now().president(company);
     // For the proof alone: the answer is at most six, and so the seats of the game are.
     let _few = sheets.seats();
     place_home(&mut history, company)?;

@@ -1,6 +1,6 @@
 //! The purchase of a private by a company.
 ghost use Rattle.std.specs.Prelude.{◌≡◌, IfOk, OnOk, None, Some};
-ghost use Rattle.history.specs.LookBack.{owner_of};
+ghost use Rattle.totals.specs.LookBack.{owner_of};
 ghost use Rattle.history.specs.Sound.{IsSound};
 ghost use Rattle.operating.specs.CompanyTurn.{GoesOn, IsInOrder, state};
 ghost use Rattle.operating.specs.Privates.{after_private, private_bought, private_judgement, sold_by};

@@ -1,9 +1,9 @@
 ghost use Rattle.std.specs.Prelude.{◌≡◌, ◌≤◌, ◌≤ℤ◌, false, IfOk, None, OnOk, pos, Some};
 ghost use lib.Signed.{le_z};
 ghost use Rattle.events.specs.declared.event.Event.TheVariants as event;
-ghost use Rattle.history.specs.Trains.{trains_held};
-ghost use Rattle.board.specs.MapState.{position_of};
-ghost use Rattle.history.specs.LookBack.{with_event};
+ghost use Rattle.board_state.specs.MapState.{position_of};
+ghost use Rattle.totals.specs.Trains.{trains_held};
+ghost use Rattle.totals.specs.LookBack.{with_event};
 ghost use Rattle.history.specs.Sound.{IsSound};
 ghost use Rattle.operating.specs.CompanyTurn.{GoesOn, IsInOrder, state};
 ghost use Rattle.operating.specs.Runs.{IsCounted, after_run, has_run, judged_run, ran_unless_fault};
@@ -16,8 +16,8 @@ use crate::map_state::update_map_state;
 use crate::progress::Progress;
 use crate::runs::{CompletedRun, Runs};
 use board::Board;
-use certificate::check_run;
 use history::{Event, History, Refusal, RunRule};
+use legal_runs::check_run;
 use map_tables::Run;
 use order_grammar::Order;
 use reach::Network;
@@ -45,8 +45,8 @@ impl CompanyTurn {
         self.settle_run(line, order, judged)
     }
 
-    /// What a run of the company's train does, or the first rule that it breaks. The error is want
-    /// of memory.
+    /// What a run of the company's train does, or the first rule that it breaks. The error is
+    /// refused memory.
     fn judge_run(
         &mut self,
         kind: Kind,
@@ -114,7 +114,7 @@ fn run_on(
     ensures counted { IfOk result (λ ran. IsCounted runs.now ran) }
 {
     board.keeps_laws();
-    certificate::laws::runs_earn_by_borders();
+    legal_runs::laws::runs_earn_by_borders();
     let mut borders = runs.borders;
     match check_run(board, company, kind, run, &mut borders) {
         Ok(money) => Ok(CompletedRun {

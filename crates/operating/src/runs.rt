@@ -1,7 +1,7 @@
 ghost use Rattle.std.specs.Prelude.{◌≡◌};
 
-use certificate::Used;
 use history::TrainCount;
+use legal_runs::Used;
 use std::marker::Model;
 use tables::{Amount, Kind};
 

@@ -1,6 +1,6 @@
 //! A game and the board of its map.
 ghost use Rattle.std.specs.Prelude.{◌≡◌, [], IfOk};
-ghost use Rattle.board.specs.MapState.{map_state_of};
+ghost use Rattle.board_state.specs.MapState.{map_state_of};
 ghost use Rattle.history.specs.Sound.{IsSound};
 ghost use Rattle.operating.specs.Table.{IsLaidOut};
 ghost use Rattle.tables.specs.declared.rolling_stock.Kind.TheVariants as kind;
@@ -21,7 +21,7 @@ pub struct Table {
 }
 
 impl Table {
-    /// A game with a board on which nothing lies yet. The only error is want of memory.
+    /// A game with a board on which nothing lies yet. It fails only if memory is refused.
     pub fn lay_out(alloc: Global, history: History) -> Result<Table, AllocError>
         requires { IsSound history }
         ensures history { IfOk result (λ table. table.history ≡ history) }

@@ -1,6 +1,6 @@
 //! Laws of trains, each the contract of a function that does nothing.
 ghost use Rattle.operating.specs.TrainLaws.{OthersKeepAll, OthersKeepStanding, PhasesGoOn, PhasesGoOnInTurns};
-ghost use Rattle.operating.specs.TrainLaws.{PurchasesKeepAll, TrainsStandAtFirst, TurnsKeepAll};
+ghost use Rattle.operating.specs.TrainLaws.{PurchasesKeepAll, AllTrainsAreThereAtFirst, TurnsKeepAll};
 
 /// Phases never go back, by a purchase or by a company's turn.
 pub fn phases_go_on()
@@ -12,7 +12,7 @@ pub fn phases_go_on()
 /// there were at first until they rust, and none after; nobody has fewer than none. Each purchase
 /// by the rules keeps it so, and so does each company's turn.
 pub fn all_trains_are_there()
-    ensures first { TrainsStandAtFirst }
+    ensures first { AllTrainsAreThereAtFirst }
     ensures others { OthersKeepAll }
     ensures standing { OthersKeepStanding }
     ensures purchases { PurchasesKeepAll }

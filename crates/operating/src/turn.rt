@@ -1,6 +1,6 @@
 ghost use Rattle.std.specs.Prelude.{◌≡◌, ◌≢◌, ◌≤◌, IfErr, OnOk, true};
 ghost use Rattle.std.specs.Option.{option_copied};
-ghost use Rattle.certificate.specs.declared.runner.RunnerFault.TheVariants.{Refused};
+ghost use Rattle.legal_runs.specs.declared.runner.RunnerFault.TheVariants.{Refused};
 ghost use Rattle.events.specs.declared.ruling.Ruling.TheVariants.{Faulty};
 ghost use Rattle.operating.specs.Calls.{Makes};
 ghost use Rattle.operating.specs.CompanyTurn.{GoesOn, IsInOrder, state};
@@ -12,8 +12,8 @@ ghost use Rattle.sheets.specs.Part.{faulty_line, line_unread, line_with};
 ghost use Rattle.turns.specs.Small.{AreSmall, IsSmallOrder, IsSmallReading};
 
 use crate::company_turn::CompanyTurn;
-use certificate::{Runner, RunnerFault};
 use history::{History, Refusal};
+use legal_runs::{Runner, RunnerFault};
 use order_grammar::{Condition, Fault, Order};
 use sheets::{PartsLeft, ReadLine, UnreadLine};
 use std::alloc::AllocError;
@@ -68,7 +68,7 @@ impl CompanyTurn {
         }
     }
 
-    /// Rules an order in this line. One that is to be ruled where it stands is first asked for its
+    /// Rules an order in this line. One that is to be ruled where it is is first asked for its
     /// condition: where that is not met it is refused, and nothing else happens.
     fn rule_asked<R: Runner>(
         &mut self,
@@ -174,7 +174,7 @@ impl CompanyTurn {
     }
 }
 
-/// Whether an order that is to be ruled where it stands in a block has a condition that is not met. A
+/// Whether an order that is to be ruled where it is in a block has a condition that is not met. A
 /// RAISE is asked for its condition at the end of the turn, and an order without a place never.
 fn is_held(history: &History, condition: Option<&Condition>, order: &Order) -> bool
     ensures { result
@@ -183,7 +183,7 @@ fn is_held(history: &History, condition: Option<&Condition>, order: &Order) -> b
     is_ruled_there(order) && !history.is_met(condition)
 }
 
-/// Whether an order is ruled where it stands in a block: a RAISE waits for the end of the turn, and
+/// Whether an order is ruled where it is in a block: a RAISE waits for the end of the turn, and
 /// others have no place.
 fn is_ruled_there(order: &Order) -> bool
     ensures { result ≡ is_ruled_there order.now }

@@ -1,6 +1,7 @@
 -- Words that fit one form fit no other: two forms that begin with the same word differ in the number
 -- of their words, or in a place where one has a literal word that is no text of the other's class.
-use Rattle.std.proofs.Common.{◌≡◌, ℕ, ◌≤◌, Bool, true, false, ◌&&◌, ◌||◌, not, inl, inr, ◌⊎◌, List, [], ◌∷◌, Result, Err, refl, sym, ap, ◌∙◌, arith}
+use Rattle.std.proofs.Common.{◌≡◌, ℕ, ◌≤◌, Bool, true, false, ◌&&◌, ◌||◌, not, inl, inr, ◌⊎◌, List, [], ◌∷◌, Result}
+use Rattle.std.proofs.Common.{Err, refl, sym, ap, ◌∙◌, arith}
 use Rattle.std.specs.List.{list_all}
 use Rattle.std.proofs.lemmas.Bool.{cases_Bool, or_cases, false≢true}
 use Rattle.order_grammar.specs.Class.{class_reading}
@@ -13,10 +14,10 @@ use Rattle.order_grammar.specs.declared.class.Reading.{Reading}
 use Rattle.order_grammar.specs.declared.class.Reading.TheVariants.{Value, TooLarge, Wrong}
 use Rattle.order_grammar.specs.declared.fault.Fault.{Fault}
 use Rattle.order_grammar.specs.declared.fault.Fault.TheVariants.{WrongWords}
-use Rattle.order_grammar.specs.declared.form.Repeated.{Repeated}
-use Rattle.order_grammar.specs.declared.form.Repeated.TheVariants as repeated
+use Rattle.order_grammar.specs.declared.form.TrailingClass.{TrailingClass}
+use Rattle.order_grammar.specs.declared.form.TrailingClass.TheVariants as trailing_class
 use Rattle.order_grammar.specs.declared.order.Order.{Order}
-use Rattle.order_grammar.specs.declared.order.Tail.{Tail}
+use Rattle.order_grammar.specs.declared.order.Trailing.{Trailing}
 use Rattle.order_grammar.specs.declared.order.Value as values
 use Rattle.order_grammar.proofs.KeywordLemmas.{same_word-is}
 
@@ -31,17 +32,17 @@ are_classes_apart c (class.Word k) = is_wrong (class_reading c (text_of_keyword 
 are_classes_apart c other = false
 
 -- whether no words fit both
-abbrev pub are_shapes_apart : List Class → Repeated → List Class → Repeated → Bool
+abbrev pub are_shapes_apart : List Class → TrailingClass → List Class → TrailingClass → Bool
 are_shapes_apart (c ∷ classes) r (other ∷ others) s = are_classes_apart c other || are_shapes_apart classes r others s
-are_shapes_apart [] repeated.Nothing (other ∷ others) s = true
-are_shapes_apart (c ∷ classes) r [] repeated.Nothing = true
+are_shapes_apart [] trailing_class.Nothing (other ∷ others) s = true
+are_shapes_apart (c ∷ classes) r [] trailing_class.Nothing = true
 are_shapes_apart classes r others s = false
 
 -- whether no line fits both rows
 abbrev pub are_rows_apart : Row → Row → Bool
 are_rows_apart row other =
     not (same_word (text_of_keyword row.keyword) (text_of_keyword other.keyword))
-    || are_shapes_apart row.classes row.repeated other.classes other.repeated
+    || are_shapes_apart row.classes row.trailing_class other.classes other.trailing_class
 
 -- whether no line fits two of the rows
 abbrev pub are_all_apart : List Row → Bool
@@ -84,21 +85,22 @@ spoilt TooLarge = refl
 spoilt (Value v) = refl
 
 -- words that fit no shape
-abbrev DoNotFit : List Class → Repeated → List (List ℕ) → Type 0
-DoNotFit classes r words = ◌≡◌ {A = Result (List values.Value × Tail) Fault} (values_reading classes r words)
+abbrev DoNotFit : List Class → TrailingClass → List (List ℕ) → Type 0
+DoNotFit classes r words = ◌≡◌ {A = Result (List values.Value × Trailing) Fault} (values_reading classes r words)
     (Err WrongWords)
 
-wrong_first : (c : Class) (classes : List Class) (r : Repeated) (word : List ℕ) (words : List (List ℕ))
+wrong_first : (c : Class) (classes : List Class) (r : TrailingClass) (word : List ℕ) (words : List (List ℕ))
     → class_reading c word ≡ Wrong →
     DoNotFit (c ∷ classes) r (word ∷ words)
 wrong_first c classes r word words wrong = rw wrong refl
 
-wrong_later : (c : Class) (classes : List Class) (r : Repeated) (word : List ℕ) (words : List (List ℕ))
+wrong_later : (c : Class) (classes : List Class) (r : TrailingClass) (word : List ℕ) (words : List (List ℕ))
     → DoNotFit classes r words →
     DoNotFit (c ∷ classes) r (word ∷ words)
 wrong_later c classes r word words wrong = rw wrong (spoilt (class_reading c word))
 
-shapes_apart : (classes : List Class) (r : Repeated) (others : List Class) (s : Repeated) (words : List (List ℕ))
+shapes_apart : (classes : List Class) (r : TrailingClass) (others : List Class) (s : TrailingClass)
+    (words : List (List ℕ))
     → are_shapes_apart classes r others s ≡ true →
     DoNotFit classes r words ⊎ DoNotFit others s words
 shapes_apart (c ∷ classes) r (other ∷ others) s [] apart = inl refl
@@ -115,10 +117,10 @@ shapes_apart (c ∷ classes) r (other ∷ others) s (word ∷ words) apart =
             | inr wrong ↦ inr (wrong_later other others s word words wrong)
           ]
     ]
-shapes_apart [] repeated.Nothing (other ∷ others) s [] apart = inr refl
-shapes_apart [] repeated.Nothing (other ∷ others) s (word ∷ words) apart = inl refl
-shapes_apart (c ∷ classes) r [] repeated.Nothing [] apart = inl refl
-shapes_apart (c ∷ classes) r [] repeated.Nothing (word ∷ words) apart = inr refl
+shapes_apart [] trailing_class.Nothing (other ∷ others) s [] apart = inr refl
+shapes_apart [] trailing_class.Nothing (other ∷ others) s (word ∷ words) apart = inl refl
+shapes_apart (c ∷ classes) r [] trailing_class.Nothing [] apart = inl refl
+shapes_apart (c ∷ classes) r [] trailing_class.Nothing (word ∷ words) apart = inr refl
 shapes_apart classes r others s words apart = absurd (false≢true apart)
 
 -- an order, or what would be one but for a number
@@ -127,7 +129,7 @@ IsNear reading = 2 ≤ nearness reading
 
 -- words that do not fit a row are not near by it
 far : (row : Row) (first : List ℕ) (rest : List (List ℕ))
-    → (same_word first (text_of_keyword row.keyword) ≡ false) ⊎ DoNotFit row.classes row.repeated rest →
+    → (same_word first (text_of_keyword row.keyword) ≡ false) ⊎ DoNotFit row.classes row.trailing_class rest →
     nearness (row_reading row first rest) ≤ 1
 far row first rest (inl different) = rw different (omega arith)
 far row first rest (inr wrong) =
@@ -150,9 +152,9 @@ rows_apart row other first rest apart near =
                 let keywords : same_word (text_of_keyword row.keyword) (text_of_keyword other.keyword) ≡ true =
                 ap (λ (word : List ℕ). same_word word (text_of_keyword other.keyword))
                 (sym (same_word-is first (text_of_keyword row.keyword) same)) ∙ same' in
-                let shapes : are_shapes_apart row.classes row.repeated other.classes other.repeated ≡ true =
+                let shapes : are_shapes_apart row.classes row.trailing_class other.classes other.trailing_class ≡ true =
                 rw keywords at apart in
-                elim (shapes_apart row.classes row.repeated other.classes other.repeated rest shapes) [
+                elim (shapes_apart row.classes row.trailing_class other.classes other.trailing_class rest shapes) [
                   | inl wrong ↦ absurd (omega (arith, near, far row first rest (inr wrong)))
                   | inr wrong ↦ far other first rest (inr wrong)
                 ]

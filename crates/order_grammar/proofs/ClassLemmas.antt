@@ -1,11 +1,13 @@
 -- Readings of words as texts of a class.
-use Rattle.std.proofs.Common.{◌≡◌, ℕ, ◌+◌, ◌<◌, ◌≤◌, ◌==◌, min, true, false, List, [], ◌∷◌, Some, None, length, get_or, drop, refl, ap, ◌∙◌, inl, inr, arith}
+use Rattle.std.proofs.Common.{◌≡◌, ℕ, ◌+◌, ◌<◌, ◌≤◌, ◌==◌, min, true, false, List, [], ◌∷◌, Some, None, length, get_or}
+use Rattle.std.proofs.Common.{drop, refl, ap, ◌∙◌, inl, inr, arith}
 use Rattle.std.specs.List.{list_all}
 use Rattle.std.proofs.lemmas.Bool.{cases_Bool, le-leb, lt-leb, and_parts}
 use Rattle.std.proofs.lemmas.Bool.Decides.{nat_tests}
 use Rattle.std.proofs.lemmas.List.{drop_more}
 use Rattle.std.specs.Char.{to_ascii_uppercase, is_ascii_hexdigit}
-use Rattle.order_grammar.specs.Class.{is_hex_digit, are_digits, value_of_digits, capped_value, digits_reading, round_of_series, round_number_reading, code_reading}
+use Rattle.order_grammar.specs.Class.{is_hex_digit, are_digits, value_of_digits, capped_value, digits_reading}
+use Rattle.order_grammar.specs.Class.{round_of_series, round_number_reading, code_reading}
 use Rattle.order_grammar.specs.Name.{is_digit}
 use Rattle.order_grammar.specs.Words.{raised, same_word}
 use Rattle.order_grammar.specs.declared.class.Reading.TheVariants.{Value, TooLarge, Wrong}
@@ -40,29 +42,29 @@ hex_digits-raised [] = refl
 hex_digits-raised (byte ∷ bytes) = rw (is_hex_digit-raised byte, hex_digits-raised bytes) refl
 
 -- a reading of digits does not ask for their case
-pub digits_reading-raised : (stands_for : ℕ → values.Value) (word : List ℕ)
-    → digits_reading stands_for (raised word) ≡ digits_reading stands_for word
-digits_reading-raised stands_for [] = refl
-digits_reading-raised stands_for (digit ∷ digits) =
+pub digits_reading-raised : (as_value : ℕ → values.Value) (word : List ℕ)
+    → digits_reading as_value (raised word) ≡ digits_reading as_value word
+digits_reading-raised as_value [] = refl
+digits_reading-raised as_value (digit ∷ digits) =
     elim (cases_Bool (list_all is_digit (digit ∷ digits))) [
-      | inl e ↦ ap (digits_reading stands_for) (raised-digits (digit ∷ digits) e)
+      | inl e ↦ ap (digits_reading as_value) (raised-digits (digit ∷ digits) e)
       | inr e ↦ let r = all_digits-raised (digit ∷ digits) ∙ e in rw (r, e) refl
     ]
 
 -- no digits
-pub digits_reading-none : (stands_for : ℕ → values.Value) (word : List ℕ) → None ≡ capped_value word
-    → digits_reading stands_for word ≡ Wrong
-digits_reading-none stands_for word h =
+pub digits_reading-none : (as_value : ℕ → values.Value) (word : List ℕ) → None ≡ capped_value word
+    → digits_reading as_value word ≡ Wrong
+digits_reading-none as_value word h =
     elim (cases_Bool (are_digits word)) [
       | inl e ↦ let wrong = rw e at h in absurd (cc)
       | inr e ↦ rw e refl
     ]
 
 -- digits of a large value
-pub digits_reading-large : (stands_for : ℕ → values.Value) (word : List ℕ) (v : ℕ) → Some v ≡ capped_value word
+pub digits_reading-large : (as_value : ℕ → values.Value) (word : List ℕ) (v : ℕ) → Some v ≡ capped_value word
     → 99999 < v →
-    digits_reading stands_for word ≡ TooLarge
-digits_reading-large stands_for word v h large =
+    digits_reading as_value word ≡ TooLarge
+digits_reading-large as_value word v h large =
     elim (cases_Bool (are_digits word)) [
       | inl e ↦
           let is = rw e at h in
@@ -72,10 +74,10 @@ digits_reading-large stands_for word v h large =
     ]
 
 -- digits of a value that is not too large
-pub digits_reading-value : (stands_for : ℕ → values.Value) (word : List ℕ) (v : ℕ) → Some v ≡ capped_value word
+pub digits_reading-value : (as_value : ℕ → values.Value) (word : List ℕ) (v : ℕ) → Some v ≡ capped_value word
     → v ≤ 99999 →
-    digits_reading stands_for word ≡ Value (stands_for v)
-digits_reading-value stands_for word v h small =
+    digits_reading as_value word ≡ Value (as_value v)
+digits_reading-value as_value word v h small =
     elim (cases_Bool (are_digits word)) [
       | inl e ↦
           let is = rw e at h in
@@ -99,15 +101,15 @@ round_number-digits series (digit ∷ digits) some other =
     rw test (digits_reading-raised (λ number. round_value (round_of_series series number)) (digit ∷ digits))
 
 -- one that is not the first
-pub code_reading-next : {X : Type 0} (code : X → List ℕ) (stands_for : X → values.Value) (all : List X) (i : ℕ)
+pub code_reading-next : {X : Type 0} (code : X → List ℕ) (as_value : X → values.Value) (all : List X) (i : ℕ)
     (d : X) (word : List ℕ) → i < length all →
     same_word word (code (get_or all i d)) ≡ false
-    → code_reading code stands_for (drop i all) word ≡ code_reading code stands_for (drop (i + 1) all) word
-code_reading-next code stands_for all i d word lt other = rw (drop_more all i d lt, other) refl
+    → code_reading code as_value (drop i all) word ≡ code_reading code as_value (drop (i + 1) all) word
+code_reading-next code as_value all i d word lt other = rw (drop_more all i d lt, other) refl
 
 -- the one whose code it is
-pub code_reading-here : {X : Type 0} (code : X → List ℕ) (stands_for : X → values.Value) (all : List X) (i : ℕ)
+pub code_reading-here : {X : Type 0} (code : X → List ℕ) (as_value : X → values.Value) (all : List X) (i : ℕ)
     (d : X) (word : List ℕ) → i < length all →
-    same_word word (code (get_or all i d)) ≡ true → code_reading code stands_for (drop i all) word
-    ≡ Value (stands_for (get_or all i d))
-code_reading-here code stands_for all i d word lt here = rw (drop_more all i d lt, here) refl
+    same_word word (code (get_or all i d)) ≡ true → code_reading code as_value (drop i all) word
+    ≡ Value (as_value (get_or all i d))
+code_reading-here code as_value all i d word lt here = rw (drop_more all i d lt, here) refl

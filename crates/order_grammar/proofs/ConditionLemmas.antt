@@ -1,11 +1,13 @@
 -- The words after IF: they are read as an order under a condition exactly where they spell it.
-use Rattle.std.proofs.Common.{◌≡◌, ℕ, Bool, true, false, cond, nat_le, ◌&&◌, inl, inr, List, [], ◌∷◌, Some, Result, Ok, Err, Contains, codes, refl, sym, ap, subst, ◌∙◌}
+use Rattle.std.proofs.Common.{◌≡◌, ℕ, Bool, true, false, cond, nat_le, ◌&&◌, inl, inr, List, [], ◌∷◌, Some, Result, Ok}
+use Rattle.std.proofs.Common.{Err, Contains, codes, refl, sym, ap, subst, ◌∙◌}
 use Rattle.std.proofs.lemmas.Bool.{cases_Bool, le-leb, leb-true, false≢true}
 use Rattle.tables.specs.Round.{number_most}
 use Rattle.tables.specs.declared.rolling_stock.Kind.{Kind}
 use Rattle.tables.specs.declared.roster.Company.{Company}
 use Rattle.order_grammar.specs.Class.{class_reading, is_of_class}
-use Rattle.order_grammar.specs.Condition.{Ordered, ordered, price_of, condition_of, play_reading, under, price_reading, reading_of_one, conditional_reading, put_conditional, condition_if_read}
+use Rattle.order_grammar.specs.Condition.{Ordered, ordered, price_of, condition_of, play_reading, under, price_reading}
+use Rattle.order_grammar.specs.Condition.{reading_of_one, conditional_reading, put_conditional, condition_if_read}
 use Rattle.order_grammar.specs.Form.{play_forms, put_reading}
 use Rattle.order_grammar.specs.Order.{parts_of}
 use Rattle.order_grammar.specs.Spells.{IsCompany, IsKind, IsNumber, HasSmallNumbers}
@@ -155,14 +157,14 @@ play_says (first ∷ rest) =
     ]
 
 -- what a reading of a condition says of words, of which these others come behind it
-abbrev FrontSays : List (List ℕ) → List (List ℕ) → Result Condition Fault → Type 0
-FrontSays words rest (Ok condition) =
+abbrev PrefixSays : List (List ℕ) → List (List ℕ) → Result Condition Fault → Type 0
+PrefixSays words rest (Ok condition) =
     ((order : Order) → AreOrderWords order rest → AreConditionWords condition (AreOrderWords order) words) ×
     HasSmallCondition (Some condition)
-FrontSays words rest (Err NumberTooLarge) =
+PrefixSays words rest (Err NumberTooLarge) =
     (condition : Condition) × ((order : Order) → AreOrderWords order rest →
     AreConditionWords condition (AreOrderWords order) words)
-FrontSays words rest (Err other) = Unit {0}
+PrefixSays words rest (Err other) = Unit {0}
 
 -- what a reading of the words after IF says of them
 abbrev pub ConditionalSays : List (List ℕ) → Result Ordered Fault → Type 0
@@ -174,9 +176,9 @@ ConditionalSays words (Err NumberTooLarge) =
 ConditionalSays words (Err WrongWords) = Unit {0}
 ConditionalSays words (Err other) = ⊥
 
-under_says : (words rest : List (List ℕ)) (front : Result Condition Fault) (behind : Result Order Fault) →
-    FrontSays words rest front → PlaySays rest behind →
-    ConditionalSays words (under front behind)
+under_says : (words rest : List (List ℕ)) (prefix : Result Condition Fault) (behind : Result Order Fault) →
+    PrefixSays words rest prefix → PlaySays rest behind →
+    ConditionalSays words (under prefix behind)
 under_says words rest (Ok condition) (Ok order) f s = (condition, refl, f.0 order s.0, (f.1, s.1))
 under_says words rest (Ok condition) (Err NumberTooLarge) f s = (condition, s.0, f.0 s.0 s.1)
 under_says words rest (Ok condition) (Err other) f s = tt
@@ -195,7 +197,7 @@ a_number other of = absurd (false≢true of)
 price_says : (first name least number : List ℕ) (rest : List (List ℕ)) (company price : Reading) →
     first ≡ codes "PRICE" → least ≡ codes ">=" →
     ReadAs class.Company name company → ReadAs class.Number number price →
-    FrontSays (first ∷ name ∷ least ∷ number ∷ rest) rest (price_of company price)
+    PrefixSays (first ∷ name ∷ least ∷ number ∷ rest) rest (price_of company price)
 price_says first name least number rest (Value (value.Company company)) (Value (value.Number price)) begins sign named
     counted =
     ((λ order are. (begins, (named.0.text_of, (sign, (counted.0.text_of, are))))), leb-true price number_most counted.1)
@@ -209,7 +211,7 @@ price_says first name least number rest company price begins sign named counted 
 -- the word of a condition on the phase, and of one that a company has floated
 phase_says : (first word : List ℕ) (rest : List (List ℕ)) (reading : Reading) → first ≡ codes "PHASE" →
     ReadAs class.Kind word reading →
-    FrontSays (first ∷ word ∷ rest) rest (condition_of reading)
+    PrefixSays (first ∷ word ∷ rest) rest (condition_of reading)
 phase_says first word rest (Value (value.Kind kind)) begins named =
     ((λ order are. (begins, (named.0.text_of, are))), tt)
 phase_says first word rest (Value (value.Company company)) begins named = absurd (false≢true named.0.of_class)
@@ -217,7 +219,7 @@ phase_says first word rest other begins named = tt
 
 floated_says : (first word : List ℕ) (rest : List (List ℕ)) (reading : Reading) → first ≡ codes "FLOATED" →
     ReadAs class.Company word reading →
-    FrontSays (first ∷ word ∷ rest) rest (condition_of reading)
+    PrefixSays (first ∷ word ∷ rest) rest (condition_of reading)
 floated_says first word rest (Value (value.Company company)) begins named =
     ((λ order are. (begins, (named.0.text_of, are))), tt)
 floated_says first word rest (Value (value.Kind kind)) begins named = absurd (false≢true named.0.of_class)
@@ -232,11 +234,11 @@ price_read first (name ∷ least ∷ []) begins = tt
 price_read first (name ∷ least ∷ number ∷ rest) begins =
     elim (cases_Bool (same_word least (codes ">="))) [
       | inl same ↦
-          let front =
+          let prefix =
           price_says first name least number rest (class_reading class.Company name)
           (class_reading class.Number number) begins (same_word-is least (codes ">=") same)
           (class_read class.Company name) (class_read class.Number number) in
-          rw same (under_says (first ∷ name ∷ least ∷ number ∷ rest) rest _ (play_reading rest) front (play_says rest))
+          rw same (under_says (first ∷ name ∷ least ∷ number ∷ rest) rest _ (play_reading rest) prefix (play_says rest))
       | inr other ↦ rw other tt
     ]
 
@@ -244,16 +246,16 @@ phase_read : (first : List ℕ) (words : List (List ℕ)) → first ≡ codes "P
     ConditionalSays (first ∷ words) (reading_of_one class.Kind words)
 phase_read first [] begins = tt
 phase_read first (word ∷ rest) begins =
-    let front = phase_says first word rest (class_reading class.Kind word) begins (class_read class.Kind word) in
-    under_says (first ∷ word ∷ rest) rest _ (play_reading rest) front (play_says rest)
+    let prefix = phase_says first word rest (class_reading class.Kind word) begins (class_read class.Kind word) in
+    under_says (first ∷ word ∷ rest) rest _ (play_reading rest) prefix (play_says rest)
 
 floated_read : (first : List ℕ) (words : List (List ℕ)) → first ≡ codes "FLOATED" →
     ConditionalSays (first ∷ words) (reading_of_one class.Company words)
 floated_read first [] begins = tt
 floated_read first (word ∷ rest) begins =
-    let front = floated_says first word rest (class_reading class.Company word) begins (class_read class.Company word)
+    let prefix = floated_says first word rest (class_reading class.Company word) begins (class_read class.Company word)
     in
-    under_says (first ∷ word ∷ rest) rest _ (play_reading rest) front (play_says rest)
+    under_says (first ∷ word ∷ rest) rest _ (play_reading rest) prefix (play_says rest)
 
 -- what the words after IF are read as says of them
 pub conditional_says : (words : List (List ℕ)) → ConditionalSays words (conditional_reading words)

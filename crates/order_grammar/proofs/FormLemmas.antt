@@ -1,11 +1,13 @@
 -- The table of forms as the code goes over it: the values so far, and the nearest reading so far.
-use Rattle.std.proofs.Common.{◌≡◌, ℕ, ◌+◌, ◌<◌, ◌≤◌, Bool, true, false, cond, List, [], ◌∷◌, Option, Some, None, Result, Ok, Err, fold, ltb, length, get_or, drop, map, refl, sym, ap, ◌∙◌, arith}
+use Rattle.std.proofs.Common.{◌≡◌, ℕ, ◌+◌, ◌<◌, ◌≤◌, Bool, true, false, cond, List, [], ◌∷◌, Option, Some, None, Result}
+use Rattle.std.proofs.Common.{Ok, Err, fold, ltb, length, get_or, drop, map, refl, sym, ap, ◌∙◌, arith}
 use Rattle.std.specs.List.{list_all}
-use Rattle.std.proofs.lemmas.Bool.{le-ltb, lt-ltb}
+use Rattle.std.proofs.lemmas.Bool.{false_from_ne_true, le-ltb, lt-ltb}
 use Rattle.std.proofs.lemmas.List.Recursion.{and_at}
 use Rattle.std.proofs.lemmas.List.{append-nil, at_drop_all, drop_more, length-map, get_or-map}
-use Rattle.order_grammar.specs.Form.{Row, forms, tail_reading, values_reading, row_reading, rows_reading, words_reading, nearness, nearer}
-use Rattle.order_grammar.specs.Keyword.{text_of_keyword}
+use Rattle.order_grammar.specs.Form.{Row, forms, trailing_reading, values_reading, row_reading, rows_reading}
+use Rattle.order_grammar.specs.Form.{words_reading, nearness, nearer, order_of_values, values_by_row}
+use Rattle.order_grammar.specs.Keyword.{keyword_of, text_of_keyword}
 use Rattle.order_grammar.specs.Row.{row_of, is_short_row, joined_values}
 use Rattle.order_grammar.specs.Token.{GivesFirst}
 use Rattle.order_grammar.specs.Words.{Placed, raised, same_word, texts_of}
@@ -13,11 +15,12 @@ use Rattle.order_grammar.specs.declared.class.Class.{Class}
 use Rattle.order_grammar.specs.declared.fault.Fault.{Fault}
 use Rattle.order_grammar.specs.declared.fault.Fault.TheVariants.{UnknownWord, WrongWords, NumberTooLarge}
 use Rattle.order_grammar.specs.declared.form.Form.{Form}
-use Rattle.order_grammar.specs.declared.form.Repeated.{Repeated}
+use Rattle.order_grammar.specs.declared.form.TrailingClass.{TrailingClass}
 use Rattle.order_grammar.specs.declared.order.Order.{Order}
-use Rattle.order_grammar.specs.declared.order.Tail.{Tail}
+use Rattle.order_grammar.specs.declared.order.Trailing.{Trailing}
 use Rattle.order_grammar.specs.declared.order.Value.{Value}
 use Rattle.order_grammar.specs.declared.words.Token.{Token}
+use Rattle.order_grammar.proofs.KeywordLemmas.{keyword_of-same}
 use Rattle.order_grammar.proofs.WordLemmas.{next_words}
 
 -- what the words of a line are by all forms
@@ -66,6 +69,25 @@ nearer-unknown fault =
     let test : ltb (nearness (Err fault)) 0 ≡ false = le-ltb _ _ (omega arith) in
     rw test refl
 
+-- by a row with this first word they are what the words after it are
+pub known-row : (row : Row) (first : List ℕ) (rest : List (List ℕ)) (reading : Result Order Fault)
+    → same_word first (text_of_keyword row.keyword) ≡ true
+    → reading ≡ order_of_values row.keyword (values_by_row row rest) → reading ≡ row_reading row first rest
+known-row row first rest reading same is = is ∙ rw same refl
+
+-- where the first word is that of no row, the words are of no form
+pub unknown-rows : (rows : List Row) (first : List ℕ) (rest : List (List ℕ)) → keyword_of first ≡ None
+    → fold (with_row first rest) (Err UnknownWord) rows ≡ Err UnknownWord
+unknown-rows [] first rest none = refl
+unknown-rows (row ∷ rows) first rest none =
+    let different : same_word first (text_of_keyword row.keyword) ≡ false =
+    false_from_ne_true _ (λ same. let wrong : None ≡ Some row.keyword =
+    sym none ∙ keyword_of-same first row.keyword same in absurd cc) in
+    ap (λ (r : Result Order Fault). fold (with_row first rest) (nearer (Err UnknownWord) r) rows)
+    (sym (unknown-row row first rest different))
+    ∙ ap (λ (r : Result Order Fault). fold (with_row first rest) r rows) (nearer-unknown UnknownWord)
+    ∙ unknown-rows rows first rest none
+
 -- one more row, and what the words are by it
 pub rows-next : (first : List ℕ) (rest : List (List ℕ)) (nearest : Result Order Fault) (forms : List Form) (i : ℕ)
     (d : Form) → i < length forms →
@@ -86,38 +108,40 @@ short_form forms i d short lt =
     ∙ and_at (list_all is_short_row) is_short_row refl (λ _ _. refl) (map row_of forms) i (row_of d) size short
 
 -- no word is left for a class
-pub values_reading-none : (front : List Value) (too_large : Bool) (classes : List Class) (r : Repeated) (i : ℕ)
+pub values_reading-none : (prefix : List Value) (too_large : Bool) (classes : List Class) (r : TrailingClass) (i : ℕ)
     (d : Class) (all : List (List ℕ)) →
-    i < length classes → all ≡ [] → joined_values front too_large (values_reading (drop i classes) r all)
+    i < length classes → all ≡ [] → joined_values prefix too_large (values_reading (drop i classes) r all)
     ≡ Err WrongWords
-values_reading-none front too_large classes r i d all lt none = rw (none, drop_more classes i d lt) refl
+values_reading-none prefix too_large classes r i d all lt none = rw (none, drop_more classes i d lt) refl
 
 -- after the last class
-values_reading-end : (classes : List Class) (r : Repeated) (i : ℕ) (words : List (List ℕ)) → length classes ≤ i →
+values_reading-end : (classes : List Class) (r : TrailingClass) (i : ℕ) (words : List (List ℕ)) → length classes ≤ i →
     values_reading (drop i classes) r words ≡ values_reading [] r words
 values_reading-end classes r i words le = at_drop_all (λ (cs : List Class). values_reading cs r words) classes i le
 
 -- the rest is not what is repeated
-pub values_reading-no_tail : (front : List Value) (too_large : Bool) (classes : List Class) (r : Repeated) (i : ℕ)
-    (words : List (List ℕ)) (found : Option Tail) →
-    length classes ≤ i → found ≡ tail_reading r words → found ≡ None
-    → joined_values front too_large (values_reading (drop i classes) r words) ≡ Err WrongWords
-values_reading-no_tail front too_large classes r i words found le is none =
-    let no : tail_reading r words ≡ None = sym is ∙ none in
-    ap (joined_values front too_large) (values_reading-end classes r i words le) ∙ rw (no, values_reading) refl
+pub values_reading-no_trailing : (prefix : List Value) (too_large : Bool) (classes : List Class) (r : TrailingClass)
+    (i : ℕ)
+    (words : List (List ℕ)) (found : Option Trailing) →
+    length classes ≤ i → found ≡ trailing_reading r words → found ≡ None
+    → joined_values prefix too_large (values_reading (drop i classes) r words) ≡ Err WrongWords
+values_reading-no_trailing prefix too_large classes r i words found le is none =
+    let no : trailing_reading r words ≡ None = sym is ∙ none in
+    ap (joined_values prefix too_large) (values_reading-end classes r i words le) ∙ rw (no, values_reading) refl
 
 -- the rest is
-pub values_reading-tail : (front : List Value) (too_large : Bool) (classes : List Class) (r : Repeated) (i : ℕ)
-    (words : List (List ℕ)) (found : Option Tail) (t : Tail) →
-    length classes ≤ i → found ≡ tail_reading r words → found ≡ Some t →
-    joined_values front too_large (values_reading (drop i classes) r words)
-    ≡ cond too_large (Err NumberTooLarge) (Ok (front, t))
-values_reading-tail front too_large classes r i words found t le is some =
-    let yes : tail_reading r words ≡ Some t = sym is ∙ some in
-    ap (joined_values front too_large) (values_reading-end classes r i words le)
+pub values_reading-trailing : (prefix : List Value) (too_large : Bool) (classes : List Class) (r : TrailingClass)
+    (i : ℕ)
+    (words : List (List ℕ)) (found : Option Trailing) (t : Trailing) →
+    length classes ≤ i → found ≡ trailing_reading r words → found ≡ Some t →
+    joined_values prefix too_large (values_reading (drop i classes) r words)
+    ≡ cond too_large (Err NumberTooLarge) (Ok (prefix, t))
+values_reading-trailing prefix too_large classes r i words found t le is some =
+    let yes : trailing_reading r words ≡ Some t = sym is ∙ some in
+    ap (joined_values prefix too_large) (values_reading-end classes r i words le)
     ∙ rw (yes, values_reading)
-    (ap (λ (all : List Value). cond {A = Result (List Value × Tail) Fault} too_large (Err NumberTooLarge)
-    (Ok (all, t))) (append-nil front))
+    (ap (λ (all : List Value). cond {A = Result (List Value × Trailing) Fault} too_large (Err NumberTooLarge)
+    (Ok (all, t))) (append-nil prefix))
 
 -- the first of a line's words and the others, read by some rows, are what the words are by them
 pub table_read : (words left : List Placed) (given : Option Token) (first : Token) (rows : List Row)

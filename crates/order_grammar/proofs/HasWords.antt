@@ -11,7 +11,9 @@ use Rattle.order_grammar.specs.Order.{lay_of, parts_of, Parts}
 use Rattle.order_grammar.specs.Spells.{HasSpelling, is_round_of_line}
 use Rattle.order_grammar.specs.declared.order.Offer.TheVariants as offer
 use Rattle.order_grammar.specs.declared.order.Order.{Order}
-use Rattle.order_grammar.specs.declared.order.Order.TheVariants.{Game, Players, Sheet, Bid, Limit, Par, BuyShare, Sell, Lay, Run, BuyTrain, BuyOwnedPrivate, Raise, Offer, Cert, Claim, Marks}
+use Rattle.order_grammar.specs.declared.order.Order.TheVariants.{Game, Players, Sheet, Bid, Limit, Par, BuyShare, Sell}
+use Rattle.order_grammar.specs.declared.order.Order.TheVariants.{Lay, Run, BuyTrain, BuyOwnedPrivate, Raise, Offer}
+use Rattle.order_grammar.specs.declared.order.Order.TheVariants.{Cert, Claim, Marks}
 use Rattle.order_grammar.specs.declared.order.ShareSource.TheVariants.{InitialOffering, BankPool}
 use Rattle.order_grammar.specs.declared.order.TrainSource.TheVariants as source
 use Rattle.order_grammar.specs.declared.order.Value.{Value}
@@ -53,7 +55,7 @@ has_words (Limit private amount) has = rw (le-leb amount number_most has) refl
 has_words (Par company price) has = rw (le-leb price number_most has) refl
 has_words (BuyShare company InitialOffering) has = refl
 has_words (BuyShare company BankPool) has = refl
-has_words (Sell company tenths) has = rw (le-leb tenths number_most has) refl
+has_words (Sell company shares) has = rw (le-leb shares number_most has) refl
 has_words (Lay lay) has = lay_has_words lay.tile lay.hex lay.rot lay.swap
 has_words (Run kind run) has =
     let least = le-leb 2 (length run) has.0 in
@@ -64,7 +66,7 @@ has_words (BuyTrain kind (source.Trade other)) has = refl
 has_words (BuyTrain kind source.BankPool) has = refl
 has_words (BuyTrain kind (source.Company seller price)) has = rw (le-leb price number_most has) refl
 has_words (BuyOwnedPrivate private price) has = rw (le-leb price number_most has) refl
-has_words (Raise company tenths) has = rw (le-leb tenths number_most has) refl
+has_words (Raise company shares) has = rw (le-leb shares number_most has) refl
 has_words (Offer (offer.Private private buyer price)) has = rw (le-leb price number_most has) refl
 has_words (Offer (offer.Train kind seller buyer price)) has = rw (le-leb price number_most has) refl
 has_words (Cert round company revenue) has =

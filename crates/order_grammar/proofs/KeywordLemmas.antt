@@ -1,8 +1,13 @@
 -- Words and keywords that are the same.
-use Rattle.std.proofs.Common.{◌≡◌, ℕ, ◌==◌, true, List, [], ◌∷◌, refl}
-use Rattle.std.proofs.lemmas.Bool.{and_parts, eqb-true, eq-eqb, false≢true}
-use Rattle.order_grammar.specs.Keyword.{text_of_keyword}
-use Rattle.order_grammar.specs.Words.{same_word}
+use Rattle.std.proofs.Common.{◌≡◌, ℕ, ◌+◌, ◌<◌, ◌≤◌, ◌==◌, Bool, true, false, not, cond, List, [], ◌∷◌, Option, Some}
+use Rattle.std.proofs.Common.{drop, get_or, length, refl, sym, ap, ◌∙◌, arith}
+use denote.Enum.Bare.{sameb, same_true, true_same}
+use Rattle.std.proofs.lemmas.Bool.{and_parts, eqb-true, eq-eqb, false≢true, false_from_ne_true, not-false}
+use Rattle.std.proofs.lemmas.List.{drop_more}
+use Rattle.std.specs.Char.{to_ascii_uppercase}
+use Rattle.order_grammar.specs.Keyword.{beginning_with, keyword_of, spelt_of, text_of_keyword}
+use Rattle.order_grammar.specs.Words.{raised, same_word}
+use Rattle.order_grammar.specs.contracts.keyword.Keyword.{the_type as keyword_type}
 use Rattle.order_grammar.specs.declared.keyword.Keyword.{Keyword}
 use Rattle.order_grammar.specs.declared.keyword.Keyword.TheVariants as keyword
 
@@ -14,8 +19,8 @@ same_word-is (x ∷ xs) [] e = absurd cc
 same_word-is (x ∷ xs) (y ∷ ys) e =
     let parts = and_parts (x == y) (same_word xs ys) e in
     let head : x ≡ y = eqb-true x y parts.0 in
-    let tail = same_word-is xs ys parts.1 in
-    rw (head, tail) refl
+    let trailing = same_word-is xs ys parts.1 in
+    rw (head, trailing) refl
 
 -- a word is the same as itself
 pub same_word-self : (word : List ℕ) → same_word word word ≡ true
@@ -63,3 +68,100 @@ same_keyword keyword.AtLeast keyword.AtLeast same = refl
 same_keyword keyword.Phase keyword.Phase same = refl
 same_keyword keyword.Floated keyword.Floated same = refl
 same_keyword a b same = absurd (false≢true same)
+
+-- the text of each keyword spells it
+pub keyword_of-text : (k : Keyword) → keyword_of (text_of_keyword k) ≡ Some k
+keyword_of-text keyword.Game = refl
+keyword_of-text keyword.Players = refl
+keyword_of-text keyword.Sheet = refl
+keyword_of-text keyword.Turn = refl
+keyword_of-text keyword.Buy = refl
+keyword_of-text keyword.Bid = refl
+keyword_of-text keyword.Limit = refl
+keyword_of-text keyword.Par = refl
+keyword_of-text keyword.Sell = refl
+keyword_of-text keyword.Exchange = refl
+keyword_of-text keyword.Company = refl
+keyword_of-text keyword.Lay = refl
+keyword_of-text keyword.Token = refl
+keyword_of-text keyword.Run = refl
+keyword_of-text keyword.Pay = refl
+keyword_of-text keyword.Withhold = refl
+keyword_of-text keyword.Train = refl
+keyword_of-text keyword.Discard = refl
+keyword_of-text keyword.Private = refl
+keyword_of-text keyword.Raise = refl
+keyword_of-text keyword.Offer = refl
+keyword_of-text keyword.Certs = refl
+keyword_of-text keyword.Cert = refl
+keyword_of-text keyword.Claim = refl
+keyword_of-text keyword.Marks = refl
+keyword_of-text keyword.InitialOffering = refl
+keyword_of-text keyword.Pool = refl
+keyword_of-text keyword.Mohawk = refl
+keyword_of-text keyword.Swap = refl
+keyword_of-text keyword.Bank = refl
+keyword_of-text keyword.Trade = refl
+keyword_of-text keyword.Best = refl
+keyword_of-text keyword.One = refl
+keyword_of-text keyword.If = refl
+keyword_of-text keyword.Price = refl
+keyword_of-text keyword.AtLeast = refl
+keyword_of-text keyword.Phase = refl
+keyword_of-text keyword.Floated = refl
+
+-- a word that is the text of a keyword spells that
+pub keyword_of-same : (word : List ℕ) (k : Keyword) → same_word word (text_of_keyword k) ≡ true
+    → keyword_of word ≡ Some k
+keyword_of-same word k same = ap keyword_of (same_word-is word _ same) ∙ keyword_of-text k
+
+-- a word is the text of the first of some keywords that it spells
+found_same : (word : List ℕ) (k : Keyword) (ks : List Keyword) → spelt_of word ks ≡ Some k
+    → same_word word (text_of_keyword k) ≡ true
+found_same word k [] is = absurd cc
+found_same word k (other ∷ ks) is =
+    (elim (same_word word (text_of_keyword other)) as (λ b. same_word word (text_of_keyword other) ≡ b
+    → cond b (Some other) (spelt_of word ks) ≡ Some k → same_word word (text_of_keyword k) ≡ true) [
+      | true ↦ λ same found. let one : other ≡ k = cc in rw (← one) same
+      | false ↦ λ same found. found_same word k ks found
+    ]) refl is
+
+-- a word is the text of the keyword that it spells
+pub same-keyword_of : (word : List ℕ) (k : Keyword) → keyword_of word ≡ Some k
+    → same_word word (text_of_keyword k) ≡ true
+same-keyword_of [] k is = absurd cc
+same-keyword_of (byte ∷ bytes) k is = found_same (byte ∷ bytes) k (beginning_with byte) is
+
+-- the keywords are looked for among those that begin with the word's first byte
+pub spelt_is : (word : List ℕ) (byte : ℕ) (ks : List Keyword) (found : Option Keyword) → 1 ≤ length word
+    → byte ≡ to_ascii_uppercase (get_or word 0 0) → ks ≡ beginning_with byte → found ≡ spelt_of (raised word) ks
+    → found ≡ keyword_of (raised word)
+spelt_is [] byte ks found some is among spelt = absurd (omega (arith, some))
+spelt_is (first ∷ word) byte ks found some is among spelt = spelt ∙ rw (among, is) refl
+
+-- one of them is not it
+pub spelt-next : (word : List ℕ) (ks : List Keyword) (i : ℕ) (d : Keyword) → i < length ks
+    → same_word word (text_of_keyword (get_or ks i d)) ≡ false
+    → spelt_of word (drop i ks) ≡ spelt_of word (drop (i + 1) ks)
+spelt-next word ks i d lt other = rw (drop_more ks i d lt, other) refl
+
+-- one of them is it
+pub spelt-here : (word : List ℕ) (ks : List Keyword) (i : ℕ) (d : Keyword) → i < length ks
+    → same_word word (text_of_keyword (get_or ks i d)) ≡ true
+    → spelt_of word (drop i ks) ≡ Some (get_or ks i d)
+spelt-here word ks i d lt here = rw (drop_more ks i d lt, here) refl
+
+-- a keyword that compares alike to the one that a word spells is its
+pub same_by : (a b : Keyword) (word : List ℕ) (differ : Bool) → differ ≡ not (sameb keyword_type a b)
+    → differ ≡ false → keyword_of word ≡ Some b → same_word word (text_of_keyword a) ≡ true
+same_by a b word differ is off spelt =
+    let one : a ≡ b = same_true keyword_type tt a b (not-false _ (sym is ∙ off)) in
+    rw one (same-keyword_of word b spelt)
+
+-- and any other is not
+pub other_by : (a b : Keyword) (word : List ℕ) (differ : Bool) → differ ≡ not (sameb keyword_type a b)
+    → differ ≡ true → keyword_of word ≡ Some b → same_word word (text_of_keyword a) ≡ false
+other_by a b word differ is on spelt = false_from_ne_true _ (λ same.
+    let both : Some a ≡ Some b = sym (keyword_of-same word a same) ∙ spelt in
+    let one : a ≡ b = cc in
+    let wrong : true ≡ false = sym on ∙ (is ∙ ap not (true_same keyword_type a b one)) in absurd cc)

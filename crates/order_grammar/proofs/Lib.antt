@@ -16,7 +16,7 @@ pub mod WalkLemmas
 pub mod LineFaultLemmas
 pub mod VersionLemmas
 pub mod WordLemmas
-pub mod FrontLemmas
+pub mod PrefixLemmas
 pub mod LineLemmas
 pub mod HasWords
 pub mod SpellingLemmas

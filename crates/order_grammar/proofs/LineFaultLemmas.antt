@@ -1,5 +1,6 @@
 -- The fault of a line is what it is read as.
-use Rattle.std.proofs.Common.{◌≡◌, ℕ, suc, ◌<◌, ◌≤◌, true, false, ltb, fold, ◌⊎◌, inl, inr, List, [], ◌∷◌, Some, None, lit≤, Result, Ok, Err, Any, length, refl, sym, ap, subst, ◌∙◌, arith}
+use Rattle.std.proofs.Common.{◌≡◌, ℕ, suc, ◌<◌, ◌≤◌, true, false, ltb, fold, ◌⊎◌, inl, inr, List, [], ◌∷◌, Some, None}
+use Rattle.std.proofs.Common.{lit≤, Result, Ok, Err, Any, length, refl, sym, ap, subst, ◌∙◌, arith}
 use Rattle.std.specs.List.{list_all}
 use Rattle.std.proofs.lemmas.Bool.{cases_Bool, cases_lt, le-ltb, lt-ltb, and_cases, false≢true}
 use Rattle.std.proofs.lemmas.List.Folds.{list_all_at}
@@ -12,13 +13,15 @@ use Rattle.order_grammar.specs.Spells.{AreWordsFor, BeginWithOneOf}
 use Rattle.order_grammar.specs.Texts.{TextKind}
 use Rattle.order_grammar.specs.Words.{same_word, before_comment, is_printable, words_of}
 use Rattle.order_grammar.specs.declared.fault.Fault.{Fault}
-use Rattle.order_grammar.specs.declared.fault.Fault.TheVariants.{TooLong, StrayByte, UnknownWord, WrongWords, NumberTooLarge}
+use Rattle.order_grammar.specs.declared.fault.Fault.TheVariants.{TooLong, StrayByte, UnknownWord, WrongWords}
+use Rattle.order_grammar.specs.declared.fault.Fault.TheVariants.{NumberTooLarge}
 use Rattle.order_grammar.specs.declared.keyword.Keyword.{Keyword}
 use Rattle.order_grammar.specs.declared.order.Order.{Order}
-use Rattle.order_grammar.specs.declared.order.Tail.{Tail}
+use Rattle.order_grammar.specs.declared.order.Trailing.{Trailing}
 use Rattle.order_grammar.specs.declared.order.Value.{Value}
 use Rattle.order_grammar.proofs.FormLemmas.{with_row, all_reading}
-use Rattle.order_grammar.proofs.PartLemmas.{AreRowsOf, begins_form, listed_is_begun, known_read, unknown_read, known_or_other, read_known}
+use Rattle.order_grammar.proofs.PartLemmas.{AreRowsOf, begins_form, listed_is_begun, known_read, unknown_read}
+use Rattle.order_grammar.proofs.PartLemmas.{known_or_other, read_known}
 use Rattle.order_grammar.proofs.RowLemmas.{IsAmong, among_any, nearest_has, words_say}
 use Rattle.order_grammar.proofs.ShapeLemmas.{ReadThus, values_made}
 use Rattle.order_grammar.proofs.SmallLemmas.{are_small, small_by_parts, small_of_parts}
@@ -61,7 +64,7 @@ words_decide most rows line short clean =
     rw (test, all_printable line clean) refl
 
 -- a value or wrong words: what comes after the first word is no unknown word
-order_near : (k : Keyword) (read : List Value × Tail) → 1 ≤ nearness (order_of_values k (Ok read))
+order_near : (k : Keyword) (read : List Value × Trailing) → 1 ≤ nearness (order_of_values k (Ok read))
 order_near k read =
     elim (order_from k read.0 read.1) as (λ found. 1
     ≤ nearness (elim found [ Some order ↦ Ok order | None ↦ Err WrongWords ])) [
@@ -69,8 +72,8 @@ order_near k read =
       | None ↦ lit≤ tt
     ]
 
-values_near : (row : Row) (rest : List (List ℕ)) (read : Result (List Value × Tail) Fault)
-    → ReadThus row.classes row.repeated rest read →
+values_near : (row : Row) (rest : List (List ℕ)) (read : Result (List Value × Trailing) Fault)
+    → ReadThus row.classes row.trailing_class rest read →
     1 ≤ nearness (order_of_values row.keyword read)
 values_near row rest (Ok read) h = order_near row.keyword read
 values_near row rest (Err NumberTooLarge) h = lit≤ tt
@@ -80,8 +83,8 @@ values_near row rest (Err other) h = absurd h
 -- by a row that begins with the word
 row_near : (row : Row) (first : List ℕ) (rest : List (List ℕ)) → same_word first (text_of_keyword row.keyword) ≡ true →
     1 ≤ nearness (row_reading row first rest)
-row_near row first rest same = rw same (values_near row rest (values_reading row.classes row.repeated rest)
-    (values_made row.classes row.repeated rest))
+row_near row first rest same = rw same (values_near row rest (values_reading row.classes row.trailing_class rest)
+    (values_made row.classes row.trailing_class rest))
 
 -- the nearer of two is at least as near as each
 nearer-le : (a b : Result Order Fault) → (nearness a ≤ nearness (nearer a b)) × (nearness b ≤ nearness (nearer a b))

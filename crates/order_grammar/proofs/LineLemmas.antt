@@ -1,16 +1,17 @@
 -- A line's words at their places, and what they are read as.
-use Rattle.std.proofs.Common.{◌≡◌, ℕ, true, false, nat_lt, inl, inr, List, [], Result, Ok, Err, length, sym, ap, subst, refl, ◌∙◌}
+use Rattle.std.proofs.Common.{◌≡◌, ℕ, true, false, nat_lt, inl, inr, List, [], Result, Ok, Err, length, sym, ap, subst}
+use Rattle.std.proofs.Common.{refl, ◌∙◌}
 use Rattle.std.specs.List.{list_all}
 use Rattle.std.proofs.lemmas.Bool.{cases_Bool}
 use Rattle.order_grammar.specs.Form.{Row, words_reading}
 use Rattle.order_grammar.specs.Limits.{line_most}
 use Rattle.order_grammar.specs.Line.{reading_by, words_within}
 use Rattle.order_grammar.specs.Version.{reading_in, words_reading_in}
-use Rattle.order_grammar.specs.Words.{Placed, StandFrom, AreWordsOf, before_comment, is_printable, placed_from, texts_of}
+use Rattle.order_grammar.specs.Words.{Placed, LieFrom, AreWordsOf, before_comment, is_printable, placed_from, texts_of}
 use Rattle.order_grammar.specs.declared.condition.Version.{Version}
 use Rattle.order_grammar.specs.declared.fault.Fault.{Fault}
 use Rattle.order_grammar.specs.declared.fault.Fault.TheVariants.{TooLong, StrayByte}
-use Rattle.order_grammar.proofs.WordLemmas.{texts_of-line, words_stand}
+use Rattle.order_grammar.proofs.WordLemmas.{texts_of-line, words_lie}
 
 -- its words are those at their places
 line_words : (line : List ℕ) (words : List Placed) → words ≡ placed_from 0 [] (before_comment line) →
@@ -19,7 +20,7 @@ line_words line words is =
     record {
       texts = texts_of-line line words is;
       places =
-          subst (StandFrom 0 (before_comment line)) (sym is) (words_stand (before_comment line));
+          subst (LieFrom 0 (before_comment line)) (sym is) (words_lie (before_comment line));
     }
 
 -- what is known of the words of a line that is not too long and has no stray byte

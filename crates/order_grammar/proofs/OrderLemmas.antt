@@ -1,5 +1,6 @@
 -- Orders and their parts: an order is made of its parts, and words spell it as they spell those.
-use Rattle.std.proofs.Common.{◌≡◌, ℕ, Bool, true, false, inl, inr, List, [], ◌∷◌, Option, Some, None, length, map, unwrap_or, refl, sym, ap, subst, ◌∙◌}
+use Rattle.std.proofs.Common.{◌≡◌, ℕ, Bool, true, false, inl, inr, List, [], ◌∷◌, Option, Some, None, length, map}
+use Rattle.std.proofs.Common.{unwrap_or, refl, sym, ap, subst, ◌∙◌}
 use Rattle.std.specs.List.{list_any}
 use Rattle.std.proofs.lemmas.Bool.{cases_Bool, false≢true, le-leb, leb-true, and_parts}
 use Rattle.map_tables.specs.declared.hex.Hex.{Hex}
@@ -11,99 +12,104 @@ use Rattle.tables.specs.declared.rolling_stock.Kind.{Kind}
 use Rattle.order_grammar.specs.Form.{forms, is_row_of, is_run_length, has_form, are_names}
 use Rattle.order_grammar.specs.Keyword.{text_of_keyword}
 use Rattle.order_grammar.specs.Order.{lay_of, made_of, parts_of, order_from, Parts}
-use Rattle.order_grammar.specs.Spells.{IsWord, IsNumber, IsName, IsRoundOfLine, IsPrivate, IsCompany, IsKind, IsTile, IsHex, IsRotation, IsPlace, AreHexDigits, AreNames, Then, End, AreWordsFor}
+use Rattle.order_grammar.specs.Spells.{IsWord, IsNumber, IsName, IsRoundOfLine, IsPrivate, IsCompany, IsKind, IsTile}
+use Rattle.order_grammar.specs.Spells.{IsHex, IsRotation, IsPlace, AreHexDigits, AreNames, Then, End, AreWordsFor}
 use Rattle.order_grammar.specs.declared.keyword.Keyword.{Keyword}
 use Rattle.order_grammar.specs.declared.keyword.Keyword.TheVariants as keyword
 use Rattle.order_grammar.specs.declared.order.Order.{Order}
-use Rattle.order_grammar.specs.declared.order.Order.TheVariants.{Blank, Game, Players, Sheet, Turn, BuyPrivate, Bid, Limit, Par, BuyShare, Sell, ExchangeMohawk, Company as CompanyTurn, Lay, Token, Run, RunBest, Pay, Withhold, BuyTrain, Discard, BuyOwnedPrivate, Raise, Offer, Certs, Cert, Claim, Marks}
+use Rattle.order_grammar.specs.declared.order.Order.TheVariants.{Blank, Game, Players, Sheet, Turn, BuyPrivate, Bid}
+use Rattle.order_grammar.specs.declared.order.Order.TheVariants.{Limit, Par, BuyShare, Sell, ExchangeMohawk}
+use Rattle.order_grammar.specs.declared.order.Order.TheVariants.{Company as CompanyTurn, Lay, Token, Run, RunBest, Pay}
+use Rattle.order_grammar.specs.declared.order.Order.TheVariants.{Withhold, BuyTrain, Discard, BuyOwnedPrivate, Raise}
+use Rattle.order_grammar.specs.declared.order.Order.TheVariants.{Offer, Certs, Cert, Claim, Marks}
 use Rattle.order_grammar.specs.declared.order.Offer.TheVariants as offer
 use Rattle.order_grammar.specs.declared.order.ShareSource.TheVariants.{InitialOffering, BankPool}
-use Rattle.order_grammar.specs.declared.order.Tail.{Tail}
-use Rattle.order_grammar.specs.declared.order.Tail.TheVariants as tail
+use Rattle.order_grammar.specs.declared.order.Trailing.{Trailing}
+use Rattle.order_grammar.specs.declared.order.Trailing.TheVariants as trailing
 use Rattle.order_grammar.specs.declared.order.TrainSource.TheVariants as source
 use Rattle.order_grammar.specs.declared.order.Value.{Value}
 use Rattle.order_grammar.specs.declared.order.Value.TheVariants as value
 
 -- an order that is made of parts
-pub record IsFormed (k : Keyword) (values : List Value) (t : Tail) : Type 0 where
+pub record IsFormed (k : Keyword) (values : List Value) (t : Trailing) : Type 0 where
   pub order : Order
   pub made : order_from k values t ≡ Some order
   pub parts : parts_of order ≡ made_of k values t
 
 -- parts that have a form make an order
-pub formed : (k : Keyword) (values : List Value) (t : Tail) → list_any (is_row_of k values t) forms ≡ true
+pub formed : (k : Keyword) (values : List Value) (t : Trailing) → list_any (is_row_of k values t) forms ≡ true
     → IsFormed k values t
-formed keyword.Game ((value.Number game) ∷ (value.Number version) ∷ []) tail.Nothing h =
+formed keyword.Game ((value.Number game) ∷ (value.Number version) ∷ []) trailing.Nothing h =
     record { order = Game game version; made = refl; parts = refl }
-formed keyword.Players [] (tail.Names names) h = record { order = Players names; made = refl; parts = refl }
-formed keyword.Sheet ((value.Name name) ∷ (value.Round round) ∷ []) tail.Nothing h =
+formed keyword.Players [] (trailing.Names names) h = record { order = Players names; made = refl; parts = refl }
+formed keyword.Sheet ((value.Name name) ∷ (value.Round round) ∷ []) trailing.Nothing h =
     record { order = Sheet name round; made = refl; parts = refl }
-formed keyword.Turn [] tail.Nothing h = record { order = Turn; made = refl; parts = refl }
-formed keyword.Buy ((value.Private private) ∷ []) tail.Nothing h =
+formed keyword.Turn [] trailing.Nothing h = record { order = Turn; made = refl; parts = refl }
+formed keyword.Buy ((value.Private private) ∷ []) trailing.Nothing h =
     record { order = BuyPrivate private; made = refl; parts = refl }
-formed keyword.Bid ((value.Private private) ∷ (value.Number amount) ∷ []) tail.Nothing h =
+formed keyword.Bid ((value.Private private) ∷ (value.Number amount) ∷ []) trailing.Nothing h =
     record { order = Bid private amount; made = refl; parts = refl }
-formed keyword.Limit ((value.Private private) ∷ (value.Number amount) ∷ []) tail.Nothing h =
+formed keyword.Limit ((value.Private private) ∷ (value.Number amount) ∷ []) trailing.Nothing h =
     record { order = Limit private amount; made = refl; parts = refl }
-formed keyword.Par ((value.Company company) ∷ (value.Number price) ∷ []) tail.Nothing h =
+formed keyword.Par ((value.Company company) ∷ (value.Number price) ∷ []) trailing.Nothing h =
     record { order = Par company price; made = refl; parts = refl }
-formed keyword.Buy ((value.Company company) ∷ (value.Word keyword.InitialOffering) ∷ []) tail.Nothing h =
+formed keyword.Buy ((value.Company company) ∷ (value.Word keyword.InitialOffering) ∷ []) trailing.Nothing h =
     record { order = BuyShare company InitialOffering; made = refl; parts = refl }
-formed keyword.Buy ((value.Company company) ∷ (value.Word keyword.Pool) ∷ []) tail.Nothing h =
+formed keyword.Buy ((value.Company company) ∷ (value.Word keyword.Pool) ∷ []) trailing.Nothing h =
     record { order = BuyShare company BankPool; made = refl; parts = refl }
-formed keyword.Sell ((value.Company company) ∷ (value.Number tenths) ∷ []) tail.Nothing h =
-    record { order = Sell company tenths; made = refl; parts = refl }
-formed keyword.Exchange ((value.Word keyword.Mohawk) ∷ []) tail.Nothing h =
+formed keyword.Sell ((value.Company company) ∷ (value.Number shares) ∷ []) trailing.Nothing h =
+    record { order = Sell company shares; made = refl; parts = refl }
+formed keyword.Exchange ((value.Word keyword.Mohawk) ∷ []) trailing.Nothing h =
     record { order = ExchangeMohawk; made = refl; parts = refl }
-formed keyword.Company ((value.Company company) ∷ []) tail.Nothing h =
+formed keyword.Company ((value.Company company) ∷ []) trailing.Nothing h =
     record { order = CompanyTurn company; made = refl; parts = refl }
-formed keyword.Lay ((value.Tile tile) ∷ (value.Hex hex) ∷ (value.Rotation rot) ∷ []) tail.Nothing h =
+formed keyword.Lay ((value.Tile tile) ∷ (value.Hex hex) ∷ (value.Rotation rot) ∷ []) trailing.Nothing h =
     record { order = Lay (lay_of tile hex rot false); made = refl; parts = refl }
 formed keyword.Lay ((value.Tile tile) ∷ (value.Hex hex) ∷ (value.Rotation rot) ∷ (value.Word keyword.Swap) ∷ [])
-    tail.Nothing h =
+    trailing.Nothing h =
     record { order = Lay (lay_of tile hex rot true); made = refl; parts = refl }
-formed keyword.Token ((value.Place place) ∷ []) tail.Nothing h =
+formed keyword.Token ((value.Place place) ∷ []) trailing.Nothing h =
     record { order = Token place; made = refl; parts = refl }
-formed keyword.Run ((value.Kind kind) ∷ []) (tail.Places run) h =
+formed keyword.Run ((value.Kind kind) ∷ []) (trailing.Places run) h =
     record { order = Run kind run; made = refl; parts = refl }
-formed keyword.Run ((value.Word keyword.Best) ∷ []) tail.Nothing h =
+formed keyword.Run ((value.Word keyword.Best) ∷ []) trailing.Nothing h =
     record { order = RunBest; made = refl; parts = refl }
-formed keyword.Pay [] tail.Nothing h = record { order = Pay; made = refl; parts = refl }
-formed keyword.Withhold [] tail.Nothing h = record { order = Withhold; made = refl; parts = refl }
-formed keyword.Train ((value.Kind kind) ∷ (value.Word keyword.Bank) ∷ []) tail.Nothing h =
+formed keyword.Pay [] trailing.Nothing h = record { order = Pay; made = refl; parts = refl }
+formed keyword.Withhold [] trailing.Nothing h = record { order = Withhold; made = refl; parts = refl }
+formed keyword.Train ((value.Kind kind) ∷ (value.Word keyword.Bank) ∷ []) trailing.Nothing h =
     record { order = BuyTrain kind source.Bank; made = refl; parts = refl }
 formed keyword.Train ((value.Kind kind) ∷ (value.Word keyword.Bank) ∷ (value.Word keyword.Trade) ∷ (value.Kind other)
-    ∷ []) tail.Nothing h =
+    ∷ []) trailing.Nothing h =
     record { order = BuyTrain kind (source.Trade other); made = refl; parts = refl }
-formed keyword.Train ((value.Kind kind) ∷ (value.Word keyword.Pool) ∷ []) tail.Nothing h =
+formed keyword.Train ((value.Kind kind) ∷ (value.Word keyword.Pool) ∷ []) trailing.Nothing h =
     record { order = BuyTrain kind source.BankPool; made = refl; parts = refl }
-formed keyword.Train ((value.Kind kind) ∷ (value.Company seller) ∷ (value.Number price) ∷ []) tail.Nothing h =
+formed keyword.Train ((value.Kind kind) ∷ (value.Company seller) ∷ (value.Number price) ∷ []) trailing.Nothing h =
     record { order = BuyTrain kind (source.Company seller price); made = refl; parts = refl }
-formed keyword.Discard ((value.Company company) ∷ (value.Kind kind) ∷ []) tail.Nothing h =
+formed keyword.Discard ((value.Company company) ∷ (value.Kind kind) ∷ []) trailing.Nothing h =
     record { order = Discard company kind; made = refl; parts = refl }
-formed keyword.Private ((value.Private private) ∷ (value.Number price) ∷ []) tail.Nothing h =
+formed keyword.Private ((value.Private private) ∷ (value.Number price) ∷ []) trailing.Nothing h =
     record { order = BuyOwnedPrivate private price; made = refl; parts = refl }
-formed keyword.Raise ((value.Company company) ∷ (value.Number tenths) ∷ []) tail.Nothing h =
-    record { order = Raise company tenths; made = refl; parts = refl }
+formed keyword.Raise ((value.Company company) ∷ (value.Number shares) ∷ []) trailing.Nothing h =
+    record { order = Raise company shares; made = refl; parts = refl }
 formed keyword.Offer ((value.Word keyword.Private) ∷ (value.Private private) ∷ (value.Company buyer)
-    ∷ (value.Number price) ∷ []) tail.Nothing h =
+    ∷ (value.Number price) ∷ []) trailing.Nothing h =
     record { order = Offer (offer.Private private buyer price); made = refl; parts = refl }
 formed keyword.Offer ((value.Word keyword.Train) ∷ (value.Kind kind) ∷ (value.Company seller) ∷ (value.Company buyer)
-    ∷ (value.Number price) ∷ []) tail.Nothing h =
+    ∷ (value.Number price) ∷ []) trailing.Nothing h =
     record { order = Offer (offer.Train kind seller buyer price); made = refl; parts = refl }
-formed keyword.Certs ((value.Word keyword.One) ∷ []) tail.Nothing h =
+formed keyword.Certs ((value.Word keyword.One) ∷ []) trailing.Nothing h =
     record { order = Certs; made = refl; parts = refl }
-formed keyword.Cert ((value.Round round) ∷ (value.Company company) ∷ (value.Number revenue) ∷ []) tail.Nothing h =
+formed keyword.Cert ((value.Round round) ∷ (value.Company company) ∷ (value.Number revenue) ∷ []) trailing.Nothing h =
     record { order = Cert round company revenue; made = refl; parts = refl }
-formed keyword.Claim ((value.Kind kind) ∷ []) (tail.Places run) h =
+formed keyword.Claim ((value.Kind kind) ∷ []) (trailing.Places run) h =
     record { order = Claim kind run; made = refl; parts = refl }
-formed keyword.Marks (value.HexDigits ∷ []) tail.Nothing h = record { order = Marks; made = refl; parts = refl }
+formed keyword.Marks (value.HexDigits ∷ []) trailing.Nothing h = record { order = Marks; made = refl; parts = refl }
 formed k values t h = absurd (false≢true h)
 
 -- an order is made again of its parts
 abbrev pub IsMadeAgain : Order → Option Parts → Type 0
 IsMadeAgain order None = order ≡ Blank
-IsMadeAgain order (Some parts) = order_from parts.keyword parts.values parts.tail ≡ Some order
+IsMadeAgain order (Some parts) = order_from parts.keyword parts.values parts.trailing ≡ Some order
 
 lay_made_again : (tile : TileNo) (hex : Hex) (rot : Rotation) (swap : Bool) →
     IsMadeAgain (Lay (lay_of tile hex rot swap)) (parts_of (Lay (lay_of tile hex rot swap)))
@@ -139,26 +145,27 @@ IsTextOf value.HexDigits text = AreHexDigits text
 IsTextOf (value.Word k) text = IsWord (text_of_keyword k) text
 
 -- the words of what is repeated
-abbrev pub AreWordsOfTail : Tail → List (List ℕ) → Type 0
-AreWordsOfTail tail.Nothing words = End words
-AreWordsOfTail (tail.Names names) words = words ≡ names.items
-AreWordsOfTail (tail.Places run) words = words ≡ map text_of_place run
+abbrev pub AreWordsOfTrailing : Trailing → List (List ℕ) → Type 0
+AreWordsOfTrailing trailing.Nothing words = End words
+AreWordsOfTrailing (trailing.Names names) words = words ≡ names.items
+AreWordsOfTrailing (trailing.Places run) words = words ≡ map text_of_place run
 
 -- the words of values, and then of what is repeated
-abbrev pub AreTextsOf : List Value → Tail → List (List ℕ) → Type 0
-AreTextsOf [] t words = AreWordsOfTail t words
+abbrev pub AreTextsOf : List Value → Trailing → List (List ℕ) → Type 0
+AreTextsOf [] t words = AreWordsOfTrailing t words
 AreTextsOf (v ∷ values) t words = Then (IsTextOf v) (AreTextsOf values t) words
 
 -- the words of parts
 abbrev pub AreWordsByParts : Option Parts → List (List ℕ) → Type 0
 AreWordsByParts None words = End words
 AreWordsByParts (Some parts) words =
-    Then (IsWord (text_of_keyword parts.keyword)) (AreTextsOf parts.values parts.tail) words × (has_form parts ≡ true)
+    Then (IsWord (text_of_keyword parts.keyword)) (AreTextsOf parts.values parts.trailing) words ×
+    (has_form parts ≡ true)
 
 -- the words of a players line
 players_by_parts : (words names : List (List ℕ))
     → Then (IsWord (text_of_keyword keyword.Players)) (AreNames names) words →
-    AreWordsByParts (made_of keyword.Players [] (tail.Names (record { items = names }))) words
+    AreWordsByParts (made_of keyword.Players [] (trailing.Names (record { items = names }))) words
 players_by_parts [] names h = absurd h
 players_by_parts (first ∷ words) names h =
     let least = le-leb 3 _ h.1.least in
@@ -178,7 +185,7 @@ run_by_parts (first ∷ second ∷ words) kind run h =
 
 -- of the forms that begin as it does, only that of a run has places
 run_counted : (kind : Kind) (run : List Place) →
-    has_form (record { keyword = keyword.Run; values = value.Kind kind ∷ []; tail = tail.Places run }) ≡ true →
+    has_form (record { keyword = keyword.Run; values = value.Kind kind ∷ []; trailing = trailing.Places run }) ≡ true →
     is_run_length (length run) ≡ true
 run_counted kind run h =
     elim (cases_Bool (is_run_length (length run))) [
@@ -198,7 +205,8 @@ claim_by_parts (first ∷ second ∷ words) kind run h =
 
 -- of the forms that begin as it does, only that of a claim has places
 claim_counted : (kind : Kind) (run : List Place) →
-    has_form (record { keyword = keyword.Claim; values = value.Kind kind ∷ []; tail = tail.Places run }) ≡ true →
+    has_form (record { keyword = keyword.Claim; values = value.Kind kind ∷ []; trailing = trailing.Places run }) ≡ true
+    →
     is_run_length (length run) ≡ true
 claim_counted kind run h =
     elim (cases_Bool (is_run_length (length run))) [
@@ -256,7 +264,8 @@ by_parts other words h = (h, refl)
 
 -- of the forms only that of a players line has names
 players_names : (names : List (List ℕ)) →
-    has_form (record { keyword = keyword.Players; values = []; tail = tail.Names (record { items = names }) }) ≡ true →
+    has_form (record { keyword = keyword.Players; values = []; trailing = trailing.Names (record { items = names }) })
+    ≡ true →
     are_names 3 6 names ≡ true
 players_names names h =
     elim (cases_Bool (are_names 3 6 names)) [
@@ -265,7 +274,7 @@ players_names names h =
     ]
 
 players_of_parts : (words names : List (List ℕ))
-    → AreWordsByParts (made_of keyword.Players [] (tail.Names (record { items = names }))) words →
+    → AreWordsByParts (made_of keyword.Players [] (trailing.Names (record { items = names }))) words →
     Then (IsWord (text_of_keyword keyword.Players)) (AreNames names) words
 players_of_parts [] names h = absurd h.0
 players_of_parts (first ∷ words) names h =
@@ -301,8 +310,8 @@ of_parts other words h = h.0
 
 -- the order that parts make is that of which they are
 pub remade : (order : Order) (parts : Parts) (made : Option Order) → Some parts ≡ parts_of order →
-    made ≡ order_from parts.keyword parts.values parts.tail → unwrap_or made Blank ≡ order
+    made ≡ order_from parts.keyword parts.values parts.trailing → unwrap_or made Blank ≡ order
 remade order parts made is by =
-    let again : order_from parts.keyword parts.values parts.tail ≡ Some order =
+    let again : order_from parts.keyword parts.values parts.trailing ≡ Some order =
     subst (IsMadeAgain order) (sym is) (made_again order) in
     ap (λ (o : Option Order). unwrap_or o Blank) (by ∙ again)

@@ -1,10 +1,12 @@
 -- The forms of a kind of text are a part of the table: words that begin with one of their first words are
 -- by them what they are by all forms, other words are unknown.
-use Rattle.std.proofs.Common.{◌≡◌, ℕ, Bool, true, false, not, ltb, fold, inl, inr, ◌⊎◌, List, [], ◌∷◌, ◌++◌, Result, Err, Contains, get_or, take, drop, refl, sym, ap, subst, ◌∙◌, arith}
+use Rattle.std.proofs.Common.{◌≡◌, ℕ, Bool, true, false, not, ltb, fold, inl, inr, ◌⊎◌, List, [], ◌∷◌, ◌++◌, Result}
+use Rattle.std.proofs.Common.{Err, Contains, get_or, take, drop, refl, sym, ap, subst, ◌∙◌, arith}
 use Rattle.std.specs.List.{list_all, list_any}
 use Rattle.std.proofs.lemmas.Bool.{cases_Bool, le-ltb, or_parts, false≢true}
 use Rattle.std.proofs.lemmas.List.Folds.{list_all_at, Any-from_list_any}
-use Rattle.order_grammar.specs.Form.{Row, forms, order_forms, play_forms, cert_forms, nearness, nearer, row_reading, rows_reading, words_reading}
+use Rattle.order_grammar.specs.Form.{Row, forms, order_forms, play_forms, cert_forms, nearness, nearer, row_reading}
+use Rattle.order_grammar.specs.Form.{rows_reading, words_reading}
 use Rattle.order_grammar.specs.Keyword.{text_of_keyword}
 use Rattle.order_grammar.specs.Limits.{line_most}
 use Rattle.order_grammar.specs.LineFault.{BeginWithOther}
@@ -25,10 +27,10 @@ begins_form first row = same_word first (text_of_keyword row.keyword)
 -- the rows of a text: they stand together in the table, no other row begins with one of its first words, and these are
 -- what its rows begin with
 pub record AreRowsOf (text : TextKind) (rows : List Row) : Type 0 where
-  pub front : List Row
+  pub prefix : List Row
   pub back : List Row
-  pub whole : forms ≡ front ++ (rows ++ back)
-  pub not_front : list_all (λ (word : List ℕ). not (list_any (begins_form word) front)) text.first_words ≡ true
+  pub whole : forms ≡ prefix ++ (rows ++ back)
+  pub not_prefix : list_all (λ (word : List ℕ). not (list_any (begins_form word) prefix)) text.first_words ≡ true
   pub not_back : list_all (λ (word : List ℕ). not (list_any (begins_form word) back)) text.first_words ≡ true
   pub listed : list_all (λ (row : Row). list_any (same_word (text_of_keyword row.keyword)) text.first_words) rows ≡ true
   pub begun : list_all (λ (word : List ℕ). list_any (begins_form word) rows) text.first_words ≡ true
@@ -36,10 +38,10 @@ pub record AreRowsOf (text : TextKind) (rows : List Row) : Type 0 where
 -- those of an order file, and those of a certificate
 pub rows_of_orders : AreRowsOf order_file order_forms
 rows_of_orders = record {
-  front = [];
+  prefix = [];
   back = drop 31 forms;
   whole = refl;
-  not_front = refl;
+  not_prefix = refl;
   not_back = refl;
   listed = refl;
   begun = refl;
@@ -47,25 +49,25 @@ rows_of_orders = record {
 
 pub rows_of_certificates : AreRowsOf certificate cert_forms
 rows_of_certificates = record {
-  front = take 29 forms;
+  prefix = take 29 forms;
   back = [];
   whole = refl;
-  not_front = refl;
+  not_prefix = refl;
   not_back = refl;
   listed = refl;
   begun = refl;
 }
 
--- what may stand behind a condition
+-- what may be behind a condition
 abbrev pub behind_condition : TextKind
 behind_condition = record { most = line_most; first_words = play_words }
 
 pub rows_of_play : AreRowsOf behind_condition play_forms
 rows_of_play = record {
-  front = take 5 forms;
+  prefix = take 5 forms;
   back = drop 29 forms;
   whole = refl;
-  not_front = refl;
+  not_prefix = refl;
   not_back = refl;
   listed = refl;
   begun = refl;
@@ -143,13 +145,13 @@ pub by_all : (text : TextKind) (rows : List Row) (first : List ℕ) (rest : List
 by_all text rows first rest of listed =
     let start : Result Order Fault = Err UnknownWord in
     let f = with_row first rest in
-    let front = denied _ (passed (λ (word : List ℕ). not (list_any (begins_form word) of.front)) text.first_words
-    first of.not_front listed) in
+    let prefix = denied _ (passed (λ (word : List ℕ). not (list_any (begins_form word) of.prefix)) text.first_words
+    first of.not_prefix listed) in
     let back = denied _ (passed (λ (word : List ℕ). not (list_any (begins_form word) of.back)) text.first_words first
     of.not_back listed) in
     sym
-    (ap (λ (all : List Row). fold f start all) of.whole ∙ fold-rows first rest start of.front (rows ++ of.back)
-    ∙ ap (λ (r : Result Order Fault). fold f r (rows ++ of.back)) (no_nearer first rest start of.front front)
+    (ap (λ (all : List Row). fold f start all) of.whole ∙ fold-rows first rest start of.prefix (rows ++ of.back)
+    ∙ ap (λ (r : Result Order Fault). fold f r (rows ++ of.back)) (no_nearer first rest start of.prefix prefix)
     ∙ fold-rows first rest start rows of.back
     ∙ no_nearer first rest (fold f start rows) of.back back)
 

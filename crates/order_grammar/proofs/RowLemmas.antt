@@ -1,9 +1,12 @@
 -- The words of a line by the table of forms: they are read as an order, or as one but for a number,
 -- exactly where they are the words of its parts.
-use Rattle.std.proofs.Common.{◌≡◌, ℕ, ◌≤◌, Bool, true, false, cond, ltb, nat_lt, fold, lit≤, inl, inr, ◌⊎◌, List, [], ◌∷◌, Option, Some, None, Result, Ok, Err, refl, sym, ap, subst, ◌∙◌, arith}
+use Rattle.std.proofs.Common.{◌≡◌, ℕ, ◌≤◌, Bool, true, false, cond, ltb, nat_lt, fold, lit≤, inl, inr, ◌⊎◌, List, []}
+use Rattle.std.proofs.Common.{◌∷◌, Option, Some, None, Result, Ok, Err, refl, sym, ap, subst, ◌∙◌, arith}
 use Rattle.std.specs.List.{list_all, list_any}
-use Rattle.std.proofs.lemmas.Bool.{cases_Bool, cases_lt, le-ltb, lt-ltb, and_parts, and_from, or_cases, or_left, or_right, false≢true}
-use Rattle.order_grammar.specs.Form.{Row, forms, values_reading, order_of_values, nearness, nearer, row_reading, is_row_of}
+use Rattle.std.proofs.lemmas.Bool.{cases_Bool, cases_lt, le-ltb, lt-ltb, and_parts, and_from, or_cases, or_left}
+use Rattle.std.proofs.lemmas.Bool.{or_right, false≢true}
+use Rattle.order_grammar.specs.Form.{Row, forms, values_reading, order_of_values, nearness, nearer, row_reading}
+use Rattle.order_grammar.specs.Form.{is_row_of}
 use Rattle.order_grammar.specs.Keyword.{text_of_keyword}
 use Rattle.order_grammar.specs.Order.{made_of, parts_of, order_from, Parts}
 use Rattle.order_grammar.specs.Spells.{HasSmallNumbers, AreWordsFor}
@@ -12,16 +15,17 @@ use Rattle.order_grammar.specs.declared.fault.Fault.{Fault}
 use Rattle.order_grammar.specs.declared.fault.Fault.TheVariants.{UnknownWord, WrongWords, NumberTooLarge}
 use Rattle.order_grammar.specs.declared.keyword.Keyword.{Keyword}
 use Rattle.order_grammar.specs.declared.order.Order.{Order}
-use Rattle.order_grammar.specs.declared.order.Tail.{Tail}
+use Rattle.order_grammar.specs.declared.order.Trailing.{Trailing}
 use Rattle.order_grammar.specs.declared.order.Value.{Value}
 use Rattle.order_grammar.proofs.ApartLemmas.{are_rows_apart, are_all_apart, forms_apart, IsNear, rows_apart}
 use Rattle.order_grammar.proofs.FormLemmas.{with_row, all_reading}
 use Rattle.order_grammar.proofs.KeywordLemmas.{same_keyword, same_word-is, same_word-self}
-use Rattle.order_grammar.proofs.OrderLemmas.{formed, IsMadeAgain, made_again, AreTextsOf, AreWordsByParts, by_parts, of_parts}
+use Rattle.order_grammar.proofs.OrderLemmas.{formed, IsMadeAgain, made_again, AreTextsOf, AreWordsByParts, by_parts}
+use Rattle.order_grammar.proofs.OrderLemmas.{of_parts}
 use Rattle.order_grammar.proofs.SmallLemmas.{is_small, are_small, small_of_parts}
 use Rattle.order_grammar.proofs.ShapeLemmas.{sized, values_read, AreValuesOf, ReadThus, values_made}
 
--- a row stands among others
+-- a row is among others
 abbrev pub IsAmong : Row → List Row → Type 0
 IsAmong row [] = ⊥
 IsAmong row (other ∷ rows) = (row ≡ other) ⊎ IsAmong row rows
@@ -50,14 +54,14 @@ abbrev pub read_as : Order → Bool → Result Order Fault
 read_as order small = cond small (Ok order) (Err NumberTooLarge)
 
 -- values that make an order
-order_sized : (k : Keyword) (values : List Value) (t : Tail) (order : Order) (small : Bool)
+order_sized : (k : Keyword) (values : List Value) (t : Trailing) (order : Order) (small : Bool)
     → order_from k values t ≡ Some order →
     order_of_values k (sized values t small) ≡ read_as order small
 order_sized k values t order true made = rw (made, order_of_values) refl
 order_sized k values t order false made = refl
 
 -- words of parts are read so by the row of their form
-row_read : (row : Row) (k : Keyword) (values : List Value) (t : Tail) (order : Order) (first : List ℕ)
+row_read : (row : Row) (k : Keyword) (values : List Value) (t : Trailing) (order : Order) (first : List ℕ)
     (rest : List (List ℕ)) →
     is_row_of k values t row ≡ true → first ≡ text_of_keyword k → AreTextsOf values t rest
     → order_from k values t ≡ Some order →
@@ -68,7 +72,7 @@ row_read row k values t order first rest of is are made =
     let begins : same_word first (text_of_keyword row.keyword) ≡ true =
     ap (λ (word : List ℕ). same_word word (text_of_keyword row.keyword)) (is ∙ ap text_of_keyword (sym keyword))
     ∙ same_word-self (text_of_keyword row.keyword) in
-    rw (begins, values_read row.classes row.repeated values t rest parts.1 are, keyword)
+    rw (begins, values_read row.classes row.trailing_class values t rest parts.1 are, keyword)
     (order_sized k values t order (list_all is_small values) made)
 
 -- what is near is near to an order
@@ -143,8 +147,8 @@ parts_read order None [] made are = ap (λ (o : Order). Ok o) (sym made)
 parts_read order None (word ∷ words) made are = absurd are
 parts_read order (Some parts) [] made are = absurd are.0
 parts_read order (Some parts) (first ∷ rest) made are =
-    let row = among_any (is_row_of parts.keyword parts.values parts.tail) forms are.1 in
-    let read = row_read row.0 parts.keyword parts.values parts.tail order first rest row.2 are.0.0 are.0.1 made in
+    let row = among_any (is_row_of parts.keyword parts.values parts.trailing) forms are.1 in
+    let read = row_read row.0 parts.keyword parts.values parts.trailing order first rest row.2 are.0.0 are.0.1 made in
     rows_read forms row.0 first rest (Err UnknownWord) (read_as order (list_all is_small parts.values)) forms_apart
     row.1 read
     (near_read_as order (list_all is_small parts.values)) (omega arith)
@@ -161,9 +165,9 @@ SaysOf first rest (Err NumberTooLarge) = (order : Order) × AreWordsFor order (f
 SaysOf first rest (Err other) = Unit {0}
 
 -- an order whose parts have these values is spelt by their words
-spelt_by_values : (row : Row) (first : List ℕ) (rest : List (List ℕ)) (values : List Value) (t : Tail)
+spelt_by_values : (row : Row) (first : List ℕ) (rest : List (List ℕ)) (values : List Value) (t : Trailing)
     → IsAmong row forms →
-    same_word first (text_of_keyword row.keyword) ≡ true → AreValuesOf row.classes row.repeated rest values t →
+    same_word first (text_of_keyword row.keyword) ≡ true → AreValuesOf row.classes row.trailing_class rest values t →
     (order : Order) × (order_from row.keyword values t ≡ Some order) × (parts_of order ≡ made_of row.keyword values t)
     × AreWordsFor order (first ∷ rest)
 spelt_by_values row first rest values t among same are =
@@ -182,9 +186,9 @@ spelt_by_values row first rest values t among same are =
     )
 
 -- the order of values that were read
-order_says : (row : Row) (first : List ℕ) (rest : List (List ℕ)) (read : Result (List Value × Tail) Fault)
+order_says : (row : Row) (first : List ℕ) (rest : List (List ℕ)) (read : Result (List Value × Trailing) Fault)
     → IsAmong row forms →
-    same_word first (text_of_keyword row.keyword) ≡ true → ReadThus row.classes row.repeated rest read
+    same_word first (text_of_keyword row.keyword) ≡ true → ReadThus row.classes row.trailing_class rest read
     → SaysOf first rest (order_of_values row.keyword read)
 order_says row first rest (Ok read) among same h =
     let one = spelt_by_values row first rest read.0 read.1 among same h.0 in
@@ -200,8 +204,8 @@ row_says : (row : Row) (first : List ℕ) (rest : List (List ℕ)) → IsAmong r
     → SaysOf first rest (row_reading row first rest)
 row_says row first rest among =
     elim (cases_Bool (same_word first (text_of_keyword row.keyword))) [
-      | inl same ↦ rw same (order_says row first rest (values_reading row.classes row.repeated rest) among same
-          (values_made row.classes row.repeated rest))
+      | inl same ↦ rw same (order_says row first rest (values_reading row.classes row.trailing_class rest) among same
+          (values_made row.classes row.trailing_class rest))
       | inr different ↦ rw different tt
     ]
 

@@ -9,7 +9,8 @@ use Rattle.order_grammar.specs.Order.{parts_of, swap_values, Parts}
 use Rattle.order_grammar.specs.Spells.{HasSmallNumbers, IsSmallRound}
 use Rattle.order_grammar.specs.declared.order.Offer.TheVariants as offer
 use Rattle.order_grammar.specs.declared.order.Order.{Order}
-use Rattle.order_grammar.specs.declared.order.Order.TheVariants.{Game, Sheet, Bid, Limit, Par, Sell, Lay, BuyTrain, BuyOwnedPrivate, Raise, Offer, Cert}
+use Rattle.order_grammar.specs.declared.order.Order.TheVariants.{Game, Sheet, Bid, Limit, Par, Sell, Lay, BuyTrain}
+use Rattle.order_grammar.specs.declared.order.Order.TheVariants.{BuyOwnedPrivate, Raise, Offer, Cert}
 use Rattle.order_grammar.specs.declared.order.TrainSource.TheVariants as source
 use Rattle.order_grammar.specs.declared.order.Value.{Value}
 use Rattle.order_grammar.specs.declared.order.Value.TheVariants as value
@@ -53,14 +54,14 @@ small_by_parts (Sheet name round) small = rw (round_by_parts round small) refl
 small_by_parts (Bid private amount) small = rw (le-leb amount number_most small) refl
 small_by_parts (Limit private amount) small = rw (le-leb amount number_most small) refl
 small_by_parts (Par company price) small = rw (le-leb price number_most small) refl
-small_by_parts (Sell company tenths) small = rw (le-leb tenths number_most small) refl
+small_by_parts (Sell company shares) small = rw (le-leb shares number_most small) refl
 small_by_parts (Lay lay) small = swap_small lay.swap
 small_by_parts (BuyTrain kind source.Bank) small = refl
 small_by_parts (BuyTrain kind (source.Trade other)) small = refl
 small_by_parts (BuyTrain kind source.BankPool) small = refl
 small_by_parts (BuyTrain kind (source.Company seller price)) small = rw (le-leb price number_most small) refl
 small_by_parts (BuyOwnedPrivate private price) small = rw (le-leb price number_most small) refl
-small_by_parts (Raise company tenths) small = rw (le-leb tenths number_most small) refl
+small_by_parts (Raise company shares) small = rw (le-leb shares number_most small) refl
 small_by_parts (Offer (offer.Private private buyer price)) small = rw (le-leb price number_most small) refl
 small_by_parts (Offer (offer.Train kind seller buyer price)) small = rw (le-leb price number_most small) refl
 small_by_parts (Cert round company revenue) small =
@@ -82,8 +83,8 @@ small_of_parts (Limit private amount) small = leb-true amount number_most
     (and_parts (nat_le amount number_most) true small).0
 small_of_parts (Par company price) small = leb-true price number_most
     (and_parts (nat_le price number_most) true small).0
-small_of_parts (Sell company tenths) small = leb-true tenths number_most
-    (and_parts (nat_le tenths number_most) true small).0
+small_of_parts (Sell company shares) small = leb-true shares number_most
+    (and_parts (nat_le shares number_most) true small).0
 small_of_parts (BuyTrain kind source.Bank) small = tt
 small_of_parts (BuyTrain kind (source.Trade other)) small = tt
 small_of_parts (BuyTrain kind source.BankPool) small = tt
@@ -91,8 +92,8 @@ small_of_parts (BuyTrain kind (source.Company seller price)) small =
     leb-true price number_most (and_parts (nat_le price number_most) true small).0
 small_of_parts (BuyOwnedPrivate private price) small =
     leb-true price number_most (and_parts (nat_le price number_most) true small).0
-small_of_parts (Raise company tenths) small = leb-true tenths number_most
-    (and_parts (nat_le tenths number_most) true small).0
+small_of_parts (Raise company shares) small = leb-true shares number_most
+    (and_parts (nat_le shares number_most) true small).0
 small_of_parts (Offer (offer.Private private buyer price)) small =
     leb-true price number_most (and_parts (nat_le price number_most) true small).0
 small_of_parts (Offer (offer.Train kind seller buyer price)) small =

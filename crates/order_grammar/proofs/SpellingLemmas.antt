@@ -1,5 +1,7 @@
 -- The spelling of an order is a line of its words.
-use Rattle.std.proofs.Common.{◌≡◌, ℕ, ◌+◌, ◌-◌, ◌*◌, ◌/◌, ◌%◌, ◌^◌, ◌<◌, ◌≤◌, ◌==◌, Bool, ltb, nat_le, true, false, not, ◌&&◌, List, [], ◌∷◌, ◌++◌, Option, Some, None, Ok, codes, length, drop, map, append_assoc, refl, sym, ap, subst, ◌∙◌, arith}
+use Rattle.std.proofs.Common.{◌≡◌, ℕ, ◌+◌, ◌-◌, ◌*◌, ◌/◌, ◌%◌, ◌^◌, ◌<◌, ◌≤◌, ◌==◌, Bool, ltb, nat_le, true, false, not}
+use Rattle.std.proofs.Common.{◌&&◌, List, [], ◌∷◌, ◌++◌, Option, Some, None, Ok, codes, length, drop, map, append_assoc}
+use Rattle.std.proofs.Common.{refl, sym, ap, subst, ◌∙◌, arith}
 use Rattle.std.specs.Char.{to_ascii_uppercase}
 use Rattle.std.specs.Fmt.{decimal}
 use Rattle.std.specs.List.{list_all}
@@ -32,30 +34,32 @@ use Rattle.tables.specs.declared.roster.Private.TheVariants as private
 use Rattle.tables.specs.declared.round.Round.{Round}
 use Rattle.tables.specs.declared.round.Round.TheVariants.{Opening, Stock, Operating}
 use Rattle.order_grammar.specs.Class.{are_digits, value_of_digits, is_of_class}
-use Rattle.order_grammar.specs.Form.{Row, forms, words_reading, is_row_of, has_form, are_of_classes, is_of_repeated}
+use Rattle.order_grammar.specs.Form.{Row, forms, words_reading, is_row_of, has_form, are_of_classes}
+use Rattle.order_grammar.specs.Form.{is_of_trailing_class}
 use Rattle.order_grammar.specs.Keyword.{text_of_keyword}
 use Rattle.tables.specs.Round.{number_most, operating_most}
 use Rattle.order_grammar.specs.Line.{reading_by}
 use Rattle.order_grammar.specs.Name.{is_name, is_capital, is_digit, is_letter_or_digit}
 use Rattle.order_grammar.specs.Order.{made_of, parts_of, Parts}
-use Rattle.order_grammar.specs.Print.{spaced, joined, text_of_value, words_of_tail, words_of_parts, spelling_of}
+use Rattle.order_grammar.specs.Print.{spaced, joined, text_of_value, words_of_trailing, words_of_parts, spelling_of}
 use Rattle.order_grammar.specs.Row.{has_room, is_short_row}
-use Rattle.order_grammar.specs.Spells.{AreWordsFor, HasSmallNumbers, IsNumber, IsNumbered, is_round_of_line, BeginWithOneOf, FitsLineIn, IsOrderIn}
+use Rattle.order_grammar.specs.Spells.{AreWordsFor, HasSmallNumbers, IsNumber, IsNumbered, is_round_of_line}
+use Rattle.order_grammar.specs.Spells.{BeginWithOneOf, FitsLineIn, IsOrderIn}
 use Rattle.order_grammar.specs.Texts.{TextKind}
 use Rattle.order_grammar.specs.Words.{before, with_word, words_from, raised, words_of, is_printable, same_word}
 use Rattle.order_grammar.specs.declared.class.Class.{Class}
-use Rattle.order_grammar.specs.declared.form.Repeated.{Repeated}
-use Rattle.order_grammar.specs.declared.form.Repeated.TheVariants as repeated
+use Rattle.order_grammar.specs.declared.form.TrailingClass.{TrailingClass}
+use Rattle.order_grammar.specs.declared.form.TrailingClass.TheVariants as trailing_class
 use Rattle.order_grammar.specs.declared.keyword.Keyword.{Keyword}
 use Rattle.order_grammar.specs.declared.keyword.Keyword.TheVariants as keyword
 use Rattle.order_grammar.specs.declared.order.Order.{Order}
 use Rattle.order_grammar.specs.declared.order.Order.TheVariants.{Run, Claim}
-use Rattle.order_grammar.specs.declared.order.Tail.{Tail}
-use Rattle.order_grammar.specs.declared.order.Tail.TheVariants as tail
+use Rattle.order_grammar.specs.declared.order.Trailing.{Trailing}
+use Rattle.order_grammar.specs.declared.order.Trailing.TheVariants as trailing
 use Rattle.order_grammar.specs.declared.order.Value.{Value}
 use Rattle.order_grammar.specs.declared.order.Value.TheVariants as value
 use Rattle.order_grammar.proofs.HasWords.{has_word, has_words, have_words}
-use Rattle.order_grammar.proofs.OrderLemmas.{IsTextOf, AreTextsOf, AreWordsOfTail, AreWordsByParts, of_parts}
+use Rattle.order_grammar.proofs.OrderLemmas.{IsTextOf, AreTextsOf, AreWordsOfTrailing, AreWordsByParts, of_parts}
 use Rattle.order_grammar.proofs.PartLemmas.{AreRowsOf, known_read}
 use Rattle.order_grammar.proofs.RowLemmas.{among_any, all_among}
 use Rattle.order_grammar.proofs.SmallLemmas.{is_small, are_small, small_of_parts}
@@ -168,10 +172,10 @@ before_next : (words : List (List ℕ)) → before 32 (spaced words) ≡ []
 before_next [] = refl
 before_next (word ∷ words) = ap (before 32) (spaced-cons word words)
 
--- a word with bytes stands in front
-in_front : (word : List ℕ) (words : List (List ℕ)) → 0 < length word → with_word word words ≡ word ∷ words
-in_front [] words h = absurd (omega arith)
-in_front (byte ∷ bytes) words h = refl
+-- a word with bytes is in front
+in_prefix : (word : List ℕ) (words : List (List ℕ)) → 0 < length word → with_word word words ≡ word ∷ words
+in_prefix [] words h = absurd (omega arith)
+in_prefix (byte ∷ bytes) words h = refl
 
 -- a word in front of them
 words_from-joined : (word : List ℕ) (words : List (List ℕ)) → IsPlain word → words_from [] (spaced words) ≡ words →
@@ -183,7 +187,7 @@ words_from-joined word words plain rest =
     words_from-word [] (word ++ spaced words)
     ∙ ap (λ (w : List ℕ). with_word w (words_from [] (drop (length w) (word ++ spaced words)))) first
     ∙ ap (λ (bytes : List ℕ). with_word word (words_from [] bytes)) (drop_at word (spaced words) (length word) refl)
-    ∙ ap (with_word word) rest ∙ in_front word words plain.some
+    ∙ ap (with_word word) rest ∙ in_prefix word words plain.some
 
 -- the words of spaced words
 words_from-spaced : (words : List (List ℕ)) → ArePlain words → words_from [] (spaced words) ≡ words
@@ -411,7 +415,7 @@ round_spelt (Operating set number) has =
     let one : length (decimal number) ≡ 1 = ap length (decimal_digit number (omega (arith, most))) in
     record {
       text = record {
-        front = codes "OR" ++ decimal set;
+        prefix = codes "OR" ++ decimal set;
         numbered = spelt.text;
         whole = refl;
         least =
@@ -507,21 +511,21 @@ value_spelt (value.Word k) has = record {
 }
 
 -- the words of values and of what is repeated
-record AreSpelt (values : List Value) (t : Tail) : Type 0 where
-  texts : AreTextsOf values t (map text_of_value values ++ words_of_tail t)
+record AreSpelt (values : List Value) (t : Trailing) : Type 0 where
+  texts : AreTextsOf values t (map text_of_value values ++ words_of_trailing t)
   small : list_all is_small values ≡ true
-  plain : ArePlain (map text_of_value values ++ words_of_tail t)
+  plain : ArePlain (map text_of_value values ++ words_of_trailing t)
 
 -- what is repeated
-tail_texts : (t : Tail) → AreWordsOfTail t (words_of_tail t)
-tail_texts tail.Nothing = tt
-tail_texts (tail.Names names) = refl
-tail_texts (tail.Places run) = refl
+trailing_texts : (t : Trailing) → AreWordsOfTrailing t (words_of_trailing t)
+trailing_texts trailing.Nothing = tt
+trailing_texts (trailing.Names names) = refl
+trailing_texts (trailing.Places run) = refl
 
-values_spelt : (values : List Value) (t : Tail) → list_all has_word values ≡ true → ArePlain (words_of_tail t)
+values_spelt : (values : List Value) (t : Trailing) → list_all has_word values ≡ true → ArePlain (words_of_trailing t)
     → AreSpelt values t
 unfolding ArePlain
-values_spelt [] t has plain = record { texts = tail_texts t; small = refl; plain = plain }
+values_spelt [] t has plain = record { texts = trailing_texts t; small = refl; plain = plain }
 values_spelt (v ∷ values) t has plain =
     let parts = and_parts (has_word v) (list_all has_word values) has in
     let first = value_spelt v parts.0 in
@@ -534,9 +538,9 @@ values_spelt (v ∷ values) t has plain =
     }
 
 -- what is repeated is not much, unless it is the places of a run
-abbrev pub IsFew : Tail → Type 0
-IsFew (tail.Places run) = Unit {0}
-IsFew t = length (words_of_tail t) ≤ 6
+abbrev pub IsFew : Trailing → Type 0
+IsFew (trailing.Places run) = Unit {0}
+IsFew t = length (words_of_trailing t) ≤ 6
 
 places_plain : (run : List Place) → ArePlain (map text_of_place run)
 unfolding ArePlain
@@ -544,14 +548,15 @@ places_plain [] = tt
 places_plain (place ∷ run) = (place_plain_from place.hex place.stop, places_plain run)
 
 -- what is repeated is plain, and not much
-record IsShortTail (t : Tail) : Type 0 where
-  plain : ArePlain (words_of_tail t)
+record IsShortTrailing (t : Trailing) : Type 0 where
+  plain : ArePlain (words_of_trailing t)
   few : IsFew t
 
-tail_short : (r : Repeated) (t : Tail) → has_room r ≡ true → is_of_repeated r t ≡ true → IsShortTail t
+trailing_short : (r : TrailingClass) (t : Trailing) → has_room r ≡ true → is_of_trailing_class r t ≡ true →
+    IsShortTrailing t
 unfolding ArePlain
-tail_short repeated.Nothing tail.Nothing room of = record { plain = tt; few = omega arith }
-tail_short (repeated.Names least most) (tail.Names names) room of =
+trailing_short trailing_class.Nothing trailing.Nothing room of = record { plain = tt; few = omega arith }
+trailing_short (trailing_class.Names least most) (trailing.Names names) room of =
     let named = and_parts (nat_le least (length names.items) && nat_le (length names.items) most)
     (list_all is_name names.items) of in
     let counted = and_parts (nat_le least (length names.items)) (nat_le (length names.items) most) named.0 in
@@ -560,14 +565,14 @@ tail_short (repeated.Names least most) (tail.Names names) room of =
       few =
           omega (arith, leb-true most 6 room, leb-true (length names.items) most counted.1);
     }
-tail_short repeated.Places (tail.Places run) room of = record { plain = places_plain run; few = tt }
-tail_short r t room of = absurd (false≢true of)
+trailing_short trailing_class.Places (trailing.Places run) room of = record { plain = places_plain run; few = tt }
+trailing_short r t room of = absurd (false≢true of)
 
 -- as many values as classes, and then what is repeated
-values_short : (classes : List Class) (r : Repeated) (values : List Value) (t : Tail) → has_room r ≡ true
+values_short : (classes : List Class) (r : TrailingClass) (values : List Value) (t : Trailing) → has_room r ≡ true
     → are_of_classes classes r values t ≡ true →
-    (length values ≡ length classes) × IsShortTail t
-values_short [] r [] t room of = (refl, tail_short r t room of)
+    (length values ≡ length classes) × IsShortTrailing t
+values_short [] r [] t room of = (refl, trailing_short r t room of)
 values_short [] r (v ∷ values) t room of = absurd (false≢true of)
 values_short (c ∷ classes) r [] t room of = absurd (false≢true of)
 values_short (c ∷ classes) r (v ∷ values) t room of =
@@ -580,14 +585,14 @@ forms_short : list_all is_short_row forms ≡ true
 forms_short = refl
 
 -- parts with the places of a run fit a line
-abbrev FitWithPlaces : ℕ → Keyword → List Value → Tail → Type 0
-FitWithPlaces most k values (tail.Places run) =
-    length (joined (words_of_parts (made_of k values (tail.Places run)))) ≤ most
+abbrev FitWithPlaces : ℕ → Keyword → List Value → Trailing → Type 0
+FitWithPlaces most k values (trailing.Places run) =
+    length (joined (words_of_parts (made_of k values (trailing.Places run)))) ≤ most
 FitWithPlaces most k values t = Unit {0}
 
 abbrev FitsParts : ℕ → Option Parts → Type 0
 FitsParts most None = Unit {0}
-FitsParts most (Some parts) = FitWithPlaces most parts.keyword parts.values parts.tail
+FitsParts most (Some parts) = FitWithPlaces most parts.keyword parts.values parts.trailing
 
 -- so do those of an order that does
 fits_by_parts : (text : TextKind) (order : Order) → FitsLineIn text order → FitsParts text.most (parts_of order)
@@ -596,10 +601,10 @@ fits_by_parts text (Claim k run) fits = fits
 fits_by_parts text other fits = tt
 
 -- parts of a form that have words fit a line
-parts_fit : (most : ℕ) (k : Keyword) (values : List Value) (t : Tail) → 340 ≤ most → length values ≤ 5 → IsFew t →
+parts_fit : (most : ℕ) (k : Keyword) (values : List Value) (t : Trailing) → 340 ≤ most → length values ≤ 5 → IsFew t →
     ArePlain (words_of_parts (made_of k values t)) → FitWithPlaces most k values t
     → length (joined (words_of_parts (made_of k values t))) ≤ most
-parts_fit most k values tail.Nothing room five few plain fits =
+parts_fit most k values trailing.Nothing room five few plain fits =
     let short = few_fit _ plain (omega (
       arith,
       length-append (map text_of_value values) [],
@@ -608,7 +613,7 @@ parts_fit most k values tail.Nothing room five few plain fits =
       five,
     )) in
     omega (arith, short, room)
-parts_fit most k values (tail.Names names) room five few plain fits =
+parts_fit most k values (trailing.Names names) room five few plain fits =
     let short = few_fit _ plain (omega (
       arith,
       length-append (map text_of_value values) names.items,
@@ -618,7 +623,7 @@ parts_fit most k values (tail.Names names) room five few plain fits =
       few,
     )) in
     omega (arith, short, room)
-parts_fit most k values (tail.Places run) room five few plain fits = fits
+parts_fit most k values (trailing.Places run) room five few plain fits = fits
 
 -- what is known of the words of parts of a form that have words
 pub record IsSpeltOut (order : Order) (parts : Parts) : Type 0 where
@@ -626,7 +631,7 @@ pub record IsSpeltOut (order : Order) (parts : Parts) : Type 0 where
   pub are : AreWordsFor order (words_of_parts (Some parts))
   pub small : HasSmallNumbers order
   pub five : length parts.values ≤ 5
-  pub few : IsFew parts.tail
+  pub few : IsFew parts.trailing
 
 pub spelt_out : (order : Order) (parts : Parts) → parts_of order ≡ Some parts → have_words (Some parts) ≡ true →
     IsSpeltOut order parts
@@ -634,14 +639,14 @@ unfolding ArePlain
 spelt_out order parts is has =
     let values = parts.values in
     let h = and_parts (has_form parts) (list_all has_word values) has in
-    let row = among_any (is_row_of parts.keyword values parts.tail) forms h.0 in
+    let row = among_any (is_row_of parts.keyword values parts.trailing) forms h.0 in
     let of_row =
     and_parts (same_word (text_of_keyword row.0.keyword) (text_of_keyword parts.keyword))
-    (are_of_classes row.0.classes row.0.repeated values parts.tail) row.2 in
-    let short = and_parts (nat_le (length row.0.classes) 5) (has_room row.0.repeated)
+    (are_of_classes row.0.classes row.0.trailing_class values parts.trailing) row.2 in
+    let short = and_parts (nat_le (length row.0.classes) 5) (has_room row.0.trailing_class)
     (all_among is_short_row forms row.0 forms_short row.1) in
-    let counted = values_short row.0.classes row.0.repeated values parts.tail short.1 of_row.1 in
-    let spelt = values_spelt values parts.tail h.1 counted.1.plain in
+    let counted = values_short row.0.classes row.0.trailing_class values parts.trailing short.1 of_row.1 in
+    let spelt = values_spelt values parts.trailing h.1 counted.1.plain in
     let words = words_of_parts (Some parts) in
     record {
       plain = (plain_word (text_of_keyword parts.keyword) (keyword_plain parts.keyword), spelt.plain);
@@ -667,7 +672,7 @@ parts_read text rows of room order (Some parts) is has fits known =
     let words = words_of_parts (Some parts) in
     let spelt = spelt_out order parts is has in
     reading_by-joined text.most rows words spelt.plain
-    (parts_fit text.most parts.keyword parts.values parts.tail room spelt.five spelt.few spelt.plain fits)
+    (parts_fit text.most parts.keyword parts.values parts.trailing room spelt.five spelt.few spelt.plain fits)
     ∙ known_read text rows words of known
     ∙ spelt_words_read words order spelt.are spelt.small
 

@@ -1,5 +1,7 @@
 -- A word is read as a value of a class exactly where it is a text of that value.
-use Rattle.std.proofs.Common.{◌≡◌, ℕ, ◌+◌, ◌-◌, ◌≤◌, ◌==◌, ◌&&◌, true, false, nat_le, inl, inr, List, [], ◌∷◌, ◌++◌, Option, Some, None, length, codes, decimal, get_or, take, drop, append_assoc, refl, sym, ap, ◌∙◌, arith}
+use Rattle.std.proofs.Common.{◌≡◌, ℕ, ◌+◌, ◌-◌, ◌≤◌, ◌==◌, ◌&&◌, true, false, nat_le, inl, inr, List, [], ◌∷◌, ◌++◌}
+use Rattle.std.proofs.Common.{Option, Some, None, length, codes, decimal, get_or, take, drop, append_assoc, refl, sym}
+use Rattle.std.proofs.Common.{ap, ◌∙◌, arith}
 use Rattle.std.proofs.lemmas.Bool.{cases_Bool, eqb-true, eqb-false, ne_eqb, le-leb, leb-true, and_parts, false≢true}
 use Rattle.std.proofs.lemmas.Fmt.{decimal_digit}
 use Rattle.std.proofs.lemmas.Option.{same_Some}
@@ -19,7 +21,10 @@ use Rattle.tables.specs.declared.roster.Company.TheVariants as company
 use Rattle.tables.specs.declared.roster.Private.{Private}
 use Rattle.tables.specs.declared.roster.Private.TheVariants as private
 use Rattle.tables.specs.declared.round.Round.TheVariants.{Opening, Stock, Operating}
-use Rattle.order_grammar.specs.Class.{are_digits, are_hex_digits, value_of_digits, digits_reading, round_of_series, round_number_reading, number_in_set, operating_reading, round_reading, class_reading, code_reading, named_reading, private_reading, company_reading, kind_reading, is_of_class}
+use Rattle.order_grammar.specs.Class.{are_digits, are_hex_digits, value_of_digits, digits_reading, round_of_series}
+use Rattle.order_grammar.specs.Class.{round_number_reading, number_in_set, operating_reading, round_reading}
+use Rattle.order_grammar.specs.Class.{class_reading, code_reading, named_reading, private_reading, company_reading}
+use Rattle.order_grammar.specs.Class.{kind_reading, is_of_class}
 use Rattle.order_grammar.specs.Keyword.{text_of_keyword}
 use Rattle.tables.specs.Round.{number_most, operating_most}
 use Rattle.order_grammar.specs.Name.{is_name}
@@ -38,18 +43,18 @@ use Rattle.order_grammar.proofs.OrderLemmas.{IsTextOf}
 use Rattle.order_grammar.proofs.SmallLemmas.{is_small}
 
 -- digits that are a number are read as it
-number_read : (stands_for : ℕ → values.Value) (text : List ℕ) (number : ℕ) → IsNumber number text
+number_read : (as_value : ℕ → values.Value) (text : List ℕ) (number : ℕ) → IsNumber number text
     → nat_le number number_most ≡ true →
-    digits_reading stands_for text ≡ Value (stands_for number)
-number_read stands_for text number is small =
+    digits_reading as_value text ≡ Value (as_value number)
+number_read as_value text number is small =
     let digits : are_digits text ≡ true = is.digits in
     rw (digits, is.value, small) refl
 
 -- or as too large
-number_too_large : (stands_for : ℕ → values.Value) (text : List ℕ) (number : ℕ) → IsNumber number text
+number_too_large : (as_value : ℕ → values.Value) (text : List ℕ) (number : ℕ) → IsNumber number text
     → nat_le number number_most ≡ false →
-    digits_reading stands_for text ≡ TooLarge
-number_too_large stands_for text number is large =
+    digits_reading as_value text ≡ TooLarge
+number_too_large as_value text number is large =
     let digits : are_digits text ≡ true = is.digits in
     rw (digits, is.value, large) refl
 
@@ -80,14 +85,14 @@ operating_read digits number least most =
     let behind = codes "." ++ decimal number in
     let two : length behind ≡ 2 = ap (λ (ds : List ℕ). length (46 ∷ ds)) (decimal_digit number (omega (arith, most))) in
     let size : length digits ≡ length (digits ++ behind) - 2 = omega (arith, two, length-append digits behind) in
-    let front : take (length (digits ++ behind) - 2) (digits ++ behind) ≡ digits = take_at digits behind _ size in
+    let prefix : take (length (digits ++ behind) - 2) (digits ++ behind) ≡ digits = take_at digits behind _ size in
     let back : number_in_set (drop (length (digits ++ behind) - 2) (digits ++ behind)) ≡ Some number =
     ap number_in_set (drop_at digits behind _ size) ∙ in_set_read number least most in
-    by_numbers (digits ++ behind) digits number front back where
+    by_numbers (digits ++ behind) digits number prefix back where
       by_numbers : (word digits : List ℕ) (number : ℕ) → take (length word - 2) word ≡ digits
           → number_in_set (drop (length word - 2) word) ≡ Some number
           → operating_reading word ≡ round_number_reading (numbered.Operating number) digits
-      by_numbers word digits number front back = rw (back, front, operating_reading) refl
+      by_numbers word digits number prefix back = rw (back, prefix, operating_reading) refl
 
 -- where a text is that of the round of some series whose number has these digits, it is read as the number
 record IsReadBy (series : Series) (number : ℕ) (text : List ℕ) : Type 0 where
@@ -106,8 +111,8 @@ operating_by : (text : List ℕ) (set number : ℕ) → IsOperating set number t
     → IsReadBy (numbered.Operating number) set text
 operating_by text set number is =
     let whole : text ≡ codes "OR" ++ (is.numbered.0 ++ (codes "." ++ decimal number)) =
-    is.whole ∙ append_assoc is.front (codes ".") (decimal number)
-    ∙ ap (λ (front : List ℕ). front ++ (codes "." ++ decimal number)) is.numbered.1 in
+    is.whole ∙ append_assoc is.prefix (codes ".") (decimal number)
+    ∙ ap (λ (prefix : List ℕ). prefix ++ (codes "." ++ decimal number)) is.numbered.1 in
     record {
       digits = is.numbered.0;
       no_zero = is.numbered.2;
@@ -200,17 +205,17 @@ ReadAs c text TooLarge = (v : values.Value) × IsValueOf c text v × (is_small v
 ReadAs c text (Value v) = IsValueOf c text v × (is_small v ≡ true)
 
 -- digits
-digits_read : (c : Class) (stands_for : ℕ → values.Value) (text whole : List ℕ)
-    → ((number : ℕ) → is_small (stands_for number) ≡ nat_le number number_most) →
-    (IsNumber (value_of_digits text) text → IsValueOf c whole (stands_for (value_of_digits text)))
-    → ReadAs c whole (digits_reading stands_for text)
-digits_read c stands_for text whole small is =
+digits_read : (c : Class) (as_value : ℕ → values.Value) (text whole : List ℕ)
+    → ((number : ℕ) → is_small (as_value number) ≡ nat_le number number_most) →
+    (IsNumber (value_of_digits text) text → IsValueOf c whole (as_value (value_of_digits text)))
+    → ReadAs c whole (digits_reading as_value text)
+digits_read c as_value text whole small is =
     elim (cases_Bool (are_digits text)) [
       | inl digits ↦
           let one = is (record { digits = digits; value = refl }) in
           elim (cases_Bool (nat_le (value_of_digits text) number_most)) [
             | inl few ↦ rw (digits, few) (one, small (value_of_digits text) ∙ few)
-            | inr many ↦ rw (digits, many) (stands_for (value_of_digits text), one, small (value_of_digits text) ∙ many)
+            | inr many ↦ rw (digits, many) (as_value (value_of_digits text), one, small (value_of_digits text) ∙ many)
           ]
       | inr other ↦ rw other tt
     ]
@@ -287,7 +292,7 @@ operating_made word text (Some number) is e =
     is ∙ ap (λ (w : List ℕ). codes "OR" ++ w) parted
     ∙ sym (append_assoc (codes "OR" ++ digits) (codes ".") (decimal number)) in
     rw (e, operating_reading) (round_number_read (numbered.Operating number) digits text (λ set other one. record {
-      front = codes "OR" ++ digits;
+      prefix = codes "OR" ++ digits;
       numbered = (digits, refl, other, one);
       whole = whole;
       least = behind.1;
@@ -317,17 +322,17 @@ round_made text =
 
 -- what a word says that is read as a code
 abbrev CodeAs : {X : Type 0} → (X → List ℕ) → (X → values.Value) → List ℕ → Reading → Type 0
-CodeAs {X} code stands_for text (Value v) = (one : X) × (v ≡ stands_for one) × (text ≡ code one)
-CodeAs code stands_for text Wrong = Unit {0}
-CodeAs code stands_for text TooLarge = ⊥
+CodeAs {X} code as_value text (Value v) = (one : X) × (v ≡ as_value one) × (text ≡ code one)
+CodeAs code as_value text Wrong = Unit {0}
+CodeAs code as_value text TooLarge = ⊥
 
-code_made : {X : Type 0} (code : X → List ℕ) (stands_for : X → values.Value) (all : List X) (text : List ℕ) →
-    CodeAs code stands_for text (code_reading code stands_for all text)
-code_made code stands_for [] text = tt
-code_made code stands_for (first ∷ others) text =
+code_made : {X : Type 0} (code : X → List ℕ) (as_value : X → values.Value) (all : List X) (text : List ℕ) →
+    CodeAs code as_value text (code_reading code as_value all text)
+code_made code as_value [] text = tt
+code_made code as_value (first ∷ others) text =
     elim (cases_Bool (same_word text (code first))) [
       | inl same ↦ rw same (first, refl, same_word-is text (code first) same)
-      | inr other ↦ rw other (code_made code stands_for others text)
+      | inr other ↦ rw other (code_made code as_value others text)
     ]
 
 private_as : (text : List ℕ) (reading : Reading) → CodeAs code_of_private value.Private text reading

@@ -1,5 +1,6 @@
 -- The spelling of an order under a condition is a line of its words.
-use Rattle.std.proofs.Common.{◌≡◌, ℕ, ◌≤◌, true, not, List, [], ◌∷◌, ◌++◌, Option, Some, None, Ok, codes, length, map, append_assoc, refl, sym, ap, subst, ◌∙◌, arith}
+use Rattle.std.proofs.Common.{◌≡◌, ℕ, ◌≤◌, true, not, List, [], ◌∷◌, ◌++◌, Option, Some, None, Ok, codes, length, map}
+use Rattle.std.proofs.Common.{append_assoc, refl, sym, ap, subst, ◌∙◌, arith}
 use Rattle.std.proofs.lemmas.Bool.{false≢true}
 use Rattle.std.proofs.lemmas.List.{length-append, length-map}
 use Rattle.std.proofs.lemmas.Grind.{flat_map-append}
@@ -11,8 +12,10 @@ use Rattle.order_grammar.specs.Form.{order_forms}
 use Rattle.order_grammar.specs.Keyword.{text_of_keyword}
 use Rattle.order_grammar.specs.Limits.{line_most}
 use Rattle.order_grammar.specs.Order.{made_of, parts_of, Parts}
-use Rattle.order_grammar.specs.Print.{spaced, joined, text_of_value, words_of_order, words_of_parts, spelling_of, conditional_spelling}
-use Rattle.order_grammar.specs.SpellsVersion.{AreConditionWords, AreOrderWords, AreWordsUnder, BeginAnOrder, FitsLineUnder, HasSmallCondition, IsOrderUnder}
+use Rattle.order_grammar.specs.Print.{spaced, joined, text_of_value, words_of_order, words_of_parts, spelling_of}
+use Rattle.order_grammar.specs.Print.{conditional_spelling}
+use Rattle.order_grammar.specs.SpellsVersion.{AreConditionWords, AreOrderWords, AreWordsUnder, BeginAnOrder}
+use Rattle.order_grammar.specs.SpellsVersion.{FitsLineUnder, HasSmallCondition, IsOrderUnder}
 use Rattle.order_grammar.specs.Texts.{order_file, play_words}
 use Rattle.order_grammar.specs.Version.{reading_in}
 use Rattle.order_grammar.specs.Words.{same_word}
@@ -23,14 +26,16 @@ use Rattle.order_grammar.specs.declared.keyword.Keyword.{Keyword}
 use Rattle.order_grammar.specs.declared.keyword.Keyword.TheVariants as keyword
 use Rattle.order_grammar.specs.declared.order.Order.{Order}
 use Rattle.order_grammar.specs.declared.order.Order.TheVariants.{Run, Claim}
-use Rattle.order_grammar.specs.declared.order.Tail.{Tail}
-use Rattle.order_grammar.specs.declared.order.Tail.TheVariants as tail
+use Rattle.order_grammar.specs.declared.order.Trailing.{Trailing}
+use Rattle.order_grammar.specs.declared.order.Trailing.TheVariants as trailing
 use Rattle.order_grammar.specs.declared.order.Value.{Value}
 use Rattle.order_grammar.proofs.HasWords.{has_words, have_words}
 use Rattle.order_grammar.proofs.PartLemmas.{passed, rows_of_orders}
 use Rattle.order_grammar.proofs.SpellsLemmas.{read_spells}
 use Rattle.order_grammar.proofs.VersionLemmas.{spells_read_in}
-use Rattle.order_grammar.proofs.SpellingLemmas.{ArePlain, few_fit, joined_line, decimal_number, decimal_plain, plain_word, company_plain, kind_plain, spelt_out, spelling_read, spaced-cons, IsFew}
+use Rattle.order_grammar.proofs.SpellingLemmas.{ArePlain, few_fit, joined_line, decimal_number, decimal_plain}
+use Rattle.order_grammar.proofs.SpellingLemmas.{plain_word, company_plain, kind_plain, spelt_out, spelling_read}
+use Rattle.order_grammar.proofs.SpellingLemmas.{spaced-cons, IsFew}
 
 -- the words of a condition after IF
 abbrev words_of_condition : Condition → List (List ℕ)
@@ -68,7 +73,7 @@ condition_spelt (Price co price) order words small are = (refl, (refl, (refl, (d
 condition_spelt (Phase k) order words small are = (refl, (refl, are))
 condition_spelt (Floated co) order words small are = (refl, (refl, are))
 
--- a front and words behind it, with single spaces between them
+-- a prefix and words behind it, with single spaces between them
 spaced-behind : (first : List ℕ) (words : List (List ℕ)) (next : List ℕ) (rest : List (List ℕ)) →
     joined (first ∷ words) ++ codes " " ++ joined (next ∷ rest) ≡ joined (first ∷ (words ++ next ∷ rest))
 spaced-behind first words next rest =
@@ -79,14 +84,14 @@ spaced-behind first words next rest =
     ∙ ap (λ (text : List ℕ). spaced words ++ text) (spaced-cons next rest)))
 
 -- parts with the places of a run fit a line under a condition
-abbrev FitUnderWith : Condition → Keyword → List Value → Tail → Type 0
-FitUnderWith condition k values (tail.Places run) =
-    length (joined (under_words condition (words_of_parts (made_of k values (tail.Places run))))) ≤ line_most
+abbrev FitUnderWith : Condition → Keyword → List Value → Trailing → Type 0
+FitUnderWith condition k values (trailing.Places run) =
+    length (joined (under_words condition (words_of_parts (made_of k values (trailing.Places run))))) ≤ line_most
 FitUnderWith condition k values t = Unit {0}
 
 abbrev FitUnder : Condition → Option Parts → Type 0
 FitUnder condition None = Unit {0}
-FitUnder condition (Some parts) = FitUnderWith condition parts.keyword parts.values parts.tail
+FitUnder condition (Some parts) = FitUnderWith condition parts.keyword parts.values parts.trailing
 
 -- so do those of an order that does
 fits_under : (condition : Condition) (order : Order) → FitsLineUnder condition order →
@@ -102,11 +107,11 @@ fits_under condition (Claim k run) fits begins =
 fits_under condition other fits begins = tt
 
 -- words under a condition fit a line
-under_fit : (condition : Condition) (k : Keyword) (values : List Value) (t : Tail) → length values ≤ 5 → IsFew t →
+under_fit : (condition : Condition) (k : Keyword) (values : List Value) (t : Trailing) → length values ≤ 5 → IsFew t →
     ArePlain (under_words condition (words_of_parts (made_of k values t))) → FitUnderWith condition k values t →
     length (joined (under_words condition (words_of_parts (made_of k values t)))) ≤ line_most
-under_fit condition k values tail.Nothing five few plain fits =
-    let size = length-append (words_of_condition condition) (words_of_parts (made_of k values tail.Nothing)) in
+under_fit condition k values trailing.Nothing five few plain fits =
+    let size = length-append (words_of_condition condition) (words_of_parts (made_of k values trailing.Nothing)) in
     let own = length-append (map text_of_value values) [] in
     let short = few_fit _ plain (omega (
       arith,
@@ -117,8 +122,9 @@ under_fit condition k values tail.Nothing five few plain fits =
       five,
     )) in
     omega (arith, short)
-under_fit condition k values (tail.Names names) five few plain fits =
-    let size = length-append (words_of_condition condition) (words_of_parts (made_of k values (tail.Names names))) in
+under_fit condition k values (trailing.Names names) five few plain fits =
+    let size = length-append (words_of_condition condition) (words_of_parts (made_of k values (trailing.Names names)))
+    in
     let own = length-append (map text_of_value values) names.items in
     let short = few_fit _ plain (omega (
       arith,
@@ -130,7 +136,7 @@ under_fit condition k values (tail.Names names) five few plain fits =
       few,
     )) in
     omega (arith, short)
-under_fit condition k values (tail.Places run) five few plain fits = fits
+under_fit condition k values (trailing.Places run) five few plain fits = fits
 
 -- parts of a form that have words are read as what they make, under the condition
 parts_read_under : (condition : Condition) (order : Order) (parts : Option Parts) → parts_of order ≡ parts →
@@ -152,7 +158,7 @@ parts_read_under condition order (Some parts) is has small fits begins =
     (refl, condition_spelt condition order behind small (begins, spelt.are)) in
     spells_read_in Two (joined words) (ordered (Some condition) order) (record {
       loosely = record {
-        short = under_fit condition parts.keyword parts.values parts.tail spelt.five spelt.few plain fits;
+        short = under_fit condition parts.keyword parts.values parts.trailing spelt.five spelt.few plain fits;
         printable = line.printable;
         words = subst (AreWordsUnder Two (Some condition) order) (sym line.are) are;
       };

@@ -1,6 +1,8 @@
 -- A line of a file of some version is read as an order under a condition exactly where it spells it, and as a fault
 -- exactly where it has that.
-use Rattle.std.proofs.Common.{◌≡◌, ℕ, zero, suc, ◌<◌, Bool, true, false, cond, ltb, not, ◌&&◌, inl, inr, List, [], ◌∷◌, Option, Some, None, Result, Ok, Err, Contains, codes, length, refl, sym, ap, subst, ◌∙◌, arith}
+use Rattle.std.proofs.Common.{◌≡◌, ℕ, zero, suc, ◌<◌, Bool, true, false, cond, ltb, not, ◌&&◌, inl, inr, List, [], ◌∷◌}
+use Rattle.std.proofs.Common.{Option, Some, None, Result, Ok, Err, Contains, codes, length, refl, sym, ap, subst, ◌∙◌}
+use Rattle.std.proofs.Common.{arith}
 use Rattle.std.specs.List.{list_all}
 use Rattle.std.proofs.lemmas.Bool.{cases_Bool, cases_lt, le-ltb, lt-ltb, and_from, and_parts, false≢true}
 use Rattle.order_grammar.specs.Condition.{Ordered, ordered, unconditional, conditional_reading}
@@ -10,7 +12,8 @@ use Rattle.order_grammar.specs.Line.{reading_of}
 use Rattle.order_grammar.specs.LineFault.{BeginWithOther, HasStrayByte, IsTooLong}
 use Rattle.order_grammar.specs.Order.{parts_of}
 use Rattle.order_grammar.specs.Spells.{BeginWithOneOf, HasSmallNumbers}
-use Rattle.order_grammar.specs.SpellsVersion.{AreWordsUnder, AreSmall, HasSmallCondition, IsFaultInVersion, LooselySpellsInVersion, SpellsInVersion, first_words_in}
+use Rattle.order_grammar.specs.SpellsVersion.{AreWordsUnder, AreSmall, HasSmallCondition, IsFaultInVersion}
+use Rattle.order_grammar.specs.SpellsVersion.{LooselySpellsInVersion, SpellsInVersion, first_words_in}
 use Rattle.order_grammar.specs.Texts.{order_file}
 use Rattle.order_grammar.specs.Version.{reading_in, words_reading_in}
 use Rattle.order_grammar.specs.Words.{before_comment, first_of_words, is_printable, same_word, words_of}
@@ -18,11 +21,14 @@ use Rattle.order_grammar.specs.declared.condition.Condition.{Condition}
 use Rattle.order_grammar.specs.declared.condition.Version.{Version}
 use Rattle.order_grammar.specs.declared.condition.Version.TheVariants.{One, Two}
 use Rattle.order_grammar.specs.declared.fault.Fault.{Fault}
-use Rattle.order_grammar.specs.declared.fault.Fault.TheVariants.{TooLong, StrayByte, UnknownWord, WrongWords, NumberTooLarge}
+use Rattle.order_grammar.specs.declared.fault.Fault.TheVariants.{TooLong, StrayByte, UnknownWord, WrongWords}
+use Rattle.order_grammar.specs.declared.fault.Fault.TheVariants.{NumberTooLarge}
 use Rattle.order_grammar.specs.declared.order.Order.{Order}
-use Rattle.order_grammar.proofs.ConditionLemmas.{is_small_condition, small_condition, condition_small, ordered_as, condition_for_read, ConditionalSays, conditional_says}
+use Rattle.order_grammar.proofs.ConditionLemmas.{is_small_condition, small_condition, condition_small, ordered_as}
+use Rattle.order_grammar.proofs.ConditionLemmas.{condition_for_read, ConditionalSays, conditional_says}
 use Rattle.order_grammar.proofs.KeywordLemmas.{same_word-is, same_word-self}
-use Rattle.order_grammar.proofs.LineFaultLemmas.{stray_byte, not_printable, all_printable, unknown_begins, other_fault, begins_some_form, read_by_all, large_spell}
+use Rattle.order_grammar.proofs.LineFaultLemmas.{stray_byte, not_printable, all_printable, unknown_begins, other_fault}
+use Rattle.order_grammar.proofs.LineFaultLemmas.{begins_some_form, read_by_all, large_spell}
 use Rattle.order_grammar.proofs.PartLemmas.{rows_of_orders, known_read, unknown_read, read_known, passed, denied}
 use Rattle.order_grammar.proofs.RowLemmas.{read_as, words_for_read}
 use Rattle.order_grammar.proofs.SmallLemmas.{are_small, small_by_parts, small_of_parts}

@@ -1,7 +1,9 @@
 -- The words of a line of version 2 as the code takes them, one after another.
 use Rattle.std.proofs.Common.{◌≡◌, ℕ, true, false, List, ◌∷◌, Option, Some, Result, refl, sym, ap, ◌∙◌}
 use Rattle.order_grammar.specs.Class.{class_reading}
-use Rattle.order_grammar.specs.Condition.{price_of, condition_of, play_reading, under, price_reading, reading_of_one, conditional_reading, ordered_reading, unconditional, put_conditional, condition_if_read}
+use Rattle.order_grammar.specs.Condition.{price_of, condition_of, play_reading, under, price_reading, reading_of_one}
+use Rattle.order_grammar.specs.Condition.{conditional_reading, ordered_reading, unconditional, put_conditional}
+use Rattle.order_grammar.specs.Condition.{condition_if_read}
 use Rattle.order_grammar.specs.Form.{Row, order_forms, play_forms, rows_reading, put_reading}
 use Rattle.order_grammar.specs.Keyword.{text_of_keyword}
 use Rattle.order_grammar.specs.Token.{GivesFirst}

@@ -1,5 +1,7 @@
 -- Words of a text: where they end, and how they come one after the other.
-use Rattle.std.proofs.Common.{◌≡◌, ℕ, suc, ◌+◌, ◌-◌, ◌<◌, ◌≤◌, ◌==◌, Bool, true, false, ◌&&◌, not, cond, List, [], ◌∷◌, ◌++◌, Option, Some, None, unwrap_or, is_some, ltb, length, take, drop, map, refl, sym, ap, subst, ◌∙◌, inl, inr, slice_range, arith}
+use Rattle.std.proofs.Common.{◌≡◌, ℕ, suc, ◌+◌, ◌-◌, ◌<◌, ◌≤◌, ◌==◌, Bool, true, false, ◌&&◌, not, cond, List, [], ◌∷◌}
+use Rattle.std.proofs.Common.{◌++◌, Option, Some, None, unwrap_or, is_some, ltb, length, take, drop, map, refl, sym, ap}
+use Rattle.std.proofs.Common.{subst, ◌∙◌, inl, inr, slice_range, arith}
 use Rattle.std.specs.Char.{to_ascii_uppercase}
 use Rattle.std.specs.List.{list_all, position_or_len, zip}
 use Rattle.std.proofs.lemmas.Bool.{cases_Bool, cases_lt, lt-ltb, le-ltb, ne_eqb}
@@ -7,7 +9,8 @@ use Rattle.std.proofs.lemmas.List.{append-nil, drop_at, at_drop_all, drop-drop, 
 use Rattle.std.proofs.lemmas.List.Sums.{prefix_len-le-length}
 use Rattle.std.proofs.lemmas.List.Recursion.{is_position_or_len}
 use Rattle.order_grammar.specs.Token.{GivesFirst, placed}
-use Rattle.order_grammar.specs.Words.{Placed, StandFrom, before, with_word, words_from, raised, same_word, with_placed, placed_from, first_of_words, has_words, texts_of}
+use Rattle.order_grammar.specs.Words.{Placed, LieFrom, before, with_word, words_from, raised, same_word, with_placed}
+use Rattle.order_grammar.specs.Words.{placed_from, first_of_words, has_words, texts_of}
 use Rattle.order_grammar.specs.declared.words.Token.{Token}
 
 -- where the part before a byte ends
@@ -18,7 +21,7 @@ length-before stop text =
     ≡ cond b 0 (1 + length (before stop bytes))) [ true ↦ refl | false ↦ omega arith ])
     text
 
--- the part before a byte is the front of the text
+-- the part before a byte is a prefix of the text
 pub take-before : (stop : ℕ) (text : List ℕ) → take (length (before stop text)) text ≡ before stop text
 take-before stop [] = refl
 take-before stop (byte ∷ bytes) =
@@ -133,58 +136,58 @@ placed_from-word start word (byte ∷ bytes) =
     ]
 
 -- what stands from a later place on stands from an earlier one on
-StandFrom-sooner : (from later : ℕ) (line : List ℕ) (words : List Placed) → from ≤ later → StandFrom later line words
-    → StandFrom from line words
-StandFrom-sooner from later line [] le h = tt
-StandFrom-sooner from later line (word ∷ words) le h = (omega arith, h.1, h.2, h.3, h.4)
+LieFrom-sooner : (from later : ℕ) (line : List ℕ) (words : List Placed) → from ≤ later → LieFrom later line words
+    → LieFrom from line words
+LieFrom-sooner from later line [] le h = tt
+LieFrom-sooner from later line (word ∷ words) le h = (omega arith, h.1, h.2, h.3, h.4)
 
--- a word between a front and a rest
-slice_of : (front word rest whole : List ℕ) → whole ≡ front ++ (word ++ rest)
-    → slice_range whole (length front) (length front + length word) ≡ word
-slice_of front word rest whole is =
-    let size : length front + length word - length front ≡ length word = omega arith in
-    rw (is, size, drop_at front (word ++ rest) (length front) refl) (take_at word rest (length word) refl)
+-- a word between a prefix and a rest
+slice_of : (prefix word rest whole : List ℕ) → whole ≡ prefix ++ (word ++ rest)
+    → slice_range whole (length prefix) (length prefix + length word) ≡ word
+slice_of prefix word rest whole is =
+    let size : length prefix + length word - length prefix ≡ length word = omega arith in
+    rw (is, size, drop_at prefix (word ++ rest) (length prefix) refl) (take_at word rest (length word) refl)
 
--- a word that begins after a front, in front of others
-with_placed-stand : (front word rest whole : List ℕ) (words : List Placed) → whole ≡ front ++ (word ++ rest) →
-    StandFrom (length front + length word) whole words
-    → StandFrom (length front) whole (with_placed (length front) word words)
-with_placed-stand front [] rest whole words is h =
-    StandFrom-sooner (length front) (length front + 0) whole words (omega arith) h
-with_placed-stand front (byte ∷ bytes) rest whole words is h =
-    let size : length whole ≡ length front + (length (byte ∷ bytes) + length rest) =
-    ap length is ∙ length-append front ((byte ∷ bytes) ++ rest)
-    ∙ ap (λ n. length front + n) (length-append (byte ∷ bytes) rest) in
-    (omega arith, omega arith, omega (arith, size), sym (slice_of front (byte ∷ bytes) rest whole is), h)
+-- a word that begins after a prefix, in front of others
+with_placed-lie : (prefix word rest whole : List ℕ) (words : List Placed) → whole ≡ prefix ++ (word ++ rest) →
+    LieFrom (length prefix + length word) whole words
+    → LieFrom (length prefix) whole (with_placed (length prefix) word words)
+with_placed-lie prefix [] rest whole words is h =
+    LieFrom-sooner (length prefix) (length prefix + 0) whole words (omega arith) h
+with_placed-lie prefix (byte ∷ bytes) rest whole words is h =
+    let size : length whole ≡ length prefix + (length (byte ∷ bytes) + length rest) =
+    ap length is ∙ length-append prefix ((byte ∷ bytes) ++ rest)
+    ∙ ap (λ n. length prefix + n) (length-append (byte ∷ bytes) rest) in
+    (omega arith, omega arith, omega (arith, size), sym (slice_of prefix (byte ∷ bytes) rest whole is), h)
 
--- the words of a text stand in it
-placed_stand : (front word text whole : List ℕ) → whole ≡ front ++ (word ++ text)
-    → StandFrom (length front) whole (placed_from (length front) word text)
-placed_stand front word [] whole is = with_placed-stand front word [] whole [] is tt
-placed_stand front word (byte ∷ bytes) whole is =
+-- the words of a text are in it
+placed_lie : (prefix word text whole : List ℕ) → whole ≡ prefix ++ (word ++ text)
+    → LieFrom (length prefix) whole (placed_from (length prefix) word text)
+placed_lie prefix word [] whole is = with_placed-lie prefix word [] whole [] is tt
+placed_lie prefix word (byte ∷ bytes) whole is =
     elim (cases_Bool (byte == 32)) [
       | inl e ↦
-          let later = front ++ (word ++ (byte ∷ [])) in
-          let size : length later ≡ length front + length word + 1 =
-          length-append front (word ++ (byte ∷ [])) ∙ ap (λ n. length front + n) (length-append word (byte ∷ []))
+          let later = prefix ++ (word ++ (byte ∷ [])) in
+          let size : length later ≡ length prefix + length word + 1 =
+          length-append prefix (word ++ (byte ∷ [])) ∙ ap (λ n. length prefix + n) (length-append word (byte ∷ []))
           ∙ omega arith in
           let split : whole ≡ later ++ ([] ++ bytes) =
-          is ∙ sym (append_assoc front (word ++ (byte ∷ [])) bytes
-          ∙ ap (λ (t : List ℕ). front ++ t) (append_assoc word (byte ∷ []) bytes)) in
-          let rest : StandFrom (length front + length word + 1) whole
-          (placed_from (length front + length word + 1) [] bytes) =
-          subst (λ n. StandFrom n whole (placed_from n [] bytes)) size (placed_stand later [] bytes whole split) in
+          is ∙ sym (append_assoc prefix (word ++ (byte ∷ [])) bytes
+          ∙ ap (λ (t : List ℕ). prefix ++ t) (append_assoc word (byte ∷ []) bytes)) in
+          let rest : LieFrom (length prefix + length word + 1) whole
+          (placed_from (length prefix + length word + 1) [] bytes) =
+          subst (λ n. LieFrom n whole (placed_from n [] bytes)) size (placed_lie later [] bytes whole split) in
           rw e
-          (with_placed-stand front word (byte ∷ bytes) whole _ is
-          (StandFrom-sooner (length front + length word) (length front + length word + 1) whole _ (omega arith)
+          (with_placed-lie prefix word (byte ∷ bytes) whole _ is
+          (LieFrom-sooner (length prefix + length word) (length prefix + length word + 1) whole _ (omega arith)
           rest))
-      | inr e ↦ rw e (placed_stand front (word ++ byte ∷ []) bytes whole
-          (is ∙ ap (λ (t : List ℕ). front ++ t) (sym (append_assoc word (byte ∷ []) bytes))))
+      | inr e ↦ rw e (placed_lie prefix (word ++ byte ∷ []) bytes whole
+          (is ∙ ap (λ (t : List ℕ). prefix ++ t) (sym (append_assoc word (byte ∷ []) bytes))))
     ]
 
 -- all words of a text
-pub words_stand : (text : List ℕ) → StandFrom 0 text (placed_from 0 [] text)
-words_stand text = placed_stand [] [] text text refl
+pub words_lie : (text : List ℕ) → LieFrom 0 text (placed_from 0 [] text)
+words_lie text = placed_lie [] [] text text refl
 
 -- where no byte is other than a space, there are no words
 pub no_word : (at : ℕ) (rest : List ℕ) (r : Option ℕ) →
@@ -204,7 +207,7 @@ no_word at rest r is none =
           (position_or_len (λ byte. not (byte == 32)) rest) le
     ]
 
--- a word with bytes stands in front of others
+-- a word with bytes is in front of others
 with_placed-some : (start : ℕ) (word : List ℕ) (words : List Placed) → 0 < length word →
     with_placed start word words ≡ record { text = word; start = start; end = start + length word } ∷ words
 with_placed-some start [] words some = absurd (omega arith)
@@ -291,7 +294,7 @@ gives_no_first [] left given h none = refl
 gives_no_first (word ∷ words) left given h none =
     absurd (let wrong : ◌≡◌ {A = Option Token} None (Some h.0) = sym none ∙ h.1 in cc)
 
--- it stands before those that are left
+-- it is before those that are left
 pub next_words : (words left : List Placed) (given : Option Token) (token : Token) → GivesFirst words given left
     → given ≡ Some token →
     texts_of words ≡ raised token.text.now ∷ texts_of left

@@ -1,6 +1,7 @@
--- The classes of words: which texts may stand at a place of a form, and what each says. A word that
--- would be such a text if numbers had no greatest value is too large.
-use Rattle.std.specs.Prelude.{ℕ, ◌+◌, ◌*◌, ◌-◌, ◌==◌, Bool, true, false, ◌&&◌, ◌||◌, nat_le, if◌then◌else◌, List, [], ◌∷◌, length, codes, take, drop, fold, min, Option, Some, None}
+-- The classes of words: which texts may be at a place of a form, and what each says. A word that would be such a text
+-- if numbers had no greatest value is too large.
+use Rattle.std.specs.Prelude.{ℕ, ◌+◌, ◌*◌, ◌-◌, ◌==◌, Bool, true, false, ◌&&◌, ◌||◌, nat_le, if◌then◌else◌, List, []}
+use Rattle.std.specs.Prelude.{◌∷◌, length, codes, take, drop, fold, min, Option, Some, None}
 use Rattle.std.specs.List.{list_all}
 use Rattle.tables.specs.declared.round.Round.{Round}
 use Rattle.tables.specs.declared.round.Round.TheVariants.{Opening, Stock, Operating}
@@ -34,11 +35,11 @@ value_of_digits digits = fold (λ value digit. value * 10 + (digit - 48)) 0 digi
 abbrev pub capped_value : List ℕ → Option ℕ
 capped_value word = if are_digits word then Some (min (value_of_digits word) (number_most + 1)) else None
 
--- digits of a value up to the greatest number, which stands for a value of some kind
+-- digits of a number up to the greatest, and the value of some kind that it gives
 abbrev pub digits_reading : (ℕ → values.Value) → List ℕ → Reading
-digits_reading stands_for digits =
+digits_reading as_value digits =
     if are_digits digits
-    then (if nat_le (value_of_digits digits) number_most then Value (stands_for (value_of_digits digits)) else TooLarge)
+    then (if nat_le (value_of_digits digits) number_most then Value (as_value (value_of_digits digits)) else TooLarge)
     else Wrong
 
 -- digits, with leading zeros allowed
@@ -80,11 +81,11 @@ round_reading word =
     if same_word (take 2 word) (codes "SR") then round_number_reading numbered.Stock (drop 2 word) else
     if same_word (take 2 word) (codes "OR") then operating_reading (drop 2 word) else Wrong
 
--- what stands for the first of some things whose code it is
+-- the value of the first of some things whose code it is
 abbrev pub code_reading : {X : Type 0} → (X → List ℕ) → (X → values.Value) → List X → List ℕ → Reading
-code_reading code stands_for [] word = Wrong
-code_reading code stands_for (one ∷ others) word =
-    if same_word word (code one) then Value (stands_for one) else code_reading code stands_for others word
+code_reading code as_value [] word = Wrong
+code_reading code as_value (one ∷ others) word =
+    if same_word word (code one) then Value (as_value one) else code_reading code as_value others word
 
 -- the code of a private
 abbrev pub private_reading : List ℕ → Reading
@@ -106,14 +107,14 @@ is_hex_digit byte = is_digit byte || (nat_le 65 byte && nat_le byte 70)
 abbrev pub are_hex_digits : List ℕ → Bool
 are_hex_digits word = (nat_le 1 (length word) && nat_le (length word) marks_digits_most) && list_all is_hex_digit word
 
--- hexadecimal digits, whose value stands in the word alone
+-- hexadecimal digits, whose value is in the word alone
 abbrev pub hex_digits_reading : List ℕ → Reading
 hex_digits_reading word = if are_hex_digits word then Value value.HexDigits else Wrong
 
--- what stands for that which a word names, if it names any
+-- the value of what a word names, if it names any
 abbrev pub named_reading : {X : Type 0} → (X → values.Value) → Option X → Reading
-named_reading stands_for (Some one) = Value (stands_for one)
-named_reading stands_for None = Wrong
+named_reading as_value (Some one) = Value (as_value one)
+named_reading as_value None = Wrong
 
 -- what a word, letters raised, is as a text of a class
 abbrev pub class_reading : Class → List ℕ → Reading

@@ -13,19 +13,15 @@ IsOfFile keyword.Turn = ⊤
 IsOfFile keyword.Company = ⊤
 IsOfFile other = ⊥
 
--- an order begins with it that names a number of dollars
+-- an order begins with it that names a number of dollars or of shares
 abbrev pub IsOfAmount : Keyword → Type 0
 IsOfAmount keyword.Bid = ⊤
 IsOfAmount keyword.Limit = ⊤
 IsOfAmount keyword.Par = ⊤
 IsOfAmount keyword.Private = ⊤
+IsOfAmount keyword.Sell = ⊤
+IsOfAmount keyword.Raise = ⊤
 IsOfAmount other = ⊥
-
--- an order begins with it that names a number of tenths
-abbrev pub IsOfTenths : Keyword → Type 0
-IsOfTenths keyword.Sell = ⊤
-IsOfTenths keyword.Raise = ⊤
-IsOfTenths other = ⊥
 
 -- an order begins with it that names one thing
 abbrev pub IsOfOne : Keyword → Type 0
@@ -34,7 +30,7 @@ IsOfOne keyword.Token = ⊤
 IsOfOne keyword.Run = ⊤
 IsOfOne other = ⊥
 
--- an order begins with it that tells of what trains earn, or of one that is discarded
+-- an order begins with it that says what becomes of what trains earn, or of one that is discarded
 abbrev pub IsOfTrains : Keyword → Type 0
 IsOfTrains keyword.Pay = ⊤
 IsOfTrains keyword.Withhold = ⊤
@@ -48,12 +44,12 @@ IsOfCertificate keyword.Cert = ⊤
 IsOfCertificate keyword.Marks = ⊤
 IsOfCertificate other = ⊥
 
--- an order of few bytes that names a number of dollars or of tenths
+-- an order of few bytes that names a number of dollars or of shares
 abbrev pub HasAmount : ShortOrder → Type 0
 HasAmount (short.Bid private amount) = ⊤
 HasAmount (short.Limit private amount) = ⊤
 HasAmount (short.Par company price) = ⊤
-HasAmount (short.Sell company tenths) = ⊤
+HasAmount (short.Sell company shares) = ⊤
 HasAmount (short.BuyOwnedPrivate private price) = ⊤
-HasAmount (short.Raise company tenths) = ⊤
+HasAmount (short.Raise company shares) = ⊤
 HasAmount other = ⊥

@@ -1,7 +1,9 @@
 -- The code of each fault.
 use Rattle.std.specs.Prelude.{ℕ, List, codes}
 use Rattle.order_grammar.specs.declared.fault.Fault.{Fault}
-use Rattle.order_grammar.specs.declared.fault.Fault.TheVariants.{TooLong, StrayByte, UnknownWord, WrongWords, NumberTooLarge, OutOfPlace, UnknownPlayer, PastLastLine}
+use Rattle.order_grammar.specs.declared.fault.Fault.TheVariants.{TooLong, StrayByte, UnknownWord, WrongWords}
+use Rattle.order_grammar.specs.declared.fault.Fault.TheVariants.{NumberTooLarge, OutOfPlace, UnknownPlayer}
+use Rattle.order_grammar.specs.declared.fault.Fault.TheVariants.{PastLastLine}
 
 -- the code that a report prints
 abbrev pub code_of : Fault → List ℕ

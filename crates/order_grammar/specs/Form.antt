@@ -1,6 +1,7 @@
 -- The table of forms, and what the words of a line are by it: the order that they spell, or why they
 -- spell none.
-use Rattle.std.specs.Prelude.{ℕ, List, [], ◌∷◌, Option, Some, None, Result, Ok, Err, nat_lt, nat_le, Bool, true, false, ◌&&◌, length, fold, take, drop, if◌then◌else◌, option_map}
+use Rattle.std.specs.Prelude.{ℕ, List, [], ◌∷◌, Option, Some, None, Result, Ok, Err, nat_lt, nat_le, Bool, true, false}
+use Rattle.std.specs.Prelude.{◌&&◌, length, fold, take, drop, if◌then◌else◌, option_map}
 use Rattle.map_tables.specs.Text.{place_of_text}
 use Rattle.map_tables.specs.declared.place.Place.{Place}
 use Rattle.std.specs.List.{list_all, list_any}
@@ -15,14 +16,14 @@ use Rattle.order_grammar.specs.declared.class.Reading.{Reading}
 use Rattle.order_grammar.specs.declared.class.Reading.TheVariants as reading
 use Rattle.order_grammar.specs.declared.fault.Fault.{Fault}
 use Rattle.order_grammar.specs.declared.fault.Fault.TheVariants.{UnknownWord, WrongWords, NumberTooLarge}
-use Rattle.order_grammar.specs.declared.form.Repeated.{Repeated}
-use Rattle.order_grammar.specs.declared.form.Repeated.TheVariants as repeated
+use Rattle.order_grammar.specs.declared.form.TrailingClass.{TrailingClass}
+use Rattle.order_grammar.specs.declared.form.TrailingClass.TheVariants as trailing_class
 use Rattle.order_grammar.specs.declared.keyword.Keyword.{Keyword}
 use Rattle.order_grammar.specs.declared.keyword.Keyword.TheVariants as keyword
 use Rattle.order_grammar.specs.declared.order.Order.{Order}
 use Rattle.order_grammar.specs.declared.order.Order.TheVariants.{Blank}
-use Rattle.order_grammar.specs.declared.order.Tail.{Tail}
-use Rattle.order_grammar.specs.declared.order.Tail.TheVariants as tail
+use Rattle.order_grammar.specs.declared.order.Trailing.{Trailing}
+use Rattle.order_grammar.specs.declared.order.Trailing.TheVariants as trailing
 use Rattle.order_grammar.specs.declared.order.Value.{Value}
 
 -- a row of the table: the first word, the classes of the words after it, and the class that is
@@ -30,58 +31,58 @@ use Rattle.order_grammar.specs.declared.order.Value.{Value}
 pub record Row : Type 0 where
   pub keyword : Keyword
   pub classes : List Class
-  pub repeated : Repeated
+  pub trailing_class : TrailingClass
 
-abbrev pub row : Keyword → List Class → Repeated → Row
-row keyword classes repeated = record { keyword = keyword; classes = classes; repeated = repeated }
+abbrev pub row : Keyword → List Class → TrailingClass → Row
+row keyword classes trailing_class = record { keyword = keyword; classes = classes; trailing_class = trailing_class }
 
 -- the forms of lines: those of the file and of the heads of its parts, those of orders, CERT and CLAIM, and then those
 -- of a certificate alone
 abbrev pub forms : List Row
 forms =
-    row keyword.Game (class.Number ∷ class.Number ∷ []) repeated.Nothing
-    ∷ row keyword.Players [] (repeated.Names 3 6)
-    ∷ row keyword.Sheet (class.Name ∷ class.Round ∷ []) repeated.Nothing
-    ∷ row keyword.Turn [] repeated.Nothing
-    ∷ row keyword.Company (class.Company ∷ []) repeated.Nothing
-    ∷ row keyword.Buy (class.Private ∷ []) repeated.Nothing
-    ∷ row keyword.Buy (class.Company ∷ class.Word keyword.InitialOffering ∷ []) repeated.Nothing
-    ∷ row keyword.Buy (class.Company ∷ class.Word keyword.Pool ∷ []) repeated.Nothing
-    ∷ row keyword.Bid (class.Private ∷ class.Number ∷ []) repeated.Nothing
-    ∷ row keyword.Limit (class.Private ∷ class.Number ∷ []) repeated.Nothing
-    ∷ row keyword.Par (class.Company ∷ class.Number ∷ []) repeated.Nothing
-    ∷ row keyword.Sell (class.Company ∷ class.Number ∷ []) repeated.Nothing
-    ∷ row keyword.Exchange (class.Word keyword.Mohawk ∷ []) repeated.Nothing
-    ∷ row keyword.Lay (class.Tile ∷ class.Hex ∷ class.Rotation ∷ []) repeated.Nothing
-    ∷ row keyword.Lay (class.Tile ∷ class.Hex ∷ class.Rotation ∷ class.Word keyword.Swap ∷ []) repeated.Nothing
-    ∷ row keyword.Token (class.Place ∷ []) repeated.Nothing
-    ∷ row keyword.Run (class.Kind ∷ []) repeated.Places
-    ∷ row keyword.Run (class.Word keyword.Best ∷ []) repeated.Nothing
-    ∷ row keyword.Pay [] repeated.Nothing
-    ∷ row keyword.Withhold [] repeated.Nothing
-    ∷ row keyword.Train (class.Kind ∷ class.Word keyword.Bank ∷ []) repeated.Nothing
+    row keyword.Game (class.Number ∷ class.Number ∷ []) trailing_class.Nothing
+    ∷ row keyword.Players [] (trailing_class.Names 3 6)
+    ∷ row keyword.Sheet (class.Name ∷ class.Round ∷ []) trailing_class.Nothing
+    ∷ row keyword.Turn [] trailing_class.Nothing
+    ∷ row keyword.Company (class.Company ∷ []) trailing_class.Nothing
+    ∷ row keyword.Buy (class.Private ∷ []) trailing_class.Nothing
+    ∷ row keyword.Buy (class.Company ∷ class.Word keyword.InitialOffering ∷ []) trailing_class.Nothing
+    ∷ row keyword.Buy (class.Company ∷ class.Word keyword.Pool ∷ []) trailing_class.Nothing
+    ∷ row keyword.Bid (class.Private ∷ class.Number ∷ []) trailing_class.Nothing
+    ∷ row keyword.Limit (class.Private ∷ class.Number ∷ []) trailing_class.Nothing
+    ∷ row keyword.Par (class.Company ∷ class.Number ∷ []) trailing_class.Nothing
+    ∷ row keyword.Sell (class.Company ∷ class.Number ∷ []) trailing_class.Nothing
+    ∷ row keyword.Exchange (class.Word keyword.Mohawk ∷ []) trailing_class.Nothing
+    ∷ row keyword.Lay (class.Tile ∷ class.Hex ∷ class.Rotation ∷ []) trailing_class.Nothing
+    ∷ row keyword.Lay (class.Tile ∷ class.Hex ∷ class.Rotation ∷ class.Word keyword.Swap ∷ []) trailing_class.Nothing
+    ∷ row keyword.Token (class.Place ∷ []) trailing_class.Nothing
+    ∷ row keyword.Run (class.Kind ∷ []) trailing_class.Places
+    ∷ row keyword.Run (class.Word keyword.Best ∷ []) trailing_class.Nothing
+    ∷ row keyword.Pay [] trailing_class.Nothing
+    ∷ row keyword.Withhold [] trailing_class.Nothing
+    ∷ row keyword.Train (class.Kind ∷ class.Word keyword.Bank ∷ []) trailing_class.Nothing
     ∷ row keyword.Train (class.Kind ∷ class.Word keyword.Bank ∷ class.Word keyword.Trade ∷ class.Kind ∷ [])
-    repeated.Nothing
-    ∷ row keyword.Train (class.Kind ∷ class.Word keyword.Pool ∷ []) repeated.Nothing
-    ∷ row keyword.Train (class.Kind ∷ class.Company ∷ class.Number ∷ []) repeated.Nothing
-    ∷ row keyword.Discard (class.Company ∷ class.Kind ∷ []) repeated.Nothing
-    ∷ row keyword.Private (class.Private ∷ class.Number ∷ []) repeated.Nothing
-    ∷ row keyword.Raise (class.Company ∷ class.Number ∷ []) repeated.Nothing
+    trailing_class.Nothing
+    ∷ row keyword.Train (class.Kind ∷ class.Word keyword.Pool ∷ []) trailing_class.Nothing
+    ∷ row keyword.Train (class.Kind ∷ class.Company ∷ class.Number ∷ []) trailing_class.Nothing
+    ∷ row keyword.Discard (class.Company ∷ class.Kind ∷ []) trailing_class.Nothing
+    ∷ row keyword.Private (class.Private ∷ class.Number ∷ []) trailing_class.Nothing
+    ∷ row keyword.Raise (class.Company ∷ class.Number ∷ []) trailing_class.Nothing
     ∷ row keyword.Offer (class.Word keyword.Private ∷ class.Private ∷ class.Company ∷ class.Number ∷ [])
-    repeated.Nothing
+    trailing_class.Nothing
     ∷ row keyword.Offer (class.Word keyword.Train ∷ class.Kind ∷ class.Company ∷ class.Company ∷ class.Number ∷ [])
-    repeated.Nothing
-    ∷ row keyword.Cert (class.Round ∷ class.Company ∷ class.Number ∷ []) repeated.Nothing
-    ∷ row keyword.Claim (class.Kind ∷ []) repeated.Places
-    ∷ row keyword.Certs (class.Word keyword.One ∷ []) repeated.Nothing
-    ∷ row keyword.Marks (class.HexDigits ∷ []) repeated.Nothing
+    trailing_class.Nothing
+    ∷ row keyword.Cert (class.Round ∷ class.Company ∷ class.Number ∷ []) trailing_class.Nothing
+    ∷ row keyword.Claim (class.Kind ∷ []) trailing_class.Places
+    ∷ row keyword.Certs (class.Word keyword.One ∷ []) trailing_class.Nothing
+    ∷ row keyword.Marks (class.HexDigits ∷ []) trailing_class.Nothing
     ∷ []
 
 -- the forms of an order file: all but CERTS and MARKS
 abbrev pub order_forms : List Row
 order_forms = take 31 forms
 
--- the forms of orders, which may stand under a condition
+-- the forms of orders, which may be under a condition
 abbrev pub play_forms : List Row
 play_forms = take 24 (drop 5 forms)
 
@@ -89,7 +90,7 @@ play_forms = take 24 (drop 5 forms)
 abbrev pub cert_forms : List Row
 cert_forms = drop 29 forms
 
--- names, at least and at most so many
+-- names, at least and at most this many
 abbrev pub are_names : ℕ → ℕ → List (List ℕ) → Bool
 are_names least most words = nat_le least (length words) && nat_le (length words) most && list_all is_name words
 
@@ -112,16 +113,16 @@ abbrev pub run_reading : List (List ℕ) → Option (List Place)
 run_reading words = if is_run_length (length words) then places_reading words else None
 
 -- what words are as those of a repeated class
-abbrev pub tail_reading : Repeated → List (List ℕ) → Option Tail
-tail_reading repeated.Nothing [] = Some tail.Nothing
-tail_reading repeated.Nothing (word ∷ words) = None
-tail_reading (repeated.Names least most) words =
-    if are_names least most words then Some (tail.Names (record { items = words })) else None
-tail_reading repeated.Places words = option_map tail.Places (run_reading words)
+abbrev pub trailing_reading : TrailingClass → List (List ℕ) → Option Trailing
+trailing_reading trailing_class.Nothing [] = Some trailing.Nothing
+trailing_reading trailing_class.Nothing (word ∷ words) = None
+trailing_reading (trailing_class.Names least most) words =
+    if are_names least most words then Some (trailing.Names (record { items = words })) else None
+trailing_reading trailing_class.Places words = option_map trailing.Places (run_reading words)
 
 -- the value of a word in front of the values of the later words; a word that is no text of its class
 -- spoils all, a number that is too large all but that
-abbrev pub with_value : Reading → Result (List Value × Tail) Fault → Result (List Value × Tail) Fault
+abbrev pub with_value : Reading → Result (List Value × Trailing) Fault → Result (List Value × Trailing) Fault
 with_value reading.Wrong read = Err WrongWords
 with_value reading.TooLarge (Ok read) = Err NumberTooLarge
 with_value reading.TooLarge (Err fault) = Err fault
@@ -129,19 +130,19 @@ with_value (reading.Value value) (Ok read) = Ok (value ∷ read.0, read.1)
 with_value (reading.Value value) (Err fault) = Err fault
 
 -- the values of words as texts of these classes, one for one, and then of the class that is repeated
-abbrev pub values_reading : List Class → Repeated → List (List ℕ) → Result (List Value × Tail) Fault
-values_reading [] repeated words =
-    elim (tail_reading repeated words) [ Some tail ↦ Ok ([], tail) | None ↦ Err WrongWords ]
-values_reading (class ∷ classes) repeated [] = Err WrongWords
-values_reading (class ∷ classes) repeated (word ∷ words) =
-    with_value (class_reading class word) (values_reading classes repeated words)
+abbrev pub values_reading : List Class → TrailingClass → List (List ℕ) → Result (List Value × Trailing) Fault
+values_reading [] trailing_class words =
+    elim (trailing_reading trailing_class words) [ Some trailing ↦ Ok ([], trailing) | None ↦ Err WrongWords ]
+values_reading (class ∷ classes) trailing_class [] = Err WrongWords
+values_reading (class ∷ classes) trailing_class (word ∷ words) =
+    with_value (class_reading class word) (values_reading classes trailing_class words)
 
 -- the values of the words after the first by a row
-abbrev pub values_by_row : Row → List (List ℕ) → Result (List Value × Tail) Fault
-values_by_row row words = values_reading row.classes row.repeated words
+abbrev pub values_by_row : Row → List (List ℕ) → Result (List Value × Trailing) Fault
+values_by_row row words = values_reading row.classes row.trailing_class words
 
 -- an order of values that were read
-abbrev pub order_of_values : Keyword → Result (List Value × Tail) Fault → Result Order Fault
+abbrev pub order_of_values : Keyword → Result (List Value × Trailing) Fault → Result Order Fault
 order_of_values keyword (Err fault) = Err fault
 order_of_values keyword (Ok read) =
     elim (order_from keyword read.0 read.1) [ Some order ↦ Ok order | None ↦ Err WrongWords ]
@@ -180,27 +181,27 @@ abbrev pub words_reading : List Row → List (List ℕ) → Result Order Fault
 words_reading rows [] = Ok Blank
 words_reading rows (first ∷ rest) = rows_reading rows first rest
 
--- whether what stands at the end is of the class that is repeated there
-abbrev pub is_of_repeated : Repeated → Tail → Bool
-is_of_repeated repeated.Nothing tail.Nothing = true
-is_of_repeated (repeated.Names least most) (tail.Names names) = are_names least most names.items
-is_of_repeated repeated.Places (tail.Places run) = is_run_length (length run)
-is_of_repeated repeated other = false
+-- whether what is at the end is of the class that is repeated there
+abbrev pub is_of_trailing_class : TrailingClass → Trailing → Bool
+is_of_trailing_class trailing_class.Nothing trailing.Nothing = true
+is_of_trailing_class (trailing_class.Names least most) (trailing.Names names) = are_names least most names.items
+is_of_trailing_class trailing_class.Places (trailing.Places run) = is_run_length (length run)
+is_of_trailing_class trailing_class other = false
 
 -- whether values are of these classes, one for one, and of the class that is repeated
-abbrev pub are_of_classes : List Class → Repeated → List Value → Tail → Bool
-are_of_classes [] repeated [] tail = is_of_repeated repeated tail
-are_of_classes [] repeated (value ∷ values) tail = false
-are_of_classes (class ∷ classes) repeated [] tail = false
-are_of_classes (class ∷ classes) repeated (value ∷ values) tail =
-    is_of_class class value && are_of_classes classes repeated values tail
+abbrev pub are_of_classes : List Class → TrailingClass → List Value → Trailing → Bool
+are_of_classes [] trailing_class [] trailing = is_of_trailing_class trailing_class trailing
+are_of_classes [] trailing_class (value ∷ values) trailing = false
+are_of_classes (class ∷ classes) trailing_class [] trailing = false
+are_of_classes (class ∷ classes) trailing_class (value ∷ values) trailing =
+    is_of_class class value && are_of_classes classes trailing_class values trailing
 
 -- whether a row is the form of an order of these parts
-abbrev pub is_row_of : Keyword → List Value → Tail → Row → Bool
-is_row_of keyword values tail row =
+abbrev pub is_row_of : Keyword → List Value → Trailing → Row → Bool
+is_row_of keyword values trailing row =
     same_word (text_of_keyword row.keyword) (text_of_keyword keyword)
-    && are_of_classes row.classes row.repeated values tail
+    && are_of_classes row.classes row.trailing_class values trailing
 
 -- whether some form is that of an order of these parts
 abbrev pub has_form : Parts → Bool
-has_form parts = list_any (is_row_of parts.keyword parts.values parts.tail) forms
+has_form parts = list_any (is_row_of parts.keyword parts.values parts.trailing) forms

@@ -10,14 +10,14 @@ use Rattle.order_grammar.specs.declared.fault.Fault.TheVariants.{TooLong, StrayB
 use Rattle.order_grammar.specs.declared.order.Order.{Order}
 use Rattle.order_grammar.specs.declared.read.Line.{Line}
 
--- the order of a line of at most so many bytes by some forms, or its first fault
+-- the order of a line of at most this many bytes by some forms, or its first fault
 abbrev pub reading_by : ℕ → List Row → List ℕ → Result Order Fault
 reading_by most rows line =
     if nat_lt most (length line)
     then Err TooLong
     else (if list_all is_printable (before_comment line) then words_reading rows (words_of line) else Err StrayByte)
 
--- the words of a line of at most so many bytes at their places, or the first fault that it has before they are read
+-- the words of a line of at most this many bytes at their places, or the first fault that it has before they are read
 abbrev pub words_within : ℕ → List ℕ → Result (List Placed) Fault
 words_within most line =
     if nat_lt most (length line)

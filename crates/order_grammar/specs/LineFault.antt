@@ -4,7 +4,8 @@ use Rattle.order_grammar.specs.Spells.{LooselySpellsIn, SpellsIn}
 use Rattle.order_grammar.specs.Texts.{TextKind, order_file}
 use Rattle.order_grammar.specs.Words.{words_of, before_comment, is_printable}
 use Rattle.order_grammar.specs.declared.fault.Fault.{Fault}
-use Rattle.order_grammar.specs.declared.fault.Fault.TheVariants.{TooLong, StrayByte, UnknownWord, WrongWords, NumberTooLarge}
+use Rattle.order_grammar.specs.declared.fault.Fault.TheVariants.{TooLong, StrayByte, UnknownWord, WrongWords}
+use Rattle.order_grammar.specs.declared.fault.Fault.TheVariants.{NumberTooLarge}
 use Rattle.order_grammar.specs.declared.order.Order.{Order}
 
 -- the line has too many bytes for the text

@@ -1,6 +1,7 @@
 -- A player's name is a letter, then up to seven letters or digits; letters are raised. To a contract
 -- a name is its text.
-use Rattle.std.specs.Prelude.{◌≡◌, ℕ, ◌-◌, ◌≤◌, Bool, false, ◌&&◌, ◌||◌, nat_le, List, [], ◌∷◌, ◌++◌, length, take, drop, replicate}
+use Rattle.std.specs.Prelude.{◌≡◌, ℕ, ◌-◌, ◌≤◌, Bool, false, ◌&&◌, ◌||◌, nat_le, List, [], ◌∷◌, ◌++◌, length, take}
+use Rattle.std.specs.Prelude.{drop, replicate}
 use Rattle.std.proofs.Common.{sym, ap, subst, ◌∙◌, length-take-le, take-append-drop}
 use Rattle.std.specs.List.{list_all}
 
@@ -19,8 +20,8 @@ abbrev pub is_name : List ℕ → Bool
 is_name [] = false
 is_name (first ∷ rest) = is_capital first && (nat_le (length rest) 7 && list_all is_letter_or_digit rest)
 
--- letters that are cut to their length and filled up again are as they were: the law of a name's view
--- asks for this, so it stands here and not among the proofs
+-- letters that are cut to their length and filled up again are as they were: the law of a name's view asks for this, so
+-- it is here and not among the proofs
 pub padded_again : (letters : List ℕ) (count : ℕ) → count ≤ 8 → length letters ≡ 8
     → drop count letters ≡ replicate (8 - count) 0 →
     ◌≡◌ {A = List ℕ × ℕ} (

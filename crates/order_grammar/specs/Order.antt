@@ -11,17 +11,21 @@ use Rattle.order_grammar.specs.declared.keyword.Keyword.TheVariants as keyword
 use Rattle.order_grammar.specs.declared.order.Offer as offers
 use Rattle.order_grammar.specs.declared.order.Offer.TheVariants as offer
 use Rattle.order_grammar.specs.declared.order.Order.{Order}
-use Rattle.order_grammar.specs.declared.order.Order.TheVariants.{Blank, Game, Players, Sheet, Turn, BuyPrivate, Bid, Limit, Par, BuyShare, Sell, ExchangeMohawk, Company as CompanyTurn, Lay, Token, Run, RunBest, Pay, Withhold, BuyTrain, Discard, BuyOwnedPrivate, Raise, Offer, Certs, Cert, Claim, Marks}
+use Rattle.order_grammar.specs.declared.order.Order.TheVariants.{Blank, Game, Players, Sheet, Turn, BuyPrivate, Bid}
+use Rattle.order_grammar.specs.declared.order.Order.TheVariants.{Limit, Par, BuyShare, Sell, ExchangeMohawk}
+use Rattle.order_grammar.specs.declared.order.Order.TheVariants.{Company as CompanyTurn, Lay, Token, Run, RunBest, Pay}
+use Rattle.order_grammar.specs.declared.order.Order.TheVariants.{Withhold, BuyTrain, Discard, BuyOwnedPrivate, Raise}
+use Rattle.order_grammar.specs.declared.order.Order.TheVariants.{Offer, Certs, Cert, Claim, Marks}
 use Rattle.order_grammar.specs.declared.order.ShareSource.{ShareSource}
 use Rattle.order_grammar.specs.declared.order.ShareSource.TheVariants.{InitialOffering, BankPool}
-use Rattle.order_grammar.specs.declared.order.Tail.{Tail}
-use Rattle.order_grammar.specs.declared.order.Tail.TheVariants as tail
+use Rattle.order_grammar.specs.declared.order.Trailing.{Trailing}
+use Rattle.order_grammar.specs.declared.order.Trailing.TheVariants as trailing
 use Rattle.order_grammar.specs.declared.order.TrainSource.{TrainSource}
 use Rattle.order_grammar.specs.declared.order.TrainSource.TheVariants as source
 use Rattle.order_grammar.specs.declared.order.Value.{Value}
 use Rattle.order_grammar.specs.declared.order.Value.TheVariants as value
 
--- the literal word that names where a tenth is bought
+-- the literal word that names where a share is bought
 abbrev pub keyword_of_source : ShareSource → Keyword
 keyword_of_source InitialOffering = keyword.InitialOffering
 keyword_of_source BankPool = keyword.Pool
@@ -57,103 +61,110 @@ lay_of tile hex rotation swap = record { hex = hex; tile = tile; rot = rotation;
 pub record Parts : Type 0 where
   pub keyword : Keyword
   pub values : List Value
-  pub tail : Tail
+  pub trailing : Trailing
 
 -- an order that is made of these
-abbrev pub made_of : Keyword → List Value → Tail → Option Parts
-made_of keyword values tail = Some (record { keyword = keyword; values = values; tail = tail })
+abbrev pub made_of : Keyword → List Value → Trailing → Option Parts
+made_of keyword values trailing = Some (record { keyword = keyword; values = values; trailing = trailing })
 
 -- the parts of an order; a blank line has none
 abbrev pub parts_of : Order → Option Parts
 parts_of Blank = None
-parts_of (Game game version) = made_of keyword.Game (value.Number game ∷ value.Number version ∷ []) tail.Nothing
-parts_of (Players names) = made_of keyword.Players [] (tail.Names names)
-parts_of (Sheet name round) = made_of keyword.Sheet (value.Name name ∷ value.Round round ∷ []) tail.Nothing
-parts_of Turn = made_of keyword.Turn [] tail.Nothing
-parts_of (BuyPrivate private) = made_of keyword.Buy (value.Private private ∷ []) tail.Nothing
-parts_of (Bid private amount) = made_of keyword.Bid (value.Private private ∷ value.Number amount ∷ []) tail.Nothing
-parts_of (Limit private amount) = made_of keyword.Limit (value.Private private ∷ value.Number amount ∷ []) tail.Nothing
-parts_of (Par company price) = made_of keyword.Par (value.Company company ∷ value.Number price ∷ []) tail.Nothing
+parts_of (Game game version) = made_of keyword.Game (value.Number game ∷ value.Number version ∷ []) trailing.Nothing
+parts_of (Players names) = made_of keyword.Players [] (trailing.Names names)
+parts_of (Sheet name round) = made_of keyword.Sheet (value.Name name ∷ value.Round round ∷ []) trailing.Nothing
+parts_of Turn = made_of keyword.Turn [] trailing.Nothing
+parts_of (BuyPrivate private) = made_of keyword.Buy (value.Private private ∷ []) trailing.Nothing
+parts_of (Bid private amount) = made_of keyword.Bid (value.Private private ∷ value.Number amount ∷ []) trailing.Nothing
+parts_of (Limit private amount) = made_of keyword.Limit (value.Private private ∷ value.Number amount ∷ [])
+    trailing.Nothing
+parts_of (Par company price) = made_of keyword.Par (value.Company company ∷ value.Number price ∷ []) trailing.Nothing
 parts_of (BuyShare company from) = made_of keyword.Buy
-    (value.Company company ∷ value.Word (keyword_of_source from) ∷ []) tail.Nothing
-parts_of (Sell company tenths) = made_of keyword.Sell (value.Company company ∷ value.Number tenths ∷ []) tail.Nothing
-parts_of ExchangeMohawk = made_of keyword.Exchange (value.Word keyword.Mohawk ∷ []) tail.Nothing
-parts_of (CompanyTurn company) = made_of keyword.Company (value.Company company ∷ []) tail.Nothing
+    (value.Company company ∷ value.Word (keyword_of_source from) ∷ []) trailing.Nothing
+parts_of (Sell company shares) = made_of keyword.Sell (value.Company company ∷ value.Number shares ∷ [])
+    trailing.Nothing
+parts_of ExchangeMohawk = made_of keyword.Exchange (value.Word keyword.Mohawk ∷ []) trailing.Nothing
+parts_of (CompanyTurn company) = made_of keyword.Company (value.Company company ∷ []) trailing.Nothing
 parts_of (Lay lay) =
     made_of keyword.Lay (value.Tile lay.tile ∷ value.Hex lay.hex ∷ value.Rotation lay.rot ∷ swap_values lay.swap)
-    tail.Nothing
-parts_of (Token place) = made_of keyword.Token (value.Place place ∷ []) tail.Nothing
-parts_of (Run kind run) = made_of keyword.Run (value.Kind kind ∷ []) (tail.Places run)
-parts_of RunBest = made_of keyword.Run (value.Word keyword.Best ∷ []) tail.Nothing
-parts_of Pay = made_of keyword.Pay [] tail.Nothing
-parts_of Withhold = made_of keyword.Withhold [] tail.Nothing
-parts_of (BuyTrain kind from) = made_of keyword.Train (value.Kind kind ∷ source_values from) tail.Nothing
-parts_of (Discard company kind) = made_of keyword.Discard (value.Company company ∷ value.Kind kind ∷ []) tail.Nothing
+    trailing.Nothing
+parts_of (Token place) = made_of keyword.Token (value.Place place ∷ []) trailing.Nothing
+parts_of (Run kind run) = made_of keyword.Run (value.Kind kind ∷ []) (trailing.Places run)
+parts_of RunBest = made_of keyword.Run (value.Word keyword.Best ∷ []) trailing.Nothing
+parts_of Pay = made_of keyword.Pay [] trailing.Nothing
+parts_of Withhold = made_of keyword.Withhold [] trailing.Nothing
+parts_of (BuyTrain kind from) = made_of keyword.Train (value.Kind kind ∷ source_values from) trailing.Nothing
+parts_of (Discard company kind) = made_of keyword.Discard (value.Company company ∷ value.Kind kind ∷ [])
+    trailing.Nothing
 parts_of (BuyOwnedPrivate private price) = made_of keyword.Private (value.Private private ∷ value.Number price ∷ [])
-    tail.Nothing
-parts_of (Raise company tenths) = made_of keyword.Raise (value.Company company ∷ value.Number tenths ∷ []) tail.Nothing
-parts_of (Offer offer) = made_of keyword.Offer (offer_values offer) tail.Nothing
-parts_of Certs = made_of keyword.Certs (value.Word keyword.One ∷ []) tail.Nothing
+    trailing.Nothing
+parts_of (Raise company shares) = made_of keyword.Raise (value.Company company ∷ value.Number shares ∷ [])
+    trailing.Nothing
+parts_of (Offer offer) = made_of keyword.Offer (offer_values offer) trailing.Nothing
+parts_of Certs = made_of keyword.Certs (value.Word keyword.One ∷ []) trailing.Nothing
 parts_of (Cert round company revenue) =
-    made_of keyword.Cert (value.Round round ∷ value.Company company ∷ value.Number revenue ∷ []) tail.Nothing
-parts_of (Claim kind run) = made_of keyword.Claim (value.Kind kind ∷ []) (tail.Places run)
-parts_of Marks = made_of keyword.Marks (value.HexDigits ∷ []) tail.Nothing
+    made_of keyword.Cert (value.Round round ∷ value.Company company ∷ value.Number revenue ∷ []) trailing.Nothing
+parts_of (Claim kind run) = made_of keyword.Claim (value.Kind kind ∷ []) (trailing.Places run)
+parts_of Marks = made_of keyword.Marks (value.HexDigits ∷ []) trailing.Nothing
 
 -- the order of these parts, where there is one
-abbrev pub order_from : Keyword → List Value → Tail → Option Order
-order_from keyword.Game ((value.Number game) ∷ (value.Number version) ∷ []) tail.Nothing = Some (Game game version)
-order_from keyword.Players [] (tail.Names names) = Some (Players names)
-order_from keyword.Sheet ((value.Name name) ∷ (value.Round round) ∷ []) tail.Nothing = Some (Sheet name round)
-order_from keyword.Turn [] tail.Nothing = Some Turn
-order_from keyword.Buy ((value.Private private) ∷ []) tail.Nothing = Some (BuyPrivate private)
-order_from keyword.Buy ((value.Company company) ∷ (value.Word keyword.InitialOffering) ∷ []) tail.Nothing =
+abbrev pub order_from : Keyword → List Value → Trailing → Option Order
+order_from keyword.Game ((value.Number game) ∷ (value.Number version) ∷ []) trailing.Nothing = Some (Game game version)
+order_from keyword.Players [] (trailing.Names names) = Some (Players names)
+order_from keyword.Sheet ((value.Name name) ∷ (value.Round round) ∷ []) trailing.Nothing = Some (Sheet name round)
+order_from keyword.Turn [] trailing.Nothing = Some Turn
+order_from keyword.Buy ((value.Private private) ∷ []) trailing.Nothing = Some (BuyPrivate private)
+order_from keyword.Buy ((value.Company company) ∷ (value.Word keyword.InitialOffering) ∷ []) trailing.Nothing =
     Some (BuyShare company InitialOffering)
-order_from keyword.Buy ((value.Company company) ∷ (value.Word keyword.Pool) ∷ []) tail.Nothing =
+order_from keyword.Buy ((value.Company company) ∷ (value.Word keyword.Pool) ∷ []) trailing.Nothing =
     Some (BuyShare company BankPool)
-order_from keyword.Bid ((value.Private private) ∷ (value.Number amount) ∷ []) tail.Nothing = Some (Bid private amount)
-order_from keyword.Limit ((value.Private private) ∷ (value.Number amount) ∷ []) tail.Nothing =
+order_from keyword.Bid ((value.Private private) ∷ (value.Number amount) ∷ []) trailing.Nothing = Some
+    (Bid private amount)
+order_from keyword.Limit ((value.Private private) ∷ (value.Number amount) ∷ []) trailing.Nothing =
     Some (Limit private amount)
-order_from keyword.Par ((value.Company company) ∷ (value.Number price) ∷ []) tail.Nothing = Some (Par company price)
-order_from keyword.Sell ((value.Company company) ∷ (value.Number tenths) ∷ []) tail.Nothing = Some (Sell company tenths)
-order_from keyword.Exchange ((value.Word keyword.Mohawk) ∷ []) tail.Nothing = Some ExchangeMohawk
-order_from keyword.Company ((value.Company company) ∷ []) tail.Nothing = Some (CompanyTurn company)
-order_from keyword.Lay ((value.Tile tile) ∷ (value.Hex hex) ∷ (value.Rotation rotation) ∷ []) tail.Nothing =
+order_from keyword.Par ((value.Company company) ∷ (value.Number price) ∷ []) trailing.Nothing = Some (Par company price)
+order_from keyword.Sell ((value.Company company) ∷ (value.Number shares) ∷ []) trailing.Nothing = Some
+    (Sell company shares)
+order_from keyword.Exchange ((value.Word keyword.Mohawk) ∷ []) trailing.Nothing = Some ExchangeMohawk
+order_from keyword.Company ((value.Company company) ∷ []) trailing.Nothing = Some (CompanyTurn company)
+order_from keyword.Lay ((value.Tile tile) ∷ (value.Hex hex) ∷ (value.Rotation rotation) ∷ []) trailing.Nothing =
     Some (Lay (lay_of tile hex rotation false))
 order_from keyword.Lay ((value.Tile tile) ∷ (value.Hex hex) ∷ (value.Rotation rotation) ∷ (value.Word keyword.Swap)
-    ∷ []) tail.Nothing =
+    ∷ []) trailing.Nothing =
     Some (Lay (lay_of tile hex rotation true))
-order_from keyword.Token ((value.Place place) ∷ []) tail.Nothing = Some (Token place)
-order_from keyword.Run ((value.Kind kind) ∷ []) (tail.Places run) = Some (Run kind run)
-order_from keyword.Run ((value.Word keyword.Best) ∷ []) tail.Nothing = Some RunBest
-order_from keyword.Pay [] tail.Nothing = Some Pay
-order_from keyword.Withhold [] tail.Nothing = Some Withhold
-order_from keyword.Train ((value.Kind kind) ∷ (value.Word keyword.Bank) ∷ []) tail.Nothing =
+order_from keyword.Token ((value.Place place) ∷ []) trailing.Nothing = Some (Token place)
+order_from keyword.Run ((value.Kind kind) ∷ []) (trailing.Places run) = Some (Run kind run)
+order_from keyword.Run ((value.Word keyword.Best) ∷ []) trailing.Nothing = Some RunBest
+order_from keyword.Pay [] trailing.Nothing = Some Pay
+order_from keyword.Withhold [] trailing.Nothing = Some Withhold
+order_from keyword.Train ((value.Kind kind) ∷ (value.Word keyword.Bank) ∷ []) trailing.Nothing =
     Some (BuyTrain kind source.Bank)
 order_from keyword.Train ((value.Kind kind) ∷ (value.Word keyword.Bank) ∷ (value.Word keyword.Trade)
-    ∷ (value.Kind other) ∷ []) tail.Nothing =
+    ∷ (value.Kind other) ∷ []) trailing.Nothing =
     Some (BuyTrain kind (source.Trade other))
-order_from keyword.Train ((value.Kind kind) ∷ (value.Word keyword.Pool) ∷ []) tail.Nothing =
+order_from keyword.Train ((value.Kind kind) ∷ (value.Word keyword.Pool) ∷ []) trailing.Nothing =
     Some (BuyTrain kind source.BankPool)
-order_from keyword.Train ((value.Kind kind) ∷ (value.Company seller) ∷ (value.Number price) ∷ []) tail.Nothing =
+order_from keyword.Train ((value.Kind kind) ∷ (value.Company seller) ∷ (value.Number price) ∷ []) trailing.Nothing =
     Some (BuyTrain kind (source.Company seller price))
-order_from keyword.Discard ((value.Company company) ∷ (value.Kind kind) ∷ []) tail.Nothing = Some (Discard company kind)
-order_from keyword.Private ((value.Private private) ∷ (value.Number price) ∷ []) tail.Nothing =
+order_from keyword.Discard ((value.Company company) ∷ (value.Kind kind) ∷ []) trailing.Nothing = Some
+    (Discard company kind)
+order_from keyword.Private ((value.Private private) ∷ (value.Number price) ∷ []) trailing.Nothing =
     Some (BuyOwnedPrivate private price)
-order_from keyword.Raise ((value.Company company) ∷ (value.Number tenths) ∷ []) tail.Nothing =
-    Some (Raise company tenths)
+order_from keyword.Raise ((value.Company company) ∷ (value.Number shares) ∷ []) trailing.Nothing =
+    Some (Raise company shares)
 order_from keyword.Offer ((value.Word keyword.Private) ∷ (value.Private private) ∷ (value.Company buyer)
-    ∷ (value.Number price) ∷ []) tail.Nothing =
+    ∷ (value.Number price) ∷ []) trailing.Nothing =
     Some (Offer (offer.Private private buyer price))
 order_from keyword.Offer ((value.Word keyword.Train) ∷ (value.Kind kind) ∷ (value.Company seller)
     ∷ (value.Company buyer) ∷ (value.Number price) ∷ [])
-    tail.Nothing =
+    trailing.Nothing =
     Some (Offer (offer.Train kind seller buyer price))
-order_from keyword.Certs ((value.Word keyword.One) ∷ []) tail.Nothing = Some Certs
-order_from keyword.Cert ((value.Round round) ∷ (value.Company company) ∷ (value.Number revenue) ∷ []) tail.Nothing =
+order_from keyword.Certs ((value.Word keyword.One) ∷ []) trailing.Nothing = Some Certs
+order_from keyword.Cert ((value.Round round) ∷ (value.Company company) ∷ (value.Number revenue) ∷ []) trailing.Nothing =
     Some (Cert round company revenue)
-order_from keyword.Claim ((value.Kind kind) ∷ []) (tail.Places run) = Some (Claim kind run)
-order_from keyword.Marks (value.HexDigits ∷ []) tail.Nothing = Some Marks
-order_from other values tail = None
+order_from keyword.Claim ((value.Kind kind) ∷ []) (trailing.Places run) = Some (Claim kind run)
+order_from keyword.Marks (value.HexDigits ∷ []) trailing.Nothing = Some Marks
+order_from other values trailing = None
 
 -- the order that was put in its place, if one was
 abbrev pub put_if : Bool → Order → Option Order

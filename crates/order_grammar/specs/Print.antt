@@ -15,8 +15,8 @@ use Rattle.order_grammar.specs.declared.condition.Condition.{Condition}
 use Rattle.order_grammar.specs.declared.keyword.Keyword.{Keyword}
 use Rattle.order_grammar.specs.declared.keyword.Keyword.TheVariants as keyword
 use Rattle.order_grammar.specs.declared.order.Order.{Order}
-use Rattle.order_grammar.specs.declared.order.Tail.{Tail}
-use Rattle.order_grammar.specs.declared.order.Tail.TheVariants as tail
+use Rattle.order_grammar.specs.declared.order.Trailing.{Trailing}
+use Rattle.order_grammar.specs.declared.order.Trailing.TheVariants as trailing
 use Rattle.order_grammar.specs.declared.order.Value.{Value}
 use Rattle.order_grammar.specs.declared.order.Value.TheVariants as value
 
@@ -42,10 +42,10 @@ text_of_value value.HexDigits = []
 text_of_value (value.Word keyword) = text_of_keyword keyword
 
 -- the words of a class that is repeated
-abbrev pub words_of_tail : Tail → List (List ℕ)
-words_of_tail tail.Nothing = []
-words_of_tail (tail.Names names) = names.items
-words_of_tail (tail.Places run) = map text_of_place run
+abbrev pub words_of_trailing : Trailing → List (List ℕ)
+words_of_trailing trailing.Nothing = []
+words_of_trailing (trailing.Names names) = names.items
+words_of_trailing (trailing.Places run) = map text_of_place run
 
 -- words, each with a space before it
 abbrev pub spaced : List (List ℕ) → List ℕ
@@ -76,7 +76,7 @@ places_line keyword kind places = joined (text_of_keyword keyword ∷ code_of_ki
 abbrev pub words_of_parts : Option Parts → List (List ℕ)
 words_of_parts None = []
 words_of_parts (Some parts) =
-    text_of_keyword parts.keyword ∷ map text_of_value parts.values ++ words_of_tail parts.tail
+    text_of_keyword parts.keyword ∷ map text_of_value parts.values ++ words_of_trailing parts.trailing
 
 -- the words of an order
 abbrev pub words_of_order : Order → List (List ℕ)
@@ -95,9 +95,9 @@ condition_text (Some condition) = words_text keyword.If (condition_values condit
 abbrev pub conditional_spelling : Option Condition → Order → List ℕ
 conditional_spelling condition order = condition_text condition ++ spelling_of order
 
--- what was there, and after it a front of the text
-pub record AddsFront (old new text : List ℕ) : Type 0 where
-  pub front : List ℕ
+-- what was there, and after it a prefix of the text
+pub record AddsPrefix (old new text : List ℕ) : Type 0 where
+  pub prefix : List ℕ
   pub rest : List ℕ
-  pub added : new ≡ old ++ front
-  pub whole : text ≡ front ++ rest
+  pub added : new ≡ old ++ prefix
+  pub whole : text ≡ prefix ++ rest

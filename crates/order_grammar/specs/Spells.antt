@@ -1,6 +1,7 @@
 -- Which lines spell which orders, each form by itself, and which orders have a spelling. A line is
 -- loosely spelt where it would spell an order if numbers had no greatest value.
-use Rattle.std.specs.Prelude.{◌≡◌, ◌≢◌, ⊤, ℕ, ◌≤◌, Bool, true, false, ◌&&◌, nat_le, IsTrue, List, [], ◌∷◌, ◌++◌, length, map, codes, decimal, slice_index, Contains}
+use Rattle.std.specs.Prelude.{◌≡◌, ◌≢◌, ⊤, ℕ, ◌≤◌, Bool, true, false, ◌&&◌, nat_le, IsTrue, List, [], ◌∷◌, ◌++◌, length}
+use Rattle.std.specs.Prelude.{map, codes, decimal, slice_index, Contains}
 use Rattle.std.specs.List.{list_all}
 use Rattle.map_tables.specs.Text.{text_of_hex, text_of_place, text_of_rotation, text_of_tile}
 use Rattle.map_tables.specs.declared.hex.Hex.{Hex}
@@ -23,7 +24,11 @@ use Rattle.order_grammar.specs.Words.{words_of, before_comment, is_printable}
 use Rattle.order_grammar.specs.declared.order.Offer as offers
 use Rattle.order_grammar.specs.declared.order.Offer.TheVariants as offer
 use Rattle.order_grammar.specs.declared.order.Order.{Order}
-use Rattle.order_grammar.specs.declared.order.Order.TheVariants.{Blank, Game, Players, Sheet, Turn, BuyPrivate, Bid, Limit, Par, BuyShare, Sell, ExchangeMohawk, Company as CompanyTurn, Lay, Token, Run, RunBest, Pay, Withhold, BuyTrain, Discard, BuyOwnedPrivate, Raise, Offer, Certs, Cert, Claim, Marks}
+use Rattle.order_grammar.specs.declared.order.Order.TheVariants.{Blank, Game, Players, Sheet, Turn, BuyPrivate, Bid}
+use Rattle.order_grammar.specs.declared.order.Order.TheVariants.{Limit, Par, BuyShare, Sell, ExchangeMohawk}
+use Rattle.order_grammar.specs.declared.order.Order.TheVariants.{Company as CompanyTurn, Lay, Token, Run, RunBest, Pay}
+use Rattle.order_grammar.specs.declared.order.Order.TheVariants.{Withhold, BuyTrain, Discard, BuyOwnedPrivate, Raise}
+use Rattle.order_grammar.specs.declared.order.Order.TheVariants.{Offer, Certs, Cert, Claim, Marks}
 use Rattle.order_grammar.specs.declared.order.ShareSource.TheVariants.{InitialOffering, BankPool}
 use Rattle.order_grammar.specs.declared.order.TrainSource.{TrainSource}
 use Rattle.order_grammar.specs.declared.order.TrainSource.TheVariants as source
@@ -48,9 +53,9 @@ IsNumbered letters number text =
 
 -- an operating round: OR and the number of its set, and then a point and its number in the set, 1 to 3
 pub record IsOperating (set number : ℕ) (text : List ℕ) : Type 0 where
-  pub front : List ℕ
-  pub numbered : IsNumbered (codes "OR") set front
-  pub whole : text ≡ front ++ codes "." ++ decimal number
+  pub prefix : List ℕ
+  pub numbered : IsNumbered (codes "OR") set prefix
+  pub whole : text ≡ prefix ++ codes "." ++ decimal number
   pub least : 1 ≤ number
   pub most : number ≤ operating_most
 
@@ -157,8 +162,8 @@ AreWordsFor (BuyShare company InitialOffering) words =
     Then (IsWord (codes "BUY")) (Then (IsCompany company) (Then (IsWord (codes "IPO")) End)) words
 AreWordsFor (BuyShare company BankPool) words =
     Then (IsWord (codes "BUY")) (Then (IsCompany company) (Then (IsWord (codes "POOL")) End)) words
-AreWordsFor (Sell company tenths) words =
-    Then (IsWord (codes "SELL")) (Then (IsCompany company) (Then (IsNumber tenths) End)) words
+AreWordsFor (Sell company shares) words =
+    Then (IsWord (codes "SELL")) (Then (IsCompany company) (Then (IsNumber shares) End)) words
 AreWordsFor ExchangeMohawk words = Then (IsWord (codes "EXCHANGE")) (Then (IsWord (codes "MH")) End) words
 AreWordsFor (CompanyTurn company) words = Then (IsWord (codes "COMPANY")) (Then (IsCompany company) End) words
 AreWordsFor (Lay lay) words =
@@ -174,8 +179,8 @@ AreWordsFor (Discard company kind) words =
     Then (IsWord (codes "DISCARD")) (Then (IsCompany company) (Then (IsKind kind) End)) words
 AreWordsFor (BuyOwnedPrivate private price) words =
     Then (IsWord (codes "PRIVATE")) (Then (IsPrivate private) (Then (IsNumber price) End)) words
-AreWordsFor (Raise company tenths) words =
-    Then (IsWord (codes "RAISE")) (Then (IsCompany company) (Then (IsNumber tenths) End)) words
+AreWordsFor (Raise company shares) words =
+    Then (IsWord (codes "RAISE")) (Then (IsCompany company) (Then (IsNumber shares) End)) words
 AreWordsFor (Offer offer) words = Then (IsWord (codes "OFFER")) (AreOfferWords offer) words
 AreWordsFor Certs words = Then (IsWord (codes "CERTS")) (Then (IsWord (codes "1")) End) words
 AreWordsFor (Cert round company revenue) words =
@@ -219,10 +224,10 @@ HasSmallNumbers (Sheet name round) = IsSmallRound round
 HasSmallNumbers (Bid private amount) = amount ≤ number_most
 HasSmallNumbers (Limit private amount) = amount ≤ number_most
 HasSmallNumbers (Par company price) = price ≤ number_most
-HasSmallNumbers (Sell company tenths) = tenths ≤ number_most
+HasSmallNumbers (Sell company shares) = shares ≤ number_most
 HasSmallNumbers (BuyTrain kind from) = HasSmallPrice from
 HasSmallNumbers (BuyOwnedPrivate private price) = price ≤ number_most
-HasSmallNumbers (Raise company tenths) = tenths ≤ number_most
+HasSmallNumbers (Raise company shares) = shares ≤ number_most
 HasSmallNumbers (Offer offer) = HasSmallOffer offer
 HasSmallNumbers (Cert round company revenue) = IsSmallRound round × (revenue ≤ number_most)
 HasSmallNumbers other = Unit {0}

@@ -7,7 +7,8 @@ use Rattle.order_grammar.specs.Condition.{Ordered}
 use Rattle.order_grammar.specs.Limits.{line_most}
 use Rattle.order_grammar.specs.LineFault.{BeginWithOther, HasStrayByte, IsTooLong}
 use Rattle.order_grammar.specs.Print.{conditional_spelling, words_of_order}
-use Rattle.order_grammar.specs.Spells.{AreWordsFor, BeginWithOneOf, HasSmallNumbers, HasSpelling, IsCompany, IsKind, IsNumber, IsOrder, IsWord, Then}
+use Rattle.order_grammar.specs.Spells.{AreWordsFor, BeginWithOneOf, HasSmallNumbers, HasSpelling, IsCompany, IsKind}
+use Rattle.order_grammar.specs.Spells.{IsNumber, IsOrder, IsWord, Then}
 use Rattle.order_grammar.specs.Texts.{order_file, play_words}
 use Rattle.order_grammar.specs.Words.{words_of, before_comment, is_printable}
 use Rattle.order_grammar.specs.declared.condition.Condition.{Condition}
@@ -15,11 +16,12 @@ use Rattle.order_grammar.specs.declared.condition.Condition.TheVariants.{Price, 
 use Rattle.order_grammar.specs.declared.condition.Version.{Version}
 use Rattle.order_grammar.specs.declared.condition.Version.TheVariants.{One, Two}
 use Rattle.order_grammar.specs.declared.fault.Fault.{Fault}
-use Rattle.order_grammar.specs.declared.fault.Fault.TheVariants.{TooLong, StrayByte, UnknownWord, WrongWords, NumberTooLarge}
+use Rattle.order_grammar.specs.declared.fault.Fault.TheVariants.{TooLong, StrayByte, UnknownWord, WrongWords}
+use Rattle.order_grammar.specs.declared.fault.Fault.TheVariants.{NumberTooLarge}
 use Rattle.order_grammar.specs.declared.order.Order.{Order}
 use Rattle.order_grammar.specs.declared.order.Order.TheVariants.{Run}
 
--- the first of the words, and there is one, is one with which an order begins that may stand under a condition
+-- the first of the words, and there is one, is one with which an order begins that may be under a condition
 abbrev pub BeginAnOrder : List (List ℕ) → Type 0
 BeginAnOrder [] = ⊥
 BeginAnOrder (first ∷ rest) = Contains play_words first

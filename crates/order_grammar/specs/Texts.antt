@@ -22,7 +22,7 @@ order_file =
           ∷ codes "PRIVATE" ∷ codes "RAISE" ∷ codes "OFFER" ∷ codes "CERT" ∷ codes "CLAIM" ∷ [];
     }
 
--- the words with which an order begins that may stand under a condition: no line of the file, no head, and no IF
+-- the words with which an order begins that may be under a condition: no line of the file, no head, and no IF
 abbrev pub play_words : List (List ℕ)
 play_words =
     codes "BUY" ∷ codes "BID" ∷ codes "LIMIT" ∷ codes "PAR" ∷ codes "SELL" ∷ codes "EXCHANGE" ∷ codes "LAY"

@@ -1,6 +1,7 @@
 -- The words of a line are the longest runs of bytes other than space before its first `#`, letters
 -- raised.
-use Rattle.std.specs.Prelude.{ℕ, ◌+◌, ◌==◌, Bool, true, false, ◌&&◌, nat_le, ◌<◌, ◌≤◌, ◌≡◌, length, slice_range, if◌then◌else◌, List, [], ◌∷◌, ◌++◌, map}
+use Rattle.std.specs.Prelude.{ℕ, ◌+◌, ◌==◌, Bool, true, false, ◌&&◌, nat_le, ◌<◌, ◌≤◌, ◌≡◌, length, slice_range}
+use Rattle.std.specs.Prelude.{if◌then◌else◌, List, [], ◌∷◌, ◌++◌, map}
 use Rattle.std.specs.Char.{to_ascii_uppercase}
 
 -- the part of a text before the first byte that is this one; all of it where there is none
@@ -56,18 +57,19 @@ same_word (a ∷ as_) (b ∷ bs) = a == b && same_word as_ bs
 same_word [] (b ∷ bs) = false
 same_word (a ∷ as_) [] = false
 
--- a word as it is written, and where it stands in its text: from start, up to and without end
+-- a word as it is written, and where it is in its text: from start, up to and without end
 pub record Placed : Type 0 where
   pub text : List ℕ
   pub start : ℕ
   pub end : ℕ
 
--- each word is what the text has at its place, and begins no sooner than the one before it ends; the first no sooner than from
-abbrev pub StandFrom : ℕ → List ℕ → List Placed → Type 0
-StandFrom from text [] = Unit {0}
-StandFrom from text (word ∷ words) =
+-- each word is what the text has at its place, and begins no sooner than the one before it ends; the first no sooner
+-- than from
+abbrev pub LieFrom : ℕ → List ℕ → List Placed → Type 0
+LieFrom from text [] = Unit {0}
+LieFrom from text (word ∷ words) =
     (from ≤ word.start) × (word.start < word.end) × (word.end ≤ length text)
-    × (word.text ≡ slice_range text word.start word.end) × StandFrom word.end text words
+    × (word.text ≡ slice_range text word.start word.end) × LieFrom word.end text words
 
 -- the words, letters raised
 abbrev pub texts_of : List Placed → List (List ℕ)
@@ -76,7 +78,7 @@ texts_of words = map (λ word. raised word.text) words
 -- these are the words of a line, each at its place before the comment
 pub record AreWordsOf (line : List ℕ) (words : List Placed) : Type 0 where
   pub texts : texts_of words ≡ words_of line
-  pub places : StandFrom 0 (before_comment line) words
+  pub places : LieFrom 0 (before_comment line) words
 
 -- a word that begins at a place, in front of others, if it has any bytes
 abbrev pub with_placed : ℕ → List ℕ → List Placed → List Placed

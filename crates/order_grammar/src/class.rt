@@ -27,7 +27,7 @@ use tables::{Company, Kind, NUMBER_MOST, OPERATING_MOST, Private, Round};
 /// The most hexadecimal digits of a MARKS line.
 pub const MARKS_DIGITS_MOST: usize = 1000;
 
-/// A class of words: the texts that may stand at one place of a form.
+/// A class of words: the texts that may be at one place of a form.
 #[derive(Clone, Copy, Debug, PartialEq, Eq)]
 pub(crate) enum Class {
     /// Digits, with leading zeros allowed, of a value up to 99,999.
@@ -190,7 +190,7 @@ fn read_operating(word: &[u8]) -> Reading
     }
 }
 
-/// The number of an operating round in its set that stands behind a point; `None` for other texts.
+/// The number of an operating round in its set that is behind a point; `None` for other texts.
 fn number_in_set(text: &[u8]) -> Option<u8>
     ensures { result ≡ number_in_set (raised text.now) }
 {

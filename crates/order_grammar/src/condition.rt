@@ -27,14 +27,14 @@ use tables::{Amount, Company, Kind};
 pub enum Version {
     /// `GAME 1830 1`: orders without conditions.
     One,
-    /// `GAME 1830 2`: an order may stand under a condition.
+    /// `GAME 1830 2`: an order may be under a condition.
     Two,
 }
 
-/// What an order stands under: it is asked as the order's line is taken up.
+/// What an order depends on: it is asked as the order's line is taken up.
 #[derive(Clone, Copy, Debug, PartialEq, Eq)]
 pub enum Condition {
-    /// `IF PRICE co >= n`: the company has a price, and that is at least so many dollars.
+    /// `IF PRICE co >= n`: the company has a price, and that is at least this many dollars.
     Price(Company, Amount),
     /// `IF PHASE kind`: the phase is that of this kind of train or a later one.
     Phase(Kind),
@@ -43,7 +43,7 @@ pub enum Condition {
 }
 
 /// Puts the order that the words of a line of version 2 spell in place of another, and gives its
-/// condition; else tells why they spell none.
+/// condition; else says why they spell none.
 pub(crate) fn read_ordered(words: &Words, order: &mut Order) -> Result<Option<Condition>, Fault>
     ensures { put_ordered result order.new ≡ ordered_reading (texts_of words.now) }
 {

@@ -21,7 +21,7 @@ pub enum Fault {
     /// G5: they would, but for a number over 99,999.
     #[error("a number is over 99,999")]
     NumberTooLarge,
-    /// G6: a line or an order that has no place where it stands.
+    /// G6: a line or an order that has no place where it is.
     #[error("the line has no place where it stands")]
     OutOfPlace,
     /// G7: a sheet of nobody who plays.

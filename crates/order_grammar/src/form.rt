@@ -7,23 +7,22 @@ ghost use Rattle.order_grammar.specs.Form.{
   order_of_values,
   play_forms,
   put_reading,
-  row_reading,
   rows_reading,
   run_reading,
-  tail_reading,
+  trailing_reading,
   values_by_row,
   words_reading,
 };
 ghost use Rattle.order_grammar.specs.Row.{AreRead, has_room, is_short_row, names_reading, row_of};
 ghost use Rattle.order_grammar.specs.Words.{raised, texts_of};
-ghost use Rattle.order_grammar.specs.declared.form.Repeated.TheVariants.{Nothing};
+ghost use Rattle.order_grammar.specs.declared.form.TrailingClass.TheVariants.{Nothing};
 
 use crate::class::{Class, Reading};
 use crate::fault::Fault;
 use crate::keyword::Keyword;
 use crate::name::Name;
-use crate::order::{Order, Tail, Values, order_from_plain, put_order};
-use crate::words::{Words, is_word};
+use crate::order::{Order, Trailing, Values, order_from_plain, put_order};
+use crate::words::Words;
 use arrayvec::ArrayVec;
 use map_tables::{Place, Run};
 use tables::{PLAYERS_LEAST, PLAYERS_MOST};
@@ -33,12 +32,12 @@ use tables::{PLAYERS_LEAST, PLAYERS_MOST};
 pub(crate) struct Form {
     pub(crate) keyword: Keyword,
     pub(crate) classes: &'static [Class],
-    pub(crate) repeated: Repeated,
+    pub(crate) trailing_class: TrailingClass,
 }
 
-/// A class that is repeated at the end of a form, at least and at most so many times.
+/// A class that is repeated at the end of a form, at least and at most this many times.
 #[derive(Clone, Copy, Debug, PartialEq, Eq)]
-pub(crate) enum Repeated {
+pub(crate) enum TrailingClass {
     Nothing,
     Names { least: usize, most: usize },
     /// The places of a run.
@@ -52,12 +51,12 @@ const FORMS: [Form; 33] = [
     Form {
         keyword: Keyword::Game,
         classes: &[Class::Number, Class::Number],
-        repeated: Repeated::Nothing,
+        trailing_class: TrailingClass::Nothing,
     },
     Form {
         keyword: Keyword::Players,
         classes: &[],
-        repeated: Repeated::Names {
+        trailing_class: TrailingClass::Names {
             least: PLAYERS_LEAST,
             most: PLAYERS_MOST,
         },
@@ -65,62 +64,62 @@ const FORMS: [Form; 33] = [
     Form {
         keyword: Keyword::Sheet,
         classes: &[Class::Name, Class::Round],
-        repeated: Repeated::Nothing,
+        trailing_class: TrailingClass::Nothing,
     },
     Form {
         keyword: Keyword::Turn,
         classes: &[],
-        repeated: Repeated::Nothing,
+        trailing_class: TrailingClass::Nothing,
     },
     Form {
         keyword: Keyword::Company,
         classes: &[Class::Company],
-        repeated: Repeated::Nothing,
+        trailing_class: TrailingClass::Nothing,
     },
     Form {
         keyword: Keyword::Buy,
         classes: &[Class::Private],
-        repeated: Repeated::Nothing,
+        trailing_class: TrailingClass::Nothing,
     },
     Form {
         keyword: Keyword::Buy,
         classes: &[Class::Company, Class::Word(Keyword::InitialOffering)],
-        repeated: Repeated::Nothing,
+        trailing_class: TrailingClass::Nothing,
     },
     Form {
         keyword: Keyword::Buy,
         classes: &[Class::Company, Class::Word(Keyword::Pool)],
-        repeated: Repeated::Nothing,
+        trailing_class: TrailingClass::Nothing,
     },
     Form {
         keyword: Keyword::Bid,
         classes: &[Class::Private, Class::Number],
-        repeated: Repeated::Nothing,
+        trailing_class: TrailingClass::Nothing,
     },
     Form {
         keyword: Keyword::Limit,
         classes: &[Class::Private, Class::Number],
-        repeated: Repeated::Nothing,
+        trailing_class: TrailingClass::Nothing,
     },
     Form {
         keyword: Keyword::Par,
         classes: &[Class::Company, Class::Number],
-        repeated: Repeated::Nothing,
+        trailing_class: TrailingClass::Nothing,
     },
     Form {
         keyword: Keyword::Sell,
         classes: &[Class::Company, Class::Number],
-        repeated: Repeated::Nothing,
+        trailing_class: TrailingClass::Nothing,
     },
     Form {
         keyword: Keyword::Exchange,
         classes: &[Class::Word(Keyword::Mohawk)],
-        repeated: Repeated::Nothing,
+        trailing_class: TrailingClass::Nothing,
     },
     Form {
         keyword: Keyword::Lay,
         classes: &[Class::Tile, Class::Hex, Class::Rotation],
-        repeated: Repeated::Nothing,
+        trailing_class: TrailingClass::Nothing,
     },
     Form {
         keyword: Keyword::Lay,
@@ -130,37 +129,37 @@ const FORMS: [Form; 33] = [
             Class::Rotation,
             Class::Word(Keyword::Swap),
         ],
-        repeated: Repeated::Nothing,
+        trailing_class: TrailingClass::Nothing,
     },
     Form {
         keyword: Keyword::Token,
         classes: &[Class::Place],
-        repeated: Repeated::Nothing,
+        trailing_class: TrailingClass::Nothing,
     },
     Form {
         keyword: Keyword::Run,
         classes: &[Class::Kind],
-        repeated: Repeated::Places,
+        trailing_class: TrailingClass::Places,
     },
     Form {
         keyword: Keyword::Run,
         classes: &[Class::Word(Keyword::Best)],
-        repeated: Repeated::Nothing,
+        trailing_class: TrailingClass::Nothing,
     },
     Form {
         keyword: Keyword::Pay,
         classes: &[],
-        repeated: Repeated::Nothing,
+        trailing_class: TrailingClass::Nothing,
     },
     Form {
         keyword: Keyword::Withhold,
         classes: &[],
-        repeated: Repeated::Nothing,
+        trailing_class: TrailingClass::Nothing,
     },
     Form {
         keyword: Keyword::Train,
         classes: &[Class::Kind, Class::Word(Keyword::Bank)],
-        repeated: Repeated::Nothing,
+        trailing_class: TrailingClass::Nothing,
     },
     Form {
         keyword: Keyword::Train,
@@ -170,32 +169,32 @@ const FORMS: [Form; 33] = [
             Class::Word(Keyword::Trade),
             Class::Kind,
         ],
-        repeated: Repeated::Nothing,
+        trailing_class: TrailingClass::Nothing,
     },
     Form {
         keyword: Keyword::Train,
         classes: &[Class::Kind, Class::Word(Keyword::Pool)],
-        repeated: Repeated::Nothing,
+        trailing_class: TrailingClass::Nothing,
     },
     Form {
         keyword: Keyword::Train,
         classes: &[Class::Kind, Class::Company, Class::Number],
-        repeated: Repeated::Nothing,
+        trailing_class: TrailingClass::Nothing,
     },
     Form {
         keyword: Keyword::Discard,
         classes: &[Class::Company, Class::Kind],
-        repeated: Repeated::Nothing,
+        trailing_class: TrailingClass::Nothing,
     },
     Form {
         keyword: Keyword::Private,
         classes: &[Class::Private, Class::Number],
-        repeated: Repeated::Nothing,
+        trailing_class: TrailingClass::Nothing,
     },
     Form {
         keyword: Keyword::Raise,
         classes: &[Class::Company, Class::Number],
-        repeated: Repeated::Nothing,
+        trailing_class: TrailingClass::Nothing,
     },
     Form {
         keyword: Keyword::Offer,
@@ -205,7 +204,7 @@ const FORMS: [Form; 33] = [
             Class::Company,
             Class::Number,
         ],
-        repeated: Repeated::Nothing,
+        trailing_class: TrailingClass::Nothing,
     },
     Form {
         keyword: Keyword::Offer,
@@ -216,27 +215,27 @@ const FORMS: [Form; 33] = [
             Class::Company,
             Class::Number,
         ],
-        repeated: Repeated::Nothing,
+        trailing_class: TrailingClass::Nothing,
     },
     Form {
         keyword: Keyword::Cert,
         classes: &[Class::Round, Class::Company, Class::Number],
-        repeated: Repeated::Nothing,
+        trailing_class: TrailingClass::Nothing,
     },
     Form {
         keyword: Keyword::Claim,
         classes: &[Class::Kind],
-        repeated: Repeated::Places,
+        trailing_class: TrailingClass::Places,
     },
     Form {
         keyword: Keyword::Certs,
         classes: &[Class::Word(Keyword::One)],
-        repeated: Repeated::Nothing,
+        trailing_class: TrailingClass::Nothing,
     },
     Form {
         keyword: Keyword::Marks,
         classes: &[Class::HexDigits],
-        repeated: Repeated::Nothing,
+        trailing_class: TrailingClass::Nothing,
     },
 ];
 
@@ -247,7 +246,7 @@ pub(crate) fn order_forms() -> &'static [Form]
     &FORMS[..31]
 }
 
-/// The forms of orders, which may stand under a condition.
+/// The forms of orders, which may be under a condition.
 pub(crate) fn play_forms() -> &'static [Form]
     ensures { map row_of result.now ≡ play_forms }
 {
@@ -261,7 +260,7 @@ pub(crate) fn certificate_forms() -> &'static [Form]
     &FORMS[29..]
 }
 
-/// Puts the order that the words of a line spell in place of another; else tells why they spell none:
+/// Puts the order that the words of a line spell in place of another; else says why they spell none:
 /// what comes nearest over some forms.
 pub(crate) fn read_order(forms: &[Form], words: &Words, order: &mut Order) -> Result<(), Fault>
     requires { IsTrue (list_all is_short_row (map row_of forms.now)) }
@@ -287,13 +286,16 @@ pub(crate) fn read_nearest(
     ensures { put_reading result order.new
         ≡ rows_reading (map row_of forms.now) (raised first.now) (texts_of rest.now) }
 {
+    let Some(keyword) = Keyword::of_word(first) else {
+        return Err(Fault::UnknownWord);
+    };
     let mut nearest = Fault::UnknownWord;
     for form in forms {
         // (a form of another word makes nothing nearer)
-        if !is_word(first, form.keyword.text()) {
+        if form.keyword != keyword {
             continue;
         }
-        match form.read(first, rest, order) {
+        match form.read(rest, order) {
             Ok(()) => return Ok(()),
             Err(fault) => nearest = nearer(nearest, fault),
         }
@@ -312,9 +314,9 @@ fn nearer(first: Fault, second: Fault) -> Fault
     }
 }
 
-/// What stands in a line after its first word and before what is repeated.
+/// What a line has after its first word and before what is repeated.
 #[derive(Debug, Drop)]
-pub(crate) struct Front {
+pub(crate) struct Prefix {
     /// The values of its words.
     pub(crate) values: Values,
     /// Whether one of them is a number that is too large, which has no value.
@@ -322,26 +324,23 @@ pub(crate) struct Front {
 }
 
 impl Form {
-    /// Puts the order that the words spell by this form in place of another; else `UnknownWord` where
-    /// the first word is another, `WrongWords` where the later words do not fit, `NumberTooLarge`
-    /// where only numbers do not.
-    fn read(&self, first: &[u8], rest: &Words, order: &mut Order) -> Result<(), Fault>
+    /// Puts the order that the words after its first word spell by this form in place of another; else
+    /// `WrongWords` where they do not fit, `NumberTooLarge` where only numbers do not.
+    fn read(&self, rest: &Words, order: &mut Order) -> Result<(), Fault>
         requires { IsTrue (is_short_row (row_of self.now)) }
-        ensures { put_reading result order.new
-            ≡ row_reading (row_of self.now) (raised first.now) (texts_of rest.now) }
+        ensures { let row = row_of self.now in
+            put_reading result order.new
+            ≡ order_of_values row.keyword (values_by_row row (texts_of rest.now)) }
     {
-        if !is_word(first, self.keyword.text()) {
-            return Err(Fault::UnknownWord);
-        }
-        match self.repeated {
-            Repeated::Nothing => self.read_plain(rest, order),
-            _ => self.read_repeated(rest, order),
+        match self.trailing_class {
+            TrailingClass::Nothing => self.read_plain(rest, order),
+            _ => self.read_with_trailing(rest, order),
         }
     }
 
     /// What words are as texts of the form's classes, and takes them away; `None` where they do not
     /// fit.
-    fn read_values(&self, rest: &mut Words) -> Option<Front>
+    fn read_values(&self, rest: &mut Words) -> Option<Prefix>
         requires { IsTrue (is_short_row (row_of self.now)) }
         ensures { AreRead (row_of self.now) (texts_of rest.old) (texts_of rest.new) result }
     {
@@ -357,28 +356,28 @@ impl Form {
                 Reading::Value(value) => values.push(value),
             }
         }
-        Some(Front { values, too_large })
+        Some(Prefix { values, too_large })
     }
 
     /// Puts the order that words spell by a form in which no class is repeated.
     fn read_plain(&self, words: &Words, order: &mut Order) -> Result<(), Fault>
         requires short { IsTrue (is_short_row (row_of self.now)) }
-        requires plain { self.now.repeated ≡ Nothing }
+        requires plain { self.now.trailing_class ≡ Nothing }
         ensures { let row = row_of self.now in
             put_reading result order.new
             ≡ order_of_values row.keyword (values_by_row row (texts_of words.now)) }
     {
         let mut rest = words.duplicate();
-        let Some(front) = self.read_values(&mut rest) else {
+        let Some(prefix) = self.read_values(&mut rest) else {
             return Err(Fault::WrongWords);
         };
         if rest.next().is_some() {
             return Err(Fault::WrongWords);
         }
-        if front.too_large {
+        if prefix.too_large {
             return Err(Fault::NumberTooLarge);
         }
-        if order_from_plain(self.keyword, front.values.as_slice(), order) {
+        if order_from_plain(self.keyword, prefix.values.as_slice(), order) {
             Ok(())
         } else {
             Err(Fault::WrongWords)
@@ -388,23 +387,23 @@ impl Form {
     /// Puts the order that words spell by a form. (It alone has room for what is repeated, so that
     /// other forms need not pay for that.)
     #[inline(never)]
-    fn read_repeated(&self, words: &Words, order: &mut Order) -> Result<(), Fault>
+    fn read_with_trailing(&self, words: &Words, order: &mut Order) -> Result<(), Fault>
         requires { IsTrue (is_short_row (row_of self.now)) }
         ensures { let row = row_of self.now in
             put_reading result order.new
             ≡ order_of_values row.keyword (values_by_row row (texts_of words.now)) }
     {
         let mut rest = words.duplicate();
-        let Some(front) = self.read_values(&mut rest) else {
+        let Some(prefix) = self.read_values(&mut rest) else {
             return Err(Fault::WrongWords);
         };
-        let Some(tail) = self.repeated.read_tail(&rest) else {
+        let Some(trailing) = self.trailing_class.read_trailing(&rest) else {
             return Err(Fault::WrongWords);
         };
-        if front.too_large {
+        if prefix.too_large {
             return Err(Fault::NumberTooLarge);
         }
-        if put_order(self.keyword, front.values.as_slice(), tail, order) {
+        if put_order(self.keyword, prefix.values.as_slice(), trailing, order) {
             Ok(())
         } else {
             Err(Fault::WrongWords)
@@ -412,22 +411,24 @@ impl Form {
     }
 }
 
-impl Repeated {
+impl TrailingClass {
     /// What words are as those of this class; `None` where they do not fit.
-    fn read_tail(self, words: &Words) -> Option<Tail>
+    fn read_trailing(self, words: &Words) -> Option<Trailing>
         requires { IsTrue (has_room self) }
-        ensures { result ≡ tail_reading self (texts_of words.now) }
+        ensures { result ≡ trailing_reading self (texts_of words.now) }
     {
         match self {
-            Repeated::Nothing => {
+            TrailingClass::Nothing => {
                 let mut rest = words.duplicate();
                 match rest.next() {
                     Some(_) => None,
-                    None => Some(Tail::Nothing),
+                    None => Some(Trailing::Nothing),
                 }
             }
-            Repeated::Names { least, most } => Some(Tail::Names(read_names(words, least, most)?)),
-            Repeated::Places => Some(Tail::Places(read_run(words)?)),
+            TrailingClass::Names { least, most } => Some(Trailing::Names(read_names(
+                words, least, most,
+            )?)),
+            TrailingClass::Places => Some(Trailing::Places(read_run(words)?)),
         }
     }
 }

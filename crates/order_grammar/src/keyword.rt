@@ -1,5 +1,8 @@
 ghost use Rattle.std.specs.Prelude.{◌≡◌};
-ghost use Rattle.order_grammar.specs.Keyword.{text_of_keyword};
+ghost use Rattle.order_grammar.specs.Keyword.{beginning_with, keyword_of, spelt_of, text_of_keyword};
+ghost use Rattle.order_grammar.specs.Words.{raised};
+
+use crate::words::is_word;
 
 /// A literal word of a form or a condition: the first word of a line, or one after it that stands for
 /// itself.
@@ -46,6 +49,60 @@ pub(crate) enum Keyword {
 }
 
 impl Keyword {
+    /// The keyword that a word spells, in either case; `None` where it spells none.
+    pub(crate) fn of_word(word: &[u8]) -> Option<Keyword>
+        ensures { result ≡ keyword_of (raised word.now) }
+    {
+        let [first, ..] = word else {
+            return None;
+        };
+        first_spelt(word, Keyword::beginning_with(first.to_ascii_uppercase()))
+    }
+
+    /// The keywords that begin with a byte.
+    fn beginning_with(byte: u8) -> &'static [Keyword]
+        ensures { result.now ≡ beginning_with byte }
+    {
+        match byte {
+            b'B' => &[Keyword::Buy, Keyword::Bid, Keyword::Bank, Keyword::Best],
+            b'C' => &[
+                Keyword::Company,
+                Keyword::Claim,
+                Keyword::Cert,
+                Keyword::Certs,
+            ],
+            b'D' => &[Keyword::Discard],
+            b'E' => &[Keyword::Exchange],
+            b'F' => &[Keyword::Floated],
+            b'G' => &[Keyword::Game],
+            b'I' => &[Keyword::If, Keyword::InitialOffering],
+            b'L' => &[Keyword::Lay, Keyword::Limit],
+            b'M' => &[Keyword::Marks, Keyword::Mohawk],
+            b'O' => &[Keyword::Offer],
+            b'P' => &[
+                Keyword::Pay,
+                Keyword::Par,
+                Keyword::Private,
+                Keyword::Players,
+                Keyword::Pool,
+                Keyword::Price,
+                Keyword::Phase,
+            ],
+            b'R' => &[Keyword::Run, Keyword::Raise],
+            b'S' => &[Keyword::Sell, Keyword::Sheet, Keyword::Swap],
+            b'T' => &[
+                Keyword::Turn,
+                Keyword::Token,
+                Keyword::Train,
+                Keyword::Trade,
+            ],
+            b'W' => &[Keyword::Withhold],
+            b'1' => &[Keyword::One],
+            b'>' => &[Keyword::AtLeast],
+            _ => &[],
+        }
+    }
+
     /// The word in upper case.
     pub(crate) fn text(self) -> &'static [u8]
         ensures { result.now ≡ text_of_keyword self }
@@ -91,4 +148,16 @@ impl Keyword {
             Keyword::Floated => b"FLOATED",
         }
     }
+}
+
+/// The first of some keywords that a word spells, in either case.
+fn first_spelt(word: &[u8], keywords: &[Keyword]) -> Option<Keyword>
+    ensures { result ≡ spelt_of (raised word.now) keywords.now }
+{
+    for keyword in keywords {
+        if is_word(word, keyword.text()) {
+            return Some(*keyword);
+        }
+    }
+    None
 }

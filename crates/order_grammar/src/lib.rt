@@ -1,11 +1,11 @@
 //! Lines of order sheets and of the text of a certificate: a line is read as an order exactly where it
 //! has no fault, and an order is printed in its one spelling.
 //!
-//! A line's words are parted by spaces and end before the first `#`; letters of either case are
-//! equal. The forms of lines stand in one table; a line spells the order of the row that its words
-//! fit. An order file knows all forms but CERTS and MARKS, the text of a certificate these two and
-//! CERT and CLAIM. In an order file of version 2 an order may stand under a condition. Reading takes
-//! no memory; printing takes it for its text alone.
+//! A line's words are parted by spaces and end before the first `#`; letters of either case are equal. The
+//! forms of lines are in one table; a line spells the order of the row that its words fit. An order file
+//! knows all forms but CERTS and MARKS, the text of a certificate these two and CERT and CLAIM. In an order
+//! file of version 2 an order may be under a condition. Reading takes no memory; printing takes it for its
+//! text alone.
 //!
 //! Reading order: `name`, `fault`, `words` (a line and its words), `keyword` (the literal words),
 //! `order` (orders), `short` (those that take few bytes), `class` (the texts of each class of words), `form`
@@ -31,8 +31,8 @@ pub use fault::Fault;
 pub use name::{NAME_MOST, Name};
 pub use order::{Offer, Order, ShareSource, TrainSource};
 pub use print::{
-    print_condition, print_conditional, print_conditional_order, print_line, print_number,
-    print_order, print_round, print_run_front, print_short_order,
+    print_condition, print_conditional, print_line, print_number, print_order, print_round,
+    print_run_prefix, print_short_order,
 };
 pub use read::{
     CERT_LINE_MOST, LINE_MOST, Line, read_cert_line, read_line, read_line_in, read_order_in,

@@ -1,9 +1,10 @@
 ghost use Rattle.std.specs.Prelude.{◌≡◌, false};
-ghost use Rattle.order_grammar.specs.Family.{IsOfAmount, IsOfCertificate, IsOfFile, IsOfOne, IsOfTenths, IsOfTrains};
+ghost use Rattle.order_grammar.specs.Family.{IsOfAmount, IsOfCertificate, IsOfFile, IsOfOne, IsOfTrains};
 ghost use Rattle.order_grammar.specs.Order.{keyword_of_source, order_from, put_if, text_of_source};
 ghost use Rattle.order_grammar.specs.Short.{has_short_form};
-ghost use Rattle.order_grammar.specs.declared.keyword.Keyword.TheVariants.{Buy, Lay as LayWord, Offer as OfferWord, Train};
-ghost use Rattle.order_grammar.specs.declared.order.Tail.TheVariants.{Nothing};
+ghost use Rattle.order_grammar.specs.declared.keyword.Keyword.TheVariants.{Buy, Lay as LayWord, Offer as OfferWord};
+ghost use Rattle.order_grammar.specs.declared.keyword.Keyword.TheVariants.{Train};
+ghost use Rattle.order_grammar.specs.declared.order.Trailing.TheVariants.{Nothing};
 ghost use Rattle.order_grammar.specs.declared.order.Value.TheVariants.{Number};
 
 use crate::keyword::Keyword;
@@ -34,12 +35,12 @@ pub enum Order {
     Turn,
     /// `BUY p`: buy a private at its price.
     BuyPrivate(Private),
-    /// `BID p n`: bid so many dollars for a private.
+    /// `BID p n`: bid this many dollars for a private.
     Bid {
         private: Private,
         amount: Amount,
     },
-    /// `LIMIT p n`: bid up to so many dollars where a private is auctioned.
+    /// `LIMIT p n`: bid up to this many dollars where a private is auctioned.
     Limit {
         private: Private,
         amount: Amount,
@@ -49,22 +50,22 @@ pub enum Order {
         company: Company,
         price: Amount,
     },
-    /// `BUY co IPO` or `BUY co POOL`: buy one tenth of a company.
+    /// `BUY co IPO` or `BUY co POOL`: buy one share of a company.
     BuyShare {
         company: Company,
         from: ShareSource,
     },
-    /// `SELL co n`: sell so many tenths of a company as one block.
+    /// `SELL co n`: sell this many shares of a company as one block.
     Sell {
         company: Company,
-        tenths: Amount,
+        shares: Amount,
     },
-    /// `EXCHANGE MH`: give up the private MH for one tenth of NYC.
+    /// `EXCHANGE MH`: give up the private MH for one share of NYC.
     ExchangeMohawk,
     /// `COMPANY co`: a group of lines for the turn of a company begins.
     Company(Company),
-    /// `LAY tile hex rot` or `LAY tile hex rot SWAP`: lay a tile on a hex, turned by so many sixths,
-    /// with its stops swapped or not.
+    /// `LAY tile hex rot` or `LAY tile hex rot SWAP`: lay a tile on a hex, turned by this many
+    /// sixths, with its stops swapped or not.
     Lay(Lay),
     /// `TOKEN place`: place a token at a stop.
     Token(Place),
@@ -90,23 +91,23 @@ pub enum Order {
         company: Company,
         kind: Kind,
     },
-    /// `PRIVATE p n`: buy a private from the player who owns it, for so many dollars.
+    /// `PRIVATE p n`: buy a private from the player who owns it, for this many dollars.
     BuyOwnedPrivate {
         private: Private,
         price: Amount,
     },
-    /// `RAISE co n`: sell so many tenths of a company, should a train have to be bought that the
+    /// `RAISE co n`: sell this many shares of a company, should a train have to be bought that the
     /// company and its president cannot pay.
     Raise {
         company: Company,
-        tenths: Amount,
+        shares: Amount,
     },
     /// `OFFER PRIVATE p co n` or `OFFER TRAIN kind co co n`: consent to a sale in this round.
     Offer(Offer),
     /// `CERTS 1`: the text of a certificate begins, of version 1.
     Certs,
-    /// `CERT round co n`: the certificate of a company's best runs in a round begins; they earn so
-    /// many dollars.
+    /// `CERT round co n`: the certificate of a company's best runs in a round begins; they earn
+    /// this many dollars.
     Cert {
         round: Round,
         company: Company,
@@ -118,21 +119,21 @@ pub enum Order {
         kind: Kind,
         run: Run,
     },
-    /// `MARKS digits`: 1 to 1,000 hexadecimal digits, which stand in the words of the line alone.
+    /// `MARKS digits`: 1 to 1,000 hexadecimal digits, which are in the words of the line alone.
     Marks,
 }
 
 /// A sale to which a player consents before it is ordered.
 #[derive(Clone, Copy, Debug, PartialEq, Eq)]
 pub enum Offer {
-    /// `PRIVATE p co n`: the player's private goes to a company for so many dollars.
+    /// `PRIVATE p co n`: the player's private goes to a company for this many dollars.
     Private {
         private: Private,
         buyer: Company,
         price: Amount,
     },
     /// `TRAIN kind co co n`: a train goes from one company, of which the player is president, to
-    /// another for so many dollars.
+    /// another for this many dollars.
     Train {
         kind: Kind,
         seller: Company,
@@ -141,7 +142,7 @@ pub enum Offer {
     },
 }
 
-/// Where a tenth is bought that is no seat's.
+/// Where a share is bought that is no seat's.
 #[derive(Clone, Copy, Debug, PartialEq, Eq)]
 pub enum ShareSource {
     /// `IPO`: what the bank has not sold yet.
@@ -159,7 +160,7 @@ pub enum TrainSource {
     Trade(Kind),
     /// `POOL`: what was traded in or discarded.
     BankPool,
-    /// `co n`: what another company sells for so many dollars.
+    /// `co n`: what another company sells for this many dollars.
     Company { seller: Company, price: Amount },
 }
 
@@ -196,7 +197,7 @@ pub(crate) enum Value {
     Place(Place),
     /// Hexadecimal digits, which are not kept.
     HexDigits,
-    /// A literal word stands for itself.
+    /// A literal word is its own value.
     Word(Keyword),
 }
 
@@ -216,7 +217,7 @@ pub(crate) type Values = ArrayVec<Value, VALUES_MOST>;
 
 /// What a class has that is repeated at the end of a line.
 #[derive(Debug, Drop, PartialEq, Eq)]
-pub(crate) enum Tail {
+pub(crate) enum Trailing {
     /// No class is repeated.
     Nothing,
     Names(ArrayVec<Name, PLAYERS_MOST>),
@@ -278,21 +279,26 @@ impl Order {
     }
 }
 
-/// Puts the order of these parts in place of another, if there is one, and answers whether there is.
+/// Puts the order of these parts in place of another, if there is one, and returns whether there is.
 /// (An order has room for a run, so none is handed on by value here.)
-pub(crate) fn put_order(keyword: Keyword, values: &[Value], tail: Tail, order: &mut Order) -> bool
-    ensures { put_if result order.new ≡ order_from keyword values.now tail }
+pub(crate) fn put_order(
+    keyword: Keyword,
+    values: &[Value],
+    trailing: Trailing,
+    order: &mut Order,
+) -> bool
+    ensures { put_if result order.new ≡ order_from keyword values.now trailing }
 {
-    match tail {
-        Tail::Nothing => order_from_plain(keyword, values, order),
-        Tail::Names(names) => match keyword {
+    match trailing {
+        Trailing::Nothing => order_from_plain(keyword, values, order),
+        Trailing::Names(names) => match keyword {
             Keyword::Players if values.is_empty() => {
                 *order = Order::Players(names);
                 true
             }
             _ => false,
         },
-        Tail::Places(run) => match (keyword, values) {
+        Trailing::Places(run) => match (keyword, values) {
             (Keyword::Run, [Value::Kind(kind)]) => {
                 *order = Order::Run { kind: *kind, run };
                 true
@@ -315,10 +321,12 @@ pub(crate) fn order_from_plain(keyword: Keyword, values: &[Value], order: &mut O
             put_line_of_file(keyword, values, order)
         }
         Keyword::Buy => put_purchase(values, order),
-        Keyword::Bid | Keyword::Limit | Keyword::Par | Keyword::Private => {
-            put_amount(keyword, values, order)
-        }
-        Keyword::Sell | Keyword::Raise => put_tenths(keyword, values, order),
+        Keyword::Bid
+        | Keyword::Limit
+        | Keyword::Par
+        | Keyword::Private
+        | Keyword::Sell
+        | Keyword::Raise => put_amount(keyword, values, order),
         Keyword::Offer => put_offer(values, order),
         Keyword::Exchange | Keyword::Token | Keyword::Run => order_from_one(keyword, values, order),
         Keyword::Lay => put_lay(values, order),
@@ -359,7 +367,7 @@ fn put_line_of_file(keyword: Keyword, values: &[Value], order: &mut Order) -> bo
     true
 }
 
-/// The order to buy that has these values: a private, or a tenth of a company.
+/// The order to buy that has these values: a private, or a share of a company.
 fn put_purchase(values: &[Value], order: &mut Order) -> bool
     ensures { put_if result order.new ≡ order_from Buy values.now Nothing }
 {
@@ -383,7 +391,7 @@ fn put_purchase(values: &[Value], order: &mut Order) -> bool
     true
 }
 
-/// The order of these parts that names a number of dollars.
+/// The order of these parts that names a number of dollars or of shares.
 fn put_amount(keyword: Keyword, values: &[Value], order: &mut Order) -> bool
     requires { IsOfAmount keyword }
     ensures { put_if result order.new ≡ order_from keyword values.now Nothing }
@@ -407,24 +415,13 @@ fn put_amount(keyword: Keyword, values: &[Value], order: &mut Order) -> bool
                 price: *price,
             }
         }
-        _ => return false,
-    };
-    true
-}
-
-/// The order of these parts that names a number of tenths.
-fn put_tenths(keyword: Keyword, values: &[Value], order: &mut Order) -> bool
-    requires { IsOfTenths keyword }
-    ensures { put_if result order.new ≡ order_from keyword values.now Nothing }
-{
-    *order = match (keyword, values) {
-        (Keyword::Sell, [Value::Company(company), Value::Number(tenths)]) => Order::Sell {
+        (Keyword::Sell, [Value::Company(company), Value::Number(shares)]) => Order::Sell {
             company: *company,
-            tenths: *tenths,
+            shares: *shares,
         },
-        (Keyword::Raise, [Value::Company(company), Value::Number(tenths)]) => Order::Raise {
+        (Keyword::Raise, [Value::Company(company), Value::Number(shares)]) => Order::Raise {
             company: *company,
-            tenths: *tenths,
+            shares: *shares,
         },
         _ => return false,
     };
@@ -469,7 +466,7 @@ fn put_lay(values: &[Value], order: &mut Order) -> bool
     true
 }
 
-/// The order of these parts that tells of what trains earn, or of one that is discarded.
+/// The order of these parts that says what becomes of what trains earn, or discards one.
 fn put_revenue_or_discard(keyword: Keyword, values: &[Value], order: &mut Order) -> bool
     requires { IsOfTrains keyword }
     ensures { put_if result order.new ≡ order_from keyword values.now Nothing }

@@ -5,10 +5,13 @@ ghost use Rattle.map_tables.specs.declared.place.Place.{Place as MapPlace};
 ghost use Rattle.order_grammar.specs.Condition.{condition_values};
 ghost use Rattle.order_grammar.specs.Family.{HasAmount};
 ghost use Rattle.order_grammar.specs.Keyword.{text_of_keyword};
-ghost use Rattle.order_grammar.specs.Print.{AddsFront, condition_text, conditional_spelling, joined, places_line, places_text, spaced, spelling_of, text_of_round, text_of_value, values_text, words_text};
+ghost use Rattle.order_grammar.specs.Print.{AddsPrefix, condition_text, conditional_spelling, joined, places_line};
+ghost use Rattle.order_grammar.specs.Print.{places_text, spaced, spelling_of, text_of_round, text_of_value};
+ghost use Rattle.order_grammar.specs.Print.{values_text, words_text};
 ghost use Rattle.order_grammar.specs.Short.{has_short_form, order_in_short};
 ghost use Rattle.order_grammar.specs.declared.keyword.Keyword.TheVariants.{If, Players};
-ghost use Rattle.order_grammar.specs.declared.order.Order.TheVariants.{BuyTrain, Lay as LayOrder, Offer as OfferOrder, Run};
+ghost use Rattle.order_grammar.specs.declared.order.Order.TheVariants.{BuyTrain, Lay as LayOrder, Offer as OfferOrder};
+ghost use Rattle.order_grammar.specs.declared.order.Order.TheVariants.{Run};
 
 use crate::condition::Condition;
 use crate::keyword::Keyword;
@@ -21,7 +24,7 @@ use std::alloc::{AllocError, Global};
 use tables::{Kind, Round};
 
 /// The one spelling of an order: upper case, single spaces, no leading zeros. (`Marks` has none:
-/// its digits stand in the line that was read.)
+/// its digits are in the line that was read.)
 pub fn print_line(alloc: Global, order: &Order) -> Result<Vec<u8>, AllocError>
     ensures { IfOk result (λ text. text.items ≡ spelling_of order.now) }
 {
@@ -41,32 +44,17 @@ pub fn print_conditional(
         (λ text. text.items ≡ conditional_spelling (option_copied condition.entry) order.now) }
 {
     let mut text = Vec::new(alloc);
-    print_conditional_order(&mut text, condition, order)?;
+    print_condition(&mut text, condition)?;
+    print_order(&mut text, order)?;
     Ok(text)
 }
 
-/// Adds the spelling of an order under a condition, if there is one: upper case, single spaces, no
-/// leading zeros. At want of memory a front of that may have been added.
-pub fn print_conditional_order(
-    text: &mut Vec<u8>,
-    condition: Option<&Condition>,
-    order: &Order,
-) -> Result<(), AllocError>
-    ensures ok { OnOk result (text.new.items
-        ≡ text.old.items ++ conditional_spelling (option_copied condition.entry) order.now) }
-    ensures err { OnErr result (AddsFront text.old.items text.new.items
-        (conditional_spelling (option_copied condition.entry) order.now)) }
-{
-    print_condition(text, condition)?;
-    print_order(text, order)
-}
-
-/// Adds IF, the words of a condition and a space; nothing where there is no condition. At want of
-/// memory a front of that may have been added.
+/// Adds IF, the words of a condition and a space; nothing where there is no condition. Where memory
+/// is refused, a prefix of that may have been added.
 pub fn print_condition(text: &mut Vec<u8>, condition: Option<&Condition>) -> Result<(), AllocError>
     ensures ok { OnOk result (text.new.items
         ≡ text.old.items ++ condition_text (option_copied condition.entry)) }
-    ensures err { OnErr result (AddsFront text.old.items text.new.items
+    ensures err { OnErr result (AddsPrefix text.old.items text.new.items
         (condition_text (option_copied condition.entry))) }
 {
     let Some(condition) = condition else {
@@ -81,7 +69,7 @@ pub fn print_condition(text: &mut Vec<u8>, condition: Option<&Condition>) -> Res
 fn print_words_of_condition(text: &mut Vec<u8>, condition: Condition) -> Result<(), AllocError>
     ensures ok { OnOk result (text.new.items
         ≡ text.old.items ++ words_text If (condition_values condition)) }
-    ensures err { OnErr result (AddsFront text.old.items text.new.items
+    ensures err { OnErr result (AddsPrefix text.old.items text.new.items
         (words_text If (condition_values condition))) }
 {
     match condition {
@@ -106,11 +94,11 @@ fn print_words_of_condition(text: &mut Vec<u8>, condition: Condition) -> Result<
     }
 }
 
-/// Adds the spelling of an order: upper case, single spaces, no leading zeros. At want of memory a
-/// front of that may have been added.
+/// Adds the spelling of an order: upper case, single spaces, no leading zeros. Where memory is
+/// refused, a prefix of that may have been added.
 pub fn print_order(text: &mut Vec<u8>, order: &Order) -> Result<(), AllocError>
     ensures ok { OnOk result (text.new.items ≡ text.old.items ++ spelling_of order.now) }
-    ensures err { OnErr result (AddsFront text.old.items text.new.items (spelling_of order.now)) }
+    ensures err { OnErr result (AddsPrefix text.old.items text.new.items (spelling_of order.now)) }
 {
     match ShortOrder::of(order) {
         Some(short) => print_short_order(text, short),
@@ -122,7 +110,7 @@ pub fn print_order(text: &mut Vec<u8>, order: &Order) -> Result<(), AllocError>
 fn print_long_order(text: &mut Vec<u8>, order: &Order) -> Result<(), AllocError>
     requires { has_short_form order.now ≡ false }
     ensures ok { OnOk result (text.new.items ≡ text.old.items ++ spelling_of order.now) }
-    ensures err { OnErr result (AddsFront text.old.items text.new.items (spelling_of order.now)) }
+    ensures err { OnErr result (AddsPrefix text.old.items text.new.items (spelling_of order.now)) }
 {
     match order {
         Order::Blank => Ok(()),
@@ -163,7 +151,7 @@ fn print_long_order(text: &mut Vec<u8>, order: &Order) -> Result<(), AllocError>
 fn print_players(text: &mut Vec<u8>, names: &[Name]) -> Result<(), AllocError>
     ensures ok { OnOk result (text.new.items
         ≡ text.old.items ++ joined (text_of_keyword Players ∷ names.now)) }
-    ensures err { OnErr result (AddsFront text.old.items text.new.items
+    ensures err { OnErr result (AddsPrefix text.old.items text.new.items
         (joined (text_of_keyword Players ∷ names.now))) }
 {
     print_words(text, Keyword::Players, &[])?;
@@ -179,16 +167,16 @@ fn print_of_places(
 ) -> Result<(), AllocError>
     ensures ok { OnOk result (text.new.items
         ≡ text.old.items ++ places_line keyword kind places.now) }
-    ensures err { OnErr result (AddsFront text.old.items text.new.items
+    ensures err { OnErr result (AddsPrefix text.old.items text.new.items
         (places_line keyword kind places.now)) }
 {
     print_words(text, keyword, &[Value::Kind(kind)])?;
     print_places(text, places)
 }
 
-/// Adds the front of an order to run a train of a kind; its places follow, each with a space before
+/// Adds the prefix of an order to run a train of a kind; its places follow, each with a space before
 /// it.
-pub fn print_run_front(text: &mut Vec<u8>, kind: Kind) -> Result<(), AllocError>
+pub fn print_run_prefix(text: &mut Vec<u8>, kind: Kind) -> Result<(), AllocError>
     ensures { OnOk result ((run : List MapPlace) →
         text.new.items ++ places_text run ≡ text.old.items ++ spelling_of (Run kind run)) }
 {
@@ -196,11 +184,11 @@ pub fn print_run_front(text: &mut Vec<u8>, kind: Kind) -> Result<(), AllocError>
 }
 
 /// Adds the spelling of an order that takes few bytes: upper case, single spaces, no leading zeros.
-/// At want of memory a front of that may have been added.
+/// Where memory is refused, a prefix of that may have been added.
 pub fn print_short_order(text: &mut Vec<u8>, order: ShortOrder) -> Result<(), AllocError>
     ensures ok { OnOk result (text.new.items
         ≡ text.old.items ++ spelling_of (order_in_short order)) }
-    ensures err { OnErr result (AddsFront text.old.items text.new.items
+    ensures err { OnErr result (AddsPrefix text.old.items text.new.items
         (spelling_of (order_in_short order))) }
 {
     match order {
@@ -234,23 +222,23 @@ pub fn print_short_order(text: &mut Vec<u8>, order: ShortOrder) -> Result<(), Al
     }
 }
 
-/// The same of an order that names a number of dollars or of tenths.
+/// The same of an order that names a number of dollars or of shares.
 fn print_amount(text: &mut Vec<u8>, order: ShortOrder) -> Result<(), AllocError>
     requires { HasAmount order }
     ensures ok { OnOk result (text.new.items
         ≡ text.old.items ++ spelling_of (order_in_short order)) }
-    ensures err { OnErr result (AddsFront text.old.items text.new.items
+    ensures err { OnErr result (AddsPrefix text.old.items text.new.items
         (spelling_of (order_in_short order))) }
 {
     let (keyword, of, amount) = match order {
         ShortOrder::Bid { private, amount } => (Keyword::Bid, Value::Private(private), amount),
         ShortOrder::Limit { private, amount } => (Keyword::Limit, Value::Private(private), amount),
         ShortOrder::Par { company, price } => (Keyword::Par, Value::Company(company), price),
-        ShortOrder::Sell { company, tenths } => (Keyword::Sell, Value::Company(company), tenths),
+        ShortOrder::Sell { company, shares } => (Keyword::Sell, Value::Company(company), shares),
         ShortOrder::BuyOwnedPrivate { private, price } => {
             (Keyword::Private, Value::Private(private), price)
         }
-        ShortOrder::Raise { company, tenths } => (Keyword::Raise, Value::Company(company), tenths),
+        ShortOrder::Raise { company, shares } => (Keyword::Raise, Value::Company(company), shares),
         _ => unreachable!(),
     };
     print_words(text, keyword, &[of, Value::Number(amount)])
@@ -259,7 +247,7 @@ fn print_amount(text: &mut Vec<u8>, order: ShortOrder) -> Result<(), AllocError>
 /// Adds the order of a lay.
 fn print_lay(text: &mut Vec<u8>, lay: Lay) -> Result<(), AllocError>
     ensures ok { OnOk result (text.new.items ≡ text.old.items ++ spelling_of (LayOrder lay)) }
-    ensures err { OnErr result (AddsFront text.old.items text.new.items
+    ensures err { OnErr result (AddsPrefix text.old.items text.new.items
         (spelling_of (LayOrder lay))) }
 {
     let (tile, hex) = (Value::Tile(lay.tile), Value::Hex(lay.hex));
@@ -276,7 +264,7 @@ fn print_lay(text: &mut Vec<u8>, lay: Lay) -> Result<(), AllocError>
 fn print_purchase(text: &mut Vec<u8>, kind: Kind, from: TrainSource) -> Result<(), AllocError>
     ensures ok { OnOk result (text.new.items
         ≡ text.old.items ++ spelling_of (BuyTrain kind from)) }
-    ensures err { OnErr result (AddsFront text.old.items text.new.items
+    ensures err { OnErr result (AddsPrefix text.old.items text.new.items
         (spelling_of (BuyTrain kind from))) }
 {
     let (kind, bank) = (Value::Kind(kind), Value::Word(Keyword::Bank));
@@ -304,7 +292,7 @@ fn print_purchase(text: &mut Vec<u8>, kind: Kind, from: TrainSource) -> Result<(
 fn print_offer(text: &mut Vec<u8>, offer: Offer) -> Result<(), AllocError>
     ensures ok { OnOk result (text.new.items
         ≡ text.old.items ++ spelling_of (OfferOrder offer)) }
-    ensures err { OnErr result (AddsFront text.old.items text.new.items
+    ensures err { OnErr result (AddsPrefix text.old.items text.new.items
         (spelling_of (OfferOrder offer))) }
 {
     match offer {
@@ -343,7 +331,7 @@ fn print_offer(text: &mut Vec<u8>, offer: Offer) -> Result<(), AllocError>
 fn print_words(text: &mut Vec<u8>, keyword: Keyword, values: &[Value]) -> Result<(), AllocError>
     ensures ok { OnOk result (text.new.items
         ≡ text.old.items ++ words_text keyword values.now) }
-    ensures err { OnErr result (AddsFront text.old.items text.new.items
+    ensures err { OnErr result (AddsPrefix text.old.items text.new.items
         (words_text keyword values.now)) }
 {
     text.extend_from_slice(keyword.text())?;
@@ -353,7 +341,7 @@ fn print_words(text: &mut Vec<u8>, keyword: Keyword, values: &[Value]) -> Result
 /// Adds words of values, each with a space before it.
 fn print_values(text: &mut Vec<u8>, values: &[Value]) -> Result<(), AllocError>
     ensures ok { OnOk result (text.new.items ≡ text.old.items ++ values_text values.now) }
-    ensures err { OnErr result (AddsFront text.old.items text.new.items (values_text values.now)) }
+    ensures err { OnErr result (AddsPrefix text.old.items text.new.items (values_text values.now)) }
 {
     for value in values {
         text.push(b' ')?;
@@ -365,7 +353,7 @@ fn print_values(text: &mut Vec<u8>, values: &[Value]) -> Result<(), AllocError>
 /// Adds names, each with a space before it.
 fn print_names(text: &mut Vec<u8>, names: &[Name]) -> Result<(), AllocError>
     ensures ok { OnOk result (text.new.items ≡ text.old.items ++ spaced names.now) }
-    ensures err { OnErr result (AddsFront text.old.items text.new.items (spaced names.now)) }
+    ensures err { OnErr result (AddsPrefix text.old.items text.new.items (spaced names.now)) }
 {
     for name in names {
         text.push(b' ')?;
@@ -377,7 +365,7 @@ fn print_names(text: &mut Vec<u8>, names: &[Name]) -> Result<(), AllocError>
 /// Adds places, each with a space before it.
 fn print_places(text: &mut Vec<u8>, places: &[Place]) -> Result<(), AllocError>
     ensures ok { OnOk result (text.new.items ≡ text.old.items ++ places_text places.now) }
-    ensures err { OnErr result (AddsFront text.old.items text.new.items (places_text places.now)) }
+    ensures err { OnErr result (AddsPrefix text.old.items text.new.items (places_text places.now)) }
 {
     for place in places {
         text.push(b' ')?;
@@ -386,7 +374,7 @@ fn print_places(text: &mut Vec<u8>, places: &[Place]) -> Result<(), AllocError>
     Ok(())
 }
 
-/// Adds a place. At want of memory the text is as it was.
+/// Adds a place. Where memory is refused, the text is as it was.
 fn print_place(text: &mut Vec<u8>, place: Place) -> Result<(), AllocError>
     ensures ok { OnOk result (text.new.items ≡ text.old.items ++ text_of_place place) }
     ensures err { OnErr result (text.new.items ≡ text.old.items) }
@@ -394,10 +382,11 @@ fn print_place(text: &mut Vec<u8>, place: Place) -> Result<(), AllocError>
     text.extend_from_slice(place.text().as_slice())
 }
 
-/// Adds the word of a value. At want of memory a front of that may have been added.
+/// Adds the word of a value. Where memory is refused, a prefix of that may have been added.
 fn print_value(text: &mut Vec<u8>, value: &Value) -> Result<(), AllocError>
     ensures ok { OnOk result (text.new.items ≡ text.old.items ++ text_of_value value.now) }
-    ensures err { OnErr result (AddsFront text.old.items text.new.items (text_of_value value.now)) }
+    ensures err { OnErr result
+        (AddsPrefix text.old.items text.new.items (text_of_value value.now)) }
 {
     match value {
         Value::Number(number) => print_number(text, *number),
@@ -415,10 +404,12 @@ fn print_value(text: &mut Vec<u8>, value: &Value) -> Result<(), AllocError>
     }
 }
 
-/// Adds a round: `PR1`, `SR1` or `OR1.1`. At want of memory a front of that may have been added.
+/// Adds a round: `PR1`, `SR1` or `OR1.1`. Where memory is refused, a prefix of that may have been
+/// added.
 pub fn print_round(text: &mut Vec<u8>, round: &Round) -> Result<(), AllocError>
     ensures ok { OnOk result (text.new.items ≡ text.old.items ++ text_of_round round.now) }
-    ensures err { OnErr result (AddsFront text.old.items text.new.items (text_of_round round.now)) }
+    ensures err { OnErr result
+        (AddsPrefix text.old.items text.new.items (text_of_round round.now)) }
 {
     match round {
         Round::Opening(number) => {
@@ -438,8 +429,8 @@ pub fn print_round(text: &mut Vec<u8>, round: &Round) -> Result<(), AllocError>
     }
 }
 
-/// Adds a number in digits, with a minus sign where it is under 0. At want of memory the text is as
-/// it was.
+/// Adds a number in digits, with a minus sign where it is under 0. Where memory is refused, the
+/// text is as it was.
 pub fn print_number<I: Integer>(text: &mut Vec<u8>, number: I) -> Result<(), AllocError>
     ensures ok { OnOk result (text.new.items ≡ text.old.items ++ I.text number) }
     ensures err { OnErr result (text.new.items ≡ text.old.items) }

@@ -35,7 +35,7 @@ pub struct Line<'a> {
 pub fn read_line(line: &[u8]) -> Result<Line<'_>, Fault>
     // The order, or the fault.
     ensures order { order_of result ≡ reading_of line.now }
-    // The order stands under no condition.
+    // The order is under no condition.
     ensures condition { IfOk result (λ read. read.condition ≡ None) }
     // The words, at their places before the comment.
     ensures words { IfOk result (λ read. AreWordsOf line.now read.words) }
@@ -44,7 +44,7 @@ pub fn read_line(line: &[u8]) -> Result<Line<'_>, Fault>
 }
 
 /// Reads a line of an order file of some version, without its LF and a CR before that. A line of
-/// version 1 is read as `read_line` does. In version 2 an order may stand under a condition, and IF
+/// version 1 is read as `read_line` does. In version 2 an order may be under a condition, and IF
 /// is a known word.
 pub fn read_line_in(version: Version, line: &[u8]) -> Result<Line<'_>, Fault>
     // The order with its condition, or the fault.
@@ -99,7 +99,7 @@ fn read_words(
 pub fn read_cert_line(line: &[u8]) -> Result<Line<'_>, Fault>
     // What the line says, or the fault.
     ensures order { order_of result ≡ cert_reading_of line.now }
-    // It stands under no condition.
+    // It is under no condition.
     ensures condition { IfOk result (λ read. read.condition ≡ None) }
     // The words, at their places before the comment.
     ensures words { IfOk result (λ read. AreWordsOf line.now read.words) }
@@ -107,7 +107,7 @@ pub fn read_cert_line(line: &[u8]) -> Result<Line<'_>, Fault>
     read_by(CERT_LINE_MOST, certificate_forms(), line)
 }
 
-/// Reads a line of at most so many bytes by some forms.
+/// Reads a line of at most this many bytes by some forms.
 fn read_by<'a>(most: usize, forms: &[Form], line: &'a [u8]) -> Result<Line<'a>, Fault>
     requires { IsTrue (list_all is_short_row (map row_of forms.now)) }
     ensures order { order_of result ≡ reading_by most (map row_of forms.now) line.now }
@@ -124,7 +124,7 @@ fn read_by<'a>(most: usize, forms: &[Form], line: &'a [u8]) -> Result<Line<'a>, 
     })
 }
 
-/// The words of a line of at most so many bytes, of which those before the comment are printable.
+/// The words of a line of at most this many bytes, of which those before the comment are printable.
 fn words_within(most: usize, line: &[u8]) -> Result<Words<'_>, Fault>
     ensures { result ≡ words_within most line.now }
 {
@@ -137,7 +137,7 @@ fn words_within(most: usize, line: &[u8]) -> Result<Words<'_>, Fault>
     Ok(Words::of(line))
 }
 
-/// Whether a byte may stand before a comment.
+/// Whether a byte may be before a comment.
 fn is_printable(byte: u8) -> bool
     ensures { result ≡ is_printable byte }
 {

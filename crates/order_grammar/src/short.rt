@@ -14,7 +14,7 @@ pub enum ShortOrder {
     Limit { private: Private, amount: Amount },
     Par { company: Company, price: Amount },
     BuyShare { company: Company, from: ShareSource },
-    Sell { company: Company, tenths: Amount },
+    Sell { company: Company, shares: Amount },
     ExchangeMohawk,
     Lay(Lay),
     Token(Place),
@@ -24,7 +24,7 @@ pub enum ShortOrder {
     BuyTrain { kind: Kind, from: TrainSource },
     Discard { company: Company, kind: Kind },
     BuyOwnedPrivate { private: Private, price: Amount },
-    Raise { company: Company, tenths: Amount },
+    Raise { company: Company, shares: Amount },
     Offer(Offer),
 }
 
@@ -40,7 +40,7 @@ impl ShortOrder {
             Order::Limit { private, amount } => ShortOrder::Limit { private, amount },
             Order::Par { company, price } => ShortOrder::Par { company, price },
             Order::BuyShare { company, from } => ShortOrder::BuyShare { company, from },
-            Order::Sell { company, tenths } => ShortOrder::Sell { company, tenths },
+            Order::Sell { company, shares } => ShortOrder::Sell { company, shares },
             Order::ExchangeMohawk => ShortOrder::ExchangeMohawk,
             Order::Lay(lay) => ShortOrder::Lay(lay),
             Order::Token(place) => ShortOrder::Token(place),
@@ -52,7 +52,7 @@ impl ShortOrder {
             Order::BuyOwnedPrivate { private, price } => {
                 ShortOrder::BuyOwnedPrivate { private, price }
             }
-            Order::Raise { company, tenths } => ShortOrder::Raise { company, tenths },
+            Order::Raise { company, shares } => ShortOrder::Raise { company, shares },
             Order::Offer(offer) => ShortOrder::Offer(offer),
             _ => return None,
         };
@@ -69,7 +69,7 @@ impl ShortOrder {
             ShortOrder::Limit { private, amount } => Order::Limit { private, amount },
             ShortOrder::Par { company, price } => Order::Par { company, price },
             ShortOrder::BuyShare { company, from } => Order::BuyShare { company, from },
-            ShortOrder::Sell { company, tenths } => Order::Sell { company, tenths },
+            ShortOrder::Sell { company, shares } => Order::Sell { company, shares },
             ShortOrder::ExchangeMohawk => Order::ExchangeMohawk,
             ShortOrder::Lay(lay) => Order::Lay(lay),
             ShortOrder::Token(place) => Order::Token(place),
@@ -81,7 +81,7 @@ impl ShortOrder {
             ShortOrder::BuyOwnedPrivate { private, price } => {
                 Order::BuyOwnedPrivate { private, price }
             }
-            ShortOrder::Raise { company, tenths } => Order::Raise { company, tenths },
+            ShortOrder::Raise { company, shares } => Order::Raise { company, shares },
             ShortOrder::Offer(offer) => Order::Offer(offer),
         }
     }

@@ -13,7 +13,7 @@ ghost use Rattle.order_grammar.specs.Words.{
 
 use std::marker::Model;
 
-/// Where a word stands in its line: from `start`, up to and without `end`.
+/// Where a word is in its line: from `start`, up to and without `end`.
 #[derive(Clone, Copy, Debug, Default, PartialEq, Eq)]
 pub struct Span {
     pub start: usize,
@@ -104,11 +104,11 @@ fn word_from(text: &[u8], at: usize) -> Option<Token<'_>>
     })
 }
 
-/// How many bytes of a text stand before the first that is `stop`.
+/// How many bytes of a text are before the first that is `stop`.
 fn length_before(text: &[u8], stop: u8) -> usize
     ensures value { result ≡ length (before stop text.now) }
     ensures within { result ≤ length text.now }
-    ensures front { take result text.now ≡ before stop text.now }
+    ensures prefix { take result text.now ≡ before stop text.now }
 {
     text.iter()
         .position(|byte| *byte == stop)

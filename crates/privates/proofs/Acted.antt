@@ -5,8 +5,8 @@ use Rattle.events.specs.declared.event.Bid.{Bid}
 use Rattle.events.specs.declared.event.Event.{Event}
 use Rattle.events.specs.declared.event.Event.TheVariants as event
 use Rattle.events.specs.declared.ruling.Ruling.TheVariants.{Obeyed}
-use Rattle.history.specs.Bids.{bids_on}
-use Rattle.history.specs.LookBack.{cheapest_of, last_said}
+use Rattle.totals.specs.Bids.{bids_on}
+use Rattle.totals.specs.LookBack.{cheapest_of, last_said}
 use Rattle.order_grammar.specs.declared.condition.Condition.{Condition}
 use Rattle.order_grammar.specs.declared.order.Order.{Order}
 use Rattle.order_grammar.specs.declared.order.Order.TheVariants as order
@@ -17,10 +17,10 @@ use Rattle.sheets.specs.Part.{Numbered}
 use Rattle.tables.specs.declared.roster.Private.{Private}
 use Rattle.tables.specs.declared.roster.Private.TheVariants as private
 use Rattle.tables.specs.declared.seat.Seat.{Seat}
-use Rattle.turns.proofs.Acted.{LineTells, in_both, nobody, nobody_in_steps, nobody_ruled, one_more, turns_tell}
+use Rattle.turns.proofs.Acted.{LineSaysWhoActed, in_both, nobody, nobody_in_steps, nobody_ruled, one_more, turns_tell}
 use Rattle.turns.proofs.Ruled.{of_ruled}
-use Rattle.turns.specs.Acted.{TellsWhoActed, TurnsTellWhoActed}
-use Rattle.turns.specs.Ruling.{has_place_in_group, recorded}
+use Rattle.turns.specs.Acted.{SaysWhoActed, TurnsSayWhoActed}
+use Rattle.turns.specs.Ruling.{has_place_in_turn, recorded}
 
 -- a seat that has bought or bid has acted
 now_acted : (before : Bool) → true ≡ (before || true)
@@ -39,7 +39,7 @@ no_giver events private.BaltimoreOhio buyer = refl
 
 -- nor by the sale itself, since its line has told of it
 in_sale : (seat : Seat) (events : List Event) (private : Private) (buyer : Seat) (price : ℕ) →
-    TellsWhoActed seat false events (after_sale events private buyer price)
+    SaysWhoActed seat false events (after_sale events private buyer price)
 in_sale seat events private buyer price =
     record {
       more = event.Sold private buyer price ∷ gifts events private buyer;
@@ -50,19 +50,19 @@ in_sale seat events private buyer price =
 
 -- nor by the sale that the bids on a private bring
 in_bids : (seat : Seat) (seats : ℕ) (events : List Event) (private : Private) (bids : List Bid) →
-    TellsWhoActed seat false events (settled_by seats events private bids)
+    SaysWhoActed seat false events (settled_by seats events private bids)
 in_bids seat seats events private [] = nobody seat events
 in_bids seat seats events private (bid ∷ []) = in_sale seat events private bid.seat bid.amount
 in_bids seat seats events private (bid ∷ other ∷ bids) = in_sale seat events private _ _
 
 -- nor by that of the cheapest private
 in_cheapest : (seat : Seat) (seats : ℕ) (events : List Event) (cheapest : Option Private)
-    → TellsWhoActed seat false events (settled_of seats events cheapest)
+    → SaysWhoActed seat false events (settled_of seats events cheapest)
 in_cheapest seat seats events None = nobody seat events
 in_cheapest seat seats events (Some private) = in_bids seat seats events private (bids_on seats events private)
 
 -- nor by the sales that follow from a sale
-in_settled : (seat : Seat) (seats : ℕ) (events : List Event) → TellsWhoActed seat false events (settled seats events)
+in_settled : (seat : Seat) (seats : ℕ) (events : List Event) → SaysWhoActed seat false events (settled seats events)
 unfolding settled
 in_settled seat seats events = nobody_in_steps seat (settle_auctions seats)
     (λ list. in_cheapest seat seats list (cheapest_of list)) 6 events
@@ -70,7 +70,7 @@ in_settled seat seats events = nobody_in_steps seat (settle_auctions seats)
 -- by a line whose order is done
 order_tells : (seats : ℕ) (seat : Seat) (turn : InTurn) (number : ℕ) (condition : Option Condition) (done : Order)
     → refusal_of seats turn.events seat turn.actions done ≡ None →
-    LineTells opening_rules seat turn (after_ruling seats seat turn number (Obeyed condition done))
+    LineSaysWhoActed opening_rules seat turn (after_ruling seats seat turn number (Obeyed condition done))
 order_tells seats seat turn number condition (order.BuyPrivate private) kept =
     let ruled : List Event = recorded seat number (Obeyed condition (order.BuyPrivate private)) turn.events in
     let sold : List Event = after_sale ruled private seat (price_of ruled private) in
@@ -98,11 +98,11 @@ order_tells seats seat turn number condition (order.Bid private amount) kept =
 order_tells seats seat turn number condition other kept = absurd (cc)
 
 -- so each turn of an opening round tells who acted in it
-pub opening_turns_tell : TurnsTellWhoActed opening_rules
+pub opening_turns_tell : TurnsSayWhoActed opening_rules
 opening_turns_tell =
     turns_tell opening_rules refl
     (λ (seats : ℕ) (seat : Seat) (turn : InTurn) (line : Numbered).
     of_ruled (acted seats seat) (refusal_of seats turn.events seat turn.actions) seat turn line.number
-    (LineTells opening_rules seat turn)
-    (nobody_ruled opening_rules seat turn line.number) (order_tells seats seat turn line.number) has_place_in_group
+    (LineSaysWhoActed opening_rules seat turn)
+    (nobody_ruled opening_rules seat turn line.number) (order_tells seats seat turn line.number) has_place_in_turn
     turn.events line)

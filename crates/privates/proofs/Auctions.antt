@@ -1,10 +1,14 @@
 -- The winner of an auction is ahead of all, and pays no more than his limit and no less than each bid.
-use Rattle.std.proofs.Common.{◌≡◌, ℤ, pos, ◌+ℤ◌, ◌≤ℤ◌, Bool, true, false, ◌≤◌, List, [], ◌∷◌, length, map, Option, None, unwrap_or, if◌then◌else◌, inl, inr, refl, sym, subst, arith}
+use Rattle.std.proofs.Common.{◌≡◌, ℤ, pos, ◌+ℤ◌, ◌≤ℤ◌, Bool, true, false, ◌≤◌, List, [], ◌∷◌, length, map, Option, None}
+use Rattle.std.proofs.Common.{unwrap_or, if◌then◌else◌, inl, inr, refl, sym, subst, arith}
 use Rattle.std.specs.Int.{int_max, int_min}
 use Rattle.std.proofs.lemmas.Int.{ints, clamps}
-use Rattle.privates.proofs.Prices.{greatest_of_others, is_greatest, others_apart, others_than, some_other, without_winner}
+use Rattle.privates.proofs.Prices.{greatest_of_others, is_greatest, others_apart, others_than, some_other}
+use Rattle.privates.proofs.Prices.{without_winner}
 use Rattle.tables.specs.declared.seat.Seat.{Seat}
-use Rattle.privates.specs.Auction.{Bidder, BidsDiffer, EachBidder, IsAhead, IsAmong, IsGreatest, IsWon, LimitsHold, ahead, auction_of, beats, bid_by, greatest_from, highest_bid, limit_by, second_limit, winner_among}
+use Rattle.privates.specs.Auction.{Bidder, BidsDiffer, EachBidder, IsAhead, IsAmong, IsGreatest, IsWon, LimitsHold}
+use Rattle.privates.specs.Auction.{ahead, auction_of, beats, bid_by, greatest_from, highest_bid, limit_by, second_limit}
+use Rattle.privates.specs.Auction.{winner_among}
 
 -- a bidder is ahead of himself
 ahead_of_himself : (one : Bidder) → IsAhead one one

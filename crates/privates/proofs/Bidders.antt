@@ -1,15 +1,17 @@
 -- The bidders of an auction that follows from a sale, and what its winner pays.
-use Rattle.std.proofs.Common.{◌≡◌, ◌≢◌, ℕ, ◌<◌, ◌≤◌, List, [], ◌∷◌, length, map, Option, Some, None, ℤ, pos, negsuc, ◌≤ℤ◌, inl, inr, refl, sym, subst, ap, ◌∙◌, arith}
+use Rattle.std.proofs.Common.{◌≡◌, ◌≢◌, ℕ, ◌<◌, ◌≤◌, List, [], ◌∷◌, length, map, Option, Some, None, ℤ, pos, negsuc}
+use Rattle.std.proofs.Common.{◌≤ℤ◌, inl, inr, refl, sym, subst, ap, ◌∙◌, arith}
 use Rattle.std.specs.Int.RustNames.{unsigned_abs}
 use Rattle.std.proofs.lemmas.Int.{ints, clamps}
 use Rattle.std.proofs.lemmas.List.{length-map}
 use Rattle.events.specs.declared.event.Bid.{Bid}
 use Rattle.events.specs.declared.event.Event.{Event}
-use Rattle.history.specs.Bids.{bid_of, bids_on, free_for}
-use Rattle.history.specs.LookBack.{Game, cheapest_of}
-use Rattle.history.specs.Orders.{bid_limit_of}
+use Rattle.totals.specs.Bids.{bid_of, bids_on, free_for}
+use Rattle.totals.specs.LookBack.{Game, cheapest_of}
+use Rattle.totals.specs.Orders.{bid_limit_of}
 use Rattle.privates.proofs.Auctions.{auction_won}
-use Rattle.privates.proofs.StandingBids.{AmountsDiffer, EachBid, Stands, bid_free, bids_differ, bids_stand, cheapest_unsold}
+use Rattle.privates.proofs.StandingBids.{AmountsDiffer, EachBid, Stands, bid_free, bids_differ, bids_stand}
+use Rattle.privates.proofs.StandingBids.{cheapest_unsold}
 use Rattle.privates.specs.Act.{MayPay}
 use Rattle.privates.specs.Auction.{Bidder, BidsDiffer, EachBidder, IsAmong, LimitsHold, auction_of, bid_by, limit_by}
 use Rattle.privates.specs.Sale.{after_auction, after_sale, bidder_of, limit_from, settled_by}

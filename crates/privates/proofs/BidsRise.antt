@@ -1,5 +1,6 @@
 -- Where bids rise, the last bid on a private that is unsold stands and is the highest.
-use Rattle.std.proofs.Common.{◌≡◌, ℕ, ◌+◌, ◌≤◌, ◌==◌, ◌⊎◌, inl, inr, Bool, true, false, ◌||◌, ◌&&◌, nat_lt, if◌then◌else◌, List, [], ◌∷◌, Option, Some, None, is_some, refl, sym, ap, ◌∙◌, arith}
+use Rattle.std.proofs.Common.{◌≡◌, ℕ, ◌+◌, ◌≤◌, ◌==◌, ◌⊎◌, inl, inr, Bool, true, false, ◌||◌, ◌&&◌, nat_lt}
+use Rattle.std.proofs.Common.{if◌then◌else◌, List, [], ◌∷◌, Option, Some, None, is_some, refl, sym, ap, ◌∙◌, arith}
 use Rattle.std.proofs.lemmas.Bool.Decides.{Decides-eqb, nat_tests}
 use Rattle.std.specs.Option.{option_flatten, option_or}
 use Rattle.events.specs.Event.{bidding_of, ownership_of}
@@ -9,12 +10,13 @@ use Rattle.events.specs.declared.event.Bidding.TheVariants.{Made, Ended}
 use Rattle.events.specs.declared.event.Event.{Event}
 use Rattle.events.specs.declared.event.Event.TheVariants as event
 use Rattle.events.specs.declared.event.Holder.{Holder}
-use Rattle.history.proofs.BidWords.{same_private_is}
-use Rattle.history.specs.Bids.{bid_of, bid_said, bids_on}
-use Rattle.history.specs.LookBack.{is_sold, last_said, owner_said}
+use Rattle.totals.proofs.Privates.{same_private_is}
+use Rattle.totals.specs.Bids.{bid_of, bid_said, bids_on}
+use Rattle.totals.specs.LookBack.{is_sold, last_said, owner_said}
 use Rattle.privates.proofs.Sales.{far_from_each, neither, of_seat}
 use Rattle.privates.proofs.StandingBids.{EachBid, Stands, bids_stand}
-use Rattle.privates.specs.BidsRise.{BidsRise, StandingBidsSuffice, is_near_bid, is_near_earlier, is_near_ever, some_later_is_near}
+use Rattle.privates.specs.BidsRise.{BidsRise, StandingBidsSuffice, is_near_bid, is_near_earlier, is_near_ever}
+use Rattle.privates.specs.BidsRise.{some_later_is_near}
 use Rattle.privates.specs.Judgement.{is_near}
 use Rattle.tables.specs.Roster.{face_of, same_private}
 use Rattle.tables.specs.declared.roster.Private.{Private}
@@ -141,7 +143,7 @@ silent_after (event ∷ events) private seat bid sum far_later far_sum near unso
     (silent_after events private seat bid sum later.1 sums.1 near owner.0)
     ∙ silent_here event private seat bid sum later.0 sums.0 near owner.1
 
--- a bid of some seat stands on the private that the sum is near
+-- a bid of some seat is on the private that the sum is near
 record NearStanding (events : List Event) (private : Private) (sum : ℕ) : Type 0 where
   seat : Seat
   amount : ℕ

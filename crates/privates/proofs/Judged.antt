@@ -1,14 +1,15 @@
 -- An order that breaks no rule can be done, and still can after an event that changes nothing of what
 -- parties have and own.
-use Rattle.std.proofs.Common.{◌≡◌, ℕ, Bool, false, T, not, List, [], ◌∷◌, ◌++◌, None, pos, ◌≤ℤ◌, ◌-ℤ◌, ◌+◌, ◌||◌, nat_lt, unwrap_or, arith, ℤ, refl, sym, subst, ap, ◌∙◌}
+use Rattle.std.proofs.Common.{◌≡◌, ℕ, Bool, false, T, not, List, [], ◌∷◌, ◌++◌, None, pos, ◌≤ℤ◌, ◌-ℤ◌, ◌+◌, ◌||◌}
+use Rattle.std.proofs.Common.{nat_lt, unwrap_or, arith, ℤ, refl, sym, subst, ap, ◌∙◌}
 use Rattle.std.specs.Int.Signed.{lt_z, lt_z_no}
 use Rattle.events.specs.Event.{IsQuiet, party_at}
 use Rattle.events.specs.declared.event.Event.{Event}
-use Rattle.history.proofs.EventAtEnd.{quiet_same}
-use Rattle.history.proofs.Standing.{bids_split}
-use Rattle.history.specs.Bids.{bids_elsewhere_of, free_for, tied_on}
-use Rattle.history.specs.Laws.{SaysTheSame}
-use Rattle.history.specs.LookBack.{Game, cash_of, with_event}
+use Rattle.totals.proofs.EventAtEnd.{quiet_same}
+use Rattle.totals.proofs.Standing.{bids_split}
+use Rattle.totals.specs.Bids.{bids_elsewhere_of, free_for, tied_on}
+use Rattle.totals.specs.AtEnd.{SaysTheSame}
+use Rattle.totals.specs.LookBack.{Game, cash_of, with_event}
 use Rattle.order_grammar.specs.declared.order.Order.{Order}
 use Rattle.order_grammar.specs.declared.order.Order.TheVariants.{BuyPrivate, Bid}
 use Rattle.privates.specs.Act.{MayAct, MayPay}

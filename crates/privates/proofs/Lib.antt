@@ -1,4 +1,5 @@
 pub mod Acted
+pub mod AtTable
 pub mod Auctions
 pub mod Bidders
 pub mod BidsRise

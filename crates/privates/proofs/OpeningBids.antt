@@ -1,6 +1,6 @@
 -- Within an opening round bids rise: a bid that is obeyed is at least 5 over every earlier one on its private.
-use Rattle.std.proofs.Common.{◌≡◌, ℕ, zero, suc, ◌+◌, ◌-◌, ◌<◌, ◌==◌, ◌||◌, nat_lt, Bool, true, false, if◌then◌else◌, List, [], ◌∷◌, ◌++◌, Option, Some, None, append-nil, unwrap_or, refl, sym, subst, ap, ◌∙◌, arith}
-use Rattle.std.proofs.lemmas.Bool.Decides.{nat_tests}
+use Rattle.std.proofs.Common.{◌≡◌, ℕ, zero, suc, ◌+◌, ◌-◌, ◌<◌, ◌==◌, ◌||◌, nat_lt, Bool, true, false, List, [], ◌∷◌}
+use Rattle.std.proofs.Common.{◌++◌, Option, Some, None, append-nil, unwrap_or, refl, sym, subst, ap, ◌∙◌, if◌then◌else◌}
 use Rattle.std.proofs.lemmas.List.{append_assoc}
 use Rattle.std.proofs.lemmas.List.Folds.{list_any-append}
 use Rattle.std.specs.List.{list_all, list_any}
@@ -14,14 +14,16 @@ use Rattle.events.specs.declared.event.Holder.{Holder}
 use Rattle.events.specs.declared.ruling.Refusal.TheVariants.{Opening}
 use Rattle.events.specs.declared.ruling.Ruling.{Ruling}
 use Rattle.events.specs.declared.ruling.Ruling.TheVariants.{Obeyed}
-use Rattle.history.proofs.BidWords.{bid_of_at_end, seated_after_bid}
-use Rattle.history.specs.Bids.{bid_of, bid_said, bids_on}
-use Rattle.history.specs.LookBack.{Game, cheapest_of, is_sold, owner_of, priority_of, sv_price_of}
+use Rattle.history.proofs.BidWords.{seated_after_bid}
+use Rattle.totals.proofs.EventAtEnd.{bid_of_at_end}
+use Rattle.totals.specs.Bids.{bid_of, bid_said, bids_on}
+use Rattle.totals.specs.LookBack.{Game, cheapest_of, is_sold, owner_of, priority_of, sv_price_of}
 use Rattle.history.specs.Sound.{BiddersAreSeated}
 use Rattle.history.specs.Record.{after_revenues, breaks, paid_to_owner, with_broken}
 use Rattle.order_grammar.specs.declared.condition.Condition.{Condition}
 use Rattle.order_grammar.specs.declared.order.Order.{Order}
 use Rattle.order_grammar.specs.declared.order.Order.TheVariants as order
+use Rattle.privates.proofs.AtTable.{by_rules, is_under, rules_at}
 use Rattle.privates.proofs.BidsRise.{both, standing_bids_suffice}
 use Rattle.privates.proofs.Judged.{may_act_after}
 use Rattle.privates.proofs.Sales.{neither}
@@ -29,25 +31,19 @@ use Rattle.privates.specs.Act.{MayBid}
 use Rattle.privates.specs.BidsRise.{BidsRise, OpeningBidsRise, is_near_earlier, is_near_ever}
 use Rattle.privates.specs.Closing.{after_fall, after_passing, all_sold, closed, given_away}
 use Rattle.privates.specs.Judgement.{judgement_of, price_of, refusal_of}
-use Rattle.privates.specs.Opening.{IsOpeningRound}
 use Rattle.privates.specs.Sale.{after_sale, gifts, settle_auctions, settled, settled_by, settled_of}
-use Rattle.privates.specs.Standing.{after_standing_line, standing_ruling}
-use Rattle.privates.specs.Turn.{InTurn, acted, after_opening_line, after_ruling, opening_rules}
+use Rattle.privates.specs.Standing.{standing_ruling}
+use Rattle.privates.specs.Turn.{InTurn, acted, after_opening_line, after_ruling}
 use Rattle.sheets.specs.Part.{Numbered}
-use Rattle.sheets.specs.Taken.{after_each}
 use Rattle.tables.specs.Roster.{face_of, privates, revenue_of, same_private}
-use Rattle.tables.specs.Seat.{seat_at}
 use Rattle.tables.specs.Steps.{iterate}
-use Rattle.tables.specs.Turns.{InPlay, after_turn, groups_at, next_group, turn_over, turns_over}
 use Rattle.tables.specs.declared.roster.Private.{Private}
 use Rattle.tables.specs.declared.roster.Private.TheVariants as private
 use Rattle.tables.specs.declared.round.Round.{Round}
 use Rattle.tables.specs.declared.seat.Seat.{Seat}
 use Rattle.turns.proofs.RoundLeads.{round_leads}
 use Rattle.turns.proofs.Ruled.{none_as_refusal, of_ruled}
-use Rattle.turns.proofs.Turns.{left_within, priority_within}
-use Rattle.turns.specs.RoundOfTurns.{IsRoundOfTurns, RoundRules, in_turn, opened, turned, turns_of}
-use Rattle.turns.specs.Ruling.{has_place_in_group, obeyed_by}
+use Rattle.turns.specs.Ruling.{has_place_in_turn, obeyed_by}
 
 -- bids rise, and those that stand are of seats at the table
 record RiseAt (seats : ℕ) (events : List Event) : Type 0 where
@@ -82,13 +78,13 @@ never_near None (event ∷ events) none = never_near None events none
 never_near (Some (Made private bid)) (event ∷ events) none = absurd (cc)
 never_near (Some (Ended private)) (event ∷ events) none = never_near (Some (Ended private)) events none
 
--- a bid on a private that is or isn't ended stood before, if it stands
+-- a bid on a private that is or isn't ended was before, if it stands
 not_ended : (here : Bool) (before : Option ℕ) (amount : ℕ)
     → unwrap_or (if here then Some None else None) before ≡ Some amount → before ≡ Some amount
 not_ended true before amount stands = absurd (cc)
 not_ended false before amount stands = stands
 
--- a bid that stands after what is no bid stood before
+-- a bid that is after what is no bid was before
 stood : (word : Option Bidding) (private : Private) (seat : Seat) (before : Option ℕ) (amount : ℕ)
     → is_no_bid word ≡ true →
     unwrap_or (bid_said private seat word) before ≡ Some amount → before ≡ Some amount
@@ -271,27 +267,7 @@ line_rise seats seat turn line under before =
     (λ (after : InTurn). RiseAt seats after.events)
     (λ (ruling : Ruling) (none : obeyed_by ruling ≡ None). with_other seats turn.events
     (event.Ruled seat line.number ruling) refl before)
-    (order_rise seats seat turn line.number under before) has_place_in_group turn.events line
-
--- the rules of an opening round at a table of so many seats: a line of a seat elsewhere does nothing
-abbrev rules_at : ℕ → RoundRules Bool
-rules_at seats =
-    record {
-      standing = after_standing_line;
-      nothing = false;
-      line = λ any seat turn line. if nat_lt seat.0 seats then after_opening_line seats seat turn line else turn;
-      has_acted = λ acted. acted;
-      over = all_sold;
-      closed = λ any events. closed seats events;
-    }
-
--- a number is under another where a test says so
-is_under : (a b : ℕ) → nat_lt a b ≡ true → a < b
-is_under a b under = grind (arith, nat_tests)
-
--- a test says so where a number is under another
-says_under : (a b : ℕ) → a < b → nat_lt a b ≡ true
-says_under a b under = grind (arith, nat_tests)
+    (order_rise seats seat turn line.number under before) has_place_in_turn turn.events line
 
 -- after a line where the test of its seat passes
 tested_rise : (seats : ℕ) (seat : Seat) (turn : InTurn) (line : Numbered) (b : Bool) → (b ≡ true → seat.0 < seats)
@@ -300,53 +276,6 @@ tested_rise : (seats : ℕ) (seat : Seat) (turn : InTurn) (line : Numbered) (b :
 tested_rise seats seat turn line true under before =
     line_rise seats seat turn line (under refl) before
 tested_rise seats seat turn line false under before = before
-
-module _ (seats : ℕ) (some : 0 < seats) (start : InPlay (List Event) Numbered) (first : start.seat < seats) where
-  -- each turn is of a seat at the table
-  turn_at_table : (n : ℕ) → (iterate (after_turn (turns_of opening_rules seats)) n start).seat < seats
-  turn_at_table zero = first
-  turn_at_table (suc n) = left_within seats (Some
-      (seat_at (iterate (after_turn (turns_of opening_rules seats)) n start).seat)) some
-
-  -- so it is one by the rules at the table
-  turn_by_rules : (at : InPlay (List Event) Numbered) → at.seat < seats →
-      after_turn (turns_of opening_rules seats) at ≡ after_turn (turns_of (rules_at seats) seats) at
-  turn_by_rules at under =
-      let seat : Seat = seat_at at.seat in
-      let group : List Numbered = next_group (groups_at at.groups at.seat) in
-      ap (λ (b : Bool).
-      turn_over (turns_of opening_rules seats) at
-      (turned opening_rules (after_each (λ (turn : InTurn) (line : Numbered). if b then after_opening_line seats seat
-      turn line else turn) (in_turn at.now false) group)))
-      (sym (says_under at.seat seats under))
-
-  -- and so are all of them
-  turns_by_rules : (n : ℕ) → iterate (after_turn (turns_of opening_rules seats)) n start
-      ≡ iterate (after_turn (turns_of (rules_at seats) seats)) n start
-  turns_by_rules zero = refl
-  turns_by_rules (suc n) =
-      turn_by_rules (iterate (after_turn (turns_of opening_rules seats)) n start) (turn_at_table n)
-      ∙ ap (after_turn (turns_of (rules_at seats) seats)) (turns_by_rules n)
-
--- an opening round is one by the rules at its table
-by_rules : (file : List ℕ) (round : Round) (old new : Game) → IsOpeningRound file round old new → 0 < old.seats →
-    IsRoundOfTurns (rules_at old.seats) file round old new
-by_rules file round old new played some =
-    let start : InPlay (List Event) Numbered = opened opening_rules old.seats file round old.events in
-    let same = turns_by_rules old.seats some start (priority_within old.seats old.events some) in
-    record {
-      last = played.last;
-      turns =
-          record {
-            steps = played.turns.steps;
-            reached = sym (same played.turns.steps) ∙ played.turns.reached;
-            over_then = played.turns.over_then;
-            not_before = λ k before.
-                ap (λ (at : InPlay (List Event) Numbered). turns_over (turns_of opening_rules old.seats) at)
-                (sym (same k)) ∙ played.turns.not_before k before;
-          };
-      after = played.after;
-    }
 
 -- bids rise over an opening round
 pub opening_bids_rise : OpeningBidsRise

@@ -1,12 +1,13 @@
 -- The par value that a buyer of BOP sets is a par value, so no sum of over 1,000,000.
-use Rattle.std.proofs.Common.{◌≡◌, ℕ, ◌≤◌, ◌==◌, ◌&&◌, Bool, true, false, nat_le, if◌then◌else◌, List, [], ◌∷◌, Option, Some, None, is_some, unwrap_or, refl, subst, arith}
+use Rattle.std.proofs.Common.{◌≡◌, ℕ, ◌≤◌, ◌==◌, ◌&&◌, Bool, true, false, nat_le, if◌then◌else◌, List, [], ◌∷◌, Option}
+use Rattle.std.proofs.Common.{Some, None, is_some, unwrap_or, refl, subst, arith}
 use Rattle.std.specs.List.{find, list_all}
 use Rattle.std.specs.Option.{option_or}
 use Rattle.std.proofs.lemmas.Bool.Decides.{nat_tests}
 use Rattle.events.specs.Event.{Obeyance, is_par_value, obeyed_of}
 use Rattle.events.specs.Orders.{par_of_baltimore_in, said_by}
 use Rattle.events.specs.declared.event.Event.{Event}
-use Rattle.history.specs.Orders.{par_ordered_of}
+use Rattle.totals.specs.Orders.{par_ordered_of}
 use Rattle.order_grammar.specs.declared.order.Order.{Order}
 use Rattle.order_grammar.specs.declared.order.Order.TheVariants as order
 use Rattle.privates.specs.Sale.{par_set_by}

@@ -1,9 +1,11 @@
 -- What the winner of an auction pays: the greatest sums among those of the bidders.
-use Rattle.std.proofs.Common.{◌≡◌, ◌≢◌, ◌⊎◌, ℤ, ◌≤ℤ◌, ◌≤◌, List, [], ◌∷◌, length, map, Option, Some, None, unwrap_or, inl, inr, refl, sym, subst, ap, ◌∙◌, arith}
+use Rattle.std.proofs.Common.{◌≡◌, ◌≢◌, ◌⊎◌, ℤ, ◌≤ℤ◌, ◌≤◌, List, [], ◌∷◌, length, map, Option, Some, None, unwrap_or}
+use Rattle.std.proofs.Common.{inl, inr, refl, sym, subst, ap, ◌∙◌, arith}
 use Rattle.std.specs.Prelude.{pos}
 use Rattle.std.specs.Int.{int_max}
 use Rattle.std.proofs.lemmas.Int.{ints, clamps}
-use Rattle.privates.specs.Auction.{AreOthers, Bidder, BidsDiffer, EachBidder, IsAmong, IsGreatest, IsOneOf, NoneIsOver, bid_by, greatest_from, greater_of, limit_by, with_limit, with_limits}
+use Rattle.privates.specs.Auction.{AreOthers, Bidder, BidsDiffer, EachBidder, IsAmong, IsGreatest, IsOneOf, NoneIsOver}
+use Rattle.privates.specs.Auction.{bid_by, greatest_from, greater_of, limit_by, with_limit, with_limits}
 
 -- the greatest of a sum and others is no less than the sum
 greatest_over : (sum : ℤ) (sums : List ℤ) → sum ≤ℤ greatest_from sum sums

@@ -1,5 +1,7 @@
 -- What acts keep an opening round under way: bids, sales with what they bring, and the fall of SV.
-use Rattle.std.proofs.Common.{◌≡◌, ◌≢◌, ℕ, zero, suc, ◌+◌, ◌-◌, ◌<◌, ◌≤◌, Bool, true, false, ◌||◌, nat_lt, List, [], ◌∷◌, ◌++◌, Option, Some, None, is_some, append_assoc, inl, inr, refl, sym, subst, ap, ◌∙◌, arith}
+use Rattle.std.proofs.Common.{◌≡◌, ◌≢◌, ℕ, zero, suc, ◌+◌, ◌-◌, ◌<◌, ◌≤◌, Bool, true, false, ◌||◌, nat_lt, List, []}
+use Rattle.std.proofs.Common.{◌∷◌, ◌++◌, Option, Some, None, is_some, append_assoc, inl, inr, refl, sym, subst, ap, ◌∙◌}
+use Rattle.std.proofs.Common.{arith}
 use Rattle.std.proofs.lemmas.Bool.{cases_eq}
 use Rattle.std.proofs.lemmas.Bool.Decides.{nat_tests}
 use Rattle.events.specs.Event.{is_par_value, ownership_of, placed, square_set}
@@ -7,12 +9,12 @@ use Rattle.events.specs.declared.event.Bid.{Bid}
 use Rattle.events.specs.declared.event.Event.{Event}
 use Rattle.events.specs.declared.event.Event.TheVariants as event
 use Rattle.history.proofs.Acts.{bid_sound, gift_sound, price_sound, sale_sound}
-use Rattle.history.proofs.EventAtEnd.{last_said_at_end, last_said_before, square_of_before}
+use Rattle.totals.proofs.EventAtEnd.{last_said_at_end, last_said_before, square_of_before}
 use Rattle.history.proofs.Gifts.{ca_sound}
 use Rattle.history.proofs.Starts.{started_sound}
-use Rattle.history.specs.Bids.{as_bid, bid_of, bids_on}
-use Rattle.history.specs.LookBack.{Game, is_sold, owner_said, sv_price_of, with_event}
-use Rattle.history.specs.Shares.{square_of, square_said}
+use Rattle.totals.specs.Bids.{as_bid, bid_of, bids_on}
+use Rattle.totals.specs.LookBack.{Game, is_sold, owner_said, sv_price_of, with_event}
+use Rattle.totals.specs.Shares.{square_of, square_said}
 use Rattle.history.specs.Sound.{IsSound, IsSvPrice}
 use Rattle.privates.specs.LimitsKept.{limits_kept}
 use Rattle.privates.proofs.Pars.{par_set_is_par}

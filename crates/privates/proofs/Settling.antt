@@ -1,18 +1,21 @@
--- The sales that follow from a sale come to an end: each sells one of the six privates.
-use Rattle.std.proofs.Common.{◌≡◌, ◌⊎◌, ℕ, zero, suc, ◌+◌, ◌≤◌, Bool, true, false, if◌then◌else◌, List, [], ◌∷◌, ◌++◌, Option, Some, None, is_some, append-nil, append_assoc, inl, inr, refl, sym, subst, ap, ◌∙◌, arith}
+-- The sales that follow from a sale reach an end: each sells one of the six privates.
+use Rattle.std.proofs.Common.{◌≡◌, ◌⊎◌, ℕ, zero, suc, ◌+◌, ◌≤◌, Bool, true, false, if◌then◌else◌, List, [], ◌∷◌, ◌++◌}
+use Rattle.std.proofs.Common.{Option, Some, None, is_some, append-nil, append_assoc, inl, inr, refl, sym, subst, ap}
+use Rattle.std.proofs.Common.{◌∙◌, arith}
 use Rattle.events.specs.Event.{ownership_of}
 use Rattle.events.specs.declared.event.Bid.{Bid}
 use Rattle.events.specs.declared.event.Event.{Event}
 use Rattle.events.specs.declared.event.Event.TheVariants.{Sold}
 use Rattle.history.proofs.Acts.{stays_sold}
-use Rattle.history.proofs.EventAtEnd.{last_said_at_end}
-use Rattle.history.specs.Bids.{bids_on}
-use Rattle.history.specs.LookBack.{cheapest_of, is_sold, owner_said}
+use Rattle.totals.proofs.EventAtEnd.{last_said_at_end}
+use Rattle.totals.specs.Bids.{bids_on}
+use Rattle.totals.specs.LookBack.{cheapest_of, is_sold, owner_said}
 use Rattle.privates.proofs.StandingBids.{cheapest_unsold}
 use Rattle.privates.specs.Sale.{settle_auctions, settled, settled_by, settled_of}
 use Rattle.tables.specs.Steps.{iterate}
 use Rattle.tables.specs.declared.roster.Private.{Private}
-use Rattle.tables.specs.declared.roster.Private.TheVariants.{SchuylkillValley, ChamplainStLawrence, DelawareHudson, MohawkHudson, CamdenAmboy, BaltimoreOhio}
+use Rattle.tables.specs.declared.roster.Private.TheVariants.{SchuylkillValley, ChamplainStLawrence, DelawareHudson}
+use Rattle.tables.specs.declared.roster.Private.TheVariants.{MohawkHudson, CamdenAmboy, BaltimoreOhio}
 use Rattle.tables.specs.declared.seat.Seat.{Seat}
 
 -- 1 for a private that is unsold
@@ -175,7 +178,7 @@ cheapest_step seats events (Some private) found =
 one_step : (seats : ℕ) (events : List Event) → Steps seats events
 one_step seats events = cheapest_step seats events (cheapest_of events) refl
 
--- so many steps leave so many fewer, unless nothing was left to settle
+-- this many steps leave this many fewer, unless nothing was left to settle
 all_steps : (seats n : ℕ) (events : List Event)
     → (settle_auctions seats (iterate (settle_auctions seats) n events) ≡ iterate (settle_auctions seats) n events)
     ⊎ (unsold (iterate (settle_auctions seats) n events) + n ≤ unsold events)

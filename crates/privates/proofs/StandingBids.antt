@@ -1,12 +1,14 @@
 -- The standing bids on a private, in the order of the seats at the table.
-use Rattle.std.proofs.Common.{◌≡◌, ◌≢◌, ℕ, zero, suc, ◌+◌, ◌<◌, ◌≤◌, Bool, true, false, if◌then◌else◌, List, [], ◌∷◌, ◌++◌, length, map, get_or, Option, Some, None, unwrap_or, pos, ◌≤ℤ◌, refl, sym, subst, ap, ◌∙◌, arith}
+use Rattle.std.proofs.Common.{◌≡◌, ◌≢◌, ℕ, zero, suc, ◌+◌, ◌<◌, ◌≤◌, Bool, true, false, if◌then◌else◌, List, [], ◌∷◌}
+use Rattle.std.proofs.Common.{◌++◌, length, map, get_or, Option, Some, None, unwrap_or, pos, ◌≤ℤ◌, refl, sym, subst, ap}
+use Rattle.std.proofs.Common.{◌∙◌, arith}
 use Rattle.std.specs.List.{flat_map, range_with_len}
 use Rattle.std.proofs.lemmas.Int.{ints}
 use Rattle.events.specs.declared.event.Bid.{Bid}
 use Rattle.events.specs.declared.event.Event.{Event}
-use Rattle.history.proofs.Standing.{bids_split}
-use Rattle.history.specs.Bids.{as_bid, bid_of, bids_on, free_cash_of, free_for, tied_on}
-use Rattle.history.specs.LookBack.{Game, cheapest_of, first_unsold, is_sold}
+use Rattle.totals.proofs.Standing.{bids_split}
+use Rattle.totals.specs.Bids.{as_bid, bid_of, bids_on, free_cash_of, free_for, tied_on}
+use Rattle.totals.specs.LookBack.{Game, cheapest_of, first_unsold, is_sold}
 use Rattle.history.specs.Sound.{IsSound}
 use Rattle.privates.specs.Act.{MayPay}
 use Rattle.tables.specs.Roster.{privates}

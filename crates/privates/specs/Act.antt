@@ -1,8 +1,8 @@
 -- What an order needs so that it can be done, whatever the turn has done before.
 use Rattle.std.specs.Prelude.{◌≡◌, ℕ, List, false, pos, ◌≤ℤ◌}
 use Rattle.events.specs.declared.event.Event.{Event}
-use Rattle.history.specs.Bids.{free_for}
-use Rattle.history.specs.LookBack.{is_sold}
+use Rattle.totals.specs.Bids.{free_for}
+use Rattle.totals.specs.LookBack.{is_sold}
 use Rattle.order_grammar.specs.declared.order.Order.{Order}
 use Rattle.order_grammar.specs.declared.order.Order.TheVariants.{BuyPrivate, Bid}
 use Rattle.privates.specs.Judgement.{is_too_low, price_of}

@@ -1,13 +1,13 @@
--- Bids rise. A bid has to be at least 5 over the face of its private and over every earlier bid on it. In a turn
--- only the bids that stand are looked at: a seat's newest on a private that is unsold. The two are one rule where
--- each bid so far was itself 5 over all that came before it: the last of all then stands, and is the highest.
+-- Bids rise. A bid has to be at least 5 over the face of its private and over every earlier bid on it. In a turn only
+-- the bids that are held are looked at: a seat's newest on a private that is unsold. The two are one rule where each
+-- bid so far was itself 5 over all that came before it: the last of all then stands, and is the highest.
 use Rattle.std.specs.Prelude.{◌≡◌, ℕ, ◌<◌, ◌+◌, Bool, false, ◌||◌, ◌&&◌, nat_lt, List, [], ◌∷◌, Option, Some, None}
 use Rattle.std.specs.List.{list_any}
 use Rattle.events.specs.Event.{bidding_of}
 use Rattle.events.specs.declared.event.Bidding.{Bidding}
 use Rattle.events.specs.declared.event.Bidding.TheVariants.{Made, Ended}
 use Rattle.events.specs.declared.event.Event.{Event}
-use Rattle.history.specs.LookBack.{Game, is_sold}
+use Rattle.totals.specs.LookBack.{Game, is_sold}
 use Rattle.history.specs.Sound.{BiddersAreSeated}
 use Rattle.privates.specs.Judgement.{is_too_low}
 use Rattle.privates.specs.Opening.{IsOpeningRound}
@@ -21,7 +21,7 @@ is_near_bid private amount None = false
 is_near_bid private amount (Some (Made other bid)) = same_private other private && nat_lt amount (bid.amount + 5)
 is_near_bid private amount (Some (Ended other)) = false
 
--- a sum is less than 5 over some bid on the private, whoever made it and whether it stands or not
+-- a sum is less than 5 over some bid on the private, whoever made it and whether it is held or not
 abbrev pub is_near_ever : ℕ → List Event → Private → Bool
 is_near_ever amount events private = list_any (λ event. is_near_bid private amount (bidding_of event)) events
 
@@ -44,8 +44,8 @@ abbrev pub BidsRise : List Event → Type 0
 BidsRise [] = Unit {0}
 BidsRise (event ∷ later) = (some_later_is_near (bidding_of event) later ≡ false) × BidsRise later
 
--- while a private is unsold, and bids rise that are of seats at the table, a sum is too low by the bids that stand
--- on it where it is too low by every earlier bid on it
+-- while a private is unsold, and bids rise that are of seats at the table, a sum is too low by the bids that are on it
+-- where it is too low by every earlier bid on it
 abbrev pub StandingBidsSuffice : Type 0
 StandingBidsSuffice =
     (game : Game) (private : Private) (amount : ℕ) →

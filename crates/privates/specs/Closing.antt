@@ -4,7 +4,7 @@
 use Rattle.std.specs.Prelude.{ℕ, ◌-◌, Bool, ◌==◌, if◌then◌else◌, List, [], ◌∷◌, ◌++◌, is_none}
 use Rattle.events.specs.declared.event.Event.{Event}
 use Rattle.events.specs.declared.event.Event.TheVariants as event
-use Rattle.history.specs.LookBack.{cheapest_of, is_sold, priority_of, sv_price_of}
+use Rattle.totals.specs.LookBack.{cheapest_of, is_sold, priority_of, sv_price_of}
 use Rattle.history.specs.Record.{after_revenues}
 use Rattle.privates.specs.Sale.{after_sale, settled}
 use Rattle.tables.specs.Roster.{privates}

@@ -1,16 +1,18 @@
 -- The rules of a turn of an opening round. A seat may buy the cheapest private that is unsold, at the
 -- price that the bank asks, or bid on a dearer one, at least 5 over its face and over each standing bid on
 -- it. Either takes cash that the seat's standing bids on other privates leave free, and there is one a turn.
-use Rattle.std.specs.Prelude.{ℕ, ◌+◌, Bool, false, not, ◌||◌, nat_lt, List, [], ◌∷◌, Option, Some, None, pos, option_map}
+use Rattle.std.specs.Prelude.{ℕ, ◌+◌, Bool, false, not, ◌||◌, nat_lt, List, [], ◌∷◌, Option, Some, None, pos}
+use Rattle.std.specs.Prelude.{option_map}
 use Rattle.std.specs.Int.Signed.{lt_z}
 use Rattle.events.specs.declared.event.Bid.{Bid as StandingBid}
 use Rattle.events.specs.declared.event.Event.{Event}
 use Rattle.events.specs.declared.ruling.OpeningRule.{OpeningRule}
-use Rattle.events.specs.declared.ruling.OpeningRule.TheVariants.{NotOfOpening, Sold, NotCheapest, BidTooLow, CashTooSmall, TurnUsed, BidForCheapest}
+use Rattle.events.specs.declared.ruling.OpeningRule.TheVariants.{NotOfOpening, Sold, NotCheapest, BidTooLow}
+use Rattle.events.specs.declared.ruling.OpeningRule.TheVariants.{CashTooSmall, TurnUsed, BidForCheapest}
 use Rattle.events.specs.declared.ruling.Refusal.{Refusal}
 use Rattle.events.specs.declared.ruling.Refusal.TheVariants.{Opening}
-use Rattle.history.specs.Bids.{bids_on, free_for}
-use Rattle.history.specs.LookBack.{cheapest_of, is_sold, sv_price_of}
+use Rattle.totals.specs.Bids.{bids_on, free_for}
+use Rattle.totals.specs.LookBack.{cheapest_of, is_sold, sv_price_of}
 use Rattle.order_grammar.specs.declared.order.Order.{Order}
 use Rattle.order_grammar.specs.declared.order.Order.TheVariants.{BuyPrivate, Bid}
 use Rattle.tables.specs.Roster.{face_of, same_private}

@@ -3,7 +3,7 @@
 use Rattle.std.proofs.Common.{refl}
 use Rattle.std.specs.Prelude.{ℕ}
 use Rattle.events.specs.declared.event.Event.TheVariants as event
-use Rattle.history.specs.LookBack.{Game, with_event}
+use Rattle.totals.specs.LookBack.{Game, with_event}
 use Rattle.history.specs.Sound.{IsSound}
 use Rattle.history.specs.Record.{left_recorded}
 use Rattle.privates.specs.UnderwayKept.{begun_underway, event_underway, left_underway}

@@ -1,14 +1,15 @@
 -- The limits of this round are at most 99,999: only an obeyed LIMIT line changes one.
-use Rattle.std.proofs.Common.{◌≡◌, ◌⊎◌, inl, inr, ℕ, ◌≤◌, ◌==◌, Bool, true, false, if◌then◌else◌, List, [], ◌∷◌, ◌++◌, Option, Some, None, option_map, refl, sym, subst, ◌∙◌}
+use Rattle.std.proofs.Common.{◌≡◌, ◌⊎◌, inl, inr, ℕ, ◌≤◌, ◌==◌, Bool, true, false, if◌then◌else◌, List, [], ◌∷◌, ◌++◌}
+use Rattle.std.proofs.Common.{Option, Some, None, option_map, refl, sym, subst, ◌∙◌}
 use Rattle.events.specs.Event.{obeyed_of}
 use Rattle.events.specs.Orders.{limit_in, said_by}
 use Rattle.events.specs.declared.event.Event.{Event}
 use Rattle.events.specs.declared.event.Event.TheVariants as event
 use Rattle.events.specs.declared.ruling.Ruling.{Ruling}
 use Rattle.events.specs.declared.ruling.Ruling.TheVariants.{Obeyed, Refused, Faulty}
-use Rattle.history.proofs.EventAtEnd.{now_said_before, now_said_here}
-use Rattle.history.specs.LookBack.{in_round}
-use Rattle.history.specs.Orders.{bid_limit_of}
+use Rattle.totals.proofs.EventAtEnd.{now_said_before, now_said_here}
+use Rattle.totals.specs.LookBack.{in_round}
+use Rattle.totals.specs.Orders.{bid_limit_of}
 use Rattle.order_grammar.specs.declared.order.Order.{Order}
 use Rattle.order_grammar.specs.declared.order.Order.TheVariants as order
 use Rattle.turns.specs.Small.{IsSmallOrder, IsSmallRuling}

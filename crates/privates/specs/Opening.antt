@@ -3,12 +3,12 @@
 -- what was left.
 use Rattle.std.specs.Prelude.{ℕ, List}
 use Rattle.events.specs.declared.event.Event.{Event}
-use Rattle.history.specs.LookBack.{Game}
+use Rattle.totals.specs.LookBack.{Game}
 use Rattle.privates.specs.Turn.{opening_rules}
 use Rattle.sheets.specs.Part.{Numbered}
 use Rattle.tables.specs.Turns.{InPlay}
 use Rattle.tables.specs.declared.round.Round.{Round}
-pub use Rattle.turns.specs.RoundOfTurns.{groups_for, in_play}
+pub use Rattle.turns.specs.RoundOfTurns.{written_turns_for, in_play}
 use Rattle.turns.specs.RoundOfTurns as turns
 
 -- the round before its first turn: that is of the holder of priority

@@ -1,16 +1,16 @@
--- A sale of a private, what it brings, and the sales that follow from it. With CA goes a tenth of PRR. With
--- BOP goes the president's certificate of BO, two tenths, and its buyer sets BO's par. When the cheapest
--- private is sold, the next is sold at once if there are bids on it: one bidder has it at his bid, and of
--- more the one who wins the auction; and so on, until there are no bids on the cheapest.
+-- A sale of a private, what it brings, and the sales that follow from it. With CA goes a share of PRR. With BOP goes
+-- the president's certificate of BO, two shares, and its buyer sets BO's par. When the cheapest private is sold, the
+-- next is sold at once if there are bids on it: one bidder has it at his bid, and of more the one who wins the auction;
+-- and so on, until there are no bids on the cheapest.
 use Rattle.std.specs.Prelude.{ℕ, ℤ, pos, List, [], ◌∷◌, ◌++◌, map, Option, Some, None, unwrap_or}
 use Rattle.std.specs.Int.{int_max, int_min}
 use Rattle.std.specs.Int.RustNames.{unsigned_abs}
 use Rattle.events.specs.declared.event.Bid.{Bid}
 use Rattle.events.specs.declared.event.Event.{Event}
 use Rattle.events.specs.declared.event.Event.TheVariants.{Given, Par, President, Sold}
-use Rattle.history.specs.Bids.{bids_on, free_for}
-use Rattle.history.specs.LookBack.{cheapest_of}
-use Rattle.history.specs.Orders.{bid_limit_of, par_ordered_of}
+use Rattle.totals.specs.Bids.{bids_on, free_for}
+use Rattle.totals.specs.LookBack.{cheapest_of}
+use Rattle.totals.specs.Orders.{bid_limit_of, par_ordered_of}
 use Rattle.privates.specs.Auction.{Bidder, auction_of}
 use Rattle.tables.specs.Steps.{iterate}
 use Rattle.tables.specs.declared.roster.Company.TheVariants as company

@@ -1,7 +1,6 @@
--- The standing lines of an opening sheet, those before its first group, are ruled at the round's start,
--- seat by seat, and the condition of one is asked then. A LIMIT says how far the seat goes in an auction
--- of a private, which must be unsold. A PAR says the par value that the seat sets for BO if it buys BOP:
--- it must name BO and a par value.
+-- The standing lines of an opening sheet, those before its first written turn, are ruled at the round's start, seat by
+-- seat, and the condition of one is asked then. A LIMIT says how far the seat goes in an auction of a private, which
+-- must be unsold. A PAR says the par value that the seat sets for BO if it buys BOP: it must name BO and a par value.
 use Rattle.std.specs.Prelude.{ℕ, Bool, true, false, ◌&&◌, if◌then◌else◌, List, Option, Some, None, option_map}
 use Rattle.events.specs.Event.{is_par_value}
 use Rattle.events.specs.declared.event.Event.{Event}
@@ -10,7 +9,7 @@ use Rattle.events.specs.declared.ruling.OpeningRule.TheVariants.{NotOfOpening, S
 use Rattle.events.specs.declared.ruling.Refusal.{Refusal}
 use Rattle.events.specs.declared.ruling.Refusal.TheVariants.{Opening}
 use Rattle.events.specs.declared.ruling.Ruling.{Ruling}
-use Rattle.history.specs.LookBack.{is_sold}
+use Rattle.totals.specs.LookBack.{is_sold}
 use Rattle.order_grammar.specs.declared.order.Order.{Order}
 use Rattle.order_grammar.specs.declared.order.Order.TheVariants.{Limit, Par}
 use Rattle.sheets.specs.Part.{Numbered}
@@ -20,7 +19,7 @@ use Rattle.tables.specs.declared.roster.Company.TheVariants.{BaltimoreOhio}
 use Rattle.tables.specs.declared.seat.Seat.{Seat}
 use Rattle.turns.specs.Ruling.{line_ruling, recorded}
 
--- the orders that may stand before the first group
+-- the orders that may be before the first written turn
 abbrev pub has_place_before : Order → Bool
 has_place_before (Limit private amount) = true
 has_place_before (Par company price) = true

@@ -1,6 +1,6 @@
--- A seat's turn: the lines of its group are ruled in order, each on the list that the one before left. An
--- obeyed purchase is a sale at the price that the bank asks, with the sales that follow from it; an obeyed
--- bid stands. A seat that neither bought nor bid passes.
+-- A seat's turn: the lines of its written turn are ruled in order, each on the list that the one before left. An obeyed
+-- purchase is a sale at the price that the bank asks, with the sales that follow from it; an obeyed bid stands. A seat
+-- that neither bought nor bid passes.
 use Rattle.std.specs.Prelude.{ℕ, Bool, true, false, List, [], ◌∷◌, ◌++◌}
 use Rattle.events.specs.declared.event.Event.{Event}
 use Rattle.events.specs.declared.event.Event.TheVariants.{Bids}
@@ -17,7 +17,7 @@ use Rattle.tables.specs.Turns.{Play}
 use Rattle.tables.specs.declared.seat.Seat.{Seat}
 use Rattle.turns.specs.RoundOfTurns.{RoundRules, in_turn, turns_of}
 use Rattle.turns.specs.RoundOfTurns as turns
-use Rattle.turns.specs.Ruling.{after_ruling as turn_ruled, has_place_in_group, line_ruling}
+use Rattle.turns.specs.Ruling.{after_ruling as turn_ruled, has_place_in_turn, line_ruling}
 
 -- in a turn: the list so far, and whether the seat has bought or bid
 abbrev pub InTurn : Type 0
@@ -38,12 +38,12 @@ acted seats seat turn order = in_turn (after_act seats seat turn.events order) t
 abbrev pub after_ruling : ℕ → Seat → InTurn → ℕ → Ruling → InTurn
 after_ruling seats seat turn number ruling = turn_ruled (acted seats seat) seat turn number ruling
 
--- what becomes of a line of a group
+-- what becomes of a line of a written turn
 abbrev pub ruling_in : ℕ → Seat → InTurn → Numbered → Ruling
 ruling_in seats seat turn line =
-    line_ruling has_place_in_group (refusal_of seats turn.events seat turn.actions) turn.events line
+    line_ruling has_place_in_turn (refusal_of seats turn.events seat turn.actions) turn.events line
 
--- in a turn, after a line of a group
+-- in a turn, after a line of a written turn
 abbrev pub after_opening_line : ℕ → Seat → InTurn → Numbered → InTurn
 after_opening_line seats seat turn line = after_ruling seats seat turn line.number (ruling_in seats seat turn line)
 

@@ -2,9 +2,9 @@
 -- BO while BOP is, and each limit that a seat ordered in this round is at most 99,999.
 use Rattle.std.specs.Prelude.{◌≡◌, ℕ, ◌≤◌, List, false, Some, None}
 use Rattle.events.specs.declared.event.Event.{Event}
-use Rattle.history.specs.LookBack.{Game, is_sold}
-use Rattle.history.specs.Orders.{bid_limit_of}
-use Rattle.history.specs.Shares.{square_of}
+use Rattle.totals.specs.LookBack.{Game, is_sold}
+use Rattle.totals.specs.Orders.{bid_limit_of}
+use Rattle.totals.specs.Shares.{square_of}
 use Rattle.history.specs.Sound.{IsSound}
 use Rattle.tables.specs.declared.roster.Company.TheVariants as company
 use Rattle.tables.specs.declared.roster.Private.{Private}

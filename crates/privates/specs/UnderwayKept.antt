@@ -1,13 +1,14 @@
 -- What keeps an opening round under way.
-use Rattle.std.proofs.Common.{◌≡◌, ℕ, ◌==◌, Bool, true, false, if◌then◌else◌, List, [], ◌∷◌, ◌++◌, Option, Some, None, is_some, append-nil, refl, sym, subst, ap, ◌∙◌}
+use Rattle.std.proofs.Common.{◌≡◌, ℕ, ◌==◌, Bool, true, false, if◌then◌else◌, List, [], ◌∷◌, ◌++◌, Option, Some, None}
+use Rattle.std.proofs.Common.{is_some, append-nil, refl, sym, subst, ap, ◌∙◌}
 use Rattle.std.specs.Option.{option_or}
 use Rattle.events.specs.Event.{ownership_of, square_set}
 use Rattle.events.specs.declared.event.Event.{Event}
 use Rattle.events.specs.declared.event.Event.TheVariants as event
 use Rattle.events.specs.declared.event.Holder.{Holder}
 use Rattle.events.specs.declared.ruling.Ruling.{Ruling}
-use Rattle.history.proofs.EventAtEnd.{last_said_at_end, square_of_before}
-use Rattle.history.specs.LookBack.{Game, is_sold, last_said, owner_of, owner_said, with_event}
+use Rattle.totals.proofs.EventAtEnd.{last_said_at_end, square_of_before}
+use Rattle.totals.specs.LookBack.{Game, is_sold, last_said, owner_of, owner_said, with_event}
 use Rattle.history.specs.Sound.{IsSound}
 use Rattle.history.specs.Record.{after_revenues, breaks, paid_to_owner, revenues_recorded, with_broken, with_left}
 use Rattle.privates.specs.LimitsKept.{limit_said, limits_kept, limits_ruled, no_limits}

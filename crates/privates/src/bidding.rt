@@ -1,6 +1,7 @@
 ghost use Rattle.std.specs.Prelude.{◌≡◌, ◌≤◌, ◌+ℤ◌, length, pos};
 ghost use Rattle.std.specs.Int.{int_max, int_min};
-ghost use Rattle.privates.specs.Auction.{BidsDiffer, LimitsHold, ahead, auction_of, greater_of, highest_bid, limit_by, second_limit, winner_among, with_limit};
+ghost use Rattle.privates.specs.Auction.{BidsDiffer, LimitsHold, ahead, auction_of, greater_of, highest_bid, limit_by};
+ghost use Rattle.privates.specs.Auction.{second_limit, winner_among, with_limit};
 
 use tables::{Money, Seat};
 

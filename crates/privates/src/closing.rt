@@ -1,6 +1,6 @@
 ghost use Rattle.std.specs.Prelude.{◌≡◌, ◌≢◌, ◌<◌, ◌≤◌, ◌-◌, OnOk, false};
 ghost use Rattle.events.specs.declared.event.Event.TheVariants as event;
-ghost use Rattle.history.specs.LookBack.{is_sold, priority_of, sv_price_of, with_event};
+ghost use Rattle.totals.specs.LookBack.{is_sold, priority_of, sv_price_of, with_event};
 ghost use Rattle.history.specs.Record.{revenues_recorded};
 ghost use Rattle.privates.specs.Closing.{after_fall, closed, given_away};
 ghost use Rattle.privates.specs.Underway.{IsUnderway};
@@ -49,7 +49,7 @@ fn lower_price(history: &mut History) -> Result<(), AllocError>
 {
     let price = history.now().sv_price().saturating_sub(FALL);
     if price == 0 {
-        let holder = history.priority();
+        let holder = history.now().priority();
         give_away(history, holder)?;
         return settle_all(history);
     }

@@ -1,8 +1,9 @@
 ghost use Rattle.std.specs.Prelude.{◌≡◌, ◌≤◌, pos};
 ghost use Rattle.std.specs.Int.Signed.{lt_z};
-ghost use Rattle.history.specs.Bids.{free_for};
-ghost use Rattle.history.specs.LookBack.{cheapest_in};
-ghost use Rattle.privates.specs.Judgement.{bid_rules, is_near, is_the, is_too_low, judgement_of, price_of, private_purchase_rules};
+ghost use Rattle.totals.specs.Bids.{free_for};
+ghost use Rattle.totals.specs.LookBack.{cheapest_in};
+ghost use Rattle.privates.specs.Judgement.{bid_rules, is_near, is_the, is_too_low, judgement_of, price_of};
+ghost use Rattle.privates.specs.Judgement.{private_purchase_rules};
 ghost use Rattle.tables.specs.Rules.{first_broken};
 
 use history::{Bid, GameView, History, OpeningRule, Owners};

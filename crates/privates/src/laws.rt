@@ -3,12 +3,12 @@ ghost use Rattle.std.specs.Prelude.{◌≡◌, ℕ, List};
 ghost use Rattle.privates.specs.Auction.{AuctionIsWon};
 ghost use Rattle.privates.specs.BidsRise.{OpeningBidsRise, StandingBidsSuffice};
 ghost use Rattle.events.specs.declared.event.Event.{Event};
-ghost use Rattle.history.specs.LookBack.{Game};
+ghost use Rattle.totals.specs.LookBack.{Game};
 ghost use Rattle.privates.specs.Opening.{EndsSoon, IsOpeningRound};
 ghost use Rattle.privates.specs.Sale.{settle_auctions, settled};
 ghost use Rattle.privates.specs.Turn.{opening_rules};
 ghost use Rattle.tables.specs.declared.round.Round.{Round};
-ghost use Rattle.turns.specs.Acted.{TurnsTellWhoActed};
+ghost use Rattle.turns.specs.Acted.{TurnsSayWhoActed};
 
 /// An auction is won by the bidder who is ahead of all, by his limit and then by his bid. The price
 /// is the larger of the highest bid and of the lesser of his limit and the greatest limit of the
@@ -17,7 +17,7 @@ pub fn auction_is_won()
     ensures { AuctionIsWon }
 {}
 
-/// The sales that follow from a sale come to an end: after them no bids are left on the cheapest
+/// The sales that follow from a sale reach an end: after them no bids are left on the cheapest
 /// private that is unsold.
 pub fn nothing_is_left_to_settle()
     ensures { (seats : ℕ) (events : List Event) → settle_auctions seats (settled seats events)
@@ -31,21 +31,21 @@ pub fn one_opening_round()
         → IsOpeningRound file round old a → IsOpeningRound file round old b → a ≡ b }
 {}
 
-/// An opening round has an outcome, whatever the sheets say: its turns come to an end, after at
-/// most 513 for each seat.
+/// An opening round has an outcome, whatever the sheets say: its turns reach an end, after at most
+/// 513 for each seat.
 pub fn opening_round_ends()
     ensures { (file : List ℕ) (round : Round) (old : Game) → EndsSoon file round old }
 {}
 
 /// A seat acted in its turn exactly where the list of events says so: the new events of the turn
 /// name it as the seat that acted last, and where it did not act they name nobody.
-pub fn opening_turns_tell_who_acted()
-    ensures { TurnsTellWhoActed opening_rules }
+pub fn opening_turns_say_who_acted()
+    ensures { TurnsSayWhoActed opening_rules }
 {}
 
 /// A bid has to be at least 5 over every earlier bid on its private. Where each bid so far was, and
-/// those who bid are at the table, it is enough to look at the bids that stand while the private is
-/// unsold: they find a sum too low exactly where all earlier bids do.
+/// those who bid are at the table, it is enough to look at the bids that are held while the private
+/// is unsold: they find a sum too low exactly where all earlier bids do.
 pub fn standing_bids_suffice()
     ensures { StandingBidsSuffice }
 {}

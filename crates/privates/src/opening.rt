@@ -1,6 +1,7 @@
 ghost use Rattle.std.specs.Prelude.{◌≡◌, IfOk, false, length, refl};
 ghost use Rattle.history.specs.Sound.{IsSound};
-ghost use Rattle.privates.specs.Keeping.{begins as begins_underway, leaves as leaves_underway, passes as passes_underway};
+ghost use Rattle.privates.specs.Keeping.{begins as begins_underway, leaves as leaves_underway};
+ghost use Rattle.privates.specs.Keeping.{passes as passes_underway};
 ghost use Rattle.privates.specs.Opening.{IsOpeningRound};
 ghost use Rattle.privates.specs.Turn.{opening_rules};
 ghost use Rattle.privates.specs.Underway.{BaltimoreWaits, IsUnderway, MayBegin, PennsylvaniaWaits};
@@ -56,7 +57,7 @@ impl TurnRules for OpeningTurns {
     }
 
     fn is_over(&self, history: &History) -> bool {
-        history.cheapest_unsold().is_none()
+        history.now().cheapest_unsold().is_none()
     }
 
     fn close(&self, history: &mut History) -> Result<(), AllocError> {
@@ -75,7 +76,7 @@ impl TurnRules for OpeningTurns {
 }
 
 /// Plays an opening round with the sheets for it. PRR has no square while CA is unsold, nor has BO
-/// while BOP is: they wait for the gifts. An `Err` comes from want of memory alone, and the game is
+/// while BOP is: they wait for the gifts. It fails only if memory is refused, and the game is
 /// dropped.
 pub fn play_opening(history: History, sheets: &Sheets, round: Round) -> Result<History, AllocError>
     requires sound { IsSound history }

@@ -1,8 +1,8 @@
 ghost use Rattle.std.specs.Prelude.{◌≡◌, ◌≤◌, ◌<◌, OnOk, Some, length, map, pos};
 ghost use Rattle.std.specs.Int.RustNames.{unsigned_abs};
 ghost use Rattle.events.specs.declared.event.Event.TheVariants as event;
-ghost use Rattle.history.specs.Bids.{bids_on};
-ghost use Rattle.history.specs.LookBack.{cheapest_of, with_event};
+ghost use Rattle.totals.specs.Bids.{bids_on};
+ghost use Rattle.totals.specs.LookBack.{cheapest_of, with_event};
 ghost use Rattle.privates.specs.Act.{MayPay};
 ghost use Rattle.privates.specs.Sale.{after_sale, bidder_of, par_set_by, settle_auctions, settled, settled_by};
 ghost use Rattle.tables.specs.declared.roster.Private.TheVariants.{BaltimoreOhio, CamdenAmboy};
@@ -66,7 +66,7 @@ fn sell_alone(
     Ok(())
 }
 
-/// Sells CA, with a tenth of PRR.
+/// Sells CA, with a share of PRR.
 fn sell_camden(history: &mut History, buyer: Seat, price: Amount) -> Result<(), AllocError>
     requires small { price ≤ 1000000 }
     requires at_table { buyer.0 < history.old.seats }
@@ -85,7 +85,7 @@ fn sell_camden(history: &mut History, buyer: Seat, price: Amount) -> Result<(), 
     history.append(Event::Given {
         company: Company::Pennsylvania,
         seat: buyer,
-        tenths: 1,
+        shares: 1,
     })?;
     Ok(())
 }
@@ -115,7 +115,7 @@ fn sell_baltimore(history: &mut History, buyer: Seat, price: Amount) -> Result<(
     history.append(Event::Given {
         company,
         seat: buyer,
-        tenths: 2,
+        shares: 2,
     })?;
     history.append(Event::President {
         company,
@@ -157,7 +157,7 @@ fn settle(history: &mut History) -> Result<(), AllocError>
         ≡ settle_auctions history.old.seats history.old.events) }
     ensures underway { OnOk result (IsUnderway history.new) }
 {
-    match history.cheapest_unsold() {
+    match history.now().cheapest_unsold() {
         Some(private) => settle_bids(history, private),
         None => Ok(()),
     }

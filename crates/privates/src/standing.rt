@@ -1,6 +1,7 @@
 ghost use Rattle.std.specs.Prelude.{◌≡◌, OnOk};
 ghost use Rattle.turns.specs.Small.{IsSmallReading};
-ghost use Rattle.privates.specs.Standing.{after_standing_line, has_place_before as may_stand_before, standing_judgement, standing_refusal};
+ghost use Rattle.privates.specs.Standing.{after_standing_line, has_place_before as may_stand_before};
+ghost use Rattle.privates.specs.Standing.{standing_judgement, standing_refusal};
 ghost use Rattle.privates.specs.Underway.{IsUnderway};
 ghost use Rattle.sheets.specs.Part.{line_unread};
 
@@ -11,7 +12,7 @@ use std::alloc::AllocError;
 use tables::{Company, Seat, par_square};
 use turns::Family;
 
-/// The standing lines of a sheet, those before its first group.
+/// The standing lines of a sheet, those before its first written turn.
 struct StandingLines;
 
 impl Family for StandingLines {
@@ -48,7 +49,7 @@ pub(crate) fn rule_standing_line(
     Ok(())
 }
 
-/// Whether an order may stand before the first group: LIMIT and PAR.
+/// Whether an order may be before the first written turn: LIMIT and PAR.
 fn may_stand_before(order: &Order) -> bool
     ensures { result ≡ may_stand_before order.now }
 {
@@ -61,7 +62,7 @@ fn judge_standing(history: &History, order: &Order) -> Option<OpeningRule>
 {
     match order {
         Order::Limit { private, .. } => {
-            if history.is_sold(*private) {
+            if history.now().is_sold(*private) {
                 Some(OpeningRule::Sold)
             } else {
                 None

@@ -1,6 +1,6 @@
 ghost use Rattle.std.specs.Prelude.{◌≡◌, ◌≤◌, ◌<◌, OnOk, IfOk};
 ghost use Rattle.events.specs.declared.event.Event.TheVariants as event;
-ghost use Rattle.history.specs.LookBack.{with_event};
+ghost use Rattle.totals.specs.LookBack.{with_event};
 ghost use Rattle.privates.specs.Act.{MayAct, MayBid, MayPay};
 ghost use Rattle.privates.specs.Judgement.{price_of as price_asked, refusal_of};
 ghost use Rattle.privates.specs.Sale.{after_sale, settled};
@@ -8,7 +8,7 @@ ghost use Rattle.privates.specs.Turn.{after_act, after_opening_line};
 ghost use Rattle.privates.specs.Underway.{IsUnderway};
 ghost use Rattle.sheets.specs.Part.{line_unread};
 ghost use Rattle.turns.specs.RoundOfTurns.{in_turn};
-ghost use Rattle.turns.specs.Ruling.{has_place_in_group};
+ghost use Rattle.turns.specs.Ruling.{has_place_in_turn};
 ghost use Rattle.turns.specs.Small.{IsSmallOrder, IsSmallReading};
 
 use crate::judgement::{judge, price_of};
@@ -20,14 +20,14 @@ use std::alloc::AllocError;
 use tables::{Amount, Private, Seat};
 use turns::Family;
 
-/// The lines of a group, in a turn in which the seat has bought or bid, or has not.
+/// The lines of a written turn, in a turn in which the seat has bought or bid, or has not.
 #[derive(Clone, Copy, Debug)]
 struct TurnLines {
     turn_used: bool,
 }
 
 impl Family for TurnLines {
-    ghost place = { has_place_in_group };
+    ghost place = { has_place_in_turn };
 
     ghost judgement = { λ lines game seat. refusal_of game.seats game.events seat lines.turn_used };
 
@@ -42,8 +42,8 @@ impl Family for TurnLines {
     }
 }
 
-/// Rules a line of a group, and does what it orders if it is obeyed. Its order is put in place of
-/// another. Answers whether the seat has bought or bid in its turn by then.
+/// Rules a line of a written turn, and does what it orders if it is obeyed. Its order is put in
+/// place of another. Answers whether the seat has bought or bid in its turn by then.
 pub(crate) fn rule_line(
     history: &mut History,
     seat: Seat,

@@ -1,5 +1,7 @@
 -- Marking tokens, stop by stop, and collecting the stops that are marked.
-use Rattle.std.proofs.Common.{◌≡◌, ℕ, zero, suc, ◌+◌, ◌*◌, ◌<◌, ◌≤◌, Bool, true, false, Some, None, ◌⊎◌, inl, inr, List, [], ◌∷◌, ◌++◌, length, get_or, set, replicate, refl, ap, sym, ◌∙◌, subst, arith, get_or-set_same}
+use Rattle.std.proofs.Common.{◌≡◌, ℕ, zero, suc, ◌+◌, ◌*◌, ◌<◌, ◌≤◌, Bool, true, false, Some, None, ◌⊎◌, inl, inr, List}
+use Rattle.std.proofs.Common.{[], ◌∷◌, ◌++◌, length, get_or, set, replicate, refl, ap, sym, ◌∙◌, subst, arith}
+use Rattle.std.proofs.Common.{get_or-set_same}
 use Rattle.std.specs.List.{AllByRecursion}
 use Rattle.std.proofs.lemmas.Bool.{cases_eq}
 use Rattle.map_tables.specs.Hex.{index_of}
@@ -13,8 +15,9 @@ use Rattle.map_tables.specs.declared.track.End.TheVariants.{Side as AtSide, Stop
 use Rattle.map_tables.specs.declared.track.Link.{Link}
 use Rattle.reach.specs.Lawful.{IsLawful}
 use Rattle.reach.specs.Position.{Position, HasToken, IsAmong, links_of}
-use Rattle.reach.specs.Reached.{StandInOrder, stop_order}
-use Rattle.reach.specs.Search.{spot_number, IsMarked, IsMarkedStop, IsTokenMarked, IsPushed, AllArrive, AllWait, HasAllTokens}
+use Rattle.reach.specs.Reached.{AreSortedBy, stop_order}
+use Rattle.reach.specs.Search.{spot_number, IsMarked, IsMarkedStop, IsTokenMarked, IsPushed, AllArrive, AllWait}
+use Rattle.reach.specs.Search.{HasAllTokens}
 use Rattle.reach.specs.Walk.{spot_at, stop_at_end}
 use Rattle.reach.specs.declared.walk.Spot.{Spot}
 use Rattle.reach.proofs.Hexes.{same_index}
@@ -137,7 +140,7 @@ all_tokens position company marks place all tokens spot stop is token =
 
 -- the stops before a place in the order of the map, those that are marked
 pub record StopsBefore (marks : List Bool) (stops : List Stop) (place : ℕ) : Type 0 where
-  pub in_order : StandInOrder stop_order stops
+  pub in_order : AreSortedBy stop_order stops
   pub before : AllByRecursion (λ stop. stop_order stop < place) stops
   pub named : (stop : Stop) → IsAmong stop stops → IsMarkedStop marks stop
   pub all : (stop : Stop) → stop_order stop < place → joined_stop_of stop ≡ stop → IsMarked marks (spot_of stop)

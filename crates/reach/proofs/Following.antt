@@ -1,5 +1,6 @@
 -- Following links from what is marked: walks go on, and marks that nothing is added to hold all walks.
-use Rattle.std.proofs.Common.{◌≡◌, Bool, true, false, Some, None, IfSome, ◌⊎◌, inl, inr, List, [], ◌∷◌, get_or, refl, sym, ◌∙◌, subst}
+use Rattle.std.proofs.Common.{◌≡◌, Bool, true, false, Some, None, IfSome, ◌⊎◌, inl, inr, List, [], ◌∷◌, get_or, refl}
+use Rattle.std.proofs.Common.{sym, ◌∙◌, subst}
 use Rattle.map_tables.specs.Place.{joined_stop_of, stop_at}
 use Rattle.map_tables.specs.declared.hex.Hex.{Hex}
 use Rattle.map_tables.specs.declared.place.Stop.{Stop}
@@ -21,7 +22,7 @@ record HasTokenAt (position : Position) (company : Company) (spot : Spot) : Type
   pub is : stop_of spot ≡ Some stop
   pub token : HasToken position stop company
 
--- a walk of the company comes to a spot, and may go on there
+-- a walk of the company reaches a spot, and may go on there
 record Comes (position : Position) (company : Company) (spot : Spot) : Type 0 where
   pub step : Step
   pub before : List Step

@@ -31,7 +31,7 @@ joined_hex_twice hex = refl
 pub joined_twice : (stop : Stop) → joined_stop_of (joined_stop_of stop) ≡ joined_stop_of stop
 joined_twice stop = ap (λ hex. record { hex = hex; number = stop.number }) (joined_hex_twice stop.hex)
 
--- a side stands at its number
+-- a side is at its number
 side_at : (s : Side) → get_or sides (number_of s) SouthWest ≡ s
 side_at SouthWest = refl
 side_at s = refl

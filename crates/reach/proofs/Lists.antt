@@ -1,9 +1,10 @@
 -- What is among a list, and lists in order, with one more element at the end.
-use Rattle.std.proofs.Common.{◌≡◌, ℕ, zero, suc, ◌+◌, ◌<◌, List, [], ◌∷◌, ◌++◌, ◌⊎◌, inl, inr, Bool, true, false, ◌||◌, length, get_or, take, refl, ap, sym, ◌∙◌, subst, arith}
+use Rattle.std.proofs.Common.{◌≡◌, ℕ, zero, suc, ◌+◌, ◌<◌, List, [], ◌∷◌, ◌++◌, ◌⊎◌, inl, inr, Bool, true, false, ◌||◌}
+use Rattle.std.proofs.Common.{length, get_or, take, refl, ap, sym, ◌∙◌, subst, arith}
 use Rattle.std.specs.List.{AllByRecursion, list_any}
 use Rattle.std.proofs.lemmas.List.{take_more}
 use Rattle.reach.specs.Position.{IsAmong}
-use Rattle.reach.specs.Reached.{StandInOrder}
+use Rattle.reach.specs.Reached.{AreSortedBy}
 
 -- a test or true
 or_true : (b : Bool) → (b || true) ≡ true
@@ -61,8 +62,8 @@ all_push P [] x all here = (here, tt)
 all_push P (y ∷ ys) x all here = (all.0, all_push P ys x all.1 here)
 
 -- things in order, and one that comes after all of them
-pub order_push : {A : Type 0} (order : A → ℕ) (xs : List A) (x : A) → StandInOrder order xs
-    → AllByRecursion (λ y. order y < order x) xs → StandInOrder order (xs ++ x ∷ [])
+pub order_push : {A : Type 0} (order : A → ℕ) (xs : List A) (x : A) → AreSortedBy order xs
+    → AllByRecursion (λ y. order y < order x) xs → AreSortedBy order (xs ++ x ∷ [])
 order_push order [] x in_order below = (tt, tt)
 order_push order (y ∷ ys) x in_order below =
     (all_push (λ z. order y < order z) ys x in_order.0 below.0, order_push order ys x in_order.1 below.1)

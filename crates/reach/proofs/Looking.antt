@@ -1,5 +1,6 @@
 -- Looking at a spot: the links by which a walk that has arrived there goes on, and what is left to be looked at.
-use Rattle.std.proofs.Common.{◌≡◌, ◌+◌, ◌*◌, true, false, Some, None, IfSome, ◌⊎◌, inl, inr, Bool, List, [], ◌∷◌, ◌++◌, get_or, refl, ap, sym, ◌∙◌, subst}
+use Rattle.std.proofs.Common.{◌≡◌, ◌+◌, ◌*◌, true, false, Some, None, IfSome, ◌⊎◌, inl, inr, Bool, List, [], ◌∷◌, ◌++◌}
+use Rattle.std.proofs.Common.{get_or, refl, ap, sym, ◌∙◌, subst}
 use Rattle.map_tables.specs.Hex.{index_of}
 use Rattle.map_tables.specs.Place.{joined_hex, joined_stop_of, stop_at, stop_index_of}
 use Rattle.map_tables.specs.declared.hex.Hex.{Hex}
@@ -10,7 +11,8 @@ use Rattle.map_tables.specs.declared.track.End.TheVariants.{Side as AtSide, Stop
 use Rattle.map_tables.specs.declared.track.Link.{Link}
 use Rattle.reach.specs.Lawful.{IsLawful}
 use Rattle.reach.specs.Position.{Position, IsAmong, IsFull, links_of}
-use Rattle.reach.specs.Search.{spot_number, twin_of, IsMarked, IsMarkedStop, IsEnteredAt, IsClosed, CanEnter, CanEnterAt, CanTakeAll, AreTaken, GoesOnAt, LeadsTo, AreLookedAt, WasFollowed, Spreads}
+use Rattle.reach.specs.Search.{spot_number, twin_of, IsMarked, IsMarkedStop, IsEnteredAt, IsClosed, CanEnter}
+use Rattle.reach.specs.Search.{CanEnterAt, CanTakeAll, AreTaken, GoesOnAt, LeadsTo, AreLookedAt, WasFollowed, Spreads}
 use Rattle.reach.specs.Walk.{spot_at, stop_at_end, across_end, stop_of, across, entered_at, left_at, IsTrack}
 use Rattle.reach.specs.declared.walk.Spot.{Spot}
 use Rattle.reach.specs.declared.walk.Step.{Step}

@@ -1,5 +1,7 @@
 -- What it is to follow steps, by the marks and by what waits: one step, steps after others, and none.
-use Rattle.std.proofs.Common.{◌≡◌, ℕ, ◌+◌, ◌<◌, Bool, true, false, cond, if◌then◌else◌, ◌⊎◌, inl, inr, List, [], ◌∷◌, ◌++◌, length, get_or, set, refl, ap, sym, ◌∙◌, subst, arith, get_or-set_same, get_or-set_other, length-set, length-append}
+use Rattle.std.proofs.Common.{◌≡◌, ℕ, ◌+◌, ◌<◌, Bool, true, false, cond, if◌then◌else◌, ◌⊎◌, inl, inr, List, [], ◌∷◌}
+use Rattle.std.proofs.Common.{◌++◌, length, get_or, set, refl, ap, sym, ◌∙◌, subst, arith, get_or-set_same}
+use Rattle.std.proofs.Common.{get_or-set_other, length-set, length-append}
 use Rattle.std.proofs.lemmas.List.{set-get_or}
 use Rattle.std.proofs.lemmas.List.Sums.{sum_by-set}
 use Rattle.std.proofs.lemmas.Bool.{cases_eq}
@@ -9,7 +11,9 @@ use Rattle.map_tables.specs.declared.track.End.TheVariants.{Side as AtSide, Stop
 use Rattle.reach.specs.Lawful.{IsLawful}
 use Rattle.map_tables.specs.declared.track.Link.{Link}
 use Rattle.reach.specs.Position.{Position, IsFull}
-use Rattle.reach.specs.Search.{spot_number, number_at, IsMarked, IsMarking, IsEnteredAt, IsFollowed, IsKept, KeepsAsMany, CanEnter, CanEnterAt, CanTake, CanTakeAll, marked, Waits, AllWait, WasFollowed, Spreads}
+use Rattle.reach.specs.Search.{spot_number, number_at, IsMarked, IsMarking, IsEnteredAt, IsFollowed, IsKept}
+use Rattle.reach.specs.Search.{KeepsAsMany, CanEnter, CanEnterAt, CanTake, CanTakeAll, marked, Waits, AllWait}
+use Rattle.reach.specs.Search.{WasFollowed, Spreads}
 use Rattle.reach.specs.Walk.{spot_at, entered_at, left_at, IsTrack}
 use Rattle.reach.specs.declared.walk.Spot.{Spot}
 use Rattle.reach.specs.declared.walk.Step.{Step}

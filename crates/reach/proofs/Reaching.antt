@@ -1,5 +1,6 @@
 -- What is marked once nothing is added is what the company reaches: its stops, and its links.
-use Rattle.std.proofs.Common.{◌≡◌, Bool, true, false, Some, None, inl, inr, List, [], ◌∷◌, get_or, refl, ap, sym, ◌∙◌, subst}
+use Rattle.std.proofs.Common.{◌≡◌, Bool, true, false, Some, None, inl, inr, List, [], ◌∷◌, get_or, refl, ap, sym, ◌∙◌}
+use Rattle.std.proofs.Common.{subst}
 use Rattle.map_tables.specs.Place.{joined_stop_of}
 use Rattle.map_tables.specs.declared.hex.Hex.{Hex}
 use Rattle.map_tables.specs.declared.place.Stop.{Stop}
@@ -8,8 +9,9 @@ use Rattle.map_tables.specs.declared.track.End.TheVariants.{Side as AtSide, Stop
 use Rattle.map_tables.specs.declared.track.Link.{Link}
 use Rattle.reach.specs.Lawful.{IsLawful}
 use Rattle.reach.specs.Position.{Position, HasToken, IsAmong, links_of}
-use Rattle.reach.specs.Reached.{IsReach, IsWalkOf, ReachesLink, ReachesStop, StandInOrder, stop_order}
-use Rattle.reach.specs.Search.{IsMarked, IsMarkedStop, AreMarkedStops, CanEnterAt, CanEnter, CanEnterEither, CanTake, AllArrive, AreTaken, IsClosed, HasAllTokens}
+use Rattle.reach.specs.Reached.{IsReach, IsWalkOf, ReachesLink, ReachesStop, AreSortedBy, stop_order}
+use Rattle.reach.specs.Search.{IsMarked, IsMarkedStop, AreMarkedStops, CanEnterAt, CanEnter, CanEnterEither, CanTake}
+use Rattle.reach.specs.Search.{AllArrive, AreTaken, IsClosed, HasAllTokens}
 use Rattle.reach.specs.Walk.{spot_at, entered_at, left_at, stop_at_end, stop_of, IsTrack, TouchesLink, TouchesStop}
 use Rattle.reach.specs.declared.walk.Spot.{Spot}
 use Rattle.reach.specs.declared.walk.Step.{Step}
@@ -118,7 +120,7 @@ module _ (position : Position) (company : Company) (lawful : IsLawful position) 
 
   -- so the stops that are marked, and the links that may be taken, are what is reached
   pub marked_reach : (stops : List Stop) (links : List Link) → AreMarkedStops marks stops
-      → StandInOrder stop_order stops → AreTaken position company marks (λ link. IsAmong link links)
+      → AreSortedBy stop_order stops → AreTaken position company marks (λ link. IsAmong link links)
       → IsReach position company (record { stops = stops; links = links })
   marked_reach stops links are in_order taken =
       record {

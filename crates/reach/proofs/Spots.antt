@@ -15,7 +15,8 @@ use Rattle.reach.specs.Reached.{stop_order}
 use Rattle.reach.specs.Search.{spot_number, number_at}
 use Rattle.reach.specs.Walk.{spot_at, stop_at_end, across_end, stop_of, across}
 use Rattle.reach.specs.declared.walk.Spot.{Spot}
-use Rattle.reach.proofs.Hexes.{same_index, index_low, joined_twice, same_side, side_low, facing_twice, same_stop_index, stop_index_low}
+use Rattle.reach.proofs.Hexes.{same_index, index_low, joined_twice, same_side, side_low, facing_twice, same_stop_index}
+use Rattle.reach.proofs.Hexes.{stop_index_low}
 
 -- eights and what is left of them
 eights : (i j m n : ℕ) → m < 8 → n < 8 → 8 * i + m ≡ 8 * j + n → (i ≡ j) × (m ≡ n)

@@ -1,10 +1,11 @@
 -- Stops as marks, and lists of stops in order.
-use Rattle.std.proofs.Common.{◌≡◌, ℕ, zero, suc, ◌<◌, Bool, true, false, ◌⊎◌, inl, inr, List, [], ◌∷◌, ◌++◌, length, get_or, set, replicate, refl, ap, sym, ◌∙◌, subst, arith, get_or-set_same, length-set}
+use Rattle.std.proofs.Common.{◌≡◌, ℕ, zero, suc, ◌<◌, Bool, true, false, ◌⊎◌, inl, inr, List, [], ◌∷◌, ◌++◌, length}
+use Rattle.std.proofs.Common.{get_or, set, replicate, refl, ap, sym, ◌∙◌, subst, arith, get_or-set_same, length-set}
 use Rattle.std.proofs.lemmas.List.{length-replicate, set-get_or}
 use Rattle.std.specs.List.{AllByRecursion}
 use Rattle.map_tables.specs.declared.place.Stop.{Stop}
 use Rattle.reach.specs.Position.{Position, IsAmong}
-use Rattle.reach.specs.Reached.{IsReach, Reaching, StandInOrder, stop_order}
+use Rattle.reach.specs.Reached.{IsReach, Reaching, AreSortedBy, stop_order}
 use Rattle.reach.specs.Stops.{AreReachedStops, marks_of}
 use Rattle.reach.proofs.Collected.{none_marked}
 use Rattle.reach.proofs.Marking.{set_cases, set_keeps}
@@ -89,7 +90,7 @@ first_same stop other (inr before) (inl same) = same
 first_same stop other (inr before) (inr after) = absurd (omega arith)
 
 -- a stop among some in order is the first, or comes after it
-place_in : (first : Stop) (stops : List Stop) (stop : Stop) → StandInOrder stop_order (first ∷ stops)
+place_in : (first : Stop) (stops : List Stop) (stop : Stop) → AreSortedBy stop_order (first ∷ stops)
     → IsAmong stop (first ∷ stops) → (first ≡ stop) ⊎ (stop_order first < stop_order stop)
 place_in first stops stop in_order (inl same) = inl same
 place_in first stops stop in_order (inr later) =
@@ -102,7 +103,7 @@ is_later first stops stop after (inl same) = absurd (omega (arith, ap stop_order
 is_later first stops stop after (inr later) = later
 
 -- in order there is one list of the same stops
-pub same_list : (stops others : List Stop) → StandInOrder stop_order stops → StandInOrder stop_order others
+pub same_list : (stops others : List Stop) → AreSortedBy stop_order stops → AreSortedBy stop_order others
     → ((stop : Stop) → IsAmong stop stops → IsAmong stop others)
     → ((stop : Stop) → IsAmong stop others → IsAmong stop stops) → stops ≡ others
 same_list [] [] in_order also there back = refl

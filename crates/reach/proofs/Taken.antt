@@ -1,5 +1,6 @@
 -- The links that a walk may take which arrives where the marks say, in one list.
-use Rattle.std.proofs.Common.{◌≡◌, ℕ, zero, suc, ◌<◌, ◌≤◌, Bool, ◌⊎◌, inl, inr, List, [], ◌∷◌, ◌++◌, get_or, sym, subst, arith}
+use Rattle.std.proofs.Common.{◌≡◌, ℕ, zero, suc, ◌<◌, ◌≤◌, Bool, ◌⊎◌, inl, inr, List, [], ◌∷◌, ◌++◌, get_or, sym, subst}
+use Rattle.std.proofs.Common.{arith}
 use Rattle.map_tables.proofs.HexTables.{hexes_at}
 use Rattle.map_tables.specs.Hex.{hexes, index_of}
 use Rattle.map_tables.specs.declared.hex.Hex.{Hex}

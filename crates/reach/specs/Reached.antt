@@ -33,11 +33,11 @@ ReachesStop position company stop =
 abbrev pub stop_order : Stop → ℕ
 stop_order stop = 2 * index_of stop.hex + stop_index_of stop.number
 
--- things stand in order, each before all that come later, and so none twice
-abbrev pub StandInOrder : {A : Type 0} → (A → ℕ) → List A → Type 0
-StandInOrder order [] = Unit {0}
-StandInOrder order (thing ∷ later) = AllByRecursion (λ other. order thing < order other) later
-    × StandInOrder order later
+-- things are in order, each before all that come later, and so none twice
+abbrev pub AreSortedBy : {A : Type 0} → (A → ℕ) → List A → Type 0
+AreSortedBy order [] = Unit {0}
+AreSortedBy order (thing ∷ later) = AllByRecursion (λ other. order thing < order other) later
+    × AreSortedBy order later
 
 -- what is said to be reached: stops and links
 pub record Reaching : Type 0 where
@@ -47,5 +47,5 @@ pub record Reaching : Type 0 where
 -- exactly what a company reaches, the stops in the order of the map
 pub record IsReach (position : Position) (company : Company) (reach : Reaching) : Type 0 where
   pub stops : (stop : Stop) → IsAmong stop reach.stops ↔ ReachesStop position company stop
-  pub in_order : StandInOrder stop_order reach.stops
+  pub in_order : AreSortedBy stop_order reach.stops
   pub links : (link : Link) → IsAmong link reach.links ↔ ReachesLink position company link

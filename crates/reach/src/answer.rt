@@ -13,8 +13,8 @@ use tables::Company;
 /// How much room a search begins with for links. A usual map needs no more.
 const LINKS_ROOM: usize = 96;
 
-/// What a company reaches: stops and links. To a contract it is the two lists. Each link stands
-/// there once, or twice where it was followed in both directions.
+/// What a company reaches: stops and links. To a contract it is the two lists. Each link is there
+/// once, or twice where it was followed in both directions.
 #[derive(Drop)]
 pub struct Reach {
     stops: Vec<Stop>,
@@ -30,8 +30,8 @@ impl Model for Reach {
 }
 
 impl Reach {
-    /// The stops that are reached, in the order of the map. A stop that lies in two hexes stands
-    /// once, as the one that names it.
+    /// The stops that are reached, in the order of the map. A stop that lies in two hexes is once,
+    /// as the one that names it.
     pub fn stops(&self) -> &[Stop]
         ensures { result.now ≡ self.now.stops }
     {
@@ -47,8 +47,8 @@ impl Reach {
 }
 
 /// What a company reaches: the stops with a token of it, and each stop and link that a walk from
-/// there touches. Such a walk may end in a city that is full for the company and may not pass
-/// one; it may pass a red stop. The only error is want of memory, for the lists of the answer.
+/// there touches. Such a walk may end in a city that is full for the company and may not pass one;
+/// it may pass a red stop. It fails only if memory is refused, for the lists of the answer.
 pub fn reached<N: Network>(
     alloc: Global,
     network: &N,

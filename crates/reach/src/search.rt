@@ -1,8 +1,11 @@
-ghost use Rattle.std.specs.Prelude.{◌≡◌, ◌<◌, ◌≤◌, ◌↔◌, IsTrue, IfOk, OnOk, [], false, true, length, slice_index_or, replicate};
+ghost use Rattle.std.specs.Prelude.{◌≡◌, ◌<◌, ◌≤◌, ◌↔◌, IsTrue, IfOk, OnOk, [], false, true, length, slice_index_or};
+ghost use Rattle.std.specs.Prelude.{replicate};
 ghost use Rattle.map_tables.specs.Hex.{index_of};
 ghost use Rattle.reach.specs.Lawful.{IsLawful};
 ghost use Rattle.reach.specs.Position.{IsAmong, links_of};
-ghost use Rattle.reach.specs.Search.{AllArrive, AllWait, AreTaken, CanEnter, GoesOnAt, HasAllTokens, IsClosed, IsEnteredAt, IsFollowed, IsKept, IsMarked, IsMarkedStop, IsMarking, IsTokenMarked, KeepsNone, LeadsTo, Spreads, marked, twin_of};
+ghost use Rattle.reach.specs.Search.{AllArrive, AllWait, AreTaken, CanEnter, GoesOnAt, HasAllTokens, IsClosed};
+ghost use Rattle.reach.specs.Search.{IsEnteredAt, IsFollowed, IsKept, IsMarked, IsMarkedStop, IsMarking, IsTokenMarked};
+ghost use Rattle.reach.specs.Search.{KeepsNone, LeadsTo, Spreads, marked, twin_of};
 ghost use Rattle.reach.specs.Walk.{IsTrack, entered_at, left_at};
 ghost use Rattle.reach.specs.declared.walk.Step.{Step};
 

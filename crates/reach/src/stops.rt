@@ -1,7 +1,7 @@
 //! The stops that a company reaches, found without memory.
 ghost use Rattle.std.specs.Prelude.{◌≡◌, ◌+◌, ◌<◌, ◌≤◌, ◌↔◌, ◌++◌, ◌∷◌, [], IsTrue, length};
 ghost use Rattle.reach.specs.Position.{IsAmong};
-ghost use Rattle.reach.specs.Reached.{StandInOrder, stop_order};
+ghost use Rattle.reach.specs.Reached.{AreSortedBy, stop_order};
 ghost use Rattle.reach.specs.Search.{AreMarkedStops, IsPushed};
 ghost use Rattle.reach.specs.Stops.{AreReachedStops};
 
@@ -15,7 +15,7 @@ use std::marker::Model;
 use tables::Company;
 
 /// The stops that a company reaches. To a contract it is the list of them, in the order of the map.
-/// A stop that lies in two hexes stands once, as the one that names it.
+/// A stop that lies in two hexes is once, as the one that names it.
 #[derive(Drop)]
 pub struct ReachedStops {
     stops: [Stop; STOPS],
@@ -93,7 +93,7 @@ pub fn reached_stops<N: Network>(network: &N, company: Company) -> ReachedStops
 /// The stops that are marked, in the order of the map.
 pub(crate) fn marked_stops(marks: &Marks) -> ReachedStops
     ensures marked { AreMarkedStops marks.now.marks result }
-    ensures in_order { StandInOrder stop_order result }
+    ensures in_order { AreSortedBy stop_order result }
 {
     let mut stops = ReachedStops::none();
     for index in 0..HEXES {

@@ -4,10 +4,14 @@ use Rattle.std.proofs.Common.{◌≡◌, ℕ, List, [], ◌∷◌, ◌++◌, len
 use Rattle.std.specs.Prelude.{Option, Some, None, is_none, Result, Ok, Err, IsOk}
 use Rattle.std.specs.List.{flat_map, range_with_len}
 use Rattle.events.specs.declared.event.Event.{Event}
-use Rattle.events.specs.declared.event.Event.TheVariants.{Round, Ruled, Passes, Left, Sold, Bids, Price, Revenue, Given, Par, President, Bought, Sells, Exchanged, Floats, Moves, Home, Laid, Token, Withheld, Runs, Dividend, Traded, Train, Phase, Rusted, Discarded, Closed, PrivateBought, Forced, Aid, Bankrupt, Broken}
+use Rattle.events.specs.declared.event.Event.TheVariants.{Round, Ruled, Passes, Left, Sold, Bids, Price, Revenue, Given}
+use Rattle.events.specs.declared.event.Event.TheVariants.{Par, President, Bought, Sells, Exchanged, Floats, Moves, Home}
+use Rattle.events.specs.declared.event.Event.TheVariants.{Laid, Token, Withheld, Runs, Dividend, Traded, Train, Phase}
+use Rattle.events.specs.declared.event.Event.TheVariants.{Rusted, Discarded, Closed, PrivateBought, Forced, Aid}
+use Rattle.events.specs.declared.event.Event.TheVariants.{Bankrupt, Broken}
 use Rattle.events.specs.declared.event.Holder.{Holder}
 use Rattle.events.specs.declared.event.Holder.TheVariants as holder
-use Rattle.history.specs.Shares.{president_of, square_of}
+use Rattle.totals.specs.Shares.{president_of, square_of}
 use Rattle.tables.specs.Roster.{companies}
 use Rattle.tables.specs.declared.roster.Company.{Company}
 use Rattle.tables.specs.declared.seat.Seat.{Seat}
@@ -15,8 +19,10 @@ use Rattle.tables.specs.declared.squares.Square.{Square}
 use Rattle.order_grammar.specs.declared.condition.Version.{Version}
 use Rattle.report.specs.Laws.{ArrivalChangesNoReport, DiffersInVersion, SamePartsSameReport}
 use Rattle.report.specs.Line.{event_line, holder_text}
-use Rattle.report.specs.Report.{IsReport, IsReportOf, end_text, game_line, header, name_owing, owing, players_line, report_text, rounds_in, rounds_text, texts_of_rounds, unread_lines}
-use Rattle.report.specs.Statement.{company_line, company_lines, line_on_square, player_line, player_lines, president_name, started_line, statement}
+use Rattle.report.specs.Report.{IsReport, IsReportOf, end_text, game_line, header, name_owing, owing, players_line}
+use Rattle.report.specs.Report.{report_text, rounds_in, rounds_text, texts_of_rounds, unread_lines}
+use Rattle.report.specs.Statement.{company_line, company_lines, line_on_square, player_line, player_lines}
+use Rattle.report.specs.Statement.{president_name, started_line, statement}
 use Rattle.report.specs.Worth.{worth_lines}
 use Rattle.rounds.specs.Play.{Between, end_of}
 use Rattle.rounds.specs.ReadAlike.{ReadAlikeFor, AreReadAlike, SamePartsSameGame, SameSheetsAreReadAlike}
@@ -42,11 +48,11 @@ event_same f g (Sold private seat price) players = rw players refl
 event_same f g (Bids private seat amount) players = rw players refl
 event_same f g (Price price) players = refl
 event_same f g (Revenue private owner amount) players = rw (holder_same f g owner players) refl
-event_same f g (Given company seat tenths) players = rw players refl
+event_same f g (Given company seat shares) players = rw players refl
 event_same f g (Par company price) players = refl
 event_same f g (President company seat) players = rw players refl
-event_same f g (Bought company seat tenths from price) players = rw players refl
-event_same f g (Sells company seat tenths price) players = rw players refl
+event_same f g (Bought company seat shares from price) players = rw players refl
+event_same f g (Sells company seat shares price) players = rw players refl
 event_same f g (Exchanged seat from) players = rw players refl
 event_same f g (Floats company amount) players = refl
 event_same f g (Moves company square) players = refl
@@ -173,7 +179,7 @@ end_same f g seats events (Awaiting round) same = rw (owing_same f g round same.
 end_same f g seats events Bank same = rw (worths_same f g seats events same.players) refl
 end_same f g seats events Bankrupt same = rw (worths_same f g seats events same.players) refl
 
--- what stands behind the first line of the report of a file whose game has these events and this end
+-- what is behind the first line of the report of a file whose game has these events and this end
 abbrev behind : List ℕ → ℕ → List Event → End → List ℕ
 behind file seats events end =
     players_line file ++ rounds_text file seats events ++ unread_lines 0 (unread_of file)

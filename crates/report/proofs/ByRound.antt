@@ -1,13 +1,15 @@
 -- The texts of a game's rounds, each looked up by its round, are the text of all rounds: each part into which
 -- the events are cut begins a round, and no two the same, since the rounds of a game are in order.
-use Rattle.std.proofs.Common.{◌≡◌, ℕ, Bool, true, false, List, [], ◌∷◌, ◌++◌, Option, Some, None, is_some, refl, ap, sym, subst, ◌∙◌, arith}
+use Rattle.std.proofs.Common.{◌≡◌, ℕ, Bool, true, false, List, [], ◌∷◌, ◌++◌, Option, Some, None, is_some, refl, ap}
+use Rattle.std.proofs.Common.{sym, subst, ◌∙◌, arith}
 use Rattle.std.specs.Prelude.{IsSome, ⊤}
 use Rattle.std.specs.List.{flat_map}
 use Rattle.events.specs.Event.{round_begun_by}
 use Rattle.events.specs.declared.event.Event.{Event}
-use Rattle.history.specs.LookBack.{Game}
+use Rattle.totals.specs.LookBack.{Game}
 use Rattle.report.specs.Laws.{ReportIsItsParts}
-use Rattle.report.specs.Report.{end_of_play, ends_round, header, is_round, is_the_round, lines_of_round, round_begun, rounds_in, text_of_one, texts_of_rounds, unread_lines, with_event_in_round}
+use Rattle.report.specs.Report.{end_of_play, ends_round, header, is_round, is_the_round, lines_of_round, round_begun}
+use Rattle.report.specs.Report.{rounds_in, text_of_one, texts_of_rounds, unread_lines, with_event_in_round}
 use Rattle.rounds.specs.Begun.{AreInOrder, BeginWithRound, IsBeforeEach, RoundsFollowInOrder, rounds_begun, with_round}
 use Rattle.sheets.specs.File.{unread_of}
 use Rattle.tables.specs.Round.{is_before, same_round}

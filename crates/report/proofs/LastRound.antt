@@ -1,5 +1,6 @@
--- The round that began last: where it stands in the list of events, and that its text comes after those of all others.
-use Rattle.std.proofs.Common.{◌≡◌, ℕ, zero, suc, ◌+◌, ◌<◌, Bool, true, false, ◌||◌, List, [], ◌∷◌, ◌++◌, length, take, drop, get_or, refl, sym, ap, subst, ◌∙◌, append_assoc, take-append-drop, arith}
+-- The round that began last: where it is in the list of events, and that its text comes after those of all others.
+use Rattle.std.proofs.Common.{◌≡◌, ℕ, zero, suc, ◌+◌, ◌<◌, Bool, true, false, ◌||◌, List, [], ◌∷◌, ◌++◌, length, take}
+use Rattle.std.proofs.Common.{drop, get_or, refl, sym, ap, subst, ◌∙◌, append_assoc, take-append-drop, arith}
 use Rattle.std.specs.Prelude.{if◌then◌else◌, is_some, Some, Option}
 use Rattle.std.specs.List.{flat_map, list_any}
 use Rattle.std.proofs.lemmas.Bool.{false≢true}
@@ -9,7 +10,8 @@ use Rattle.events.specs.Event.{round_begun_by}
 use Rattle.events.specs.declared.event.Event.{Event}
 use Rattle.report.specs.Line.{event_line}
 use Rattle.report.specs.Parts.{last_round, last_round_text}
-use Rattle.report.specs.Report.{ends_round, lines_of_round, rounds_in, rounds_text, texts_of_rounds, with_event_in_round}
+use Rattle.report.specs.Report.{ends_round, lines_of_round, rounds_in, rounds_text, texts_of_rounds}
+use Rattle.report.specs.Report.{with_event_in_round}
 use Rattle.report.specs.Statement.{statement}
 
 -- an event begins a round

@@ -5,11 +5,11 @@ use Rattle.std.specs.List.{AllByRecursion, list_all}
 use Rattle.events.specs.declared.event.Event.{Event}
 use Rattle.events.specs.declared.event.Event.TheVariants.{Ruled}
 use Rattle.events.specs.declared.ruling.Ruling.TheVariants.{Obeyed, Refused, Faulty}
-use Rattle.history.specs.LookBack.{Game}
+use Rattle.totals.specs.LookBack.{Game}
 use Rattle.order_grammar.specs.Print.{spaced}
 use Rattle.order_grammar.specs.declared.condition.Version.{Version}
 use Rattle.order_grammar.specs.declared.condition.Version.TheVariants.{One}
-use Rattle.report.specs.Laws.{PlainReports, TellsNoCondition}
+use Rattle.report.specs.Laws.{PlainReports, NamesNoCondition}
 use Rattle.report.specs.Report.{game_line, header, players_line}
 use Rattle.rounds.specs.Plain.{VersionOneIsRuledPlainly, is_plain}
 use Rattle.rounds.specs.Play.{IsTheGame, Played}
@@ -22,7 +22,7 @@ unfolding header
 plain_header file one = ap (λ (version : Version). game_line version ++ players_line file) one
 
 -- a plain event tells none
-tells_none : (file : List ℕ) (event : Event) → is_plain event ≡ true → TellsNoCondition file event
+tells_none : (file : List ℕ) (event : Event) → is_plain event ≡ true → NamesNoCondition file event
 tells_none file (Ruled seat line (Obeyed None order)) plain = refl
 tells_none file (Ruled seat line (Obeyed (Some condition) order)) plain = absurd (cc)
 tells_none file (Ruled seat line (Refused rule None order)) plain = refl
@@ -32,7 +32,7 @@ tells_none file other plain = tt
 
 -- nor do plain events
 all_tell_none : (file : List ℕ) (events : List Event) → list_all is_plain events ≡ true →
-    AllByRecursion (TellsNoCondition file) events
+    AllByRecursion (NamesNoCondition file) events
 all_tell_none file [] plain = tt
 all_tell_none file (event ∷ events) plain =
     let parts = and_parts (is_plain event) (list_all is_plain events) plain in
@@ -40,9 +40,9 @@ all_tell_none file (event ∷ events) plain =
 
 -- nor does the game of such a file
 game_tells_none : VersionOneIsRuledPlainly → (played : Played) → version_of played.file ≡ One → IsTheGame played →
-    AllByRecursion (TellsNoCondition played.file) played.game.events
+    AllByRecursion (NamesNoCondition played.file) played.game.events
 game_tells_none law played one its =
-    subst (λ (game : Game). AllByRecursion (TellsNoCondition played.file) game.events) (sym its.game)
+    subst (λ (game : Game). AllByRecursion (NamesNoCondition played.file) game.events) (sym its.game)
     (all_tell_none played.file its.last.game.events
     (law played.file its.plays.rounds its.last one its.plays.reached))
 

@@ -1,11 +1,13 @@
 -- The events of a game in their rounds: where the first of them ends, and that one after the other they
 -- make up the text.
-use Rattle.std.proofs.Common.{◌≡◌, ℕ, ◌+◌, ◌-◌, ◌≤◌, Bool, true, false, List, [], ◌∷◌, ◌++◌, length, take, drop, get_or, refl, ap, append_assoc, sym, subst, ◌∙◌, arith}
+use Rattle.std.proofs.Common.{◌≡◌, ℕ, ◌+◌, ◌-◌, ◌≤◌, Bool, true, false, List, [], ◌∷◌, ◌++◌, length, take, drop, get_or}
+use Rattle.std.proofs.Common.{refl, ap, append_assoc, sym, subst, ◌∙◌, arith}
 use Rattle.std.specs.Prelude.{slice_range, if◌then◌else◌}
 use Rattle.std.proofs.lemmas.Grind.{common_steps}
 use Rattle.std.proofs.lemmas.List.{take_more, drop_more, drop-drop, drop-take, take-append-drop}
 use Rattle.events.specs.declared.event.Event.{Event}
-use Rattle.report.specs.Report.{ends_round, is_round, lines_of_round, rounds_in, text_of_one, texts_of_rounds, with_event_in_round}
+use Rattle.report.specs.Report.{ends_round, is_round, lines_of_round, rounds_in, text_of_one, texts_of_rounds}
+use Rattle.report.specs.Report.{with_event_in_round}
 use Rattle.tables.specs.declared.round.Round as table
 
 -- events in front of rounds: of the first of them, or a round by themselves where that ends with them
@@ -88,7 +90,7 @@ first_from events begun count within first =
     ap (λ n. take n (drop begun events)) size in
     rw (part, ← drop-drop count begun events) first
 
--- its text stands before those of the later ones
+-- its text is before those of the later ones
 pub texts_from : (file : List ℕ) (seats : ℕ) (events : List Event) (begun count : ℕ) → begun + count ≤ length events
     → rounds_in (drop begun events) ≡ take count (drop begun events) ∷ rounds_in (drop count (drop begun events))
     → texts_of_rounds file seats (take begun events) (rounds_in (drop begun events))

@@ -1,12 +1,13 @@
--- What is told step by step, as a game is played, is the front of its report, and at the end the whole of it.
+-- What is told step by step, as a game is played, is the prefix of its report, and at the end the whole of it.
 use Rattle.std.proofs.Common.{◌≡◌, ℕ, zero, suc, false, List, [], ◌∷◌, ◌++◌, refl, sym, ap, subst, ◌∙◌, append_assoc}
 use Rattle.std.specs.Prelude.{Option, Some, Result, Ok, Err, IsOk}
 use Rattle.std.proofs.lemmas.List.{append-nil}
 use Rattle.events.specs.declared.event.Event.TheVariants as event
-use Rattle.history.specs.LookBack.{Game}
-use Rattle.report.specs.Laws.{IsFront, PartsAreAFront, PartsAreTheReport}
-use Rattle.report.specs.Parts.{StepsTell, end_told, end_text_of, last_round_text, next_text_of, text_of_last}
-use Rattle.report.specs.Report.{IsGameReport, IsReport, IsReportOf, end_text, header, report_text, rounds_text, unread_lines}
+use Rattle.totals.specs.LookBack.{Game}
+use Rattle.report.specs.Laws.{IsPrefix, PartsAreAPrefix, PartsAreTheReport}
+use Rattle.report.specs.Parts.{IsTextOfSteps, end_told, end_text_of, last_round_text, next_text_of, text_of_last}
+use Rattle.report.specs.Report.{IsGameReport, IsReport, IsReportOf, end_text, header, report_text, rounds_text}
+use Rattle.report.specs.Report.{unread_lines}
 use Rattle.report.proofs.LastRound.{grows_by_last}
 use Rattle.rounds.specs.Begun.{RoundsOnlyAdd}
 use Rattle.rounds.specs.Play.{AreRounds, Between, IsRound, OneGame, Plays, before_play, end_of, goes_on}
@@ -77,7 +78,7 @@ step_told adds file old new before text round told step is =
 
 -- so all steps tell their rounds
 steps_told : RoundsOnlyAdd → (file : List ℕ) (steps : ℕ) (play : Underway) (text : List ℕ)
-    → StepsTell steps (started file) play text → Told file play text
+    → IsTextOfSteps steps (started file) play text → Told file play text
 steps_told adds file zero play text told =
     record {
       of_file = ap (λ (at : Underway). at.file) told.0;
@@ -89,7 +90,7 @@ steps_told adds file (suc steps) play text told =
     step_told adds file told.0 play told.1 text told.3 (steps_told adds file steps told.0 told.1 told.2) told.4 told.5
 
 -- they are steps
-are_steps : (steps : ℕ) (old new : Underway) (text : List ℕ) → StepsTell steps old new text → StepsPlay steps old new
+are_steps : (steps : ℕ) (old new : Underway) (text : List ℕ) → IsTextOfSteps steps old new text → StepsPlay steps old new
 are_steps zero old new text told = told.0
 are_steps (suc steps) old new text told = (told.0, are_steps steps old told.0 told.1 told.2, told.3, told.4)
 
@@ -117,9 +118,9 @@ in_parts file last =
     append_assoc (header file ++ text_of file last.game) (unread_lines 0 (unread_of file))
     (end_text file last.game.seats last.game.events (end_of last.next last.game.events))
 
--- what is told so far is a front of the report
-pub told_is_front : OneGame → RoundsOnlyAdd → StepsPlayTheGame → PartsAreAFront
-told_is_front one adds steps_play file steps play text whole accepted stepped report =
+-- what is told so far is a prefix of the report
+pub told_is_prefix : OneGame → RoundsOnlyAdd → StepsPlayTheGame → PartsAreAPrefix
+told_is_prefix one adds steps_play file steps play text whole accepted stepped report =
     let told = steps_told adds file steps play text stepped in
     let led = steps_play file steps play accepted (are_steps steps (started file) play text stepped) in
     let same : told.at ≡ led.0 = same_place told.at led.0 play.there told.there led.1 in

@@ -7,17 +7,17 @@ use Rattle.std.proofs.lemmas.List.Sums.{sum_by_more}
 use Rattle.std.specs.Prelude.{negsuc}
 use mir.Syntax.{w128}
 use mir.Val.{of_z, to_z}
-use Rattle.history.specs.LookBack.{IsModerate}
-use Rattle.history.specs.Trains.{so_many}
+use Rattle.totals.specs.LookBack.{IsModerate}
+use Rattle.totals.specs.Trains.{at_least_zero}
 
 -- a moderate sum is not many
-pub not_many : (tenths : ℤ) → IsModerate tenths → so_many tenths ≤ 2 ^ 100
+pub not_many : (shares : ℤ) → IsModerate shares → at_least_zero shares ≤ 2 ^ 100
 not_many (pos n) moderate = let over = moderate.not_over in omega (arith, ints, over)
 not_many (negsuc n) moderate = omega arith
 
 -- so what is paid for each of them fits
-pub worth_fits : (tenths price : ℕ) → tenths ≤ 2 ^ 100 → price ≤ 350 → tenths * price ≤ 2 ^ 109
-worth_fits tenths price many small = let most = mul-le-mul many small in omega (arith, most)
+pub worth_fits : (shares price : ℕ) → shares ≤ 2 ^ 100 → price ≤ 350 → shares * price ≤ 2 ^ 109
+worth_fits shares price many small = let most = mul-le-mul many small in omega (arith, most)
 
 -- one value more is added to those of the first n
 pub sum_step : {X : Type 0} (f : X → ℕ) (xs : List X) (n : ℕ) (d : X) (sum value : ℕ) → n < length xs
@@ -25,10 +25,10 @@ pub sum_step : {X : Type 0} (f : X → ℕ) (xs : List X) (n : ℕ) (d : X) (sum
 sum_step f xs n d sum value below so_far is = omega (arith, sum_by_more f xs n d below, so_far, is)
 
 -- cash with what is owned fits in the bits that it is counted in
-pub wealth_fits : (cash : ℤ) (tenths privates : ℕ) → IsModerate cash → tenths ≤ 2 ^ 112 → privates ≤ 1320 →
-    to_z w128 (of_z w128 (to_z w128 (of_z w128 cash) +ℤ to_z w128 (tenths + privates)))
-    ≡ cash +ℤ pos (tenths + privates)
-wealth_fits cash tenths privates moderate many small =
+pub wealth_fits : (cash : ℤ) (shares privates : ℕ) → IsModerate cash → shares ≤ 2 ^ 112 → privates ≤ 1320 →
+    to_z w128 (of_z w128 (to_z w128 (of_z w128 cash) +ℤ to_z w128 (shares + privates)))
+    ≡ cash +ℤ pos (shares + privates)
+wealth_fits cash shares privates moderate many small =
     let under = moderate.not_under in
     let over = moderate.not_over in
     omega (arith, ints, under, over)

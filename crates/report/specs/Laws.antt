@@ -14,7 +14,7 @@ use Rattle.order_grammar.specs.Print.{spaced, spelling_of}
 use Rattle.order_grammar.specs.declared.condition.Version.TheVariants.{One}
 use Rattle.order_grammar.specs.declared.order.Order.{Order}
 use Rattle.report.specs.Line.{event_line, line_of, name_of}
-use Rattle.report.specs.Parts.{StepsTell, end_text_of}
+use Rattle.report.specs.Parts.{IsTextOfSteps, end_text_of}
 use Rattle.report.specs.Report.{IsReport, end_of_play, game_line, header, report_of, round_text_of, unread_lines}
 use Rattle.rounds.specs.Begun.{rounds_begun}
 use Rattle.rounds.specs.Play.{IsTheGame, Played}
@@ -33,7 +33,7 @@ pub record DiffersInVersion (first second text : List ℕ) : Type 0 where
   pub is : text ≡ game_line (version_of first) ++ rest
   pub report : IsReport second (game_line (version_of second) ++ rest)
 
--- so it is where the sheets of two files of the same players are read alike, and the same faults stand in no sheet
+-- so it is where the sheets of two files of the same players are read alike, and the same faults are in no sheet
 abbrev pub SamePartsSameReport : Type 0
 SamePartsSameReport =
     (first second : List ℕ)
@@ -52,10 +52,10 @@ order_alone (Refused rule condition order) = codes "REFUSED" ∷ code_of_refusal
 order_alone (Faulty fault) = codes "REFUSED" ∷ code_of fault ∷ []
 
 -- the line of an event that is a ruling tells no condition
-abbrev pub TellsNoCondition : List ℕ → Event → Type 0
-TellsNoCondition file (Ruled seat line ruling) =
+abbrev pub NamesNoCondition : List ℕ → Event → Type 0
+NamesNoCondition file (Ruled seat line ruling) =
     event_line file (Ruled seat line ruling) ≡ line_of (name_of file seat) (decimal line ∷ order_alone ruling)
-TellsNoCondition file other = ⊤
+NamesNoCondition file other = ⊤
 
 -- the report of a file of version 1 has that version in its first line, and tells no condition: each ruling of its game
 -- has the spelling of its order alone. So has that of each order without a condition, whatever the version of its file
@@ -63,7 +63,7 @@ pub record PlainReports : Type 0 where
   pub head : (file : List ℕ) → version_of file ≡ One →
       header file ≡ codes "GAME 1830 1" ++ 10 ∷ codes "PLAYERS" ++ spaced (players_of file) ++ 10 ∷ []
   pub rulings : (played : Played) → version_of played.file ≡ One → IsTheGame played →
-      AllByRecursion (TellsNoCondition played.file) played.game.events
+      AllByRecursion (NamesNoCondition played.file) played.game.events
   pub obeyed : (file : List ℕ) (seat : Seat) (line : ℕ) (order : Order) →
       event_line file (Ruled seat line (Obeyed None order))
       ≡ line_of (name_of file seat) (decimal line ∷ codes "OBEYED" ∷ spelling_of order ∷ [])
@@ -71,8 +71,8 @@ pub record PlainReports : Type 0 where
       event_line file (Ruled seat line (Refused rule None order))
       ≡ line_of (name_of file seat) (decimal line ∷ codes "REFUSED" ∷ code_of_refusal rule ∷ spelling_of order ∷ [])
 
--- files of one version and the same players have the same report, where each sent the same sheets in the same order
--- and the same faults stand in no sheet
+-- files of one version and the same players have the same report, where each sent the same sheets in the same order and
+-- the same faults are in no sheet
 abbrev pub ArrivalChangesNoReport : Type 0
 ArrivalChangesNoReport =
     (f g : List ℕ)
@@ -97,20 +97,20 @@ ReportIsItsParts =
     ≡ header played.file ++ flat_map (round_text_of played) (rounds_begun played.game.events)
     ++ unread_lines 0 (unread_of played.file) ++ end_of_play played
 
--- what was told so far as a file is played is the front of its report, and the rest is still to come
-pub record IsFront (file text whole : List ℕ) : Type 0 where
+-- what was told so far as a file is played is the prefix of its report, and the rest is still to come
+pub record IsPrefix (file text whole : List ℕ) : Type 0 where
   pub rest : List ℕ
   pub is : whole ≡ header file ++ text ++ rest
 
 -- so it is after each step that plays a round
-abbrev pub PartsAreAFront : Type 0
-PartsAreAFront =
+abbrev pub PartsAreAPrefix : Type 0
+PartsAreAPrefix =
     (file : List ℕ) (steps : ℕ) (play : Underway) (text whole : List ℕ)
-    → IsAccepted file → StepsTell steps (started file) play text → IsReport file whole → IsFront file text whole
+    → IsAccepted file → IsTextOfSteps steps (started file) play text → IsReport file whole → IsPrefix file text whole
 
 -- and once a step has answered that play has stopped, the parts are the report of the file
 abbrev pub PartsAreTheReport : Type 0
 PartsAreTheReport =
     (file : List ℕ) (steps : ℕ) (last ended : Underway) (end : End) (text : List ℕ)
-    → IsAccepted file → StepsTell steps (started file) last text → StepLeads last (Ok (Ended end)) ended
+    → IsAccepted file → IsTextOfSteps steps (started file) last text → StepLeads last (Ok (Ended end)) ended
     → IsReport file (header file ++ text ++ end_text_of ended)

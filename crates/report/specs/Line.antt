@@ -1,9 +1,14 @@
 -- An event as a line of the report: its words, parted by single spaces, and its LF.
-use Rattle.std.specs.Prelude.{ℕ, Bool, if◌then◌else◌, List, [], ◌∷◌, ◌++◌, Option, Some, None, map, codes, decimal, unwrap_or, slice_get, ⊤}
+use Rattle.std.specs.Prelude.{ℕ, Bool, if◌then◌else◌, List, [], ◌∷◌, ◌++◌, Option, Some, None, map, codes, decimal}
+use Rattle.std.specs.Prelude.{unwrap_or, slice_get, ⊤}
 use Rattle.events.specs.Event.{code_of_refusal}
 use Rattle.events.specs.Told.{order_text}
 use Rattle.events.specs.declared.event.Event.{Event}
-use Rattle.events.specs.declared.event.Event.TheVariants.{Round, Ruled, Passes, Left, Sold, Bids, Price, Revenue, Given, Par, President, Bought, Sells, Exchanged, Floats, Moves, Home, Laid, Token, Withheld, Runs, Dividend, Traded, Train, Phase, Rusted, Discarded, Closed, PrivateBought, Forced, Aid, Bankrupt, Broken}
+use Rattle.events.specs.declared.event.Event.TheVariants.{Round, Ruled, Passes, Left, Sold, Bids, Price, Revenue, Given}
+use Rattle.events.specs.declared.event.Event.TheVariants.{Par, President, Bought, Sells, Exchanged, Floats, Moves, Home}
+use Rattle.events.specs.declared.event.Event.TheVariants.{Laid, Token, Withheld, Runs, Dividend, Traded, Train, Phase}
+use Rattle.events.specs.declared.event.Event.TheVariants.{Rusted, Discarded, Closed, PrivateBought, Forced, Aid}
+use Rattle.events.specs.declared.event.Event.TheVariants.{Bankrupt, Broken}
 use Rattle.events.specs.declared.event.Holder.{Holder}
 use Rattle.events.specs.declared.event.Holder.TheVariants as holder
 use Rattle.events.specs.declared.event.TrainSeller.{TrainSeller}
@@ -17,7 +22,8 @@ use Rattle.order_grammar.specs.Order.{text_of_source}
 use Rattle.order_grammar.specs.declared.order.ShareSource.{ShareSource}
 use Rattle.order_grammar.specs.Print.{conditional_spelling, spaced, text_of_round}
 use Rattle.report.specs.declared.line.Field.{Field}
-use Rattle.report.specs.declared.line.Field.TheVariants.{Word, Name, Holds, Number, Tenths, Source, On, Tile, In, Turned, At, OfRound, OrderOf}
+use Rattle.report.specs.declared.line.Field.TheVariants.{Word, Name, Holds, Number, ShareCount, Source, On, Tile, In}
+use Rattle.report.specs.declared.line.Field.TheVariants.{Turned, At, OfRound, OrderOf}
 use Rattle.sheets.specs.File.{players_of}
 use Rattle.tables.specs.Chart.{price_of}
 use Rattle.tables.specs.Roster.{code_of_company, code_of_private}
@@ -78,7 +84,7 @@ words_of_lay lay = text_of_tile lay.tile ∷ text_of_hex lay.hex ∷ text_of_rot
 abbrev pub lay_line : Company → Lay → ℕ → List ℕ
 lay_line company lay cost = line_of (codes "LAID") (code_of_company company ∷ words_of_lay lay ++ decimal cost ∷ [])
 
--- the line of a tenth of NYC that a seat has for MH
+-- the line of a share of NYC that a seat has for MH
 abbrev pub exchange_line : List ℕ → Seat → ShareSource → List ℕ
 exchange_line file seat from = line_of (codes "EXCHANGED") (codes "MH" ∷ name_of file seat ∷ text_of_source from ∷ [])
 
@@ -108,16 +114,16 @@ event_line file (Sold private seat price) = private_line file (codes "SOLD") pri
 event_line file (Bids private seat amount) = private_line file (codes "BIDS") private (holder.Seat seat) amount
 event_line file (Price price) = line_of (codes "PRICE") (codes "SV" ∷ decimal price ∷ [])
 event_line file (Revenue private owner amount) = private_line file (codes "REVENUE") private owner amount
-event_line file (Given company seat tenths) = line_of (codes "GIVEN")
-    (code_of_company company ∷ name_of file seat ∷ decimal tenths ∷ [])
+event_line file (Given company seat shares) = line_of (codes "GIVEN")
+    (code_of_company company ∷ name_of file seat ∷ decimal shares ∷ [])
 event_line file (Par company price) = line_of (codes "PAR") (code_of_company company ∷ decimal price ∷ [])
 event_line file (President company seat) = line_of (codes "PRESIDENT")
     (code_of_company company ∷ name_of file seat ∷ [])
-event_line file (Bought company seat tenths from price) =
-    line_of (codes "BOUGHT") (code_of_company company ∷ name_of file seat ∷ decimal tenths ∷ text_of_source from
+event_line file (Bought company seat shares from price) =
+    line_of (codes "BOUGHT") (code_of_company company ∷ name_of file seat ∷ decimal shares ∷ text_of_source from
     ∷ decimal price ∷ [])
-event_line file (Sells company seat tenths price) =
-    line_of (codes "SELLS") (code_of_company company ∷ name_of file seat ∷ decimal tenths ∷ decimal price ∷ [])
+event_line file (Sells company seat shares price) =
+    line_of (codes "SELLS") (code_of_company company ∷ name_of file seat ∷ decimal shares ∷ decimal price ∷ [])
 event_line file (Exchanged seat from) = exchange_line file seat from
 event_line file (Floats company amount) = line_of (codes "FLOATS") (code_of_company company ∷ decimal amount ∷ [])
 event_line file (Moves company square) =
@@ -156,13 +162,13 @@ IsOfPrivate (Closed private) = ⊤
 IsOfPrivate (PrivateBought private company seller price) = ⊤
 IsOfPrivate other = ⊥
 
--- the event tells of tenths: that they are given, bought or sold, or that one is had for MH
-abbrev pub IsOfTenths : Event → Type 0
-IsOfTenths (Given company seat tenths) = ⊤
-IsOfTenths (Bought company seat tenths from price) = ⊤
-IsOfTenths (Sells company seat tenths price) = ⊤
-IsOfTenths (Exchanged seat from) = ⊤
-IsOfTenths other = ⊥
+-- the event tells of shares: that they are given, bought or sold, or that one is had for MH
+abbrev pub IsOfShares : Event → Type 0
+IsOfShares (Given company seat shares) = ⊤
+IsOfShares (Bought company seat shares from price) = ⊤
+IsOfShares (Sells company seat shares price) = ⊤
+IsOfShares (Exchanged seat from) = ⊤
+IsOfShares other = ⊥
 
 -- the event tells of a company: of its par value, of its president, of its float, or of where its token moves
 abbrev pub IsOfCompany : Event → Type 0
@@ -206,7 +212,7 @@ field_text file (Word word) = word.now
 field_text file (Name seat) = name_of file seat
 field_text file (Holds holder) = holder_text file holder
 field_text file (Number number) = decimal number
-field_text file (Tenths tenths) = decimal tenths
+field_text file (ShareCount shares) = decimal shares
 field_text file (Source source) = text_of_source source
 field_text file (On square) = text_of_square square
 field_text file (Tile tile) = text_of_tile tile

@@ -4,7 +4,7 @@ use Rattle.std.specs.Prelude.{◌≡◌, ℕ, zero, suc, if◌then◌else◌, Li
 use Rattle.std.specs.List.{flat_map, list_any}
 use Rattle.events.specs.Event.{round_begun_by}
 use Rattle.events.specs.declared.event.Event.{Event}
-use Rattle.history.specs.LookBack.{Game}
+use Rattle.totals.specs.LookBack.{Game}
 use Rattle.report.specs.Line.{event_line}
 use Rattle.report.specs.Report.{end_text, unread_lines}
 use Rattle.report.specs.Statement.{statement}
@@ -48,10 +48,10 @@ outcome_text_of play = end_told play.file (game_so_far play) play.outcome
 abbrev pub end_text_of : Underway → List ℕ
 end_text_of play = unread_lines 0 (unread_of play.file) ++ outcome_text_of play
 
--- so many steps, each of which played a round, lead from one play to another, and these are the texts of their rounds,
--- one after the other
-abbrev pub StepsTell : ℕ → Underway → Underway → List ℕ → Type 0
-StepsTell zero old new text = (new ≡ old) × (text ≡ [])
-StepsTell (suc steps) old new text =
-    (mid : Underway) × (before : List ℕ) × StepsTell steps old mid before
+-- this many steps, each of which played a round, lead from one play to another, and these are the texts of their
+-- rounds, one after the other
+abbrev pub IsTextOfSteps : ℕ → Underway → Underway → List ℕ → Type 0
+IsTextOfSteps zero old new text = (new ≡ old) × (text ≡ [])
+IsTextOfSteps (suc steps) old new text =
+    (mid : Underway) × (before : List ℕ) × IsTextOfSteps steps old mid before
     × (round : round.Round) × PlaysNext mid round new × (text ≡ before ++ next_text_of new)

@@ -1,6 +1,7 @@
 -- The report of a file: for a refused file its one line; else the header, each round's events and its
 -- statement, the unread lines, and the end.
-use Rattle.std.specs.Prelude.{◌≡◌, ℕ, ◌+◌, Bool, true, false, if◌then◌else◌, List, [], ◌∷◌, ◌++◌, length, take, drop, slice_range, codes, decimal, Option, Some, None, is_none, is_some, Result, Ok, Err}
+use Rattle.std.specs.Prelude.{◌≡◌, ℕ, ◌+◌, Bool, true, false, if◌then◌else◌, List, [], ◌∷◌, ◌++◌, length, take, drop}
+use Rattle.std.specs.Prelude.{slice_range, codes, decimal, Option, Some, None, is_none, is_some, Result, Ok, Err}
 use Rattle.std.specs.List.{flat_map, range_with_len}
 use Rattle.events.specs.Event.{round_begun_by}
 use Rattle.events.specs.declared.event.Event.{Event}
@@ -56,7 +57,7 @@ abbrev pub rounds_in : List Event → List (List Event)
 rounds_in [] = []
 rounds_in (event ∷ events) = with_event_in_round event (ends_round events) (rounds_in events)
 
--- the lines of a round's events, and the statement as it stands after them
+-- the lines of a round's events, and the statement as it is after them
 abbrev pub lines_of_round : List ℕ → ℕ → List Event → List Event → List ℕ
 lines_of_round file seats before events =
     flat_map (event_line file) events ++ statement file seats (before ++ events)
@@ -71,13 +72,13 @@ texts_of_rounds file seats before (round ∷ rounds) =
 abbrev pub rounds_text : List ℕ → ℕ → List Event → List ℕ
 rounds_text file seats events = texts_of_rounds file seats [] (rounds_in events)
 
--- the text of the round whose events stand at these places of a game
+-- the text of the round whose events are at these places of a game
 abbrev pub text_between : Played → ℕ → ℕ → List ℕ
 text_between played begun end =
     lines_of_round played.file played.game.seats (take begun played.game.events)
     (slice_range played.game.events begun end)
 
--- so many of the events are those of their first round
+-- this many of the events are those of their first round
 abbrev pub IsLengthOfRound : List Event → ℕ → Type 0
 IsLengthOfRound events count = rounds_in events ≡ take count events ∷ rounds_in (drop count events)
 
@@ -107,7 +108,7 @@ text_of_one file seats round before (events ∷ rounds) =
 abbrev pub round_text_of : Played → round.Round → List ℕ
 round_text_of played round = text_of_one played.file played.game.seats round [] (rounds_in played.game.events)
 
--- the unread lines, of which so many came before
+-- the unread lines, of which this many came before
 abbrev pub unread_lines : ℕ → List Fault → List ℕ
 unread_lines count [] = []
 unread_lines count (fault ∷ faults) =

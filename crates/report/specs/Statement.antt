@@ -1,5 +1,6 @@
 -- The statement after a round: what each player holds, what each started company has, and the bank's cash.
-use Rattle.std.specs.Prelude.{◌≡◌, ℕ, zero, suc, Bool, false, if◌then◌else◌, List, [], ◌∷◌, ◌++◌, codes, decimal, Option, Some, None}
+use Rattle.std.specs.Prelude.{◌≡◌, ℕ, zero, suc, Bool, false, if◌then◌else◌, List, [], ◌∷◌, ◌++◌, codes, decimal}
+use Rattle.std.specs.Prelude.{Option, Some, None}
 use Rattle.certs.specs.Counted.{counted_of}
 use Rattle.std.specs.List.{flat_map, range_with_len}
 use Rattle.std.specs.Fmt.{signed_decimal}
@@ -11,12 +12,12 @@ use Rattle.events.specs.declared.event.Party.{Party}
 use Rattle.events.specs.declared.event.Party.TheVariants as party
 use Rattle.events.specs.declared.event.Shareholder.{Shareholder}
 use Rattle.events.specs.declared.event.Shareholder.TheVariants.{InitialOffering, BankPool, Seat as OfSeat}
-use Rattle.history.specs.LookBack.{cash_of, owner_in, owner_of, same_holder}
-use Rattle.history.specs.Operating.{tokens_placed}
-use Rattle.history.specs.Shares.{president_of, shares_of, square_of}
-use Rattle.history.specs.Trains.{so_many, trains_held}
-use Rattle.history.specs.declared.look_back.GameView.{GameView}
-use Rattle.history.specs.declared.owners.Owners.{Owners}
+use Rattle.totals.specs.LookBack.{cash_of, owner_in, owner_of, same_holder}
+use Rattle.totals.specs.Operating.{tokens_placed}
+use Rattle.totals.specs.Shares.{president_of, shares_of, square_of}
+use Rattle.totals.specs.Trains.{at_least_zero, trains_held}
+use Rattle.totals.specs.declared.look_back.GameView.{GameView}
+use Rattle.totals.specs.declared.owners.Owners.{Owners}
 use Rattle.report.specs.Column.{at_left, at_right}
 use Rattle.report.specs.Line.{name_of}
 use Rattle.tables.specs.Chart.{price_of}
@@ -45,9 +46,9 @@ code_owned events seat private = if is_seat seat (owner_of events private) then 
 unfoldable pub codes_owned : List Event → Seat → List ℕ
 codes_owned events seat = flat_map (λ private. code_owned events seat private) privates
 
--- the tenths of a company at a place, in their column
-unfoldable pub tenths_column : List Event → Company → Shareholder → List ℕ
-tenths_column events company place = at_right 3 (signed_decimal (shares_of events company place))
+-- the shares of a company at a place, in their column
+unfoldable pub shares_column : List Event → Company → Shareholder → List ℕ
+shares_column events company place = at_right 3 (signed_decimal (shares_of events company place))
 
 -- what a party has, in its column
 unfoldable pub cash_column : ℕ → List Event → Party → List ℕ
@@ -61,9 +62,9 @@ cash_column_at past party = cash_column past.seats past.events.now party
 unfoldable pub counted_column : List Event → Seat → List ℕ
 counted_column events seat = at_right 3 (signed_decimal (counted_of events seat))
 
--- the tenths of the eight companies that a seat holds
+-- the shares of the eight companies that a seat holds
 unfoldable pub holdings : List Event → Seat → List ℕ
-holdings events seat = flat_map (λ company. tenths_column events company (OfSeat seat)) companies
+holdings events seat = flat_map (λ company. shares_column events company (OfSeat seat)) companies
 
 -- a player's line
 unfoldable pub player_line : List ℕ → ℕ → List Event → Seat → List ℕ
@@ -81,27 +82,27 @@ abbrev pub president_name : List ℕ → Option Seat → List ℕ
 president_name file None = []
 president_name file (Some seat) = name_of file seat
 
--- a company's cash, the price of its square, its tenths in the initial offering and the bank pool, and the
--- tokens that it has placed
+-- a company's cash, the price of its square, its shares in the initial offering and the bank pool, and the tokens that
+-- it has placed
 unfoldable pub company_figures : ℕ → List Event → Company → Square → List ℕ
 company_figures seats events company square =
     cash_column seats events (party.Holder (holder.Company company))
     ++ at_right 4 (decimal (price_of square))
-    ++ tenths_column events company InitialOffering ++ tenths_column events company BankPool
+    ++ shares_column events company InitialOffering ++ shares_column events company BankPool
     ++ at_right 2 (decimal (tokens_placed events company))
 
 -- the same, as a game stood
 abbrev pub company_figures_at : GameView → Company → Square → List ℕ
 company_figures_at past company square = company_figures past.seats past.events.now company square
 
--- a kind after a space, so many times
+-- a kind after a space, this many times
 abbrev pub codes_of_kind : Kind → ℕ → List ℕ
 codes_of_kind kind zero = []
 codes_of_kind kind (suc n) = codes_of_kind kind n ++ 32 ∷ code_of_kind kind
 
 -- the trains of a kind that a company has, each as its kind after a space
 abbrev pub codes_of_trains : List Event → Company → Kind → List ℕ
-codes_of_trains events company kind = codes_of_kind kind (so_many (trains_held events (Some company) kind))
+codes_of_trains events company kind = codes_of_kind kind (at_least_zero (trains_held events (Some company) kind))
 
 -- the trains of a company, least first
 unfoldable pub trains_text : List Event → Company → List ℕ

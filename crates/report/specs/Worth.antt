@@ -1,14 +1,14 @@
--- What each player is worth at the end of a game: cash, tenths at the market price, and privates at their face value.
--- Tenths of a company without a market price are worth nothing.
+-- What each player is worth at the end of a game: cash, shares at the market price, and privates at their face value.
+-- Shares of a company without a market price are worth nothing.
 use Rattle.std.specs.Prelude.{ℕ, ◌+◌, ◌*◌, if◌then◌else◌, List, [], ◌∷◌, codes, ℤ, pos, ◌+ℤ◌, sum_by}
 use Rattle.certs.specs.Purchase.{market_price_of}
 use Rattle.events.specs.Event.{party_at}
 use Rattle.events.specs.declared.event.Event.{Event}
 use Rattle.events.specs.declared.event.Shareholder.TheVariants.{Seat as OfSeat}
-use Rattle.history.specs.LookBack.{cash_of, owner_of}
-use Rattle.history.specs.Shares.{shares_of}
-use Rattle.history.specs.Trains.{so_many}
-use Rattle.history.specs.declared.look_back.GameView.{GameView}
+use Rattle.totals.specs.LookBack.{cash_of, owner_of}
+use Rattle.totals.specs.Shares.{shares_of}
+use Rattle.totals.specs.Trains.{at_least_zero}
+use Rattle.totals.specs.declared.look_back.GameView.{GameView}
 use Rattle.report.specs.Line.{line_of, name_of}
 use Rattle.report.specs.Statement.{is_seat}
 use Rattle.std.specs.Fmt.{signed_decimal}
@@ -18,17 +18,17 @@ use Rattle.tables.specs.declared.roster.Company.{Company}
 use Rattle.tables.specs.declared.roster.Private.{Private}
 use Rattle.tables.specs.declared.seat.Seat.{Seat}
 
--- what the tenths of a company that a seat has are worth
-abbrev pub worth_of_tenths : List Event → Seat → Company → ℕ
-worth_of_tenths events seat company = so_many (shares_of events company (OfSeat seat)) * market_price_of events company
+-- what the shares of a company that a seat has are worth
+abbrev pub worth_of_shares : List Event → Seat → Company → ℕ
+worth_of_shares events seat company = at_least_zero (shares_of events company (OfSeat seat)) * market_price_of events company
 
 -- what a private is worth to a seat: nothing where another owns it
 abbrev pub worth_of_private : List Event → Seat → Private → ℕ
 worth_of_private events seat private = if is_seat seat (owner_of events private) then face_of private else 0
 
--- what all tenths that a seat has are worth
-abbrev pub worth_of_all_tenths : List Event → Seat → ℕ
-worth_of_all_tenths events seat = sum_by (worth_of_tenths events seat) companies
+-- what all shares that a seat has are worth
+abbrev pub worth_of_all_shares : List Event → Seat → ℕ
+worth_of_all_shares events seat = sum_by (worth_of_shares events seat) companies
 
 -- what all privates are worth that a seat owns
 abbrev pub worth_of_privates : List Event → Seat → ℕ
@@ -37,7 +37,7 @@ worth_of_privates events seat = sum_by (worth_of_private events seat) privates
 -- what a seat is worth
 abbrev pub worth_of : ℕ → List Event → Seat → ℤ
 worth_of seats events seat = cash_of seats events (party_at seat) +ℤ pos
-    (worth_of_all_tenths events seat + worth_of_privates events seat)
+    (worth_of_all_shares events seat + worth_of_privates events seat)
 
 -- the line of what a player is worth
 abbrev pub worth_line : List ℕ → ℕ → List Event → Seat → List ℕ

@@ -1,5 +1,6 @@
 //! Laws of the definitions, each the contract of a function that does nothing.
-ghost use Rattle.report.specs.Laws.{ArrivalChangesNoReport, PartsAreAFront, PartsAreTheReport, PlainReports, ReportIsItsParts, SamePartsSameReport};
+ghost use Rattle.report.specs.Laws.{ArrivalChangesNoReport, PartsAreAPrefix, PartsAreTheReport, PlainReports};
+ghost use Rattle.report.specs.Laws.{ReportIsItsParts, SamePartsSameReport};
 ghost use Rattle.report.specs.Report.{IsReport};
 ghost use Rattle.std.specs.Prelude.{◌≡◌, ℕ, List};
 
@@ -56,9 +57,9 @@ pub fn report_is_its_parts()
 
 /// The parts that are told while a game is played are its report: the header, the text of each
 /// round as it was played, and, once play has stopped, what follows them. Until then they are a
-/// front of the report.
+/// prefix of the report.
 pub fn parts_are_the_report()
-    ensures front { PartsAreAFront }
+    ensures front { PartsAreAPrefix }
     ensures whole { PartsAreTheReport }
 {
     rounds::laws::one_game();

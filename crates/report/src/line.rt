@@ -1,9 +1,12 @@
 ghost use Rattle.std.specs.Prelude.{◌≡◌, OnOk};
 ghost use Rattle.report.specs.Column.{Adds};
-ghost use Rattle.report.specs.Line.{IsOfCompany, IsOfForce, IsOfPrivate, IsOfTenths, IsOfTrains, IsOfTurn, event_line, exchange_line, field_text, lay_line, line_of_company, line_of_fields, line_of_seat, line_of_word, name_of, private_line, ruled_line, text_of_seller, text_of_square, text_of_train_owner};
+ghost use Rattle.report.specs.Line.{IsOfCompany, IsOfForce, IsOfPrivate, IsOfShares, IsOfTrains, IsOfTurn, event_line};
+ghost use Rattle.report.specs.Line.{exchange_line, field_text, lay_line, line_of_company, line_of_fields, line_of_seat};
+ghost use Rattle.report.specs.Line.{line_of_word, name_of, private_line, ruled_line, text_of_seller, text_of_square};
+ghost use Rattle.report.specs.Line.{text_of_train_owner};
 
 use Field::{
-    At, Holds, In, Name, Number, OfRound, On, OrderOf, Source, Tenths, Tile, Turned, Word,
+    At, Holds, In, Name, Number, OfRound, On, OrderOf, ShareCount, Source, Tile, Turned, Word,
 };
 use history::{Event, Holder, PackedRuling, TrainSeller, Verdict};
 use map_tables::{Hex, Lay, Place, Rotation, TileNo};
@@ -23,9 +26,9 @@ pub(crate) enum Field<'a> {
     Holds(Holder),
     /// A number.
     Number(u32),
-    /// A number of tenths.
-    Tenths(u8),
-    /// Where tenths are bought that are no seat's.
+    /// A number of shares.
+    ShareCount(u8),
+    /// Where shares are bought that are no seat's.
     Source(ShareSource),
     /// A square of the stock market.
     On(Square),
@@ -55,10 +58,15 @@ pub(crate) fn push_event(
     ensures { OnOk result (Adds out.old out.new (event_line sheets.now event.now)) }
 {
     match event {
-        Event::Round(round) => tell(out, sheets, "ROUND", &[OfRound(*round)]),
+        Event::Round(round) => push_line_of_word(out, sheets, "ROUND", &[OfRound(*round)]),
         Event::Ruled { seat, line, ruling } => push_ruled(out, sheets, *seat, *line, ruling),
-        Event::Passes(seat) => tell_of(out, sheets, *seat, &[Word("PASSES")]),
-        Event::Left { seat, lines } => tell(out, sheets, "LEFT", &[Name(*seat), Number(*lines)]),
+        Event::Passes(seat) => push_line_of_seat(out, sheets, *seat, &[Word("PASSES")]),
+        Event::Left { seat, lines } => push_line_of_word(
+            out,
+            sheets,
+            "LEFT",
+            &[Name(*seat), Number(*lines)],
+        ),
         Event::Sold { .. }
         | Event::Bids { .. }
         | Event::Price { .. }
@@ -68,7 +76,7 @@ pub(crate) fn push_event(
         Event::Given { .. }
         | Event::Bought { .. }
         | Event::Sells { .. }
-        | Event::Exchanged { .. } => { push_of_tenths(out, sheets, event) }
+        | Event::Exchanged { .. } => { push_of_shares(out, sheets, event) }
         Event::Par { .. } | Event::President { .. } | Event::Floats { .. } | Event::Moves { .. } =>
             { push_of_company(out, sheets, event) }
         Event::Home { .. }
@@ -85,7 +93,7 @@ pub(crate) fn push_event(
         Event::Forced(_) | Event::Aid { .. } | Event::Bankrupt(_) => {
             push_of_force(out, sheets, event)
         }
-        Event::Broken => tell(out, sheets, "BROKEN", &[]),
+        Event::Broken => push_line_of_word(out, sheets, "BROKEN", &[]),
     }
 }
 
@@ -100,19 +108,24 @@ fn push_of_private(out: &mut Vec<u8>, sheets: &Sheets, event: &Event) -> Result<
             private,
             seat,
             price,
-        } => tell_private(out, sheets, "SOLD", *private, Holder::Seat(*seat), *price),
+        } => push_line_of_private(out, sheets, "SOLD", *private, Holder::Seat(*seat), *price),
         Event::Bids {
             private,
             seat,
             amount,
-        } => tell_private(out, sheets, "BIDS", *private, Holder::Seat(*seat), *amount),
-        Event::Price { price } => tell(out, sheets, "PRICE", &[Word("SV"), Number(*price)]),
+        } => push_line_of_private(out, sheets, "BIDS", *private, Holder::Seat(*seat), *amount),
+        Event::Price { price } => push_line_of_word(
+            out,
+            sheets,
+            "PRICE",
+            &[Word("SV"), Number(*price)],
+        ),
         Event::Revenue {
             private,
             owner,
             amount,
-        } => tell_private(out, sheets, "REVENUE", *private, *owner, *amount),
-        Event::Closed(private) => tell(out, sheets, "CLOSED", &[Word(private.code())]),
+        } => push_line_of_private(out, sheets, "REVENUE", *private, *owner, *amount),
+        Event::Closed(private) => push_line_of_word(out, sheets, "CLOSED", &[Word(private.code())]),
         Event::PrivateBought {
             private,
             company,
@@ -120,52 +133,57 @@ fn push_of_private(out: &mut Vec<u8>, sheets: &Sheets, event: &Event) -> Result<
             ..
         } => {
             let buyer = Holder::Company(*company);
-            tell_private(out, sheets, "PRIVATE", *private, buyer, *price)
+            push_line_of_private(out, sheets, "PRIVATE", *private, buyer, *price)
         }
         _ => unreachable!(),
     }
 }
 
-/// Adds an event of a company's tenths as its line: a gift of them, a purchase, a sale, or that one
+/// Adds an event of a company's shares as its line: a gift of them, a purchase, a sale, or that one
 /// of NYC is had for MH.
-fn push_of_tenths(out: &mut Vec<u8>, sheets: &Sheets, event: &Event) -> Result<(), AllocError>
-    requires { IsOfTenths event.now }
+fn push_of_shares(out: &mut Vec<u8>, sheets: &Sheets, event: &Event) -> Result<(), AllocError>
+    requires { IsOfShares event.now }
     ensures { OnOk result (Adds out.old out.new (event_line sheets.now event.now)) }
 {
     match event {
         Event::Given {
             company,
             seat,
-            tenths,
+            shares,
         } => {
-            let fields = [Name(*seat), Tenths(*tenths)];
-            tell_company(out, sheets, "GIVEN", *company, &fields)
+            let fields = [Name(*seat), ShareCount(*shares)];
+            push_line_of_company(out, sheets, "GIVEN", *company, &fields)
         }
         Event::Bought {
             company,
             seat,
-            tenths,
+            shares,
             from,
             price,
         } => {
-            let fields = [Name(*seat), Tenths(*tenths), Source(*from), Number(*price)];
-            tell_company(out, sheets, "BOUGHT", *company, &fields)
+            let fields = [
+                Name(*seat),
+                ShareCount(*shares),
+                Source(*from),
+                Number(*price),
+            ];
+            push_line_of_company(out, sheets, "BOUGHT", *company, &fields)
         }
         Event::Sells {
             company,
             seat,
-            tenths,
+            shares,
             price,
         } => {
-            let fields = [Name(*seat), Tenths(*tenths), Number(*price)];
-            tell_company(out, sheets, "SELLS", *company, &fields)
+            let fields = [Name(*seat), ShareCount(*shares), Number(*price)];
+            push_line_of_company(out, sheets, "SELLS", *company, &fields)
         }
         Event::Exchanged { seat, from } => push_exchanged(out, sheets, *seat, *from),
         _ => unreachable!(),
     }
 }
 
-/// Adds the line of a tenth of NYC that a seat has for MH.
+/// Adds the line of a share of NYC that a seat has for MH.
 fn push_exchanged(
     out: &mut Vec<u8>,
     sheets: &Sheets,
@@ -174,7 +192,7 @@ fn push_exchanged(
 ) -> Result<(), AllocError>
     ensures { OnOk result (Adds out.old out.new (exchange_line sheets.now seat from)) }
 {
-    tell(
+    push_line_of_word(
         out,
         sheets,
         "EXCHANGED",
@@ -190,17 +208,17 @@ fn push_of_company(out: &mut Vec<u8>, sheets: &Sheets, event: &Event) -> Result<
 {
     match event {
         Event::Par { company, price } => {
-            tell_company(out, sheets, "PAR", *company, &[Number(*price)])
+            push_line_of_company(out, sheets, "PAR", *company, &[Number(*price)])
         }
         Event::President { company, seat } => {
-            tell_company(out, sheets, "PRESIDENT", *company, &[Name(*seat)])
+            push_line_of_company(out, sheets, "PRESIDENT", *company, &[Name(*seat)])
         }
         Event::Floats { company, amount } => {
-            tell_company(out, sheets, "FLOATS", *company, &[Number(*amount)])
+            push_line_of_company(out, sheets, "FLOATS", *company, &[Number(*amount)])
         }
         Event::Moves { company, square } => {
             let fields = [Number(price(*square)), On(*square)];
-            tell_company(out, sheets, "MOVES", *company, &fields)
+            push_line_of_company(out, sheets, "MOVES", *company, &fields)
         }
         _ => unreachable!(),
     }
@@ -214,16 +232,16 @@ fn push_of_turn(out: &mut Vec<u8>, sheets: &Sheets, event: &Event) -> Result<(),
 {
     match event {
         Event::Home { company, place } => {
-            tell_company(out, sheets, "HOME", *company, &[At(*place)])
+            push_line_of_company(out, sheets, "HOME", *company, &[At(*place)])
         }
         Event::Laid { company, lay, cost } => push_laid(out, sheets, *company, *lay, *cost),
         Event::Token {
             company,
             place,
             cost,
-        } => tell_company(out, sheets, "TOKEN", *company, &[At(*place), Number(*cost)]),
+        } => push_line_of_company(out, sheets, "TOKEN", *company, &[At(*place), Number(*cost)]),
         Event::Runs { company, revenue } => {
-            tell_company(out, sheets, "RUNS", *company, &[Number(*revenue)])
+            push_line_of_company(out, sheets, "RUNS", *company, &[Number(*revenue)])
         }
         Event::Dividend {
             company,
@@ -231,10 +249,10 @@ fn push_of_turn(out: &mut Vec<u8>, sheets: &Sheets, event: &Event) -> Result<(),
             amount,
         } => {
             let fields = [Holds(*holder), Number(*amount)];
-            tell_company(out, sheets, "DIVIDEND", *company, &fields)
+            push_line_of_company(out, sheets, "DIVIDEND", *company, &fields)
         }
         Event::Withheld { company, amount } => {
-            tell_company(out, sheets, "WITHHELD", *company, &[Number(*amount)])
+            push_line_of_company(out, sheets, "WITHHELD", *company, &[Number(*amount)])
         }
         _ => unreachable!(),
     }
@@ -248,7 +266,7 @@ fn push_of_trains(out: &mut Vec<u8>, sheets: &Sheets, event: &Event) -> Result<(
 {
     match event {
         Event::Traded { company, kind } => {
-            tell_company(out, sheets, "TRADED", *company, &[Word(kind.code())])
+            push_line_of_company(out, sheets, "TRADED", *company, &[Word(kind.code())])
         }
         Event::Train {
             company,
@@ -257,15 +275,15 @@ fn push_of_trains(out: &mut Vec<u8>, sheets: &Sheets, event: &Event) -> Result<(
             price,
         } => {
             let fields = [Word(kind.code()), Word(seller_word(*from)), Number(*price)];
-            tell_company(out, sheets, "TRAIN", *company, &fields)
+            push_line_of_company(out, sheets, "TRAIN", *company, &fields)
         }
-        Event::Phase(kind) => tell(out, sheets, "PHASE", &[Word(kind.code())]),
+        Event::Phase(kind) => push_line_of_word(out, sheets, "PHASE", &[Word(kind.code())]),
         Event::Rusted { owner, kind } => {
             let fields = [Word(train_owner_word(*owner)), Word(kind.code())];
-            tell(out, sheets, "RUSTED", &fields)
+            push_line_of_word(out, sheets, "RUSTED", &fields)
         }
         Event::Discarded { company, kind } => {
-            tell_company(out, sheets, "DISCARDED", *company, &[Word(kind.code())])
+            push_line_of_company(out, sheets, "DISCARDED", *company, &[Word(kind.code())])
         }
         _ => unreachable!(),
     }
@@ -278,16 +296,16 @@ fn push_of_force(out: &mut Vec<u8>, sheets: &Sheets, event: &Event) -> Result<()
     ensures { OnOk result (Adds out.old out.new (event_line sheets.now event.now)) }
 {
     match event {
-        Event::Forced(company) => tell(out, sheets, "FORCED", &[Word(company.code())]),
+        Event::Forced(company) => push_line_of_word(out, sheets, "FORCED", &[Word(company.code())]),
         Event::Aid {
             seat,
             company,
             amount,
         } => {
             let fields = [Name(*seat), Word(company.code()), Number(*amount)];
-            tell(out, sheets, "AID", &fields)
+            push_line_of_word(out, sheets, "AID", &fields)
         }
-        Event::Bankrupt(seat) => tell(out, sheets, "BANKRUPT", &[Name(*seat)]),
+        Event::Bankrupt(seat) => push_line_of_word(out, sheets, "BANKRUPT", &[Name(*seat)]),
         _ => unreachable!(),
     }
 }
@@ -326,21 +344,26 @@ fn push_laid(
     let (tile, hex, turned) = (Tile(lay.tile), In(lay.hex), Turned(lay.rot));
     if lay.swap {
         let fields = [tile, hex, turned, Word("SWAP"), Number(cost)];
-        return tell_company(out, sheets, "LAID", company, &fields);
+        return push_line_of_company(out, sheets, "LAID", company, &fields);
     }
     let fields = [tile, hex, turned, Number(cost)];
-    tell_company(out, sheets, "LAID", company, &fields)
+    push_line_of_company(out, sheets, "LAID", company, &fields)
 }
 
 /// Adds a line that begins with a word.
-fn tell(out: &mut Vec<u8>, sheets: &Sheets, word: &str, fields: &[Field]) -> Result<(), AllocError>
+fn push_line_of_word(
+    out: &mut Vec<u8>,
+    sheets: &Sheets,
+    word: &str,
+    fields: &[Field],
+) -> Result<(), AllocError>
     ensures { OnOk result (Adds out.old out.new (line_of_word sheets.now word.now fields.now)) }
 {
     push_line(out, sheets, &Word(word), fields)
 }
 
 /// Adds a line that begins with the name of a seat's player.
-fn tell_of(
+fn push_line_of_seat(
     out: &mut Vec<u8>,
     sheets: &Sheets,
     seat: Seat,
@@ -352,7 +375,7 @@ fn tell_of(
 }
 
 /// Adds a line of a company: a word, its code, and further fields.
-fn tell_company(
+fn push_line_of_company(
     out: &mut Vec<u8>,
     sheets: &Sheets,
     word: &str,
@@ -368,7 +391,7 @@ fn tell_company(
 }
 
 /// Adds a line of a private, a holder and a sum of money.
-fn tell_private(
+fn push_line_of_private(
     out: &mut Vec<u8>,
     sheets: &Sheets,
     word: &str,
@@ -379,7 +402,7 @@ fn tell_private(
     ensures { OnOk result
         (Adds out.old out.new (private_line sheets.now word.now private holder amount)) }
 {
-    tell(
+    push_line_of_word(
         out,
         sheets,
         word,
@@ -415,7 +438,7 @@ fn push_field(out: &mut Vec<u8>, sheets: &Sheets, field: &Field) -> Result<(), A
         Holds(Holder::Seat(seat)) => push_name(out, sheets, *seat),
         Holds(Holder::Company(company)) => out.extend_from_slice(company.code().as_bytes()),
         Number(number) => print_number(out, *number),
-        Tenths(tenths) => print_number(out, *tenths),
+        ShareCount(shares) => print_number(out, *shares),
         Source(source) => out.extend_from_slice(source.text()),
         On(square) => push_square(out, *square),
         Tile(tile) => print_number(out, tile.number()),
@@ -451,9 +474,9 @@ fn push_ruled(
     match ruling.verdict() {
         Verdict::Obeyed => {
             let fields = [Number(line), Word("OBEYED"), OrderOf(ruling)];
-            tell_of(out, sheets, seat, &fields)
+            push_line_of_seat(out, sheets, seat, &fields)
         }
-        Verdict::Refused(rule) => tell_of(
+        Verdict::Refused(rule) => push_line_of_seat(
             out,
             sheets,
             seat,
@@ -464,7 +487,7 @@ fn push_ruled(
                 OrderOf(ruling),
             ],
         ),
-        Verdict::Faulty(fault) => tell_of(
+        Verdict::Faulty(fault) => push_line_of_seat(
             out,
             sheets,
             seat,

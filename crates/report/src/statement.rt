@@ -2,16 +2,20 @@ ghost use Rattle.std.specs.Prelude.{◌≡◌, ◌∷◌, ◌<◌, OnOk, length}
 ghost use Rattle.certs.specs.Counted.{counted_of};
 ghost use Rattle.certs.specs.Holdings.{AreHoldingsAt};
 ghost use Rattle.certs.specs.Rows.{HasPlace};
-ghost use Rattle.history.specs.LookBack.{owner_in};
+ghost use Rattle.totals.specs.LookBack.{owner_in};
 ghost use Rattle.report.specs.Column.{Adds};
-ghost use Rattle.report.specs.Statement.{AreOwnersIn, bank_line_at, cash_column_at, code_owned, codes_owned, company_figures_at, company_line_at, company_lines_at, counted_column, holdings, codes_of_kind, codes_of_trains, is_seat, player_line_at, player_lines_at, president_name, started_line_at, statement_at, tenths_column, trains_text};
+ghost use Rattle.report.specs.Statement.{AreOwnersIn, bank_line_at, cash_column_at, code_owned, codes_owned};
+ghost use Rattle.report.specs.Statement.{company_figures_at, company_line_at, company_lines_at, counted_column};
+ghost use Rattle.report.specs.Statement.{holdings, codes_of_kind, codes_of_trains, is_seat, player_line_at};
+ghost use Rattle.report.specs.Statement.{player_lines_at, president_name, started_line_at, statement_at, shares_column};
+ghost use Rattle.report.specs.Statement.{trains_text};
 ghost use Rattle.sheets.specs.File.{players_of};
 ghost use Rattle.treasury.specs.Accounts.{AreAccountsAt, HasAccount};
 
 use crate::column::{push_left, push_right};
 use crate::line::{name, push_name};
 use certs::Holdings;
-use history::{GameView, History, Holder, Owners, Party, Shareholder, Tenths, so_many};
+use history::{GameView, History, Holder, Owners, Party, ShareCount, Shareholder, at_least_zero};
 use order_grammar::NAME_MOST;
 use sheets::Sheets;
 use std::alloc::AllocError;
@@ -30,7 +34,7 @@ const CASH_WIDTH: usize = 6;
 /// The width of the column of market prices.
 const PRICE_WIDTH: usize = 4;
 
-/// The width of a column of certificates or tenths.
+/// The width of a column of certificates or shares.
 const COUNT_WIDTH: usize = 3;
 
 /// The width of the column of tokens.
@@ -38,7 +42,7 @@ const TOKEN_WIDTH: usize = 2;
 
 /// A game as it stood, with who owns and holds what in it and what each party has, read once.
 #[derive(Clone, Copy)]
-pub(crate) struct Standing<'a> {
+pub(crate) struct Snapshot<'a> {
     past: GameView<'a>,
     owners: Owners,
     accounts: Accounts,
@@ -48,26 +52,27 @@ pub(crate) struct Standing<'a> {
     ghost held: { AreHoldingsAt past holdings },
 }
 
-impl<'a> Standing<'a> {
+impl<'a> Snapshot<'a> {
     /// A game as it stands.
-    pub(crate) fn of(history: &'a History) -> Standing<'a>
+    pub(crate) fn of(history: &'a History) -> Snapshot<'a>
         ensures seats { result.past.seats ≡ history.now.seats }
         ensures events { result.past.events.now ≡ history.now.events }
     {
-        Standing {
-            past: history.now(),
-            owners: history.owners(),
+        let past = history.now();
+        Snapshot {
+            past,
+            owners: past.owners(),
             accounts: Accounts::of(history),
             holdings: Holdings::of(history),
         }
     }
 
     /// A game as it stood.
-    pub(crate) fn at(past: GameView<'a>) -> Standing<'a>
+    pub(crate) fn at(past: GameView<'a>) -> Snapshot<'a>
         ensures seats { result.past.seats ≡ past.entry.seats }
         ensures events { result.past.events.now ≡ past.entry.events.now }
     {
-        Standing {
+        Snapshot {
             past,
             owners: past.owners(),
             accounts: Accounts::at(&past),
@@ -80,92 +85,92 @@ impl<'a> Standing<'a> {
 pub(crate) fn push_statement(
     out: &mut Vec<u8>,
     sheets: &Sheets,
-    standing: &Standing,
+    snapshot: &Snapshot,
 ) -> Result<(), AllocError>
-    requires { standing.now.past.seats ≡ length (players_of sheets.now) }
-    ensures { OnOk result (Adds out.old out.new (statement_at sheets.now standing.now.past)) }
+    requires { snapshot.now.past.seats ≡ length (players_of sheets.now) }
+    ensures { OnOk result (Adds out.old out.new (statement_at sheets.now snapshot.now.past)) }
 {
-    push_players(out, sheets, standing)?;
-    push_companies(out, sheets, standing)?;
-    push_bank(out, standing)
+    push_players(out, sheets, snapshot)?;
+    push_companies(out, sheets, snapshot)?;
+    push_bank(out, snapshot)
 }
 
 /// Adds the players' lines.
 #[tactic(auto, unfolding(crate::specs::Statement::player_lines))]
-fn push_players(out: &mut Vec<u8>, sheets: &Sheets, standing: &Standing) -> Result<(), AllocError>
-    requires { standing.now.past.seats ≡ length (players_of sheets.now) }
-    ensures { OnOk result (Adds out.old out.new (player_lines_at sheets.now standing.now.past)) }
+fn push_players(out: &mut Vec<u8>, sheets: &Sheets, snapshot: &Snapshot) -> Result<(), AllocError>
+    requires { snapshot.now.past.seats ≡ length (players_of sheets.now) }
+    ensures { OnOk result (Adds out.old out.new (player_lines_at sheets.now snapshot.now.past)) }
 {
     for seat in 0..sheets.seats() {
-        push_player(out, sheets, standing, Seat(seat as u8))?;
+        push_player(out, sheets, snapshot, Seat(seat as u8))?;
     }
     Ok(())
 }
 
 /// Adds the lines of the started companies.
 #[tactic(auto, unfolding(crate::specs::Statement::company_lines))]
-fn push_companies(out: &mut Vec<u8>, sheets: &Sheets, standing: &Standing) -> Result<(), AllocError>
-    ensures { OnOk result (Adds out.old out.new (company_lines_at sheets.now standing.now.past)) }
+fn push_companies(out: &mut Vec<u8>, sheets: &Sheets, snapshot: &Snapshot) -> Result<(), AllocError>
+    ensures { OnOk result (Adds out.old out.new (company_lines_at sheets.now snapshot.now.past)) }
 {
     for company in &Company::ALL {
-        push_company(out, sheets, standing, *company)?;
+        push_company(out, sheets, snapshot, *company)?;
     }
     Ok(())
 }
 
 /// Adds the bank's line.
 #[tactic(auto, unfolding(crate::specs::Statement::bank_line))]
-fn push_bank(out: &mut Vec<u8>, standing: &Standing) -> Result<(), AllocError>
-    ensures { OnOk result (Adds out.old out.new (bank_line_at standing.now.past)) }
+fn push_bank(out: &mut Vec<u8>, snapshot: &Snapshot) -> Result<(), AllocError>
+    ensures { OnOk result (Adds out.old out.new (bank_line_at snapshot.now.past)) }
 {
     out.extend_from_slice(b"BANK ")?;
-    push_cash(out, standing, Party::Bank)?;
+    push_cash(out, snapshot, Party::Bank)?;
     out.push(b'\n')?;
     Ok(())
 }
 
-/// Adds a player's line: name, cash, counted certificates, tenths by company, privates. The seat is
+/// Adds a player's line: name, cash, counted certificates, shares by company, privates. The seat is
 /// one of six.
 #[tactic(auto, unfolding(crate::specs::Statement::player_line))]
 fn push_player(
     out: &mut Vec<u8>,
     sheets: &Sheets,
-    standing: &Standing,
+    snapshot: &Snapshot,
     seat: Seat,
 ) -> Result<(), AllocError>
     requires { seat.0 < 6 }
     ensures { OnOk result
-        (Adds out.old out.new (player_line_at sheets.now standing.now.past seat)) }
+        (Adds out.old out.new (player_line_at sheets.now snapshot.now.past seat)) }
 {
     out.extend_from_slice(b"PLAYER ")?;
     push_left(out, name(sheets, seat), NAME_WIDTH)?;
-    push_cash(out, standing, Party::of_seat(seat))?;
-    push_counted(out, standing, seat)?;
-    push_holdings(out, standing, seat)?;
-    push_privates(out, standing, seat)?;
+    push_cash(out, snapshot, Party::of_seat(seat))?;
+    push_counted(out, snapshot, seat)?;
+    push_holdings(out, snapshot, seat)?;
+    push_privates(out, snapshot, seat)?;
     out.push(b'\n')?;
     Ok(())
 }
 
-/// Adds the tenths of each company that a seat holds, which is one of six.
+/// Adds the shares of each company that a seat holds, which is one of six.
 #[tactic(auto, unfolding(crate::specs::Statement::holdings))]
-fn push_holdings(out: &mut Vec<u8>, standing: &Standing, seat: Seat) -> Result<(), AllocError>
+fn push_holdings(out: &mut Vec<u8>, snapshot: &Snapshot, seat: Seat) -> Result<(), AllocError>
     requires { seat.0 < 6 }
-    ensures { OnOk result (Adds out.old out.new (holdings standing.now.past.events.now seat)) }
+    ensures { OnOk result (Adds out.old out.new (holdings snapshot.now.past.events.now seat)) }
 {
     for company in &Company::ALL {
-        push_tenths(out, standing, *company, Shareholder::Seat(seat))?;
+        push_shares(out, snapshot, *company, Shareholder::Seat(seat))?;
     }
     Ok(())
 }
 
 /// Adds the codes of a seat's privates, each after a space.
 #[tactic(auto, unfolding(crate::specs::Statement::codes_owned))]
-fn push_privates(out: &mut Vec<u8>, standing: &Standing, seat: Seat) -> Result<(), AllocError>
-    ensures { OnOk result (Adds out.old out.new (codes_owned standing.now.past.events.now seat)) }
+fn push_privates(out: &mut Vec<u8>, snapshot: &Snapshot, seat: Seat) -> Result<(), AllocError>
+    ensures { OnOk result (Adds out.old out.new (codes_owned snapshot.now.past.events.now seat)) }
 {
     for private in &Private::ALL {
-        push_private(out, standing, seat, *private)?;
+        push_private(out, snapshot, seat, *private)?;
     }
     Ok(())
 }
@@ -173,14 +178,14 @@ fn push_privates(out: &mut Vec<u8>, standing: &Standing, seat: Seat) -> Result<(
 /// Adds the code of a private after a space, if the seat owns it.
 fn push_private(
     out: &mut Vec<u8>,
-    standing: &Standing,
+    snapshot: &Snapshot,
     seat: Seat,
     private: Private,
 ) -> Result<(), AllocError>
     ensures { OnOk result
-        (Adds out.old out.new (code_owned standing.now.past.events.now seat private)) }
+        (Adds out.old out.new (code_owned snapshot.now.past.events.now seat private)) }
 {
-    if owns(&standing.owners, seat, private) {
+    if owns(&snapshot.owners, seat, private) {
         out.push(b' ')?;
         out.extend_from_slice(private.code().as_bytes())?;
     }
@@ -197,20 +202,20 @@ pub(crate) fn owns(owners: &Owners, seat: Seat, private: Private) -> bool
     }
 }
 
-/// Adds the line of a company, if it is started: code, cash, market price, tenths in the initial
+/// Adds the line of a company, if it is started: code, cash, market price, shares in the initial
 /// offering and the bank pool, tokens, president, trains.
 fn push_company(
     out: &mut Vec<u8>,
     sheets: &Sheets,
-    standing: &Standing,
+    snapshot: &Snapshot,
     company: Company,
 ) -> Result<(), AllocError>
     ensures { OnOk result
-        (Adds out.old out.new (started_line_at sheets.now standing.now.past company)) }
+        (Adds out.old out.new (started_line_at sheets.now snapshot.now.past company)) }
 {
-    match standing.past.square(company) {
+    match snapshot.past.square(company) {
         None => Ok(()),
-        Some(square) => push_started(out, sheets, standing, company, square),
+        Some(square) => push_started(out, sheets, snapshot, company, square),
     }
 }
 
@@ -219,83 +224,83 @@ fn push_company(
 fn push_started(
     out: &mut Vec<u8>,
     sheets: &Sheets,
-    standing: &Standing,
+    snapshot: &Snapshot,
     company: Company,
     square: Square,
 ) -> Result<(), AllocError>
     ensures { OnOk result
-        (Adds out.old out.new (company_line_at sheets.now standing.now.past company square)) }
+        (Adds out.old out.new (company_line_at sheets.now snapshot.now.past company square)) }
 {
     out.extend_from_slice(b"COMPANY ")?;
     push_left(out, company.code().as_bytes(), CODE_WIDTH)?;
-    push_figures(out, standing, company, square)?;
-    push_president(out, sheets, standing.past.president(company))?;
-    push_trains(out, standing, company)?;
+    push_figures(out, snapshot, company, square)?;
+    push_president(out, sheets, snapshot.past.president(company))?;
+    push_trains(out, snapshot, company)?;
     out.push(b'\n')?;
     Ok(())
 }
 
-/// Adds a company's cash, the price of its square, its tenths in the initial offering and the bank
+/// Adds a company's cash, the price of its square, its shares in the initial offering and the bank
 /// pool, and how many tokens it has placed.
 #[tactic(auto, unfolding(crate::specs::Statement::company_figures))]
 fn push_figures(
     out: &mut Vec<u8>,
-    standing: &Standing,
+    snapshot: &Snapshot,
     company: Company,
     square: Square,
 ) -> Result<(), AllocError>
     ensures { OnOk result
-        (Adds out.old out.new (company_figures_at standing.now.past company square)) }
+        (Adds out.old out.new (company_figures_at snapshot.now.past company square)) }
 {
-    push_cash(out, standing, Party::of_company(company))?;
+    push_cash(out, snapshot, Party::of_company(company))?;
     push_right(out, price(square), PRICE_WIDTH)?;
-    push_tenths(out, standing, company, Shareholder::InitialOffering)?;
-    push_tenths(out, standing, company, Shareholder::BankPool)?;
-    push_right(out, standing.past.tokens_placed(company), TOKEN_WIDTH)
+    push_shares(out, snapshot, company, Shareholder::InitialOffering)?;
+    push_shares(out, snapshot, company, Shareholder::BankPool)?;
+    push_right(out, snapshot.past.tokens_placed(company), TOKEN_WIDTH)
 }
 
 /// Adds the cash of a party in its column. A seat is one of six.
 #[tactic(auto, unfolding(crate::specs::Statement::cash_column))]
-fn push_cash(out: &mut Vec<u8>, standing: &Standing, party: Party) -> Result<(), AllocError>
+fn push_cash(out: &mut Vec<u8>, snapshot: &Snapshot, party: Party) -> Result<(), AllocError>
     requires { HasAccount party }
-    ensures { OnOk result (Adds out.old out.new (cash_column_at standing.now.past party)) }
+    ensures { OnOk result (Adds out.old out.new (cash_column_at snapshot.now.past party)) }
 {
-    push_right(out, standing.accounts.cash(party), CASH_WIDTH)
+    push_right(out, snapshot.accounts.cash(party), CASH_WIDTH)
 }
 
-/// Adds the tenths of a company that lie at a place in their column. A seat is one of six.
-#[tactic(auto, unfolding(crate::specs::Statement::tenths_column))]
-fn push_tenths(
+/// Adds the shares of a company that lie at a place in their column. A seat is one of six.
+#[tactic(auto, unfolding(crate::specs::Statement::shares_column))]
+fn push_shares(
     out: &mut Vec<u8>,
-    standing: &Standing,
+    snapshot: &Snapshot,
     company: Company,
     place: Shareholder,
 ) -> Result<(), AllocError>
     requires { HasPlace place }
     ensures { OnOk result
-        (Adds out.old out.new (tenths_column standing.now.past.events.now company place)) }
+        (Adds out.old out.new (shares_column snapshot.now.past.events.now company place)) }
 {
-    push_right(out, standing.holdings.tenths(company, place), COUNT_WIDTH)
+    push_right(out, snapshot.holdings.shares(company, place), COUNT_WIDTH)
 }
 
 /// Adds how many certificates of a seat count in their column. The seat is one of six.
 #[tactic(auto, unfolding(crate::specs::Statement::counted_column))]
-fn push_counted(out: &mut Vec<u8>, standing: &Standing, seat: Seat) -> Result<(), AllocError>
+fn push_counted(out: &mut Vec<u8>, snapshot: &Snapshot, seat: Seat) -> Result<(), AllocError>
     requires { seat.0 < 6 }
     ensures { OnOk result
-        (Adds out.old out.new (counted_column standing.now.past.events.now seat)) }
+        (Adds out.old out.new (counted_column snapshot.now.past.events.now seat)) }
 {
-    push_right(out, certificates(standing, seat), COUNT_WIDTH)
+    push_right(out, certificates(snapshot, seat), COUNT_WIDTH)
 }
 
 /// How many certificates of a seat count against the limit. The seat is one of six.
-fn certificates(standing: &Standing, seat: Seat) -> Tenths
+fn certificates(snapshot: &Snapshot, seat: Seat) -> ShareCount
     requires { seat.0 < 6 }
-    ensures { result ≡ counted_of standing.now.past.events.now seat }
+    ensures { result ≡ counted_of snapshot.now.past.events.now seat }
 {
     // A law, which does nothing when it runs: the tables count what the events say.
     certs::laws::counted_by_the_game();
-    standing.holdings.counted(seat)
+    snapshot.holdings.counted(seat)
 }
 
 /// Adds the name of a president after a space.
@@ -315,12 +320,12 @@ fn push_president(
 
 /// Adds the trains of a company, least first, each as its kind after a space.
 #[tactic(auto, unfolding(crate::specs::Statement::trains_text))]
-fn push_trains(out: &mut Vec<u8>, standing: &Standing, company: Company) -> Result<(), AllocError>
+fn push_trains(out: &mut Vec<u8>, snapshot: &Snapshot, company: Company) -> Result<(), AllocError>
     ensures { OnOk result
-        (Adds out.old out.new (trains_text standing.now.past.events.now company)) }
+        (Adds out.old out.new (trains_text snapshot.now.past.events.now company)) }
 {
     for kind in &Kind::ALL {
-        push_trains_of_kind(out, standing, company, *kind)?;
+        push_trains_of_kind(out, snapshot, company, *kind)?;
     }
     Ok(())
 }
@@ -328,21 +333,21 @@ fn push_trains(out: &mut Vec<u8>, standing: &Standing, company: Company) -> Resu
 /// Adds the trains of a kind that a company has, each as its kind after a space.
 fn push_trains_of_kind(
     out: &mut Vec<u8>,
-    standing: &Standing,
+    snapshot: &Snapshot,
     company: Company,
     kind: Kind,
 ) -> Result<(), AllocError>
     ensures { OnOk result
-        (Adds out.old out.new (codes_of_trains standing.now.past.events.now company kind)) }
+        (Adds out.old out.new (codes_of_trains snapshot.now.past.events.now company kind)) }
 {
     push_kind(
         out,
         kind,
-        so_many(Money::from(standing.past.trains(Some(company), kind))),
+        at_least_zero(Money::from(snapshot.past.trains(Some(company), kind))),
     )
 }
 
-/// Adds a kind after a space so many times.
+/// Adds a kind after a space this many times.
 fn push_kind(out: &mut Vec<u8>, kind: Kind, count: u128) -> Result<(), AllocError>
     ensures { OnOk result (Adds out.old out.new (codes_of_kind kind count)) }
 {

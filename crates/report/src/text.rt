@@ -1,11 +1,13 @@
 ghost use Rattle.std.specs.Prelude.{◌≡◌, ◌+◌, ◌≤◌, IfOk, OnOk, drop, length};
 ghost use Rattle.report.specs.Column.{Adds};
 ghost use Rattle.report.specs.Parts.{last_round, last_round_text};
-ghost use Rattle.report.specs.Report.{IsLengthOfRound, awaiting_text, end_text, ends_round, game_line, header, is_round, name_owing, over_text, refusal_line, report_of, round_text_of, rounds_text, text_between, unread_lines};
+ghost use Rattle.report.specs.Report.{IsLengthOfRound, awaiting_text, end_text, ends_round, game_line, header};
+ghost use Rattle.report.specs.Report.{is_round, name_owing, over_text, refusal_line, report_of, round_text_of};
+ghost use Rattle.report.specs.Report.{rounds_text, text_between, unread_lines};
 ghost use Rattle.sheets.specs.File.{players_of};
 
 use crate::line::{push_event, push_name};
-use crate::statement::{Standing, push_statement};
+use crate::statement::{Snapshot, push_statement};
 use crate::worth::push_worths;
 use history::{Event, History, Walk};
 use order_grammar::{Fault, Version, print_number, print_round};
@@ -122,7 +124,7 @@ fn push_round(
     push_statement(
         out,
         game.sheets(),
-        &Standing::at(walk.past(history.seats())),
+        &Snapshot::at(walk.view(history.seats())),
     )
 }
 
@@ -143,7 +145,7 @@ pub(crate) fn push_last_round(
     for event in &events[begin_of_last_round(events)..] {
         push_event(out, sheets, event)?;
     }
-    push_statement(out, sheets, &Standing::of(history))
+    push_statement(out, sheets, &Snapshot::of(history))
 }
 
 /// The place from which on the events are those of the round that began last.
@@ -192,7 +194,7 @@ fn ends_round(later: &[Event]) -> bool
     later.first().is_none_or(|event| event.round().is_some())
 }
 
-/// Adds the lines for unread lines, of which so many came before.
+/// Adds the lines for unread lines, of which this many came before.
 pub(crate) fn push_unread(
     out: &mut Vec<u8>,
     before: usize,

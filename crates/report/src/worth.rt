@@ -2,13 +2,14 @@
 ghost use Rattle.std.specs.Prelude.{◌≡◌, ◌≤◌, ◌^◌, OnOk, length};
 ghost use Rattle.report.specs.Column.{Adds};
 ghost use Rattle.report.specs.Statement.{AreOwnersIn};
-ghost use Rattle.report.specs.Worth.{worth_line_at, worth_lines_at, worth_of, worth_of_all_tenths, worth_of_private, worth_of_privates, worth_of_tenths};
+ghost use Rattle.report.specs.Worth.{worth_line_at, worth_lines_at, worth_of, worth_of_all_shares, worth_of_private};
+ghost use Rattle.report.specs.Worth.{worth_of_privates, worth_of_shares};
 ghost use Rattle.sheets.specs.File.{players_of};
 
 use crate::line::push_name;
 use crate::statement::owns;
 use certs::market_price;
-use history::{GameView, Owners, Party, Shareholder, so_many};
+use history::{GameView, Owners, Party, Shareholder, at_least_zero};
 use order_grammar::print_number;
 use sheets::Sheets;
 use std::alloc::AllocError;
@@ -47,18 +48,18 @@ fn push_worth(
     Ok(())
 }
 
-/// What a seat is worth, in dollars: its cash, its tenths at the market price, and its privates at
+/// What a seat is worth, in dollars: its cash, its shares at the market price, and its privates at
 /// their face value.
 pub fn player_worth(past: &GameView, seat: Seat) -> Money
     ensures { result ≡ worth_of past.now.seats past.now.events.now seat }
 {
-    let owned = tenths_worth(past, seat) + u128::from(privates_worth(past, seat));
+    let owned = shares_worth(past, seat) + u128::from(privates_worth(past, seat));
     past.cash(Party::of_seat(seat)) + owned as Money
 }
 
-/// What all tenths that a seat has are worth, in dollars.
-fn tenths_worth(past: &GameView, seat: Seat) -> u128
-    ensures sum { result ≡ worth_of_all_tenths past.now.events.now seat }
+/// What all shares that a seat has are worth, in dollars.
+fn shares_worth(past: &GameView, seat: Seat) -> u128
+    ensures sum { result ≡ worth_of_all_shares past.now.events.now seat }
     ensures small { result ≤ 2 ^ 112 }
 {
     let mut sum = 0;
@@ -68,14 +69,14 @@ fn tenths_worth(past: &GameView, seat: Seat) -> u128
     sum
 }
 
-/// What the tenths of a company that a seat has are worth, in dollars: nothing where the company has
+/// What the shares of a company that a seat has are worth, in dollars: nothing where the company has
 /// no market price.
 fn company_worth(past: &GameView, seat: Seat, company: Company) -> u128
-    ensures worth { result ≡ worth_of_tenths past.now.events.now seat company }
+    ensures worth { result ≡ worth_of_shares past.now.events.now seat company }
     ensures small { result ≤ 2 ^ 109 }
 {
-    let tenths = so_many(past.shares(company, Shareholder::Seat(seat)));
-    tenths * u128::from(market_price(past, company))
+    let shares = at_least_zero(past.shares(company, Shareholder::Seat(seat)));
+    shares * u128::from(market_price(past, company))
 }
 
 /// What all privates are worth that a seat owns, in dollars.

@@ -1,10 +1,12 @@
 -- Each call that leads to a game is answered.
 use Rattle.std.proofs.Common.{◌≡◌, ℕ, List, refl}
-use Rattle.history.specs.LookBack.{Game}
-use Rattle.operating.proofs.CallsAnswered.{none_answered, then_answered, times_answered, turn_answered, unasked_answered}
+use Rattle.totals.specs.LookBack.{Game}
+use Rattle.operating.proofs.CallsAnswered.{none_answered, then_answered, times_answered, turn_answered}
+use Rattle.operating.proofs.CallsAnswered.{unasked_answered}
 use Rattle.operating.specs.Answered.{IsAnswered}
 use Rattle.operating.specs.Calls.{Then, Unasked}
-use Rattle.rounds.specs.GameCalls.{AreOver, IsFinished, IsOpened, NextCalls, OperatingCalls, PlayedCalls, RoundCalls, Stops, TurnsCall, between_after}
+use Rattle.rounds.specs.GameCalls.{AreOver, IsFinished, IsOpened, NextCalls, OperatingCalls, PlayedCalls, RoundCalls}
+use Rattle.rounds.specs.GameCalls.{Stops, TurnsCall, between_after}
 use Rattle.rounds.specs.Play.{Between, before_play}
 use Rattle.rounds.specs.StepsCall.{GamesAreAnswered, StepsAreAnswered}
 use Rattle.rounds.specs.declared.fault.PlayFault.TheVariants.{Memory}

@@ -1,15 +1,20 @@
 -- The calls of a game, turn by turn and round by round.
-use Rattle.std.proofs.Common.{◌≡◌, ℕ, zero, suc, List, [], ◌∷◌, ◌++◌, Some, None, Result, Ok, Err, refl, sym, ap, subst, ◌∙◌, inl, inr}
+use Rattle.std.proofs.Common.{◌≡◌, ℕ, zero, suc, List, [], ◌∷◌, ◌++◌, Some, None, Result, Ok, Err, refl, sym, ap, subst}
+use Rattle.std.proofs.Common.{◌∙◌, inl, inr}
 use Rattle.std.proofs.lemmas.List.{append-nil}
-use Rattle.history.specs.LookBack.{Game}
+use Rattle.totals.specs.LookBack.{Game}
 use Rattle.operating.proofs.Calls.{broken_off, joined, silent}
 use Rattle.operating.proofs.Played.{seats_stay}
 use Rattle.operating.proofs.TurnCalled.{turn_leads}
 use Rattle.operating.specs.Calls.{Call, Course, Earns, Makes, SomeTimesThen, Then, TimesThen, Unasked}
 use Rattle.operating.specs.TurnCalls.{SomeTurnCalls}
-use Rattle.rounds.specs.GameCalls.{AreOver, CallsAreOfTheGame, CompanyCalls, EachGameCalls, IsFinished, IsOpened, NextCalls, OperatingCalls, PlayedCalls, RoundCalls, SomeCalls, Stops, TurnsCall, between_after}
-use Rattle.rounds.specs.OperatingRound.{IsOperatingRound, TakeTurns, TakesTurn, TurnsLead, finished, next_company, opened}
-use Rattle.rounds.specs.Play.{AreRounds, Between, IsPlayed, IsRound, IsTheGame, IsToPlay, Played, SomeGame, before_play, coming, end_of, in_set_before}
+use Rattle.rounds.specs.GameCalls.{AreOver, CallsAreOfTheGame, CompanyCalls, EachGameCalls, IsFinished, IsOpened}
+use Rattle.rounds.specs.GameCalls.{NextCalls, OperatingCalls, PlayedCalls, RoundCalls, SomeCalls, Stops, TurnsCall}
+use Rattle.rounds.specs.GameCalls.{between_after}
+use Rattle.rounds.specs.OperatingRound.{IsOperatingRound, TakeTurns, TakesTurn, TurnsLead, finished, next_company}
+use Rattle.rounds.specs.OperatingRound.{opened}
+use Rattle.rounds.specs.Play.{AreRounds, Between, IsPlayed, IsRound, IsTheGame, IsToPlay, Played, SomeGame, before_play}
+use Rattle.rounds.specs.Play.{coming, end_of, in_set_before}
 use Rattle.rounds.specs.declared.fault.PlayFault.{PlayFault}
 use Rattle.rounds.specs.declared.fault.PlayFault.TheVariants.{Memory}
 use Rattle.rounds.specs.declared.following.Next.{Next}

@@ -1,24 +1,27 @@
 -- Each call of a game is for a round that a line can name.
-use Rattle.std.proofs.Common.{◌≡◌, ℕ, zero, suc, ◌+◌, ◌<◌, ◌≤◌, Bool, true, false, List, [], ◌∷◌, ◌++◌, length, Result, Ok, Err, refl, sym, ap, subst, ◌∙◌, inl, inr, arith}
+use Rattle.std.proofs.Common.{◌≡◌, ℕ, zero, suc, ◌+◌, ◌<◌, ◌≤◌, Bool, true, false, List, [], ◌∷◌, ◌++◌, length, Result}
+use Rattle.std.proofs.Common.{Ok, Err, refl, sym, ap, subst, ◌∙◌, inl, inr, arith}
 use Rattle.std.specs.Prelude.{Option, Some, None, pos}
 use Rattle.std.specs.List.{AllByRecursion}
-use Rattle.certificate.specs.declared.runner.RunnerFault.TheVariants as runner
+use Rattle.legal_runs.specs.declared.runner.RunnerFault.TheVariants as runner
 use Rattle.events.specs.declared.event.Event.{Event}
-use Rattle.history.specs.LookBack.{Game, broken_in}
-use Rattle.history.specs.Shares.{president_of}
+use Rattle.totals.specs.LookBack.{Game, broken_in}
+use Rattle.totals.specs.Shares.{president_of}
 use Rattle.map_tables.specs.declared.rules.RunRule.{RunRule}
 use Rattle.operating.specs.Best.{best_judgement}
 use Rattle.operating.specs.Calls.{Call, Course, Then, TimesThen, Unasked}
 use Rattle.operating.specs.Turn.{is_held}
-use Rattle.operating.specs.TurnCalls.{AskedCalls, Asks, BestCalls, BlockCalls, EndCalls, IsCredited, LineCalls, LinesCall, OrderCalls, ReadingCalls, TurnCalls, asked}
+use Rattle.operating.specs.TurnCalls.{AskedCalls, Asks, BestCalls, BlockCalls, EndCalls, IsCredited, LineCalls}
+use Rattle.operating.specs.TurnCalls.{LinesCall, OrderCalls, ReadingCalls, TurnCalls, asked}
 use Rattle.order_grammar.specs.declared.fault.Fault.{Fault}
 use Rattle.order_grammar.specs.declared.order.Order.{Order}
 use Rattle.privates.specs.Turn.{all_sold}
 use Rattle.rounds.proofs.Coming.{OfNext, after_operating, comes_in_sequence, comes_once, of_coming}
 use Rattle.rounds.proofs.Forward.{posted_small}
-use Rattle.rounds.proofs.InSet.{StandsInSet, StandsNext, coming_in_set, first_stands, in_any_set}
+use Rattle.rounds.proofs.InSet.{IsInSet, IsNextInSet, coming_in_set, first_stands, in_any_set}
 use Rattle.rounds.specs.CallsNamed.{CallsAreNamed}
-use Rattle.rounds.specs.GameCalls.{AreOver, IsFinished, IsOpened, NextCalls, OperatingCalls, PlayedCalls, RoundCalls, Stops, TurnsCall, between_after}
+use Rattle.rounds.specs.GameCalls.{AreOver, IsFinished, IsOpened, NextCalls, OperatingCalls, PlayedCalls, RoundCalls}
+use Rattle.rounds.specs.GameCalls.{Stops, TurnsCall, between_after}
 use Rattle.rounds.specs.Play.{Between, Played, before_play, coming, in_set_before}
 use Rattle.rounds.specs.Sequence.{following, turn_in_set}
 use Rattle.rounds.specs.declared.fault.PlayFault.{PlayFault}
@@ -209,12 +212,12 @@ module _ (old new : Between) (round : Round) (game : Game) (after : new ≡ betw
       (follows_then later is)
       (next_from_one round old.in_set (all_sold game.events) (broken_in game.events) (from round comes))
 
-  stands_then : StandsNext old → StandsNext new
+  stands_then : IsNextInSet old → IsNextInSet new
   stands_then stands later is =
       let count : new.in_set ≡ in_set_before (next.Round later) game.events old.in_set =
       ap (λ (there : Between). there.in_set) after ∙ ap (λ (it : Next). in_set_before it game.events old.in_set)
       (comes_then later is) in
-      subst (λ (in_set : ℕ). StandsInSet later in_set) (sym count)
+      subst (λ (in_set : ℕ). IsInSet later in_set) (sym count)
       (coming_in_set round later old.in_set (all_sold game.events) (broken_in game.events) game.events
       (stands round comes) (follows_then later is))
 
@@ -243,7 +246,7 @@ led_to file old new calls course =
 module _ (numbered : SheetsAreNumbered) (file : List ℕ) (some : 0 < length (players_of file)) where
   -- the calls of the round that comes next
   round_named :
-      (old new : Between) (calls : List Call) → ComesFromOne old → StandsNext old → RoundCalls file old (Ok new) calls →
+      (old new : Between) (calls : List Call) → ComesFromOne old → IsNextInSet old → RoundCalls file old (Ok new) calls →
       AllByRecursion IsForNamed calls
   round_named old new calls from stands course =
       let round : Round = course.0 in
@@ -256,7 +259,7 @@ module _ (numbered : SheetsAreNumbered) (file : List ℕ) (some : 0 < length (pl
 
   -- and those of all rounds from there on
   times_named :
-      (times : ℕ) (old : Between) (played : Played) (calls : List Call) → ComesFromOne old → StandsNext old →
+      (times : ℕ) (old : Between) (played : Played) (calls : List Call) → ComesFromOne old → IsNextInSet old →
       TimesThen times (RoundCalls file) (Unasked Memory (Stops file)) old (Ok played) calls
       → AllByRecursion IsForNamed calls
   times_named zero old played calls from stands course = of_none IsForNamed calls course.1

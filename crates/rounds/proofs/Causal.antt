@@ -1,11 +1,11 @@
 -- Later sheets change nothing, since the sequence goes forward and each round is played from its own
 -- sheets alone.
 use Rattle.std.proofs.Common.{◌≡◌, ℕ, zero, suc, ◌≤◌, ◌<◌, List, length, sym, ap, ◌∙◌, arith}
-use Rattle.history.specs.LookBack.{broken_in}
+use Rattle.totals.specs.LookBack.{broken_in}
 use Rattle.privates.specs.Turn.{all_sold}
 use Rattle.rounds.proofs.Coming.{comes_once, follows}
 use Rattle.rounds.proofs.Forward.{played_forward}
-use Rattle.rounds.proofs.InSet.{StandsNext, comes_in_set}
+use Rattle.rounds.proofs.InSet.{IsNextInSet, comes_in_set}
 use Rattle.rounds.proofs.ReadAlike.{same_before, same_round}
 use Rattle.rounds.specs.Causality.{AgreeUpTo, LaterSheetsChangeNothing}
 use Rattle.rounds.specs.Play.{AreRounds, Between, IsRound, before_play}
@@ -18,7 +18,7 @@ use Rattle.tables.specs.declared.round.Round.{Round}
 module _ (numbered : SheetsAreNumbered) (last : Round) (first second : List ℕ) (some : 0 < length (players_of first))
     (agree : AgreeUpTo last first second) where
   -- a round that was played is before the next
-  forward : (old new : Between) (later : Round) → StandsNext old → (round : IsRound first old new)
+  forward : (old new : Between) (later : Round) → IsNextInSet old → (round : IsRound first old new)
       → new.next ≡ next.Round later →
       rank_of round.round < rank_of later
   forward old new later stands round comes =

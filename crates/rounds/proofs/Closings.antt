@@ -1,7 +1,7 @@
 -- A private that is closed has no owner ever after, and whoever sells to a company has agreed.
 use Rattle.std.proofs.Common.{◌≡◌, ℕ, zero, suc, true, List, refl, subst}
 use Rattle.events.specs.declared.event.Event.TheVariants as event
-use Rattle.history.specs.LookBack.{Game, is_closed}
+use Rattle.totals.specs.LookBack.{Game, is_closed}
 use Rattle.operating.specs.PrivateLaws.{ClosedStaysClosed, KeepsClosed, OthersKeepClosed, SalesKeepClosed}
 use Rattle.operating.specs.SaleLaws.{OthersKeepAgreed, SellersAgree, TurnsKeepAgreed}
 use Rattle.privates.specs.Standing.{standing_ruling}

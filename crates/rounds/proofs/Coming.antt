@@ -2,7 +2,7 @@
 use Rattle.std.proofs.Common.{◌≡◌, ℕ, ◌+◌, Bool, true, false, nat_lt, if◌then◌else◌, List, refl, sym, ap, subst, ◌∙◌}
 use Rattle.std.specs.Prelude.{⊤}
 use Rattle.events.specs.declared.event.Event.{Event}
-use Rattle.history.specs.LookBack.{bankrupt_in, broken_in}
+use Rattle.totals.specs.LookBack.{bankrupt_in, broken_in}
 use Rattle.privates.specs.Turn.{all_sold}
 use Rattle.rounds.specs.Play.{Between, IsRound, coming, in_set_before}
 use Rattle.rounds.specs.Sequence.{BankAloneEndsIt, following}
@@ -78,6 +78,6 @@ module _ (file : List ℕ) (old new : Between) (later : Round) (round : IsRound 
       ≡ next.Round later
   follows = comes_in_sequence round.round later old.in_set new.game.events (sym round.next_then ∙ comes)
 
-  -- and its set has so many operating rounds
+  -- and its set has this many operating rounds
   pub in_set_then : new.in_set ≡ in_set_before (next.Round later) new.game.events old.in_set
   in_set_then = round.in_set_then ∙ ap (λ (it : Next). in_set_before it new.game.events old.in_set) comes

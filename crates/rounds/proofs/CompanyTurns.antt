@@ -1,15 +1,16 @@
 -- The turns of the companies in an operating round: they lead to one end, which comes after at most eight, and
 -- no company takes two.
-use Rattle.std.proofs.Common.{◌≡◌, ℕ, zero, suc, ◌+◌, ◌<◌, ◌≤◌, Bool, true, false, ◌||◌, if◌then◌else◌, List, [], ◌∷◌, ◌++◌, length, Option, Some, None, is_some, refl, sym, ap, subst, ◌∙◌, arith}
+use Rattle.std.proofs.Common.{◌≡◌, ℕ, zero, suc, ◌+◌, ◌<◌, ◌≤◌, Bool, true, false, ◌||◌, if◌then◌else◌, List, [], ◌∷◌}
+use Rattle.std.proofs.Common.{◌++◌, length, Option, Some, None, is_some, refl, sym, ap, subst, ◌∙◌, arith}
 use Rattle.std.proofs.Math.Bool.{or-false, or-true}
 use Rattle.std.specs.Option.{option_map}
 use Rattle.events.specs.Event.{operated_by}
 use Rattle.events.specs.declared.event.Event.{Event}
 use Rattle.events.specs.declared.event.Event.TheVariants as event
-use Rattle.history.proofs.Choices.{same_company_is}
-use Rattle.history.proofs.EventAtEnd.{now_said_before, now_said_here}
-use Rattle.history.specs.LookBack.{Game, in_round}
-use Rattle.history.specs.Operating.{has_operated, turn_said}
+use Rattle.totals.proofs.Choices.{same_company_is}
+use Rattle.totals.proofs.EventAtEnd.{now_said_before, now_said_here}
+use Rattle.totals.specs.LookBack.{Game, in_round}
+use Rattle.totals.specs.Operating.{has_operated, turn_said}
 use Rattle.market.specs.OperatingOrder.{IsOperatingOrder, operating_order_of, times}
 use Rattle.operating.specs.Laws.{CompanyOperates, CompanyTurnEnds, OneCompanyTurn}
 use Rattle.operating.specs.Turn.{IsCompanyTurn}
@@ -17,7 +18,8 @@ use Rattle.rounds.proofs.Growing.{Grows}
 use Rattle.rounds.proofs.Idle.{all_have_operated, fewer_idle, idle_few, idle_of, next_is_idle}
 use Rattle.rounds.proofs.OperatingGrows.{opened_grows}
 use Rattle.rounds.proofs.RoundSteps.{SaysNothing, of_growing}
-use Rattle.rounds.specs.OperatingRound.{CompaniesOperateOnce, EndsSoon, OneOperatingRound, TakeTurns, TakesTurn, TurnsLead, finished, next_company, opened}
+use Rattle.rounds.specs.OperatingRound.{CompaniesOperateOnce, EndsSoon, OneOperatingRound, TakeTurns, TakesTurn}
+use Rattle.rounds.specs.OperatingRound.{TurnsLead, finished, next_company, opened}
 use Rattle.tables.specs.Roster.{same_company}
 use Rattle.tables.specs.declared.roster.Company.{Company}
 use Rattle.tables.specs.declared.round.Round.{Round}
@@ -86,7 +88,7 @@ module _ (operates_too : CompanyOperates) (ordered : AreOrdered) (file : List �
       fewer_idle company old.events new.events (operates_too file round company old new turn.turn)
       (next_is_idle ordered old.events company turn.is_next).1
 
-  -- the turns come to an end
+  -- the turns reach an end
   turns_end : CompanyTurnEnds → (bound : ℕ) (old : Game) → idle_of old.events < bound
       → (turned : Game) × TurnsLead file round old turned
   turns_end ends zero old few = absurd (omega arith)

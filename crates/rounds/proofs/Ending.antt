@@ -1,13 +1,14 @@
--- Each round played leaves fewer places in the order of rounds, and a file that is not refused has
--- players: so play comes to an end.
+-- Each round played leaves fewer places in the order of rounds, and a file that is not refused has players: so play
+-- reaches an end.
 use Rattle.std.proofs.Common.{◌≡◌, ◌⊎◌, ℕ, zero, suc, ◌+◌, ◌<◌, true, false, List, length, refl, ap, inl, inr, arith}
 use Rattle.std.proofs.lemmas.Bool.{cases_Bool}
-use Rattle.history.specs.LookBack.{Game}
+use Rattle.totals.specs.LookBack.{Game}
 use Rattle.privates.specs.Opening as opening
 use Rattle.rounds.proofs.Forward.{fewer_to_come}
-use Rattle.rounds.proofs.InSet.{StandsNext, first_stands, round_in_set}
+use Rattle.rounds.proofs.InSet.{IsNextInSet, first_stands, round_in_set}
 use Rattle.rounds.specs.OperatingRound as operating
-use Rattle.rounds.specs.Play.{AreRounds, Between, IsPlayed, IsRound, Plays, SomeGame, all_posted, before_play, coming, goes_on, in_set_before}
+use Rattle.rounds.specs.Play.{AreRounds, Between, IsPlayed, IsRound, Plays, SomeGame, all_posted, before_play, coming}
+use Rattle.rounds.specs.Play.{goes_on, in_set_before}
 use Rattle.rounds.specs.Sequence.{places_to_come}
 use Rattle.rounds.specs.declared.following.Next.{Next}
 use Rattle.rounds.specs.declared.following.Next.TheVariants as next
@@ -71,9 +72,9 @@ module _ (opening_ends : EachOpeningEnds) (stock_ends : EachStockRoundEnds) (ope
         },
       )
 
-  -- after so many rounds, and with fewer places left than this, play comes to an end
+  -- after this many rounds, and with fewer places left than this, play reaches an end
   plays_within : SheetsAreNumbered → (bound done : ℕ) (old : Between) → 0 < length (players_of file) →
-      StandsNext old → AreRounds file done (before_play file) old →
+      IsNextInSet old → AreRounds file done (before_play file) old →
       places_to_come old.next < bound → (last : Between) × Plays file last
   plays_within numbered zero done old some stands rounds few = absurd (omega arith)
   plays_within numbered (suc bound) done old some stands rounds few =

@@ -1,12 +1,11 @@
--- The sequence goes forward in the order of all rounds, and no sheet is past the last of them: so play
--- comes to an end.
+-- The sequence goes forward in the order of all rounds, and no sheet is past the last of them: so play reaches an end.
 use Rattle.std.proofs.Common.{◌≡◌, ℕ, ◌+◌, ◌<◌, ◌≤◌, Bool, true, false, List, length, is_some, refl, ap, arith, rules}
 use Rattle.std.proofs.lemmas.Bool.{lt-ltb}
 use Rattle.events.specs.declared.event.Event.{Event}
-use Rattle.history.specs.LookBack.{broken_in}
+use Rattle.totals.specs.LookBack.{broken_in}
 use Rattle.privates.specs.Turn.{all_sold}
 use Rattle.rounds.proofs.Coming.{OfNext, after_operating, follows, of_coming}
-use Rattle.rounds.proofs.InSet.{StandsInSet, StandsNext, in_any_set}
+use Rattle.rounds.proofs.InSet.{IsInSet, IsNextInSet, in_any_set}
 use Rattle.rounds.proofs.Posted.{posted_each}
 use Rattle.rounds.specs.Gifts.{GiftsWait}
 use Rattle.rounds.specs.Play.{Between, IsRound, all_posted}
@@ -62,14 +61,14 @@ posted_small numbered file round some posted =
 module _ (numbered : SheetsAreNumbered) (file : List ℕ) (round later : Round) (in_set : ℕ)
     (all_sold broken : Bool) where
   -- what follows a round that is played comes later
-  pub played_forward : 0 < length (players_of file) → StandsInSet round in_set → all_posted file round ≡ true →
+  pub played_forward : 0 < length (players_of file) → IsInSet round in_set → all_posted file round ≡ true →
       following round in_set all_sold broken ≡ next.Round later → rank_of round < rank_of later
   played_forward some stands posted comes =
       later_than round later in_set all_sold broken (posted_small numbered file round some posted)
       (in_any_set round in_set stands) comes
 
   -- and leaves fewer places
-  pub fewer_places : 0 < length (players_of file) → StandsInSet round in_set → all_posted file round ≡ true →
+  pub fewer_places : 0 < length (players_of file) → IsInSet round in_set → all_posted file round ≡ true →
       following round in_set all_sold broken ≡ next.Round later → places_left later < places_left round
   fewer_places some stands posted comes =
       let small = posted_small numbered file round some posted in
@@ -78,7 +77,7 @@ module _ (numbered : SheetsAreNumbered) (file : List ℕ) (round later : Round) 
       omega arith
 
 module _ (numbered : SheetsAreNumbered) (file : List ℕ) (old new : Between) (some : 0 < length (players_of file))
-    (round : IsRound file old new) (at : StandsInSet round.round old.in_set) where
+    (round : IsRound file old new) (at : IsInSet round.round old.in_set) where
   -- fewer places are left after a round that was played, whatever comes next
   fewer_than_before : (upcoming : Next) → new.next ≡ upcoming → places_to_come upcoming < places_left round.round
   fewer_than_before (next.Round later) comes =
@@ -92,7 +91,7 @@ module _ (numbered : SheetsAreNumbered) (file : List ℕ) (old new : Between) (s
 
 -- so each round that is played leaves fewer
 pub fewer_to_come : SheetsAreNumbered → (file : List ℕ) (old new : Between) → 0 < length (players_of file)
-    → StandsNext old →
+    → IsNextInSet old →
     IsRound file old new → places_to_come new.next < places_to_come old.next
 fewer_to_come numbered file old new some stands round =
     let is : places_to_come old.next ≡ places_left round.round = ap places_to_come round.comes in

@@ -1,17 +1,19 @@
 -- How games end: a bankruptcy or a broken bank ends them, nothing else does, and nothing follows.
-use Rattle.std.proofs.Common.{◌≡◌, ℕ, zero, suc, ◌+◌, ◌≤◌, Bool, true, false, ◌||◌, nat_lt, if◌then◌else◌, inl, inr, List, [], ◌∷◌, ◌++◌, Option, Some, None, refl, sym, ap, subst, ◌∙◌, arith}
+use Rattle.std.proofs.Common.{◌≡◌, ℕ, zero, suc, ◌+◌, ◌≤◌, Bool, true, false, ◌||◌, nat_lt, if◌then◌else◌, inl, inr}
+use Rattle.std.proofs.Common.{List, [], ◌∷◌, ◌++◌, Option, Some, None, refl, sym, ap, subst, ◌∙◌, arith}
 use Rattle.std.proofs.lemmas.Bool.{cases_Bool, false≢true, le-ltb, ltb-false}
 use Rattle.std.proofs.lemmas.List.Folds.{list_any-append}
-use Rattle.events.specs.Event.{tells_broken}
+use Rattle.events.specs.Event.{says_broken}
 use Rattle.events.specs.declared.event.Event.{Event}
 use Rattle.events.specs.declared.event.Event.TheVariants as event
-use Rattle.history.specs.LookBack.{bankrupt_in, broken_in}
+use Rattle.totals.specs.LookBack.{bankrupt_in, broken_in}
 use Rattle.operating.specs.Laws.{TurnOnlyAdds}
 use Rattle.privates.specs.Turn.{all_sold}
 use Rattle.rounds.proofs.Coming.{OfNext, comes_once, follows, no_round, of_coming, some_comes}
 use Rattle.rounds.proofs.GoingOn.{round_goes_on}
-use Rattle.rounds.proofs.InSet.{StandsInSet, comes_in_set}
-use Rattle.rounds.specs.Ends.{BankruptcyEndsGames, BrokenBankEndsSets, GamesEndOnce, NoSetAfterBroken, NoTurnAfterBankruptcy, NothingElseEndsGames}
+use Rattle.rounds.proofs.InSet.{IsInSet, comes_in_set}
+use Rattle.rounds.specs.Ends.{BankruptcyEndsGames, BrokenBankEndsSets, GamesEndOnce, NoSetAfterBroken}
+use Rattle.rounds.specs.Ends.{NoTurnAfterBankruptcy, NothingElseEndsGames}
 use Rattle.rounds.specs.OperatingRound.{first_idle}
 use Rattle.rounds.specs.Play.{AreRounds, Between, IsRound, end_of, goes_on}
 use Rattle.rounds.specs.Sequence.{following}
@@ -73,7 +75,7 @@ bankruptcy_ends file old new round bankrupt =
 -- a broken bank stays broken
 stays_broken : (front back : List Event) → broken_in front ≡ true → broken_in (front ++ back) ≡ true
 stays_broken front back broken =
-    list_any-append tells_broken front back ∙ ap (λ (b : Bool). b || broken_in back) broken
+    list_any-append says_broken front back ∙ ap (λ (b : Bool). b || broken_in back) broken
 
 -- through a round
 broken_through : TurnOnlyAdds → (file : List ℕ) (old new : Between) → IsRound file old new
@@ -162,7 +164,7 @@ broken_ends file set old new round comes broken =
     round.next_then ∙ ended_either (bankrupt_in events) _ says
 
 -- the sequence ends after the last operating round of a set alone
-ends_with_set : (round : Round) (in_set : ℕ) (sold broken : Bool) → StandsInSet round in_set
+ends_with_set : (round : Round) (in_set : ℕ) (sold broken : Bool) → IsInSet round in_set
     → following round in_set sold broken ≡ next.Ended →
     (broken ≡ true) × (set : ℕ) × (round ≡ Operating set in_set)
 ends_with_set (Opening number) in_set sold broken stands over = absurd (no_round _ (sym over))
@@ -193,7 +195,7 @@ sequence_ends false says solvent over = over
 pub nothing_else : NothingElseEndsGames
 nothing_else file rounds old new reached round over =
     let events = new.game.events in
-    let stands : StandsInSet round.round old.in_set = comes_in_set file rounds old reached round.round round.comes in
+    let stands : IsInSet round.round old.in_set = comes_in_set file rounds old reached round.round round.comes in
     elim (cases_Bool (bankrupt_in events)) [
       | inl bankrupt ↦ inl bankrupt
       | inr solvent ↦

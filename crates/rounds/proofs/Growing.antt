@@ -2,16 +2,18 @@
 -- token, move no train, sell nothing to a company and are no company's turn. So the list says of the map, of trains,
 -- and of who has operated, what it said before. Those of stock rounds, and of operating rounds before and after the
 -- turns of companies, also say nothing of bids, and name no owner of a private.
-use Rattle.std.proofs.Common.{◌≡◌, ℕ, zero, suc, Bool, true, false, ◌&&◌, not, if◌then◌else◌, List, [], ◌∷◌, ◌++◌, Option, Some, None, is_none, refl, sym, ap, ◌∙◌}
+use Rattle.std.proofs.Common.{◌≡◌, ℕ, zero, suc, Bool, true, false, ◌&&◌, not, if◌then◌else◌, List, [], ◌∷◌, ◌++◌}
+use Rattle.std.proofs.Common.{Option, Some, None, is_none, refl, sym, ap, ◌∙◌}
 use Rattle.std.proofs.lemmas.Bool.{and_parts}
 use Rattle.std.proofs.lemmas.List.{append_assoc, append-nil}
 use Rattle.std.proofs.lemmas.List.Folds.{list_all-append}
 use Rattle.std.specs.List.{list_all}
-use Rattle.events.specs.Event.{bidding_of, operated_by, ownership_of, phase_set, round_begun_by, tile_laid, token_placed, train_moved}
+use Rattle.events.specs.Event.{bidding_of, operated_by, ownership_of, phase_set, round_begun_by, tile_laid}
+use Rattle.events.specs.Event.{token_placed, train_moved}
 use Rattle.events.specs.declared.event.Event.{Event}
 use Rattle.events.specs.declared.event.Event.TheVariants as event
 use Rattle.events.specs.declared.event.Holder.{Holder}
-use Rattle.history.specs.LookBack.{owner_of}
+use Rattle.totals.specs.LookBack.{owner_of}
 use Rattle.history.specs.Record.{after_revenues, breaks, paid_to_owner, with_broken}
 use Rattle.operating.specs.PrivateLaws.{names_owner}
 use Rattle.operating.specs.SaleLaws.{sells_to_company}
@@ -20,7 +22,7 @@ use Rattle.sheets.specs.Part.{Numbered}
 use Rattle.tables.specs.Roster.{revenue_of}
 use Rattle.tables.specs.Seat.{seat_at}
 use Rattle.tables.specs.Steps.{iterate}
-use Rattle.tables.specs.Turns.{InPlay, Play, Turned, after_turn, groups_at, next_group}
+use Rattle.tables.specs.Turns.{InPlay, Play, Turned, after_turn, written_turns_at, next_written_turn}
 use Rattle.tables.specs.declared.roster.Private.{Private}
 use Rattle.tables.specs.declared.seat.Seat.{Seat}
 
@@ -176,8 +178,8 @@ by_turns play acts passes zero start = stays start.now
 by_turns play acts passes (suc n) start =
     let at : InPlay (List Event) Numbered = iterate (after_turn play) n start in
     let seat : Seat = seat_at at.seat in
-    let turned : Turned (List Event) = play.turn seat (next_group (groups_at at.groups at.seat)) at.now in
-    let acted : Grows at.now turned.state = acts seat (next_group (groups_at at.groups at.seat)) at.now in
+    let turned : Turned (List Event) = play.turn seat (next_written_turn (written_turns_at at.written_turns at.seat)) at.now in
+    let acted : Grows at.now turned.state = acts seat (next_written_turn (written_turns_at at.written_turns at.seat)) at.now in
     further start.now at.now _ (by_turns play acts passes n start)
     (in_either at.now turned.state (play.pass seat turned.state) turned.acted acted
     (further at.now turned.state _ acted (passes seat turned.state)))

@@ -1,16 +1,18 @@
 -- Which companies have not operated in a round: each turn leaves one fewer.
-use Rattle.std.proofs.Common.{◌≡◌, ℕ, ◌+◌, ◌<◌, ◌≤◌, Bool, true, false, ◌||◌, not, if◌then◌else◌, List, [], ◌∷◌, length, Option, Some, None, refl, sym, ap, subst, ◌∙◌, arith}
+use Rattle.std.proofs.Common.{◌≡◌, ℕ, ◌+◌, ◌<◌, ◌≤◌, Bool, true, false, ◌||◌, not, if◌then◌else◌, List, [], ◌∷◌, length}
+use Rattle.std.proofs.Common.{Option, Some, None, refl, sym, ap, subst, ◌∙◌, arith}
 use Rattle.std.proofs.Math.Bool.{or-true}
 use Rattle.std.specs.Prelude.{find}
 use Rattle.events.specs.declared.event.Event.{Event}
-use Rattle.history.proofs.Choices.{same_company_is}
-use Rattle.history.specs.LookBack.{bankrupt_in}
-use Rattle.history.specs.Operating.{has_operated}
+use Rattle.totals.proofs.Choices.{same_company_is}
+use Rattle.totals.specs.LookBack.{bankrupt_in}
+use Rattle.totals.specs.Operating.{has_operated}
 use Rattle.market.specs.OperatingOrder.{IsOperatingOrder, operates, operating_order_of, times}
 use Rattle.rounds.specs.OperatingRound.{first_idle, next_company}
 use Rattle.tables.specs.Roster.{companies, same_company}
 use Rattle.tables.specs.declared.roster.Company.{Company}
-use Rattle.tables.specs.declared.roster.Company.TheVariants.{Pennsylvania, NewYorkCentral, CanadianPacific, BaltimoreOhio, ChesapeakeOhio, Erie, NewHaven, BostonMaine}
+use Rattle.tables.specs.declared.roster.Company.TheVariants.{Pennsylvania, NewYorkCentral, CanadianPacific}
+use Rattle.tables.specs.declared.roster.Company.TheVariants.{BaltimoreOhio, ChesapeakeOhio, Erie, NewHaven, BostonMaine}
 
 -- a company is itself
 same_self : (company : Company) → same_company company company ≡ true
@@ -23,7 +25,7 @@ same_self Erie = refl
 same_self NewHaven = refl
 same_self BostonMaine = refl
 
--- each company stands in the roster
+-- each company is in the roster
 in_roster : (company : Company) → times company companies ≡ 1
 in_roster Pennsylvania = refl
 in_roster NewYorkCentral = refl
@@ -120,7 +122,7 @@ idle_few events = idle_in_few (has_operated events) companies
 some_same : (a b : Company) → Some a ≡ Some b → a ≡ b
 some_same a b same = cc
 
--- what is found passes the test, and stands in the list
+-- what is found passes the test, and is in the list
 found_passes : (test : Company → Bool) (them : List Company) (company : Company) → find test them ≡ Some company
     → (test company ≡ true) × (1 ≤ times company them)
 found_passes test [] company found = absurd (cc)

@@ -6,13 +6,13 @@ use Rattle.std.proofs.lemmas.Bool.{lt-ltb}
 use Rattle.std.proofs.lemmas.List.{append-nil}
 use Rattle.events.specs.declared.event.Event.{Event}
 use Rattle.events.specs.declared.event.Event.TheVariants as event
-use Rattle.history.specs.LookBack.{broken_in}
+use Rattle.totals.specs.LookBack.{broken_in}
 use Rattle.operating.specs.Laws.{TurnOnlyAdds}
 use Rattle.privates.specs.Turn.{all_sold}
 use Rattle.rounds.proofs.Coming.{follows}
 use Rattle.rounds.proofs.Forward.{played_forward}
 use Rattle.rounds.proofs.GoingOn.{GoesOn, begun_in_both, round_goes_on}
-use Rattle.rounds.proofs.InSet.{StandsNext, comes_in_set}
+use Rattle.rounds.proofs.InSet.{IsNextInSet, comes_in_set}
 use Rattle.rounds.specs.Begun.{AreInOrder, BeginWithRound, IsBeforeEach, RoundsFollowInOrder, rounds_begun}
 use Rattle.rounds.specs.Play.{AreRounds, Between, IsRound, before_play}
 use Rattle.rounds.specs.declared.following.Next.TheVariants as next
@@ -74,7 +74,7 @@ begun_then events new round grows =
 module _ (adds : TurnOnlyAdds) (numbered : SheetsAreNumbered) (file : List ℕ)
     (some : 0 < length (players_of file)) where
   -- a round that was played is before the next
-  forward : (old new : Between) (later : Round) → StandsNext old → (round : IsRound file old new)
+  forward : (old new : Between) (later : Round) → IsNextInSet old → (round : IsRound file old new)
       → new.next ≡ next.Round later →
       rank_of round.round < rank_of later
   forward old new later stands round comes =
@@ -83,7 +83,7 @@ module _ (adds : TurnOnlyAdds) (numbered : SheetsAreNumbered) (file : List ℕ)
       (stands round.round round.comes) round.posted (follows file old new later round comes)
 
   -- so the order goes on
-  round_in_order : (old new : Between) → TellsInOrder old → StandsNext old → IsRound file old new → TellsInOrder new
+  round_in_order : (old new : Between) → TellsInOrder old → IsNextInSet old → IsRound file old new → TellsInOrder new
   round_in_order old new tells stands round =
       let it : Round = round.round in
       let grows = round_goes_on adds file it old.game new.game round.played in

@@ -1,9 +1,10 @@
 -- Each round that comes stands within its set.
-use Rattle.std.proofs.Common.{◌≡◌, ℕ, zero, suc, ◌+◌, ◌<◌, ◌≤◌, Bool, true, false, List, [], length, sym, ap, subst, ◌∙◌, arith}
+use Rattle.std.proofs.Common.{◌≡◌, ℕ, zero, suc, ◌+◌, ◌<◌, ◌≤◌, Bool, true, false, List, [], length, sym, ap, subst}
+use Rattle.std.proofs.Common.{◌∙◌, arith}
 use Rattle.std.proofs.lemmas.Bool.{ltb-true}
 use Rattle.events.specs.declared.event.Event.{Event}
-use Rattle.history.specs.LookBack.{Game, broken_in}
-use Rattle.history.specs.Trains.{phase_of}
+use Rattle.totals.specs.LookBack.{Game, broken_in}
+use Rattle.totals.specs.Trains.{phase_of}
 use Rattle.privates.specs.Turn.{all_sold}
 use Rattle.rounds.proofs.Coming.{OfNext, after_operating, comes_once, follows, in_set_then, of_coming}
 use Rattle.rounds.specs.Play.{AreRounds, Between, IsRound, before_play, in_set_before, rounds_of_new_set}
@@ -18,17 +19,17 @@ use Rattle.tables.specs.declared.round.Round.{Round}
 use Rattle.tables.specs.declared.round.Round.TheVariants.{Opening, Stock, Operating}
 
 -- the set has one to three operating rounds, and if the round is one of them it is not past the last
-pub record StandsInSet (round : Round) (in_set : ℕ) : Type 0 where
+pub record IsInSet (round : Round) (in_set : ℕ) : Type 0 where
   pub some : 1 ≤ in_set
   pub few : in_set ≤ operating_most
   pub within : turn_in_set round ≤ in_set
 
 -- a round stands within its set, and so within the most that a set has
-pub in_any_set : (round : Round) (in_set : ℕ) → StandsInSet round in_set → turn_in_set round ≤ operating_most
+pub in_any_set : (round : Round) (in_set : ℕ) → IsInSet round in_set → turn_in_set round ≤ operating_most
 in_any_set round in_set stands = let few = stands.few in let within = stands.within in omega (arith, few, within)
 
 -- the first round does
-first_in_set : (file : List ℕ) → StandsInSet (Opening 1) (before_play file).in_set
+first_in_set : (file : List ℕ) → IsInSet (Opening 1) (before_play file).in_set
 first_in_set file = record { some = omega arith; few = omega arith; within = omega arith }
 
 -- a set that begins has one to three
@@ -41,14 +42,14 @@ new_set_few Six = (omega arith, omega arith)
 new_set_few Diesel = (omega arith, omega arith)
 
 -- its stock round stands within it
-new_set : (set : ℕ) (events : List Event) → StandsInSet (Stock set) (rounds_of_new_set events)
+new_set : (set : ℕ) (events : List Event) → IsInSet (Stock set) (rounds_of_new_set events)
 new_set set events =
     let few = new_set_few (phase_of events) in record { some = few.0; few = few.1; within = omega arith }
 
 -- so does what follows each round
 next_in_set : (round : Round) (in_set : ℕ) (all_sold broken : Bool) (events : List Event) →
-    StandsInSet round in_set →
-    OfNext (λ later. StandsInSet later (in_set_before (next.Round later) events in_set))
+    IsInSet round in_set →
+    OfNext (λ later. IsInSet later (in_set_before (next.Round later) events in_set))
     (following round in_set all_sold broken)
 next_in_set (Opening number) in_set true broken events stands = new_set 1 events
 next_in_set (Opening number) in_set false broken events stands =
@@ -56,7 +57,7 @@ next_in_set (Opening number) in_set false broken events stands =
 next_in_set (Stock set) in_set all_sold broken events stands =
     let some = stands.some in record { some = stands.some; few = stands.few; within = omega (arith, some) }
 next_in_set (Operating set number) in_set all_sold broken events stands =
-    after_operating (λ (later : Round). StandsInSet later (in_set_before (next.Round later) events in_set)) set number
+    after_operating (λ (later : Round). IsInSet later (in_set_before (next.Round later) events in_set)) set number
     in_set all_sold broken
     (λ less. let before : number < in_set = ltb-true number in_set less in record
     { some = stands.some; few = stands.few; within = omega (arith, before) })
@@ -64,34 +65,34 @@ next_in_set (Operating set number) in_set all_sold broken events stands =
 
 -- so does a round that comes
 pub coming_in_set : (round later : Round) (in_set : ℕ) (all_sold broken : Bool) (events : List Event) →
-    StandsInSet round in_set → following round in_set all_sold broken ≡ next.Round later →
-    StandsInSet later (in_set_before (next.Round later) events in_set)
+    IsInSet round in_set → following round in_set all_sold broken ≡ next.Round later →
+    IsInSet later (in_set_before (next.Round later) events in_set)
 coming_in_set round later in_set all_sold broken events stands comes =
-    of_coming (λ (later : Round). StandsInSet later (in_set_before (next.Round later) events in_set))
+    of_coming (λ (later : Round). IsInSet later (in_set_before (next.Round later) events in_set))
     (following round in_set all_sold broken) later comes
     (next_in_set round in_set all_sold broken events stands)
 
 -- the round that comes next, if one does, stands within its set
-abbrev pub StandsNext : Between → Type 0
-StandsNext there = (round : Round) → there.next ≡ next.Round round → StandsInSet round there.in_set
+abbrev pub IsNextInSet : Between → Type 0
+IsNextInSet there = (round : Round) → there.next ≡ next.Round round → IsInSet round there.in_set
 
 -- so it is after a round that was played
-pub round_in_set : (file : List ℕ) (old new : Between) → StandsNext old → IsRound file old new → StandsNext new
+pub round_in_set : (file : List ℕ) (old new : Between) → IsNextInSet old → IsRound file old new → IsNextInSet new
 round_in_set file old new stands round later comes =
-    subst (λ (count : ℕ). StandsInSet later count) (sym (in_set_then file old new later round comes))
+    subst (λ (count : ℕ). IsInSet later count) (sym (in_set_then file old new later round comes))
     (coming_in_set round.round later old.in_set (all_sold new.game.events) (broken_in new.game.events) new.game.events
     (stands round.round round.comes) (follows file old new later round comes))
 
 -- before the first
-pub first_stands : (file : List ℕ) → StandsNext (before_play file)
+pub first_stands : (file : List ℕ) → IsNextInSet (before_play file)
 first_stands file round comes =
-    subst (λ (at : Round). StandsInSet at (before_play file).in_set) (comes_once (Opening 1) round comes)
+    subst (λ (at : Round). IsInSet at (before_play file).in_set) (comes_once (Opening 1) round comes)
     (first_in_set file)
 
 -- and wherever a game comes
 pub comes_in_set : (file : List ℕ) (rounds : ℕ) (there : Between) → AreRounds file rounds (before_play file) there
-    → StandsNext there
-comes_in_set file zero there played = subst StandsNext played (first_stands file)
+    → IsNextInSet there
+comes_in_set file zero there played = subst IsNextInSet played (first_stands file)
 comes_in_set file (suc rounds) there played =
     round_in_set file played.0 there (comes_in_set file rounds played.0 played.1) played.2
 

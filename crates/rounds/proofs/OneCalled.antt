@@ -1,16 +1,18 @@
--- The game of a file makes one list of calls, and a front of them where play is broken off.
+-- The game of a file makes one list of calls, and a prefix of them where play is broken off.
 use Rattle.std.proofs.Common.{◌≡◌, ℕ, List, Result, Ok, Err, sym, ap, subst, ◌∙◌, inl, inr}
 use Rattle.std.proofs.lemmas.Bool.{true≢false}
-use Rattle.certificate.specs.declared.runner.RunnerFault.{RunnerFault}
-use Rattle.history.specs.LookBack.{Game}
+use Rattle.legal_runs.specs.declared.runner.RunnerFault.{RunnerFault}
+use Rattle.totals.specs.LookBack.{Game}
 use Rattle.operating.proofs.OneCourse.{Agree, some_times_agree, then_agree, unasked_agrees}
 use Rattle.operating.specs.Calls.{Call, Course, SomeTimesThen, Then, Unasked}
-use Rattle.operating.specs.TurnCalls.{OneListOfTurnCalls, RefusedTurnCallsAreAFront}
+use Rattle.operating.specs.TurnCalls.{OneListOfTurnCalls, RefusedTurnCallsAreAPrefix}
 use Rattle.rounds.proofs.Coming.{comes_once}
 use Rattle.rounds.proofs.CompanyTurns.{next_once, not_both}
 use Rattle.rounds.proofs.OneGame.{OneOpeningRound, OneStockRound}
 use Rattle.rounds.specs.Faults.{fault_in_turn}
-use Rattle.rounds.specs.GameCalls.{AreFront, AreOver, CompanyCalls, IsFinished, IsOpened, NextCalls, OneListOfCalls, OperatingCalls, PlayedCalls, RefusedCallsAreAFront, RoundCalls, Stops, TurnsCall, between_after}
+use Rattle.rounds.specs.GameCalls.{ArePrefix, AreOver, CompanyCalls, IsFinished, IsOpened, NextCalls, OneListOfCalls}
+use Rattle.rounds.specs.GameCalls.{OperatingCalls, PlayedCalls, RefusedCallsAreAPrefix, RoundCalls, Stops, TurnsCall}
+use Rattle.rounds.specs.GameCalls.{between_after}
 use Rattle.rounds.specs.OperatingRound.{next_company}
 use Rattle.rounds.specs.Play.{Between, IsPlayed, before_play, goes_on}
 use Rattle.rounds.specs.declared.fault.PlayFault.{PlayFault}
@@ -23,16 +25,16 @@ use Rattle.tables.specs.declared.round.Round.TheVariants.{Opening, Stock, Operat
 abbrev TellsOf : PlayFault → RunnerFault → Call → Type 0
 TellsOf fault why call = fault ≡ fault_in_turn why call.round call.company
 
--- from each place such a course leads to one end by one list of calls, and by a front of them where it is broken off
+-- from each place such a course leads to one end by one list of calls, and by a prefix of them where it is broken off
 abbrev IsOne : {A B : Type 0} → Course A B PlayFault → Type 0
 IsOne course = Agree Memory TellsOf course course
 
-module _ (lists : OneListOfTurnCalls) (fronts : RefusedTurnCallsAreAFront) (file : List ℕ) where
-  -- a front of the calls of a company's turn
+module _ (lists : OneListOfTurnCalls) (fronts : RefusedTurnCallsAreAPrefix) (file : List ℕ) where
+  -- a prefix of the calls of a company's turn
   company_front :
       (round : Round) (company : Company) (old new : Game) (fault : PlayFault) (some all : List Call) →
       CompanyCalls file round company old (Err fault) some → CompanyCalls file round company old (Ok new) all
-      → AreFront fault some all
+      → ArePrefix fault some all
   company_front round company old new fault some all broken led =
       elim (fronts file round company old new broken.0 some all broken.2 led) [
         | inl first ↦ inl (broken.1 ∙ ap (λ (why : RunnerFault). fault_in_turn why round company) first.0, first.1)
@@ -132,7 +134,7 @@ module _ (lists : OneListOfTurnCalls) (fronts : RefusedTurnCallsAreAFront) (file
         (λ from to outcome calls stops round. true≢false
         (sym (ap (goes_on file) round.1.comes ∙ round.1.posted) ∙ stops.stopped))
 
-module _ (lists : OneListOfTurnCalls) (fronts : RefusedTurnCallsAreAFront) (one_opening : OneOpeningRound)
+module _ (lists : OneListOfTurnCalls) (fronts : RefusedTurnCallsAreAPrefix) (one_opening : OneOpeningRound)
     (one_stock : OneStockRound) where
   -- so the game of a file makes one list of calls
   pub one_list : OneListOfCalls
@@ -140,8 +142,8 @@ module _ (lists : OneListOfTurnCalls) (fronts : RefusedTurnCallsAreAFront) (one_
       let one = game_called_once lists fronts file one_opening one_stock in one.once (before_play file) a b some
       others first second
 
-  -- and a front of them where play is broken off
-  pub a_front : RefusedCallsAreAFront
-  a_front file fault played refused whole broken led =
+  -- and a prefix of them where play is broken off
+  pub a_prefix : RefusedCallsAreAPrefix
+  a_prefix file fault played refused whole broken led =
       let one = game_called_once lists fronts file one_opening one_stock in one.front (before_play file) fault played
       refused whole broken led

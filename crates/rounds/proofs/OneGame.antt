@@ -1,11 +1,12 @@
 -- A file has at most one game, since a round has at most one outcome.
 use Rattle.std.proofs.Common.{◌≡◌, ℕ, zero, suc, ◌<◌, List, true, false, sym, ap, subst, ◌∙◌, inl, inr, arith}
 use Rattle.std.proofs.lemmas.Bool.{cases_order, true≢false}
-use Rattle.history.specs.LookBack.{Game}
+use Rattle.totals.specs.LookBack.{Game}
 use Rattle.privates.specs.Opening.{IsOpeningRound}
 use Rattle.rounds.proofs.Coming.{comes_once}
 use Rattle.rounds.specs.OperatingRound.{OneOperatingRound}
-use Rattle.rounds.specs.Play.{AreRounds, Between, IsPlayed, IsRound, OneGame, before_play, coming, goes_on, in_set_before}
+use Rattle.rounds.specs.Play.{AreRounds, Between, IsPlayed, IsRound, OneGame, before_play, coming, goes_on}
+use Rattle.rounds.specs.Play.{in_set_before}
 use Rattle.rounds.specs.declared.following.Next.{Next}
 use Rattle.stock_round.specs.StockRound.{IsStockRound}
 use Rattle.tables.specs.declared.round.Round.{Round}
@@ -52,7 +53,7 @@ module _ (one_opening : OneOpeningRound) (one_stock : OneStockRound) (one_operat
       ∙ ap (λ (g : Game). in_set_before b.next g.events old.in_set) game ∙ sym second.in_set_then in
       between_same a b game in_set next
 
-  -- so many rounds lead to one place
+  -- this many rounds lead to one place
   pub rounds_once : (n : ℕ) (old a b : Between) → AreRounds file n old a → AreRounds file n old b → a ≡ b
   rounds_once zero old a b first second = sym first ∙ second
   rounds_once (suc n) old a b first second =

@@ -7,8 +7,8 @@ use Rattle.events.specs.declared.event.Event.{Event}
 use Rattle.events.specs.declared.event.Event.TheVariants as event
 use Rattle.events.specs.declared.ruling.Ruling.{Ruling}
 use Rattle.events.specs.declared.ruling.Ruling.TheVariants as ruling
-use Rattle.history.specs.Bids.{bids_on}
-use Rattle.history.specs.LookBack.{Game, cheapest_of, is_sold, priority_of, sv_price_of}
+use Rattle.totals.specs.Bids.{bids_on}
+use Rattle.totals.specs.LookBack.{Game, cheapest_of, is_sold, priority_of, sv_price_of}
 use Rattle.history.specs.Record.{after_revenues}
 use Rattle.order_grammar.specs.declared.condition.Condition.{Condition}
 use Rattle.order_grammar.specs.declared.order.Order.{Order}
@@ -19,7 +19,8 @@ use Rattle.privates.specs.Opening.{IsOpeningRound}
 use Rattle.privates.specs.Sale.{after_sale, gifts, settle_auctions, settled, settled_by, settled_of}
 use Rattle.privates.specs.Standing.{has_place_before, standing_refusal, standing_ruling}
 use Rattle.privates.specs.Turn.{InTurn, acted, after_act, after_opening_line, after_ruling, opening_rules, ruling_in}
-use Rattle.rounds.proofs.Growing.{Grows, GrowsPlainly, and_plain, by_steps, further, in_either, is_aside, passes_plain, passes_test, revenues_grow, stands_plainly, stays, told}
+use Rattle.rounds.proofs.Growing.{Grows, GrowsPlainly, and_plain, by_steps, further, in_either, is_aside, passes_plain}
+use Rattle.rounds.proofs.Growing.{passes_test, revenues_grow, stands_plainly, stays, told}
 use Rattle.rounds.proofs.PlainLines.{recorded_plain, ruled_plain, ruling_plain}
 use Rattle.rounds.proofs.PlainTurns.{AddsPlain}
 use Rattle.sheets.specs.Part.{Numbered}
@@ -30,7 +31,7 @@ use Rattle.tables.specs.declared.round.Round.{Round}
 use Rattle.tables.specs.declared.seat.Seat.{Seat}
 use Rattle.turns.proofs.RoundLeads.{round_leads}
 use Rattle.turns.proofs.Ruled.{of_ruled}
-use Rattle.turns.specs.Ruling.{has_place_in_group, obeyed_by, recorded}
+use Rattle.turns.specs.Ruling.{has_place_in_turn, obeyed_by, recorded}
 
 -- what comes with a sale stands aside
 gifts_aside : (events : List Event) (private : Private) (buyer : Seat) →
@@ -96,7 +97,7 @@ line_grows seats seat turn line =
     (λ (condition : Option Condition) (done : Order)
     (kept : refusal_of seats turn.events seat turn.actions done ≡ None).
     done_grows seats seat turn line.number condition done)
-    has_place_in_group turn.events line
+    has_place_in_turn turn.events line
 
 -- by the fall of SV's price
 fall_grows : (seats : ℕ) (events : List Event) (price : ℕ) (holder : Seat) →
@@ -145,6 +146,6 @@ opening_adds =
           (λ at done. passes_plain is_aside at.events (after_act seats seat at.events done)
           (act_grows seats seat at.events done))
           seat turn line.number (ruling_in seats seat turn line)
-          (ruling_plain has_place_in_group (refusal_of seats turn.events seat turn.actions) turn.events line plain);
+          (ruling_plain has_place_in_turn (refusal_of seats turn.events seat turn.actions) turn.events line plain);
       closed = λ seats events. passes_plain is_aside events (closed seats events) (close_grows seats events);
     }

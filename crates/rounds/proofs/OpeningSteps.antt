@@ -1,6 +1,7 @@
 -- An opening round, event by event: a private is sold while it is unsold, a bid is made by a seat that takes a turn,
 -- and what else is told is still. What holds of each such event, and of one after the other, holds of the round.
-use Rattle.std.proofs.Common.{◌≡◌, ℕ, zero, suc, ◌-◌, ◌==◌, Bool, true, false, if◌then◌else◌, List, [], ◌∷◌, ◌++◌, Option, Some, None, refl, sym, subst, ◌∙◌}
+use Rattle.std.proofs.Common.{◌≡◌, ℕ, zero, suc, ◌-◌, ◌==◌, Bool, true, false, if◌then◌else◌, List, [], ◌∷◌, ◌++◌}
+use Rattle.std.proofs.Common.{Option, Some, None, refl, sym, subst, ◌∙◌}
 use Rattle.std.proofs.lemmas.Bool.{and_parts}
 use Rattle.std.proofs.lemmas.List.{append_assoc, append-nil}
 use Rattle.std.specs.List.{list_all}
@@ -11,9 +12,9 @@ use Rattle.events.specs.declared.event.Event.TheVariants as event
 use Rattle.events.specs.declared.ruling.Refusal.TheVariants.{Opening}
 use Rattle.events.specs.declared.ruling.Ruling.{Ruling}
 use Rattle.events.specs.declared.ruling.Ruling.TheVariants.{Obeyed}
-use Rattle.history.proofs.EventAtEnd.{is_sold_before}
-use Rattle.history.specs.Bids.{bids_on}
-use Rattle.history.specs.LookBack.{cheapest_of, is_sold, priority_of, sv_price_of}
+use Rattle.totals.proofs.EventAtEnd.{is_sold_before}
+use Rattle.totals.specs.Bids.{bids_on}
+use Rattle.totals.specs.LookBack.{cheapest_of, is_sold, priority_of, sv_price_of}
 use Rattle.history.specs.Record.{after_revenues}
 use Rattle.order_grammar.specs.declared.condition.Condition.{Condition}
 use Rattle.order_grammar.specs.declared.order.Order.{Order}
@@ -32,7 +33,7 @@ use Rattle.tables.specs.declared.roster.Private.{Private}
 use Rattle.tables.specs.declared.roster.Private.TheVariants as private
 use Rattle.tables.specs.declared.seat.Seat.{Seat}
 use Rattle.turns.proofs.Ruled.{none_as_refusal, of_ruled}
-use Rattle.turns.specs.Ruling.{has_place_in_group, obeyed_by}
+use Rattle.turns.specs.Ruling.{has_place_in_turn, obeyed_by}
 
 -- what is to be shown so that it holds of the parts of an opening round in which these seats take turns
 pub record OfOpening (Sits : Seat → Type 0) (R : List Event → List Event → Type 0) : Type 0 where
@@ -162,7 +163,7 @@ module _ (Sits : Seat → Type 0) (R : List Event → List Event → Type 0) (of
       (λ (after : InTurn). R turn.events after.events)
       (λ (ruling : Ruling) (none : obeyed_by ruling ≡ None).
       of.still turn.events (event.Ruled seat line.number ruling) refl)
-      (of_order seats seat turn line.number sits) has_place_in_group turn.events line
+      (of_order seats seat turn line.number sits) has_place_in_turn turn.events line
 
   -- of the fall of SV's price
   of_fall : (seats : ℕ) (events : List Event) (price : ℕ) (holder : Seat) →

@@ -1,5 +1,6 @@
 -- A company's turn adds but plain events, where no line of its block has a condition.
-use Rattle.std.proofs.Common.{◌≡◌, ℕ, ◌==◌, Bool, true, false, if◌then◌else◌, List, [], ◌∷◌, Option, Some, None, is_none, option_map, Result, Ok, Err, inl, inr, pos, refl, sym, subst, ap}
+use Rattle.std.proofs.Common.{◌≡◌, ℕ, ◌==◌, Bool, true, false, if◌then◌else◌, List, [], ◌∷◌, Option, Some, None}
+use Rattle.std.proofs.Common.{is_none, option_map, Result, Ok, Err, inl, inr, pos, refl, sym, subst, ap}
 use Rattle.std.specs.Int.RustNames.{unsigned_abs}
 use Rattle.std.specs.Int.Signed.{lt_z}
 use Rattle.certs.specs.declared.deal.Sale.{Sale}
@@ -12,10 +13,10 @@ use Rattle.events.specs.declared.ruling.Refusal.{Refusal}
 use Rattle.events.specs.declared.ruling.Refusal.TheVariants as refusal
 use Rattle.events.specs.declared.ruling.Ruling.{Ruling}
 use Rattle.events.specs.declared.ruling.Ruling.TheVariants.{Obeyed, Refused, Faulty}
-use Rattle.history.specs.LookBack.{Game, owner_of, with_event}
-use Rattle.history.specs.Shares.{president_of, square_of}
+use Rattle.totals.specs.LookBack.{Game, owner_of, with_event}
+use Rattle.totals.specs.Shares.{president_of, square_of}
 use Rattle.history.specs.Record.{broken_recorded}
-use Rattle.history.specs.Trains.{so_many}
+use Rattle.totals.specs.Trains.{at_least_zero}
 use Rattle.map_tables.specs.declared.rules.RunRule.{RunRule}
 use Rattle.map_tables.specs.Home.{home_of}
 use Rattle.map_tables.specs.Place.{place_of}
@@ -25,17 +26,23 @@ use Rattle.market.specs.Moves.{square_left_of, right_of}
 use Rattle.market.specs.Token.{with_move}
 use Rattle.operating.proofs.ForcedBuying.{cheapest_plain}
 use Rattle.operating.proofs.ForcedGames.{operator}
-use Rattle.operating.proofs.TrainSteps.{IsPassedOn, OfClosings, of_bop, of_choice, of_iterate, of_next, of_phase, of_train_owner, of_trade}
+use Rattle.operating.proofs.TrainSteps.{IsPassedOn, OfClosings, of_bop, of_choice, of_iterate, of_next, of_phase}
+use Rattle.operating.proofs.TrainSteps.{of_train_owner, of_trade}
 use Rattle.operating.specs.Act.{has_home_token, with_home, withheld}
 use Rattle.operating.specs.Best.{BestRuled, best_earned, best_judgement}
-use Rattle.operating.specs.Dividend.{all_paid, paid_for, paid_out, paid_to, paid_to_seats, pay_judgement, withhold_judgement}
-use Rattle.operating.specs.Forced.{EndLeads, after_forced, after_raise_line, after_raises, cheapest, concluded, falls_short, lack_of, next_to_sell, one_tenth, raise_rule, raise_ruled, sold_further, sold_singly, with_aid, with_one_sold, with_ruling, with_sale}
+use Rattle.operating.specs.Dividend.{all_paid, paid_for, paid_out, paid_to, paid_to_seats, pay_judgement}
+use Rattle.operating.specs.Dividend.{withhold_judgement}
+use Rattle.operating.specs.Forced.{EndLeads, after_forced, after_raise_line, after_raises, cheapest, concluded}
+use Rattle.operating.specs.Forced.{falls_short, lack_of, next_to_sell, one_share, raise_rule, raise_ruled, sold_further}
+use Rattle.operating.specs.Forced.{sold_singly, with_aid, with_one_sold, with_ruling, with_sale}
 use Rattle.operating.specs.InTurn.{InTurn, in_turn, is_unpaid, pay_done, ruled, told}
 use Rattle.operating.specs.Phases.{after_train, begins_phase, bought, with_phase, with_trade}
 use Rattle.operating.specs.Privates.{private_bought, private_judgement, sold_by}
 use Rattle.operating.specs.Runs.{after_run, judged_run, run_ruled}
 use Rattle.operating.specs.Trains.{cost_of, train_judgement}
-use Rattle.operating.specs.Turn.{AskedLeads, BlockEnds, BlockLeads, IsCompanyTurn, LayLeads, LinesLead, OrderLeads, ReadingLeads, TokenLeads, begun, is_held, lay_answered, purchase_of, settled, token_answered}
+use Rattle.operating.specs.Turn.{AskedLeads, BlockEnds, BlockLeads, IsCompanyTurn, LayLeads, LinesLead, OrderLeads}
+use Rattle.operating.specs.Turn.{ReadingLeads, TokenLeads, begun, is_held, lay_answered, purchase_of, settled}
+use Rattle.operating.specs.Turn.{token_answered}
 use Rattle.order_grammar.specs.declared.condition.Condition.{Condition}
 use Rattle.order_grammar.specs.declared.fault.Fault.{Fault}
 use Rattle.order_grammar.specs.declared.fault.Fault.TheVariants.{OutOfPlace}
@@ -100,7 +107,7 @@ by_sale : (company : Company) (seat : Seat) (game : Game) (sale : Sale) →
     AddsPlainly game (with_sale (operator company seat) game sale)
 by_sale company seat game sale =
     passes_plain is_still game.events (with_sale (operator company seat) game sale).events
-    (sale_grows game.seats game.events seat sale.company sale.tenths)
+    (sale_grows game.seats game.events seat sale.company sale.shares)
 
 module _ (company : Company) where
   -- by what the company withholds
@@ -298,7 +305,7 @@ module _ (company : Company) (seat : Seat) (line : Numbered) (plain : IsPlain li
       subst (TurnAdds turn) (sym leads)
       (by_ruled turn (order.BuyOwnedPrivate private price) rule act
       (λ after. by_private company after.game private price (owner_of after.game.events private)))
-  by_order turn (order.Raise its tenths) new leads =
+  by_order turn (order.Raise its shares) new leads =
       subst (TurnAdds turn) (sym leads) (on.same turn.game)
   by_order turn other new leads = subst (TurnAdds turn) (sym leads) (by_ruling turn (Faulty OutOfPlace) refl)
 
@@ -322,11 +329,11 @@ module _ (company : Company) (seat : Seat) (line : Numbered) (plain : IsPlain li
   by_raise_ruled : (game : Game) (sale : Sale) (broken : Option Refusal) →
       AddsPlainly game (raise_ruled (operator company seat) game line sale broken)
   by_raise_ruled game sale (Some rule) =
-      let refused : Ruling = Refused rule line.condition (order.Raise sale.company sale.tenths) in
+      let refused : Ruling = Refused rule line.condition (order.Raise sale.company sale.shares) in
       by_event game (event.Ruled seat line.number refused)
       (ap (λ (condition : Option Condition). is_none condition) plain)
   by_raise_ruled game sale None =
-      let obeyed : Ruling = Obeyed line.condition (order.Raise sale.company sale.tenths) in
+      let obeyed : Ruling = Obeyed line.condition (order.Raise sale.company sale.shares) in
       let ruled : Game = with_ruling (operator company seat) game line obeyed in
       on.both game ruled (with_sale (operator company seat) ruled sale)
       (by_event game (event.Ruled seat line.number obeyed)
@@ -334,8 +341,8 @@ module _ (company : Company) (seat : Seat) (line : Numbered) (plain : IsPlain li
 
   by_raise : (due : Bool) (game : Game) (reading : Result Order Fault) →
       AddsPlainly game (after_raise_line due (operator company seat) game line reading)
-  by_raise due game (Ok (order.Raise its tenths)) =
-      let sale : Sale = record { company = its; tenths = tenths } in
+  by_raise due game (Ok (order.Raise its shares)) =
+      let sale : Sale = record { company = its; shares = shares } in
       by_raise_ruled game sale (raise_rule due (operator company seat) game line.condition sale)
   by_raise due game other = on.same game
 
@@ -360,11 +367,11 @@ module _ (company : Company) (seat : Seat) where
       (by_raise company seat line are.0 due game line.reading)
       (by_raises due lines next are.1)
 
-  -- single tenths that are sold
+  -- single shares that are sold
   by_one_sold : (game : Game) (found : Option Company) →
       AddsPlainly game (with_one_sold (operator company seat) game found)
   by_one_sold game None = on.same game
-  by_one_sold game (Some its) = by_sale company seat game (one_tenth its)
+  by_one_sold game (Some its) = by_sale company seat game (one_share its)
 
   by_further : (game : Game) → AddsPlainly game (sold_further (operator company seat) game)
   unfolding sold_further
@@ -381,7 +388,7 @@ module _ (company : Company) (seat : Seat) where
   by_aid : (game : Game) → AddsPlainly game (with_aid (operator company seat) game)
   unfolding with_aid
   by_aid game =
-      let its : Event = event.Aid seat company (so_many (lack_of game company)) in
+      let its : Event = event.Aid seat company (at_least_zero (lack_of game company)) in
       of_choice AddsPlainly (lt_z (pos 0) (lack_of game company)) game (with_event game its) game
       (by_event game its refl) (on.same game)
 

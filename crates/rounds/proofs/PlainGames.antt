@@ -4,7 +4,7 @@ use Rattle.std.proofs.lemmas.List.Folds.{list_all-append}
 use Rattle.std.specs.List.{list_all}
 use Rattle.events.specs.declared.event.Event.{Event}
 use Rattle.events.specs.declared.event.Event.TheVariants as event
-use Rattle.history.specs.LookBack.{Game}
+use Rattle.totals.specs.LookBack.{Game}
 use Rattle.privates.specs.Turn.{opening_rules}
 use Rattle.rounds.proofs.Growing.{further, stays, told}
 use Rattle.rounds.proofs.OpeningGrows.{opening_adds}

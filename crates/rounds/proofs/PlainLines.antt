@@ -1,5 +1,6 @@
--- The lines of a sheet of version 1 stand under no condition, and so does what becomes of them.
-use Rattle.std.proofs.Common.{◌≡◌, ℕ, ◌+◌, Bool, true, false, if◌then◌else◌, List, [], ◌∷◌, Option, Some, None, is_none, map, Result, Ok, Err, unwrap_or, refl, sym, subst, ap}
+-- The lines of a sheet of version 1 are under no condition, and so does what becomes of them.
+use Rattle.std.proofs.Common.{◌≡◌, ℕ, ◌+◌, Bool, true, false, if◌then◌else◌, List, [], ◌∷◌, Option, Some, None, is_none}
+use Rattle.std.proofs.Common.{map, Result, Ok, Err, unwrap_or, refl, sym, subst, ap}
 use Rattle.std.specs.List.{AllByRecursion}
 use Rattle.events.specs.declared.event.Event.{Event}
 use Rattle.events.specs.declared.event.Event.TheVariants as event
@@ -15,20 +16,21 @@ use Rattle.rounds.specs.Plain.{condition_ruled, is_plain}
 use Rattle.sheets.specs.Block.{block_for, block_in, opens_block_of}
 use Rattle.sheets.specs.File.{sheet_of, version_of}
 use Rattle.sheets.specs.Laws.{VersionOneIsPlain, plain, plain_parts}
-use Rattle.sheets.specs.Part.{Numbered, Part, Parts, after_head, after_line, groups_of, opens_part, parts_for}
+use Rattle.sheets.specs.Part.{Numbered, Part, Parts, after_head, after_line, written_turns_of, opens_part, parts_for}
 use Rattle.sheets.specs.Taken.{after_all_before, after_each, after_lines_before}
 use Rattle.tables.specs.Seat.{seat_at}
 use Rattle.tables.specs.declared.roster.Company.{Company}
 use Rattle.tables.specs.declared.round.Round.{Round}
 use Rattle.tables.specs.declared.seat.Seat.{Seat}
 use Rattle.turns.specs.RoundOfTurns.{InTurn, in_turn}
-use Rattle.turns.specs.Ruling.{after_ruling, done, judged, line_ruling, obeyed_by, placed_ruling, recorded, ruling_of, under}
+use Rattle.turns.specs.Ruling.{after_ruling, done, judged, line_ruling, obeyed_by, placed_ruling, recorded, ruling_of}
+use Rattle.turns.specs.Ruling.{under}
 
 -- the list grows, and what is new is plain
 abbrev pub GrowsPlain : List Event → List Event → Type 0
 GrowsPlain old new = GrowsBy is_plain old new
 
--- a line stands under no condition
+-- a line is under no condition
 abbrev pub IsPlain : Numbered → Type 0
 IsPlain line = line.condition ≡ None
 
@@ -36,13 +38,13 @@ IsPlain line = line.condition ≡ None
 abbrev pub ArePlain : List Numbered → Type 0
 ArePlain lines = AllByRecursion IsPlain lines
 
--- nor does each line of these groups or blocks
-abbrev pub GroupsArePlain : List (List Numbered) → Type 0
-GroupsArePlain groups = AllByRecursion ArePlain groups
+-- nor does each line of these written turns or blocks
+abbrev pub WrittenTurnsArePlain : List (List Numbered) → Type 0
+WrittenTurnsArePlain written_turns = AllByRecursion ArePlain written_turns
 
 -- nor does each line of a sheet
 abbrev pub PartsArePlain : Parts → Type 0
-PartsArePlain parts = ArePlain parts.before × GroupsArePlain (groups_of parts)
+PartsArePlain parts = ArePlain parts.before × WrittenTurnsArePlain (written_turns_of parts)
 
 -- a line in front of parts
 with_plain : (head : Bool) (line : Numbered) (parts : Parts) → IsPlain line → PartsArePlain parts →
@@ -76,7 +78,7 @@ either_plain true some others first second = first
 either_plain false some others first second = second
 
 -- of the block of a company among these
-block_plain : (company : Company) (parts : List Part) → GroupsArePlain (map (λ part. part.lines) parts) →
+block_plain : (company : Company) (parts : List Part) → WrittenTurnsArePlain (map (λ part. part.lines) parts) →
     ArePlain (block_in company parts)
 block_plain company [] are = tt
 block_plain company (part ∷ parts) are =

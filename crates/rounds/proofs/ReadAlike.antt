@@ -1,18 +1,19 @@
 -- A round is played from the parts of its own sheets alone: in two files whose sheets for it are read alike, it is
 -- played alike.
-use Rattle.std.proofs.Common.{◌≡◌, ℕ, ◌-◌, List, [], length, map, refl, sym, ap, subst, ◌∙◌, ◌∷◌, ◌++◌, Option, Some, None}
+use Rattle.std.proofs.Common.{◌≡◌, ℕ, ◌-◌, List, [], length, map, refl, sym, ap, subst, ◌∙◌, ◌∷◌, ◌++◌, Option, Some}
+use Rattle.std.proofs.Common.{None}
 use Rattle.std.specs.List.{list_all, range_with_len}
 use Rattle.events.specs.declared.event.Event.{Event}
 use Rattle.events.specs.declared.event.Event.TheVariants as event
-use Rattle.history.specs.LookBack.{Game, priority_of}
-use Rattle.history.specs.Operating.{rulings_in_round}
-use Rattle.history.specs.Shares.{president_of}
+use Rattle.totals.specs.LookBack.{Game, priority_of}
+use Rattle.totals.specs.Operating.{rulings_in_round}
+use Rattle.totals.specs.Shares.{president_of}
 use Rattle.history.specs.Record.{revenues_recorded, with_left}
 use Rattle.operating.specs.InTurn.{InTurn}
 use Rattle.operating.specs.Standing as rules
 use Rattle.operating.specs.Forced.{EndLeads}
 use Rattle.operating.specs.Turn.{BlockEnds, BlockLeads, IsCompanyTurn, LinesLead, begun, settled}
-use Rattle.privates.specs.Opening.{IsOpeningRound, groups_for, in_play, opened}
+use Rattle.privates.specs.Opening.{IsOpeningRound, written_turns_for, in_play, opened}
 use Rattle.privates.specs.Standing as opening
 use Rattle.privates.specs.Turn.{opening_turns}
 use Rattle.rounds.specs.OperatingRound as operating
@@ -22,7 +23,7 @@ use Rattle.rounds.specs.declared.following.Next.{Next}
 use Rattle.rounds.specs.declared.following.Next.TheVariants as next
 use Rattle.sheets.specs.Block.{block_in}
 use Rattle.sheets.specs.File.{players_of}
-use Rattle.sheets.specs.Part.{Numbered, Parts, groups_of, lines_in}
+use Rattle.sheets.specs.Part.{Numbered, Parts, written_turns_of, lines_in}
 use Rattle.sheets.specs.Taken.{after_all_before, after_each, after_lines_before}
 use Rattle.stock_round.specs.StockRound as stock
 use Rattle.stock_round.specs.Turn.{stock_turns}
@@ -44,11 +45,11 @@ module _ (first second : List ℕ) where
       seats) (same.parts seat)
       ∙ same_standing step round (after_lines_before step second round state seat) seats same
 
-  -- and the same groups
-  same_groups : (seats : ℕ) (round : Round) → ReadAlikeFor round first second
-      → groups_for seats first round ≡ groups_for seats second round
-  same_groups seats round same =
-      λ i. map (λ seat. groups_of (same.parts seat i)) (range_with_len 0 seats)
+  -- and the same written turns
+  same_written_turns : (seats : ℕ) (round : Round) → ReadAlikeFor round first second
+      → written_turns_for seats first round ≡ written_turns_for seats second round
+  same_written_turns seats round same =
+      λ i. map (λ seat. written_turns_of (same.parts seat i)) (range_with_len 0 seats)
 
   -- so they open a round the same way
   same_opened : (seats : ℕ) (round : Round) (events : List Event) → ReadAlikeFor round first second
@@ -56,8 +57,8 @@ module _ (first second : List ℕ) where
   same_opened seats round events same =
       let standing = same_standing opening.after_standing_line round (events ++ event.Round round ∷ [])
       (range_with_len 0 seats) same in
-      let groups = same_groups seats round same in
-      λ i. in_play (standing i) (priority_of seats events).0 0 (groups i)
+      let written_turns = same_written_turns seats round same in
+      λ i. in_play (standing i) (priority_of seats events).0 0 (written_turns i)
 
   -- an opening round is played alike
   same_opening : (round : Round) (old new : Game) → ReadAlikeFor round first second
@@ -76,8 +77,8 @@ module _ (first second : List ℕ) where
   same_stock_opened seats round events same =
       let standing = same_standing stock.after_standing_line round (events ++ event.Round round ∷ [])
       (range_with_len 0 seats) same in
-      let groups = same_groups seats round same in
-      λ i. in_play (standing i) (priority_of seats events).0 0 (groups i)
+      let written_turns = same_written_turns seats round same in
+      λ i. in_play (standing i) (priority_of seats events).0 0 (written_turns i)
 
   -- a stock round is played alike
   same_stock_round : (round : Round) (old new : Game) → ReadAlikeFor round first second

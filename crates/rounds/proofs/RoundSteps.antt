@@ -1,14 +1,16 @@
 -- What holds between a list and itself, of one after the other, of each event that stands aside and of each company's
 -- turn, holds of a round from its ROUND event on; what is shown of opening rounds by themselves has to hold only of
 -- each event that is still. What these and a ROUND event keep, each round of a game keeps.
-use Rattle.std.proofs.Common.{◌≡◌, ℕ, zero, suc, Bool, true, false, ◌&&◌, not, List, [], ◌∷◌, ◌++◌, Option, Some, None, is_none, refl, sym, subst}
+use Rattle.std.proofs.Common.{◌≡◌, ℕ, zero, suc, Bool, true, false, ◌&&◌, not, List, [], ◌∷◌, ◌++◌, Option, Some, None}
+use Rattle.std.proofs.Common.{is_none, refl, sym, subst}
 use Rattle.std.proofs.lemmas.Bool.{and_parts}
 use Rattle.std.proofs.lemmas.List.{append_assoc, append-nil}
 use Rattle.std.specs.List.{list_all}
-use Rattle.events.specs.Event.{bidding_of, operated_by, ownership_of, phase_set, round_begun_by, tile_laid, token_placed, train_moved}
+use Rattle.events.specs.Event.{bidding_of, operated_by, ownership_of, phase_set, round_begun_by, tile_laid}
+use Rattle.events.specs.Event.{token_placed, train_moved}
 use Rattle.events.specs.declared.event.Event.{Event}
 use Rattle.events.specs.declared.event.Event.TheVariants as event
-use Rattle.history.specs.LookBack.{Game}
+use Rattle.totals.specs.LookBack.{Game}
 use Rattle.operating.specs.PrivateLaws.{names_owner}
 use Rattle.operating.specs.SaleLaws.{sells_to_company}
 use Rattle.operating.specs.Turn.{IsCompanyTurn}

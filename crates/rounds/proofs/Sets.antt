@@ -2,10 +2,10 @@
 use Rattle.std.proofs.Common.{◌≡◌, ℕ, zero, suc, ◌+◌, ◌≤◌, Bool, List, refl, sym, ap, subst, ◌∙◌, arith}
 use Rattle.std.proofs.lemmas.Bool.{ltb-false}
 use Rattle.events.specs.declared.event.Event.{Event}
-use Rattle.history.specs.LookBack.{broken_in}
+use Rattle.totals.specs.LookBack.{broken_in}
 use Rattle.privates.specs.Turn.{all_sold}
 use Rattle.rounds.proofs.Coming.{OfNext, after_operating, comes_once, follows, in_set_then, of_coming}
-use Rattle.rounds.proofs.InSet.{StandsInSet, StandsNext, comes_in_set, round_in_set}
+use Rattle.rounds.proofs.InSet.{IsInSet, IsNextInSet, comes_in_set, round_in_set}
 use Rattle.rounds.specs.Play.{AreRounds, Between, IsRound, before_play, in_set_before, rounds_of_new_set}
 use Rattle.rounds.specs.Sequence.{following, turn_in_set}
 use Rattle.rounds.specs.Sets.{IsOfSet, SetsKeepTheirNumber}
@@ -20,7 +20,7 @@ IsNoEarlier set (Opening number) = ⊥
 IsNoEarlier set (Stock its) = set ≤ its
 IsNoEarlier set (Operating its number) = set ≤ its
 
--- the set has begun, and while it lasts it has so many operating rounds
+-- the set has begun, and while it lasts it has this many operating rounds
 record Keeps (set count : ℕ) (upcoming : Round) (in_set : ℕ) : Type 0 where
   begun : IsNoEarlier set upcoming
   number : IsOfSet set upcoming → in_set ≡ count
@@ -46,7 +46,7 @@ keeps_on set count (Operating its number) in_set sold broken events keeps =
 
 -- the set is left only after the last of its rounds
 left_after_last : (set : ℕ) (round : Round) (in_set : ℕ) (sold broken : Bool) → IsOfSet set round →
-    StandsInSet round in_set →
+    IsInSet round in_set →
     OfNext (λ later. ¬ (IsOfSet set later) → round ≡ Operating set in_set) (following round in_set sold broken)
 left_after_last set (Opening number) in_set sold broken same stands = absurd same
 left_after_last set (Stock its) in_set sold broken same stands = λ other. absurd (other same)
@@ -94,14 +94,14 @@ module _ (file : List ℕ) where
       round_keeps set count played.0 there (all_keep set count later begun played.0 keeps played.1) played.2
 
   -- and they stand within their sets
-  all_stand : (later : ℕ) (begun there : Between) → StandsNext begun → AreRounds file later begun there
-      → StandsNext there
-  all_stand zero begun there stands played = subst StandsNext played stands
+  all_stand : (later : ℕ) (begun there : Between) → IsNextInSet begun → AreRounds file later begun there
+      → IsNextInSet there
+  all_stand zero begun there stands played = subst IsNextInSet played stands
   all_stand (suc later) begun there stands played =
       round_in_set file played.0 there (all_stand later begun played.0 stands played.1) played.2
 
   -- a set is left only after the last of its rounds
-  whole_set : (set count : ℕ) (there after : Between) (round later : Round) → StandsInSet round there.in_set
+  whole_set : (set count : ℕ) (there after : Between) (round later : Round) → IsInSet round there.in_set
       → there.in_set ≡ count →
       there.next ≡ next.Round round → IsOfSet set round → IsRound file there after → after.next ≡ next.Round later →
       ¬ IsOfSet set later → round ≡ Operating set count
@@ -128,7 +128,7 @@ keep_their_number file set rounds later begun there round reached comes played h
     in
     let number : there.in_set ≡ count = (all_keep file set count later begun there first played round here).number
     of_set in
-    let stands : StandsInSet round there.in_set = all_stand file later begun there
+    let stands : IsInSet round there.in_set = all_stand file later begun there
     (comes_in_set file rounds begun reached) played round here in
     record {
       number = number;

@@ -1,20 +1,24 @@
 -- A play, step by step: what its steps lead to is the game of its file, and the calls of a step are those of its round.
-use Rattle.std.proofs.Common.{◌≡◌, ℕ, zero, suc, ◌<◌, ◌≤◌, true, false, List, [], length, Result, Ok, Err, refl, sym, ap, subst, ◌∙◌, inl, inr, arith}
+use Rattle.std.proofs.Common.{◌≡◌, ℕ, zero, suc, ◌<◌, ◌≤◌, true, false, List, [], length, Result, Ok, Err, refl, sym}
+use Rattle.std.proofs.Common.{ap, subst, ◌∙◌, inl, inr, arith}
 use Rattle.std.specs.Prelude.{Option, Some, None}
 use Rattle.std.proofs.lemmas.Bool.{cases_order, true≢false}
 use Rattle.operating.specs.Calls.{AreMade, Call, Earns, Makes}
-use Rattle.history.specs.LookBack.{Game, broken_in}
+use Rattle.totals.specs.LookBack.{Game, broken_in}
 use Rattle.history.specs.Sound.{IsSound}
 use Rattle.privates.specs.Turn.{all_sold}
 use Rattle.rounds.proofs.Coming.{comes_once, follows}
 use Rattle.rounds.proofs.Forward.{fewer_to_come, gifts_go_on, posted_small}
-use Rattle.rounds.proofs.InSet.{StandsInSet, comes_in_set}
+use Rattle.rounds.proofs.InSet.{IsInSet, comes_in_set}
 use Rattle.rounds.proofs.OneGame.{OneOpeningRound, OneStockRound, not_more, rounds_once}
 use Rattle.rounds.specs.GameCalls.{RoundCalls, Stops}
 use Rattle.rounds.specs.Gifts.{GiftsWait}
 use Rattle.rounds.specs.OperatingRound.{OneOperatingRound}
-use Rattle.rounds.specs.Play.{AreRounds, Between, IsPlayed, IsRound, IsToPlay, Plays, SomeGame, before_play, coming, end_of, goes_on, in_set_before}
-use Rattle.rounds.specs.Steps.{BreaksOff, CallsBetween, ComesNext, HasComeTo, IsOver, IsUpTo, PlaysNext, Stays, StepCalls, StepsPlay, StepsPlayTheGame, Underway, end_there, game_so_far, game_there, places_ahead, started, there_unless}
+use Rattle.rounds.specs.Play.{AreRounds, Between, IsPlayed, IsRound, IsToPlay, Plays, SomeGame, before_play, coming}
+use Rattle.rounds.specs.Play.{end_of, goes_on, in_set_before}
+use Rattle.rounds.specs.Steps.{BreaksOff, CallsBetween, ComesNext, HasComeTo, IsOver, IsUpTo, PlaysNext, Stays}
+use Rattle.rounds.specs.Steps.{StepCalls, StepsPlay, StepsPlayTheGame, Underway, end_there, game_so_far, game_there}
+use Rattle.rounds.specs.Steps.{places_ahead, started, there_unless}
 use Rattle.rounds.specs.declared.fault.PlayFault.{PlayFault}
 use Rattle.rounds.specs.declared.following.Next.{Next}
 use Rattle.rounds.specs.declared.game.End.{End}
@@ -240,7 +244,7 @@ is_numbered numbered file here round come to_play =
 
 -- and stands within its set
 pub is_in_set : (file : List ℕ) (here : Between) (round : Round) → HasComeTo file here → IsToPlay file here.next round
-    → StandsInSet round here.in_set
+    → IsInSet round here.in_set
 is_in_set file here round come to_play = comes_in_set file come.rounds here come.reached round to_play.comes
 
 -- once it was played, it is a round of the game
@@ -355,7 +359,7 @@ module _ (file : List ℕ) where
             (front.0, front.1, suc front.2, (played.0, front.3, played.2))
       ]
 
--- where steps have led from the start of a file, so many of its rounds were played
+-- where steps have led from the start of a file, this many of its rounds were played
 pub record Reached (file : List ℕ) (steps : ℕ) (play : Underway) : Type 0 where
   pub of_file : play.file ≡ file
   pub at : Between
@@ -396,7 +400,7 @@ steps_reach file (suc steps) play stepped =
 
 module _ (one_opening : OneOpeningRound) (one_stock : OneStockRound) (one_operating : OneOperatingRound)
     (file : List ℕ) where
-  -- what so many rounds led to lies on the way to the end of the game
+  -- what this many rounds led to lies on the way to the end of the game
   up_to_by : (rounds : ℕ) (there last : Between) → AreRounds file rounds (before_play file) there
       → (plays : Plays file last) → rounds ≤ plays.rounds → IsUpTo file rounds there
   up_to_by rounds there last reached plays within =

@@ -1,5 +1,6 @@
 -- The calls of steps up to one that is broken off are those of a game that was broken off.
-use Rattle.std.proofs.Common.{◌≡◌, ℕ, zero, suc, true, false, List, [], ◌++◌, Result, Ok, Err, append_assoc, refl, sym, ap, subst, ◌∙◌, inl, inr}
+use Rattle.std.proofs.Common.{◌≡◌, ℕ, zero, suc, true, false, List, [], ◌++◌, Result, Ok, Err, append_assoc, refl, sym}
+use Rattle.std.proofs.Common.{ap, subst, ◌∙◌, inl, inr}
 use Rattle.std.proofs.lemmas.Bool.{true≢false}
 use Rattle.operating.specs.Calls.{Call, SomeTimesThen, Unasked}
 use Rattle.rounds.proofs.CallsJoined.{calls_of_step}

@@ -1,8 +1,9 @@
 -- The game of the second small file, computed from the definitions.
 use Rattle.std.proofs.Common.{◌≡◌, ℕ, zero, suc, ◌<◌, false, List, [], ◌∷◌, ◌++◌, refl, arith}
-use Rattle.certs.specs.Purchase.{is_at_limit, is_sold_out_there, is_over_six, is_second, is_short_of_cash, purchase_judgement}
+use Rattle.certs.specs.Purchase.{is_at_limit, is_sold_out_there, is_over_six, is_second, is_short_of_cash}
+use Rattle.certs.specs.Purchase.{purchase_judgement}
 use Rattle.events.specs.declared.event.Event.{Event}
-use Rattle.history.specs.LookBack.{Game}
+use Rattle.totals.specs.LookBack.{Game}
 use Rattle.market.specs.OperatingOrder.{operating_order_of}
 use Rattle.privates.specs.Opening.{IsOpeningRound, in_play, opened}
 use Rattle.privates.specs.Sale.{settled}

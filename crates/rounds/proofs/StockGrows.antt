@@ -8,8 +8,8 @@ use Rattle.events.specs.declared.event.Event.{Event}
 use Rattle.events.specs.declared.event.Event.TheVariants as event
 use Rattle.events.specs.declared.ruling.Ruling.{Ruling}
 use Rattle.events.specs.declared.ruling.Ruling.TheVariants as ruling
-use Rattle.history.specs.LookBack.{Game}
-use Rattle.history.specs.Shares.{par_of, president_of, square_of}
+use Rattle.totals.specs.LookBack.{Game}
+use Rattle.totals.specs.Shares.{par_of, president_of, square_of}
 use Rattle.market.specs.Moves.{fallen, up_of}
 use Rattle.market.specs.OperatingOrder.{operating_order_of}
 use Rattle.market.specs.Token.{moved_from, same_square}
@@ -17,11 +17,13 @@ use Rattle.order_grammar.specs.declared.condition.Condition.{Condition}
 use Rattle.order_grammar.specs.declared.order.Order.{Order}
 use Rattle.order_grammar.specs.declared.order.Order.TheVariants as order
 use Rattle.order_grammar.specs.declared.order.ShareSource.{ShareSource}
-use Rattle.rounds.proofs.Growing.{Grows, GrowsPlainly, GrowsStill, broken_grows, further, in_either, is_still, passes_plain, passes_test, stands_aside, stays, told}
+use Rattle.rounds.proofs.Growing.{Grows, GrowsPlainly, GrowsStill, broken_grows, further, in_either, is_still}
+use Rattle.rounds.proofs.Growing.{passes_plain, passes_test, stands_aside, stays, told}
 use Rattle.rounds.proofs.PlainLines.{recorded_plain, ruled_plain, ruling_plain}
 use Rattle.rounds.proofs.PlainTurns.{AddsPlain}
 use Rattle.sheets.specs.Part.{Numbered}
-use Rattle.stock_round.specs.Act.{after_act, after_exchange, after_purchase, bought, exchanged, floated_at, is_to_float, with_float}
+use Rattle.stock_round.specs.Act.{after_act, after_exchange, after_purchase, bought, exchanged, floated_at, is_to_float}
+use Rattle.stock_round.specs.Act.{with_float}
 use Rattle.stock_round.specs.Closing.{all_risen, is_sold_out, risen}
 use Rattle.stock_round.specs.Judgement.{exchange_source, refusal_of}
 use Rattle.stock_round.specs.Standing.{fault_of_standing}
@@ -34,7 +36,7 @@ use Rattle.tables.specs.declared.seat.Seat.{Seat}
 use Rattle.tables.specs.declared.squares.Square.{Square}
 use Rattle.turns.proofs.RoundLeads.{round_leads}
 use Rattle.turns.proofs.Ruled.{of_ruled}
-use Rattle.turns.specs.Ruling.{has_place_in_group, obeyed_by, recorded}
+use Rattle.turns.specs.Ruling.{has_place_in_turn, obeyed_by, recorded}
 
 -- by the presidency of a company, where it moves from this seat, if any has it
 successor_grows : (seats : ℕ) (events : List Event) (company : Company) (old : Option Seat) →
@@ -85,17 +87,17 @@ purchase_grows seats events seat company from =
     (further paid presided _ (president_grows seats paid company) (float_grows seats presided company))
 
 -- by a sale
-pub sale_grows : (seats : ℕ) (events : List Event) (seat : Seat) (company : Company) (tenths : ℕ) →
-    GrowsPlainly is_still events (after_sale seats events seat company tenths)
-sale_grows seats events seat company tenths =
-    let told_so : List Event = events ++ event.Sells company seat tenths (tenths * market_price_of events company)
+pub sale_grows : (seats : ℕ) (events : List Event) (seat : Seat) (company : Company) (shares : ℕ) →
+    GrowsPlainly is_still events (after_sale seats events seat company shares)
+sale_grows seats events seat company shares =
+    let told_so : List Event = events ++ event.Sells company seat shares (shares * market_price_of events company)
     ∷ [] in
-    let paid : List Event = sold seats events seat company tenths in
+    let paid : List Event = sold seats events seat company shares in
     let presided : List Event = with_president seats paid company in
     further events told_so _ (record { more = _; longer = refl; aside = refl })
     (further told_so paid _ (broken_grows seats told_so)
     (further paid presided _ (president_grows seats paid company)
-    (token_grows (fallen tenths) presided company (square_of presided company))))
+    (token_grows (fallen shares) presided company (square_of presided company))))
 
 -- by an exchange
 exchange_grows : (seats : ℕ) (events : List Event) (seat : Seat) →
@@ -111,7 +113,7 @@ act_grows : (seats : ℕ) (seat : Seat) (events : List Event) (done : Order) →
     GrowsPlainly is_still events (after_act seats seat events done)
 act_grows seats seat events (order.Par company price) = record { more = _; longer = refl; aside = refl }
 act_grows seats seat events (order.BuyShare company from) = purchase_grows seats events seat company from
-act_grows seats seat events (order.Sell company tenths) = sale_grows seats events seat company tenths
+act_grows seats seat events (order.Sell company shares) = sale_grows seats events seat company shares
 act_grows seats seat events order.ExchangeMohawk = exchange_grows seats events seat
 act_grows seats seat events other = stays events
 
@@ -134,7 +136,7 @@ line_grows seats seat turn line =
     (λ (condition : Option Condition) (done : Order)
     (kept : refusal_of seats turn.events seat turn.actions.bought done ≡ None).
     done_grows seats seat turn line.number condition done)
-    has_place_in_group turn.events line
+    has_place_in_turn turn.events line
 
 -- by the rise of a company that is sold out
 rise_grows : (events : List Event) (company : Company) → GrowsPlainly is_still events (risen events company)
@@ -184,7 +186,7 @@ stock_adds =
           (λ at done. passes_plain is_still at.events (after_act seats seat at.events done)
           (act_grows seats seat at.events done))
           seat turn line.number (ruling_in seats seat turn line)
-          (ruling_plain has_place_in_group (refusal_of seats turn.events seat turn.actions.bought) turn.events line
+          (ruling_plain has_place_in_turn (refusal_of seats turn.events seat turn.actions.bought) turn.events line
           plain);
       closed = λ seats events.
           let order : List Company = operating_order_of events in

@@ -3,10 +3,10 @@ use Rattle.std.proofs.Common.{refl}
 use Rattle.events.specs.declared.event.Event.TheVariants as event
 use Rattle.operating.specs.TileLaws.{OthersKeepTiles, TilesAreAll, TilesAreAllAtFirst, TurnsKeepTiles}
 use Rattle.rounds.proofs.RoundSteps.{in_each_game}
-use Rattle.rounds.specs.Tiles.{TilesStandInEachGame}
+use Rattle.rounds.specs.Tiles.{AllTilesAreThereInEachGame}
 
--- tiles stand in each game
-pub tiles_stand : TilesAreAllAtFirst → OthersKeepTiles → TurnsKeepTiles → TilesStandInEachGame
+-- tiles are in each game
+pub tiles_stand : TilesAreAllAtFirst → OthersKeepTiles → TurnsKeepTiles → AllTilesAreThereInEachGame
 tiles_stand first others turns =
     in_each_game TilesAreAll
     (record {

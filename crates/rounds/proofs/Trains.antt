@@ -1,18 +1,19 @@
--- Trains stand after each round, and phases go on.
+-- Trains are after each round, and phases go on.
 use Rattle.std.proofs.Common.{◌≤◌, List, refl, ap, arith}
 use Rattle.events.specs.declared.event.Event.{Event}
 use Rattle.events.specs.declared.event.Event.TheVariants as event
-use Rattle.history.specs.Trains.{phase_of}
+use Rattle.totals.specs.Trains.{phase_of}
 use Rattle.operating.proofs.Complete.{phase_kept}
-use Rattle.operating.specs.TrainLaws.{OthersKeepStanding, PhasesGoOnInTurns, TrainsStand, TrainsStandAtFirst, TurnsKeepAll}
+use Rattle.operating.specs.TrainLaws.{OthersKeepStanding, PhasesGoOnInTurns, AllTrainsAreThere}
+use Rattle.operating.specs.TrainLaws.{AllTrainsAreThereAtFirst, TurnsKeepAll}
 use Rattle.rounds.proofs.RoundSteps.{in_each_game, of_round}
-use Rattle.rounds.specs.Trains.{PhasesGoOnInRounds, TrainsStandInEachGame}
+use Rattle.rounds.specs.Trains.{PhasesGoOnInRounds, AllTrainsAreThereInEachGame}
 use Rattle.tables.specs.Train.{place_of_kind}
 
--- trains stand in each game
-pub trains_stand : TrainsStandAtFirst → OthersKeepStanding → TurnsKeepAll → TrainsStandInEachGame
+-- trains are in each game
+pub trains_stand : AllTrainsAreThereAtFirst → OthersKeepStanding → TurnsKeepAll → AllTrainsAreThereInEachGame
 trains_stand first others turns =
-    in_each_game TrainsStand
+    in_each_game AllTrainsAreThere
     (record {
       first = first;
       aside = λ events event says. others events event says.train says.phase;

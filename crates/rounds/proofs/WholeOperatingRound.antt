@@ -1,13 +1,14 @@
 -- A whole operating round from its parts.
-use Rattle.std.proofs.Common.{◌≡◌, ℕ, ◌+◌, ◌-◌, ◌<◌, ◌==◌, suc, Bool, true, false, if◌then◌else◌, List, [], ◌∷◌, ◌++◌, length, sym, ap, subst, ◌∙◌, append_assoc, arith}
+use Rattle.std.proofs.Common.{◌≡◌, ℕ, ◌+◌, ◌-◌, ◌<◌, ◌==◌, suc, Bool, true, false, if◌then◌else◌, List, [], ◌∷◌, ◌++◌}
+use Rattle.std.proofs.Common.{length, sym, ap, subst, ◌∙◌, append_assoc, arith}
 use Rattle.std.proofs.lemmas.List.{append-nil}
 use Rattle.std.specs.List.{range_with_len}
 use Rattle.events.specs.declared.event.Event.{Event}
 use Rattle.events.specs.declared.event.Event.TheVariants as event
 use Rattle.history.proofs.Recording.{left_first}
-use Rattle.history.specs.Laws.{RulingsAreCounted}
-use Rattle.history.specs.LookBack.{Game, with_event}
-use Rattle.history.specs.Operating.{rulings_in_round}
+use Rattle.totals.specs.AtEnd.{RulingsAreCounted}
+use Rattle.totals.specs.LookBack.{Game, with_event}
+use Rattle.totals.specs.Operating.{rulings_in_round}
 use Rattle.history.specs.Record.{revenues_recorded, with_left}
 use Rattle.operating.specs.Standing.{after_standing}
 use Rattle.rounds.specs.OperatingRound.{IsOperatingRound, TurnsLead, finished, lines_left, opened, told_left}

@@ -12,7 +12,7 @@ pub record AgreeUpTo (last : Round) (first second : List ℕ) : Type 0 where
   pub players : players_of first ≡ players_of second
   pub sheets : (round : Round) → rank_of round ≤ rank_of last → ReadAlikeFor round first second
 
--- the game of the file comes to this round, and plays it from old to new
+-- the game of the file reaches this round, and plays it from old to new
 pub record PlaysRound (file : List ℕ) (round : Round) (old new : Between) : Type 0 where
   pub rounds : ℕ
   pub before : AreRounds file rounds (before_play file) old

@@ -1,7 +1,7 @@
 -- How games end: by the bankruptcy of a president at once, and by a broken bank once the operating rounds of a set
 -- are over, be it that they were under way as it broke or came next. After its end nothing follows.
 use Rattle.std.specs.Prelude.{◌≡◌, ◌⊎◌, ℕ, true, List}
-use Rattle.history.specs.LookBack.{Game, bankrupt_in, broken_in}
+use Rattle.totals.specs.LookBack.{Game, bankrupt_in, broken_in}
 use Rattle.rounds.specs.OperatingRound.{TakesTurn}
 use Rattle.rounds.specs.Play.{AreRounds, Between, IsRound, Plays, before_play, end_of}
 use Rattle.rounds.specs.Sets.{IsOfSet}

@@ -1,7 +1,7 @@
--- Two small games, computed from the definitions. In the first, ANN buys SV in the first opening round, the
--- others pass, and the second round is awaited. In the second all privates are sold in one opening round; in
--- the stock round ANN starts PRR and BOB buys a tenth of it, which leaves ANN president, since CA brought him
--- one before; then all pass, and the first operating round is awaited.
+-- Two small games, computed from the definitions. In the first, ANN buys SV in the first opening round, the others
+-- pass, and the second round is awaited. In the second all privates are sold in one opening round; in the stock round
+-- ANN starts PRR and BOB buys a share of it, which leaves ANN president, since CA brought him one before; then all
+-- pass, and the first operating round is awaited.
 use Rattle.std.specs.Prelude.{ℕ, List, [], ◌∷◌, ◌++◌, None, codes}
 use Rattle.events.specs.declared.event.Event.{Event}
 use Rattle.events.specs.declared.event.Event.TheVariants as event
@@ -13,7 +13,8 @@ use Rattle.rounds.specs.Play.{Between}
 use Rattle.rounds.specs.declared.following.Next.TheVariants as next
 use Rattle.tables.specs.Seat.{seat_at}
 use Rattle.tables.specs.declared.roster.Company.TheVariants as company
-use Rattle.tables.specs.declared.roster.Private.TheVariants.{SchuylkillValley, ChamplainStLawrence, DelawareHudson, MohawkHudson, CamdenAmboy, BaltimoreOhio}
+use Rattle.tables.specs.declared.roster.Private.TheVariants.{SchuylkillValley, ChamplainStLawrence, DelawareHudson}
+use Rattle.tables.specs.declared.roster.Private.TheVariants.{MohawkHudson, CamdenAmboy, BaltimoreOhio}
 use Rattle.tables.specs.declared.round.Round.TheVariants.{Opening, Stock, Operating}
 
 -- the order file

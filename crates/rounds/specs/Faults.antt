@@ -1,7 +1,7 @@
 -- Why a game was not played: memory was refused, or the runner refused to answer in a company's turn.
 use Rattle.std.specs.Prelude.{⊤}
-use Rattle.certificate.specs.declared.runner.RunnerFault.{RunnerFault}
-use Rattle.certificate.specs.declared.runner.RunnerFault.TheVariants as runner_fault
+use Rattle.legal_runs.specs.declared.runner.RunnerFault.{RunnerFault}
+use Rattle.legal_runs.specs.declared.runner.RunnerFault.TheVariants as runner_fault
 use Rattle.rounds.specs.declared.fault.PlayFault.{PlayFault}
 use Rattle.rounds.specs.declared.fault.PlayFault.TheVariants as play_fault
 use Rattle.tables.specs.declared.roster.Company.{Company}

@@ -1,12 +1,13 @@
 -- The calls that play makes of a runner, over the one game of a file: those of the turns of companies, in order. The
 -- other steps of a round ask nothing of it. Once a call is not answered, or memory is refused, play is broken off.
 use Rattle.std.specs.Prelude.{◌≡◌, ℕ, false, List, Some, None, Result, Ok, Err}
-use Rattle.history.specs.LookBack.{Game}
-use Rattle.operating.specs.Calls.{Call, Course, IsFront, Named, SomeTimesThen, Then, Unasked}
+use Rattle.totals.specs.LookBack.{Game}
+use Rattle.operating.specs.Calls.{Call, Course, IsPrefix, Named, SomeTimesThen, Then, Unasked}
 use Rattle.operating.specs.TurnCalls.{TurnCalls}
 use Rattle.rounds.specs.Faults.{fault_in_turn}
 use Rattle.rounds.specs.OperatingRound.{finished, next_company, opened}
-use Rattle.rounds.specs.Play.{Between, IsPlayed, IsTheGame, IsToPlay, Played, before_play, coming, end_of, goes_on, in_set_before}
+use Rattle.rounds.specs.Play.{Between, IsPlayed, IsTheGame, IsToPlay, Played, before_play, coming, end_of, goes_on}
+use Rattle.rounds.specs.Play.{in_set_before}
 use Rattle.rounds.specs.declared.fault.PlayFault.{PlayFault}
 use Rattle.rounds.specs.declared.fault.PlayFault.TheVariants.{Memory}
 use Rattle.sheets.specs.File.{IsAccepted}
@@ -52,7 +53,7 @@ PlayedCalls file (Opening number) = Unasked Memory (IsPlayed file (Opening numbe
 PlayedCalls file (Stock set) = Unasked Memory (IsPlayed file (Stock set))
 PlayedCalls file (Operating set number) = OperatingCalls file (Operating set number)
 
--- between two rounds, once a round of a set of so many operating rounds has led to a game
+-- between two rounds, once a round of a set of this many operating rounds has led to a game
 abbrev pub between_after : Round → ℕ → Game → Between
 between_after round in_set game =
     record {
@@ -83,10 +84,11 @@ CallsAreOfTheGame =
     (file : List ℕ) (played : Played) (calls : List Call) → GameCalls file (Ok played) calls
     → (played.file ≡ file) × IsTheGame played
 
--- the calls of play that was broken off for this fault are a front of all calls of a game: the first of them, where memory
--- was refused; or those up to one that was not answered, whose round and company the fault names if the runner refused it
-abbrev pub AreFront : PlayFault → List Call → List Call → Type 0
-AreFront = IsFront Memory (λ fault why call. fault ≡ fault_in_turn why call.round call.company)
+-- the calls of play that was broken off for this fault are a prefix of all calls of a game: the first of them, where
+-- memory was refused; or those up to one that was not answered, whose round and company the fault names if the runner
+-- refused it
+abbrev pub ArePrefix : PlayFault → List Call → List Call → Type 0
+ArePrefix = IsPrefix Memory (λ fault why call. fault ≡ fault_in_turn why call.round call.company)
 
 -- the game of a file makes one list of calls
 abbrev pub OneListOfCalls : Type 0
@@ -103,8 +105,8 @@ abbrev pub SomeCalls : Type 0
 SomeCalls = (file : List ℕ) → IsAccepted file → (played : Played) × (calls : List Call)
     × GameCalls file (Ok played) calls
 
--- where play is broken off, it has made a front of the calls of the one game
-abbrev pub RefusedCallsAreAFront : Type 0
-RefusedCallsAreAFront =
+-- where play is broken off, it has made a prefix of the calls of the one game
+abbrev pub RefusedCallsAreAPrefix : Type 0
+RefusedCallsAreAPrefix =
     (file : List ℕ) (fault : PlayFault) (played : Played) (refused whole : List Call) →
-    GameCalls file (Err fault) refused → GameCalls file (Ok played) whole → AreFront fault refused whole
+    GameCalls file (Err fault) refused → GameCalls file (Ok played) whole → ArePrefix fault refused whole

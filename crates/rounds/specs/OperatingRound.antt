@@ -2,12 +2,13 @@
 -- of the privates in roster order; then the companies take their turns, and at the end it tells how many lines
 -- of each sheet were not taken up. The next company is the first in operating order, as that is at the time, of
 -- those that have not operated in the round; it is over once there is none, or a president is bankrupt.
-use Rattle.std.specs.Prelude.{◌≡◌, ℕ, ◌-◌, ◌≤◌, not, true, false, if◌then◌else◌, List, [], ◌∷◌, ◌++◌, length, find, Option, Some, None}
+use Rattle.std.specs.Prelude.{◌≡◌, ℕ, ◌-◌, ◌≤◌, not, true, false, if◌then◌else◌, List, [], ◌∷◌, ◌++◌, length, find}
+use Rattle.std.specs.Prelude.{Option, Some, None}
 use Rattle.std.specs.List.{range_with_len}
 use Rattle.events.specs.declared.event.Event.{Event}
 use Rattle.events.specs.declared.event.Event.TheVariants as event
-use Rattle.history.specs.LookBack.{Game, bankrupt_in}
-use Rattle.history.specs.Operating.{has_operated, rulings_in_round}
+use Rattle.totals.specs.LookBack.{Game, bankrupt_in}
+use Rattle.totals.specs.Operating.{has_operated, rulings_in_round}
 use Rattle.history.specs.Record.{revenues_recorded, with_left}
 use Rattle.market.specs.OperatingOrder.{operates, operating_order_of, times}
 use Rattle.operating.specs.Standing.{after_standing}

@@ -21,7 +21,7 @@ abbrev pub condition_in : Event → Option Condition
 condition_in (Ruled seat line ruling) = condition_ruled ruling
 condition_in other = None
 
--- an event is plain: it rules no order that stands under a condition
+-- an event is plain: it rules no order that is under a condition
 abbrev pub is_plain : Event → Bool
 is_plain event = is_none (condition_in event)
 

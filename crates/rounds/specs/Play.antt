@@ -3,8 +3,8 @@
 use Rattle.std.specs.Prelude.{◌≡◌, ℕ, zero, suc, Bool, true, false, if◌then◌else◌, List, [], length, is_some}
 use Rattle.std.specs.List.{list_all, range_with_len}
 use Rattle.events.specs.declared.event.Event.{Event}
-use Rattle.history.specs.LookBack.{Game, bankrupt_in, broken_in}
-use Rattle.history.specs.Trains.{phase_of}
+use Rattle.totals.specs.LookBack.{Game, bankrupt_in, broken_in}
+use Rattle.totals.specs.Trains.{phase_of}
 use Rattle.privates.specs.Opening.{IsOpeningRound}
 use Rattle.privates.specs.Turn.{all_sold}
 use Rattle.rounds.specs.OperatingRound.{IsOperatingRound}
@@ -80,7 +80,7 @@ pub record IsRound (file : List ℕ) (old new : Between) : Type 0 where
   pub next_then : new.next ≡ coming round old.in_set new.game.events
   pub in_set_then : new.in_set ≡ in_set_before new.next new.game.events old.in_set
 
--- so many rounds were played between them
+-- this many rounds were played between them
 abbrev pub AreRounds : List ℕ → ℕ → Between → Between → Type 0
 AreRounds file zero old new = old ≡ new
 AreRounds file (suc rounds) old new = (mid : Between) × AreRounds file rounds old mid × IsRound file mid new

@@ -1,7 +1,8 @@
 -- A game that is played a round at a time. Each step plays the round that comes next, where one does and every seat has
 -- a sheet for it; else it answers why play stopped. Once a fault has broken play off, each step answers that fault.
-use Rattle.std.specs.Prelude.{◌≡◌, ◌⊎◌, ℕ, zero, suc, ◌<◌, ◌≤◌, true, false, List, [], length, Option, Some, None, Result, Ok, Err, IsOk, ⊤}
-use Rattle.history.specs.LookBack.{Game}
+use Rattle.std.specs.Prelude.{◌≡◌, ◌⊎◌, ℕ, zero, suc, ◌<◌, ◌≤◌, true, false, List, [], length, Option, Some, None}
+use Rattle.std.specs.Prelude.{Result, Ok, Err, IsOk, ⊤}
+use Rattle.totals.specs.LookBack.{Game}
 use Rattle.history.specs.Sound.{IsSound}
 use Rattle.operating.specs.Calls.{Call}
 use Rattle.rounds.specs.GameCalls.{RoundCalls}
@@ -108,7 +109,7 @@ CallsBetween file (Err fault) to calls = calls ≡ []
 abbrev pub StepCalls : Underway → Underway → List Call → Type 0
 StepCalls old new = CallsBetween old.file old.there new.there
 
--- a step that plays a round leaves fewer places in the order of rounds, so steps come to an end
+-- a step that plays a round leaves fewer places in the order of rounds, so steps reach an end
 abbrev pub ComesNearer : Underway → Result Step PlayFault → Underway → Type 0
 ComesNearer old (Ok (Played round)) new = places_ahead new < places_ahead old
 ComesNearer old (Ok (Ended end)) new = ⊤
@@ -118,12 +119,12 @@ ComesNearer old (Err fault) new = ⊤
 abbrev pub IsUnbroken : Underway → Type 0
 IsUnbroken play = IsOk play.there
 
--- so many steps, each of which played a round, lead from one play to another
+-- this many steps, each of which played a round, lead from one play to another
 abbrev pub StepsPlay : ℕ → Underway → Underway → Type 0
 StepsPlay zero old new = new ≡ old
 StepsPlay (suc steps) old new = (mid : Underway) × StepsPlay steps old mid × (round : Round) × PlaysNext mid round new
 
--- this is between two rounds of the one game of a file, after so many of its rounds; some more lead on to its end
+-- this is between two rounds of the one game of a file, after this many of its rounds; some more lead on to its end
 pub record IsUpTo (file : List ℕ) (rounds : ℕ) (there : Between) : Type 0 where
   pub reached : AreRounds file rounds (before_play file) there
   pub later : ℕ
@@ -131,7 +132,7 @@ pub record IsUpTo (file : List ℕ) (rounds : ℕ) (there : Between) : Type 0 wh
   pub ahead : AreRounds file later there last
   pub plays : Plays file last
 
--- after so many steps from the start the list is that of the file's one game up to so many rounds
+-- after this many steps from the start the list is that of the file's one game up to this many rounds
 abbrev pub StepsPlayTheGame : Type 0
 StepsPlayTheGame =
     (file : List ℕ) (steps : ℕ) (play : Underway) → IsAccepted file → StepsPlay steps (started file) play

@@ -9,7 +9,7 @@ use Rattle.rounds.specs.Steps.{PlaysNext, Stays, StepCalls, Underway, started}
 use Rattle.rounds.specs.declared.game.End.{End}
 use Rattle.tables.specs.declared.round.Round.{Round}
 
--- so many steps from the start of a file, each of which played a round, made these calls
+-- this many steps from the start of a file, each of which played a round, made these calls
 abbrev pub StepsCall : ℕ → List ℕ → Underway → List Call → Type 0
 StepsCall zero file play calls = (play ≡ started file) × (calls ≡ [])
 StepsCall (suc steps) file play calls =

@@ -5,7 +5,7 @@ use Rattle.rounds.specs.Play.{AreRounds, Between, before_play}
 
 -- in the game of a file, however many rounds were played, the tiles of a number on the map and those in the stock are
 -- as many as the manifest has, and the stock owes none
-abbrev pub TilesStandInEachGame : Type 0
-TilesStandInEachGame =
+abbrev pub AllTilesAreThereInEachGame : Type 0
+AllTilesAreThereInEachGame =
     (file : List ℕ) (rounds : ℕ) (there : Between) →
     AreRounds file rounds (before_play file) there → TilesAreAll there.game.events

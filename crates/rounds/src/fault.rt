@@ -2,7 +2,7 @@ ghost use Rattle.std.specs.Prelude.{◌≡◌};
 ghost use Rattle.rounds.specs.Faults.{fault_in_turn};
 ghost use Rattle.rounds.specs.declared.fault.PlayFault.TheVariants.{Memory};
 
-use certificate::RunnerFault;
+use legal_runs::RunnerFault;
 use std::alloc::AllocError;
 use tables::{Company, Round};
 

@@ -10,8 +10,8 @@ ghost use Rattle.sheets.specs.File.{players_of};
 use crate::fault::PlayFault;
 use crate::steps::{Play, Step};
 use best_run::Search;
-use certificate::Runner;
 use history::History;
+use legal_runs::Runner;
 use sheets::Sheets;
 use std::alloc::{AllocError, Global};
 use std::marker::Model;
@@ -75,7 +75,7 @@ impl<'a> Game<'a> {
 }
 
 /// Plays the game of the sheets: companies that are ordered to run their best are credited the
-/// greatest revenue, which is searched for. An `Err` comes from want of memory alone.
+/// greatest revenue, which is searched for. It fails only if memory is refused.
 pub fn play<'a>(alloc: Global, sheets: &'a Sheets<'a>) -> Result<Game<'a>, AllocError>
     ensures file { IfOk result (λ game. game.file ≡ sheets.now) }
     ensures game { IfOk result IsTheGame }
@@ -88,8 +88,8 @@ pub fn play<'a>(alloc: Global, sheets: &'a Sheets<'a>) -> Result<Game<'a>, Alloc
     }
 }
 
-/// Plays the game of the sheets: a runner tells the greatest revenue of each company that is
-/// ordered to run its best. The errors are want of memory, and that the runner refuses to answer,
+/// Plays the game of the sheets: a runner gives the greatest revenue of each company that is
+/// ordered to run its best. The errors are refused memory, and that the runner refuses to answer,
 /// with the round and the company for which it does.
 pub fn play_with<'a, R: Runner>(
     alloc: Global,

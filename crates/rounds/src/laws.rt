@@ -1,12 +1,14 @@
 //! Laws of the definitions, each the contract of a function that does nothing.
 ghost use Rattle.std.specs.Prelude.{◌≡◌, ℕ, List, [], Err};
-ghost use Rattle.history.specs.LookBack.{Game};
+ghost use Rattle.totals.specs.LookBack.{Game};
 ghost use Rattle.rounds.specs.Arrival.{ArrivalChangesNoGame};
 ghost use Rattle.rounds.specs.Begun.{RoundsFollowInOrder, RoundsOnlyAdd};
 ghost use Rattle.rounds.specs.Causality.{LaterSheetsChangeNothing};
-ghost use Rattle.rounds.specs.Ends.{BankruptcyEndsGames, BrokenBankEndsSets, GamesEndOnce, NoSetAfterBroken, NoTurnAfterBankruptcy, NothingElseEndsGames};
+ghost use Rattle.rounds.specs.Ends.{BankruptcyEndsGames, BrokenBankEndsSets, GamesEndOnce, NoSetAfterBroken};
+ghost use Rattle.rounds.specs.Ends.{NoTurnAfterBankruptcy, NothingElseEndsGames};
 ghost use Rattle.rounds.specs.Example.{first_end, first_file, second_end, second_file};
-ghost use Rattle.rounds.specs.GameCalls.{CallsAreOfTheGame, EachGameCalls, OneListOfCalls, RefusedCallsAreAFront, SomeCalls};
+ghost use Rattle.rounds.specs.GameCalls.{CallsAreOfTheGame, EachGameCalls, OneListOfCalls, RefusedCallsAreAPrefix};
+ghost use Rattle.rounds.specs.GameCalls.{SomeCalls};
 ghost use Rattle.rounds.specs.OperatingRound.{CompaniesOperateOnce, EndsSoon, OneOperatingRound};
 ghost use Rattle.rounds.specs.Plain.{VersionOneIsRuledPlainly};
 ghost use Rattle.rounds.specs.Play.{OneGame, Plays, SomeGame};
@@ -16,8 +18,8 @@ ghost use Rattle.rounds.specs.Sequence.{BankAloneEndsIt, SequenceGoesForward};
 ghost use Rattle.rounds.specs.Sets.{SetsKeepTheirNumber};
 ghost use Rattle.rounds.specs.Steps.{StepsPlayTheGame};
 ghost use Rattle.rounds.specs.StepsCall.{GamesAreAnswered, StepsAreAnswered, StepsCallTheGame};
-ghost use Rattle.rounds.specs.Tiles.{TilesStandInEachGame};
-ghost use Rattle.rounds.specs.Trains.{PhasesGoOnInRounds, TrainsStandInEachGame};
+ghost use Rattle.rounds.specs.Tiles.{AllTilesAreThereInEachGame};
+ghost use Rattle.rounds.specs.Trains.{PhasesGoOnInRounds, AllTrainsAreThereInEachGame};
 ghost use Rattle.sheets.specs.File.{content_of};
 ghost use Rattle.sheets.specs.declared.fault.FileFault.TheVariants.{Header};
 ghost use Rattle.tables.specs.declared.round.Round.{Round};
@@ -59,7 +61,7 @@ pub fn one_game()
     one_operating_round()
 }
 
-/// Each file that is not refused has a game: each of its rounds comes to an end, and so does their
+/// Each file that is not refused has a game: each of its rounds reaches an end, and so does their
 /// sequence.
 pub fn some_game()
     ensures { SomeGame }
@@ -71,8 +73,8 @@ pub fn some_game()
     operating_round_ends()
 }
 
-/// The steps of a play play the one game of its file: after so many that played a round, from the
-/// start, the list is that of the game up to so many of its rounds.
+/// The steps of a play play the one game of its file: after this many that played a round, from the
+/// start, the list is that of the game up to this many of its rounds.
 pub fn steps_play_the_game()
     ensures { StepsPlayTheGame }
 {
@@ -114,7 +116,7 @@ pub fn sets_keep_their_number()
 /// companies are as many as there were at first until they rust, and none after; and nobody has
 /// fewer than none.
 pub fn all_trains_are_there_in_each_game()
-    ensures { TrainsStandInEachGame }
+    ensures { AllTrainsAreThereInEachGame }
 {
     operating::laws::all_trains_are_there()
 }
@@ -122,7 +124,7 @@ pub fn all_trains_are_there_in_each_game()
 /// Whenever a round ends, the tiles of a number that lie on the map and those in the stock are as
 /// many as the manifest has, and the stock never owes one.
 pub fn all_tiles_are_there_in_each_game()
-    ensures { TilesStandInEachGame }
+    ensures { AllTilesAreThereInEachGame }
 {
     operating::laws::all_tiles_are_there()
 }
@@ -276,10 +278,10 @@ pub fn some_calls()
 }
 
 /// Where memory is refused, or the runner refuses to answer, the calls made of it by then are a
-/// front of those of the one game: they end with the call that was not answered, if one was not,
+/// prefix of those of the one game: they end with the call that was not answered, if one was not,
 /// and that asks what the game's next call asks.
-pub fn refused_calls_are_a_front()
-    ensures { RefusedCallsAreAFront }
+pub fn refused_calls_are_a_prefix()
+    ensures { RefusedCallsAreAPrefix }
 {
     privates::laws::one_opening_round();
     stock_round::laws::one_stock_round();

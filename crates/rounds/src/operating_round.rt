@@ -1,7 +1,7 @@
 ghost use Rattle.std.specs.Prelude.{◌≡◌, ◌++◌, ◌≤◌, [], IfErr, IfOk, OnOk, length, true};
 ghost use Rattle.events.specs.declared.event.Event.TheVariants as event;
-ghost use Rattle.history.specs.LookBack.{with_event};
-ghost use Rattle.history.specs.Shares.{is_floated};
+ghost use Rattle.totals.specs.LookBack.{with_event};
+ghost use Rattle.totals.specs.Shares.{is_floated};
 ghost use Rattle.history.specs.Sound.{IsSound};
 ghost use Rattle.history.specs.Record.{with_left};
 ghost use Rattle.operating.specs.Calls.{Makes};
@@ -9,12 +9,13 @@ ghost use Rattle.operating.specs.Table.{IsLaidOut, game_on};
 ghost use Rattle.operating.specs.Turn.{IsCompanyTurn};
 ghost use Rattle.rounds.specs.Faults.{IsRefused};
 ghost use Rattle.rounds.specs.GameCalls.{CompanyCalls, OperatingCalls, TurnsCall};
-ghost use Rattle.rounds.specs.OperatingRound.{IsOperatingRound, TurnsLead, finished, first_idle, lines_left, next_company};
+ghost use Rattle.rounds.specs.OperatingRound.{IsOperatingRound, TurnsLead, finished, first_idle, lines_left};
+ghost use Rattle.rounds.specs.OperatingRound.{next_company};
 ghost use Rattle.sheets.specs.File.{players_of};
 
 use crate::fault::PlayFault;
-use certificate::Runner;
 use history::{Event, History};
+use legal_runs::Runner;
 use market::operating_order;
 use operating::{Table, play_on, rule_standing_lines};
 use sheets::Sheets;
@@ -23,7 +24,7 @@ use tables::{Company, Round, Seat};
 
 /// Plays an operating round with the sheets for it: the standing lines and the revenues of the
 /// privates, and then the turn of each company, in operating order as it is at the time. The list
-/// of events must be sound, and its seats those of the sheets' players. An `Err` comes from want of
+/// of events must be sound, and its seats those of the sheets' players. An `Err` comes from refused
 /// memory, or from a runner that refuses to answer, and the game is dropped.
 pub(crate) fn play_operating<R: Runner>(
     alloc: Global,
@@ -79,7 +80,7 @@ fn take_turns<R: Runner>(
     ensures refuses { IfErr result (λ fault. IsRefused fault → R.may_refuse ≡ true) }
 {
     // Laws, which do nothing when they run: by them the next company has floated, and the loop
-    // comes to an end.
+    // reaches an end.
     market::laws::floated_companies_in_order();
     operating::laws::company_operates();
     let mut table = Table::lay_out(alloc, history)?;
@@ -120,7 +121,7 @@ fn take_turn<R: Runner>(
 fn next_company(history: &History) -> Option<Company>
     ensures { result ≡ next_company history.now.events }
 {
-    if history.bankrupt() {
+    if history.now().bankrupt() {
         return None;
     }
     first_idle(history)
@@ -134,7 +135,7 @@ fn first_idle(history: &History) -> Option<Company>
         .as_slice()
         .iter()
         .copied()
-        .find(|company| !history.has_operated(*company))
+        .find(|company| !history.now().has_operated(*company))
 }
 
 /// Tells how many lines of each sheet were not taken up, heads of blocks not counted.
@@ -167,7 +168,7 @@ fn record_left(
     ensures sound { OnOk result (IsSound history.new) }
 {
     let lines = sheets.parts(seat, round).count() as usize;
-    let left = lines.saturating_sub(history.rulings_in_round(seat));
+    let left = lines.saturating_sub(history.now().rulings_in_round(seat));
     history.record_left(seat, left as u32)?;
     Ok(())
 }

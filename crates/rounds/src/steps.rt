@@ -5,9 +5,11 @@ ghost use Rattle.operating.specs.Calls.{Makes};
 ghost use Rattle.rounds.specs.Faults.{IsRefused};
 ghost use Rattle.rounds.specs.GameCalls.{PlayedCalls};
 ghost use Rattle.rounds.specs.Gifts.{GiftsWait};
-ghost use Rattle.rounds.specs.Play.{IsPlayed, IsToPlay, all_posted, coming, end_of, goes_on, in_set_before, rounds_of_new_set};
+ghost use Rattle.rounds.specs.Play.{IsPlayed, IsToPlay, all_posted, coming, end_of, goes_on, in_set_before};
+ghost use Rattle.rounds.specs.Play.{rounds_of_new_set};
 ghost use Rattle.rounds.specs.Sequence.{turn_in_set};
-ghost use Rattle.rounds.specs.Steps.{ComesNearer, ComesNext, IsOver, IsUnbroken, StepCalls, StepLeads, game_so_far, started};
+ghost use Rattle.rounds.specs.Steps.{ComesNearer, ComesNext, IsOver, IsUnbroken, StepCalls, StepLeads, game_so_far};
+ghost use Rattle.rounds.specs.Steps.{started};
 ghost use Rattle.sheets.specs.File.{players_of};
 ghost use Rattle.sheets.specs.Laws.{number_of};
 ghost use Rattle.tables.specs.Round.{number_most, operating_most};
@@ -17,8 +19,8 @@ use crate::following::Next;
 use crate::game::End;
 use crate::operating_round::play_operating;
 use crate::sequence::next;
-use certificate::Runner;
 use history::History;
+use legal_runs::Runner;
 use privates::play_opening;
 use sheets::Sheets;
 use std::alloc::{AllocError, Global};
@@ -95,8 +97,8 @@ impl<'a> Play<'a> {
     }
 
     /// Plays the round that comes next, where one does and every seat has a sheet for it; else it
-    /// answers why play stopped, and so does each later step. A runner tells the greatest revenue
-    /// of each company that is ordered to run its best. An `Err` comes from want of memory, or from
+    /// answers why play stopped, and so does each later step. A runner gives the greatest revenue
+    /// of each company that is ordered to run its best. An `Err` comes from refused memory, or from
     /// a runner that refuses to answer: it breaks play off, and each later step answers it again.
     pub fn step<R: Runner>(&mut self, runner: &mut R) -> Result<Step, PlayFault>
         ensures step { StepLeads self.old result self.new }
@@ -122,7 +124,7 @@ impl<'a> Play<'a> {
         ensures nearer { ComesNearer self.old result self.new }
         ensures refuses { IfErr result (λ fault. IsRefused fault → R.may_refuse ≡ true) }
     {
-        // A law, which does nothing when it runs: by it steps come to an end.
+        // A law, which does nothing when it runs: by it steps reach an end.
         sheets::laws::sheets_are_numbered();
         let history = mem::replace(&mut self.history, History::start(self.alloc, 0));
         match play_round(self.alloc, history, self.sheets, round, runner) {
@@ -215,10 +217,10 @@ fn coming(history: &History, round: Round, in_set: u8) -> Next
     requires within { turn_in_set round ≤ in_set }
     ensures { result ≡ coming round in_set history.now.events }
 {
-    if history.bankrupt() {
+    if history.now().bankrupt() {
         return Next::Ended;
     }
-    let all_sold = history.cheapest_unsold().is_none();
+    let all_sold = history.now().cheapest_unsold().is_none();
     next(round, in_set, all_sold, history.broken())
 }
 
@@ -228,12 +230,12 @@ fn end_after(history: &History, upcoming: Next) -> End
 {
     match upcoming {
         Next::Round(round) => End::Awaiting(round),
-        Next::Ended if history.bankrupt() => End::Bankrupt,
+        Next::Ended if history.now().bankrupt() => End::Bankrupt,
         Next::Ended => End::Bank,
     }
 }
 
-/// Plays a round, by its kind. An `Err` comes from want of memory, or from a runner that refuses to
+/// Plays a round, by its kind. An `Err` comes from refused memory, or from a runner that refuses to
 /// answer, and the game is dropped.
 fn play_round<R: Runner>(
     alloc: Global,

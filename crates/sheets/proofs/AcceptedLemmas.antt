@@ -1,12 +1,14 @@
 -- A file that is not refused names 3 to 6 players.
-use Rattle.std.proofs.Common.{◌≡◌, ℕ, ◌&&◌, Bool, true, false, nat_le, nat_lt, cond, List, [], ◌∷◌, length, Option, Some, None, Result, Ok, Err, IsOk, refl, subst, arith, rules}
+use Rattle.std.proofs.Common.{◌≡◌, ℕ, ◌&&◌, Bool, true, false, nat_le, nat_lt, cond, List, [], ◌∷◌, length, Option}
+use Rattle.std.proofs.Common.{Some, None, Result, Ok, Err, IsOk, refl, subst, arith, rules}
 use Rattle.std.proofs.lemmas.Bool.{and_parts}
 use Rattle.std.proofs.lemmas.Bool.Decides.{nat_tests}
 use Rattle.order_grammar.specs.Line.{reading_of}
 use Rattle.order_grammar.specs.declared.fault.Fault.{Fault}
 use Rattle.order_grammar.specs.declared.order.Order.{Order}
 use Rattle.order_grammar.specs.declared.order.Order.TheVariants as order
-use Rattle.sheets.specs.File.{Content, all_differ, body_content, content_of, good_lines, is_header, lines_content, players_content, players_in, players_named, players_of}
+use Rattle.sheets.specs.File.{Content, all_differ, body_content, content_of, good_lines, is_header, lines_content}
+use Rattle.sheets.specs.File.{players_content, players_in, players_named, players_of}
 use Rattle.sheets.specs.Laws.{MayPlay, ThreeToSixPlay}
 use Rattle.sheets.specs.Limits.{file_most, sheets_most}
 use Rattle.sheets.specs.Text.{written_lines}

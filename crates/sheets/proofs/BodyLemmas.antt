@@ -1,12 +1,14 @@
 -- What is kept and what is left are together what the whole body has, from line to line.
-use Rattle.std.proofs.Common.{◌≡◌, ℕ, ◌+◌, ◌<◌, ◌≤◌, List, [], ◌∷◌, ◌++◌, Bool, true, false, cond, Option, Some, None, take, suc, zero-add, refl, sym, ◌∙◌, ap, append_assoc, arith}
+use Rattle.std.proofs.Common.{◌≡◌, ℕ, ◌+◌, ◌<◌, ◌≤◌, List, [], ◌∷◌, ◌++◌, Bool, true, false, cond, Option, Some, None}
+use Rattle.std.proofs.Common.{take, suc, zero-add, refl, sym, ◌∙◌, ap, append_assoc, arith}
 use Rattle.std.specs.Prelude.{not}
 use Rattle.std.specs.Option.{option_or}
 use Rattle.std.specs.List.{prefix_len}
 use Rattle.std.proofs.lemmas.List.{append-nil}
 use Rattle.order_grammar.specs.declared.condition.Version.{Version}
 use Rattle.order_grammar.specs.declared.fault.Fault.{Fault}
-use Rattle.sheets.specs.File.{is_sheet_line, begins, same_sheet_key, block, sheet_in, good_lines, unread_fault, unread_in}
+use Rattle.sheets.specs.File.{is_sheet_line, begins, same_sheet_key, block, sheet_in, good_lines, unread_fault}
+use Rattle.sheets.specs.File.{unread_in}
 use Rattle.sheets.specs.Collecting.{Open, open_with, Stands}
 use Rattle.sheets.specs.Limits.{sheets_most}
 use Rattle.sheets.specs.declared.sheet_key.SheetKey.{SheetKey}

@@ -5,7 +5,8 @@ use Rattle.std.specs.Prelude.{nat_lt}
 use Rattle.order_grammar.specs.declared.condition.Version.{Version}
 use Rattle.order_grammar.specs.declared.fault.Fault.{Fault}
 use Rattle.sheets.specs.Collecting.{StopsBy, IsCollected}
-use Rattle.sheets.specs.File.{Content, Fails, content_of, lines_content, body_content, players_of, body_of, sheet_of, unread_of, version_of, version_in, sheet_in, unread_in, good_lines}
+use Rattle.sheets.specs.File.{Content, Fails, content_of, lines_content, body_content, players_of, body_of, sheet_of}
+use Rattle.sheets.specs.File.{unread_of, version_of, version_in, sheet_in, unread_in, good_lines}
 use Rattle.sheets.specs.Limits.{file_most, sheets_most}
 use Rattle.sheets.specs.Text.{written_lines}
 use Rattle.sheets.specs.declared.fault.FileFault.{FileFault}

@@ -1,5 +1,6 @@
 -- A line that opens a part of a sheet begins with the word of heads.
-use Rattle.std.proofs.Common.{◌≡◌, ◌↔◌, ℕ, true, false, List, [], ◌∷◌, Option, Some, None, Result, Ok, Err, codes, ltb, inl, inr, refl, sym, ap, subst, ◌∙◌}
+use Rattle.std.proofs.Common.{◌≡◌, ◌↔◌, ℕ, true, false, List, [], ◌∷◌, Option, Some, None, Result, Ok, Err, codes, ltb}
+use Rattle.std.proofs.Common.{inl, inr, refl, sym, ap, subst, ◌∙◌}
 use Rattle.std.specs.List.{list_all}
 use Rattle.std.specs.Prelude.{not}
 use Rattle.std.proofs.lemmas.Bool.{cases_Bool}
@@ -52,12 +53,12 @@ behind (Floated company) order [] are = absurd are
 behind (Floated company) order (a ∷ []) are = absurd are.1
 behind (Floated company) order (a ∷ b ∷ rest) are = (rest, are.1.1)
 
--- an order whose first word stands behind no condition
+-- an order whose first word is behind no condition
 module _ (order : Order) (word : List ℕ) (others : List (List ℕ) → Type 0)
     (are_head : (words : List (List ℕ)) → AreWordsFor order words → Then (IsWord word) others words)
     (same : same_word word word ≡ true) (apart : list_all (λ (w : List ℕ). not (same_word w word)) play_words
     ≡ true) where
-  -- stands behind none
+  -- is behind none
   none_behind : (words : List (List ℕ)) → AreOrderWords order words → ⊥
   none_behind [] are = absurd are.0
   none_behind (first ∷ rest) are =
@@ -130,7 +131,7 @@ past_opens_none (round.Operating set number) = refl
 past_opens_none (round.Stock number) = refl
 past_opens_none (round.Opening number) = refl
 
--- a line that does not begin with the word of heads opens no part where it stands
+-- a line that does not begin with the word of heads opens no part where it is
 pub no_head : ReadWhereSpelt → (round : Round) (version : Version) (number : ℕ) (line : List ℕ)
     → same_word (first_of_words (words_of line)) (head_word round) ≡ false →
     opens_part round (reading_at number (order_read (reading_in version line))) ≡ false

@@ -1,8 +1,10 @@
 -- The sheet of a seat for a round is the last of those that the seat sent.
-use Rattle.std.proofs.Common.{◌≡◌, ℕ, List, [], ◌∷◌, ◌++◌, true, false, cond, eqb, Option, Some, None, refl, sym, ◌∙◌, ap}
+use Rattle.std.proofs.Common.{◌≡◌, ℕ, List, [], ◌∷◌, ◌++◌, true, false, cond, eqb, Option, Some, None, refl, sym, ◌∙◌}
+use Rattle.std.proofs.Common.{ap}
 use Rattle.std.specs.Prelude.{◌&&◌, unwrap_or}
 use Rattle.std.specs.Option.{option_or}
-use Rattle.sheets.specs.File.{Sent, begins, block, lines_begun, sheet_in, sent_by, sent_in, last_for, sheet_key_at, sheet_of, posts_of, players_of, body_of, version_of}
+use Rattle.sheets.specs.File.{Sent, begins, block, lines_begun, sheet_in, sent_by, sent_in, last_for, sheet_key_at}
+use Rattle.sheets.specs.File.{sheet_of, posts_of, players_of, body_of, version_of}
 use Rattle.sheets.specs.Part.{parts_of}
 use Rattle.sheets.specs.Laws.{LastSheetCounts, ArrivalChangesNoParts, ArrivalChangesNothing}
 use Rattle.order_grammar.specs.declared.condition.Version.{Version}

@@ -1,5 +1,6 @@
 -- The round of a sheet is one that its SHEET line names, so its number is small.
-use Rattle.std.proofs.Common.{◌≡◌, ℕ, ◌≤◌, ◌==◌, ◌↔◌, Bool, true, false, cond, List, [], ◌∷◌, Option, Some, None, Result, Ok, Err, IsSome, refl, ap, subst, arith, rules}
+use Rattle.std.proofs.Common.{◌≡◌, ℕ, ◌≤◌, ◌==◌, ◌↔◌, Bool, true, false, cond, List, [], ◌∷◌, Option, Some, None}
+use Rattle.std.proofs.Common.{Result, Ok, Err, IsSome, refl, ap, subst, arith, rules}
 use Rattle.std.specs.Option.{option_or}
 use Rattle.std.proofs.lemmas.Bool.{and_parts}
 use Rattle.std.proofs.lemmas.Bool.Decides.{nat_tests}
@@ -8,7 +9,8 @@ use Rattle.order_grammar.specs.Spells.{IsSmallRound, Spells}
 use Rattle.order_grammar.specs.declared.fault.Fault.{Fault}
 use Rattle.order_grammar.specs.declared.order.Order.{Order}
 use Rattle.order_grammar.specs.declared.order.Order.TheVariants as order
-use Rattle.sheets.specs.File.{begins, block, body_of, is_sheet_line, lines_begun, players_of, sheet_key_at, sheet_key_begun, sheet_key_for, same_sheet_key, seat_from, sheet_in, sheet_of}
+use Rattle.sheets.specs.File.{begins, block, body_of, is_sheet_line, lines_begun, players_of, sheet_key_at}
+use Rattle.sheets.specs.File.{sheet_key_begun, sheet_key_for, same_sheet_key, seat_from, sheet_in, sheet_of}
 use Rattle.sheets.specs.Laws.{SheetsAreNumbered, number_of}
 use Rattle.sheets.specs.declared.sheet_key.SheetKey.{SheetKey}
 use Rattle.tables.specs.Round.{number_most, same_round}

@@ -1,5 +1,6 @@
 -- A file of version 1 is read as if there were no conditions.
-use Rattle.std.proofs.Common.{◌≡◌, ℕ, ◌+◌, Bool, true, false, nat_lt, cond, List, [], ◌∷◌, None, unwrap_or, Result, Ok, Err, refl, ap, ◌∙◌}
+use Rattle.std.proofs.Common.{◌≡◌, ℕ, ◌+◌, Bool, true, false, nat_lt, cond, List, [], ◌∷◌, None, unwrap_or, Result, Ok}
+use Rattle.std.proofs.Common.{Err, refl, ap, ◌∙◌}
 use Rattle.order_grammar.specs.Condition.{Ordered, unconditional}
 use Rattle.order_grammar.specs.Line.{reading_of}
 use Rattle.order_grammar.specs.Version.{reading_in}
@@ -33,7 +34,7 @@ none_where : (past : Bool) (reading : Result Ordered Fault) → condition_read r
 none_where true reading none = refl
 none_where false reading none = none
 
--- a line without a condition, where it stands
+-- a line without a condition, where it is
 plain_here : (number : ℕ) (reading : Result Order Fault) →
     numbered number (unconditional reading) ≡ record
     { number = number; condition = None; reading = reading_at number reading }
@@ -54,7 +55,7 @@ module _ (law : ReadAsBefore) (opens : Result Order Fault → Bool) where
       (plain_line (count + 1) line)
       ∙ ap (λ (parts : Parts). with_line opens (plain (count + 1) line) parts) (plain_after lines (count + 1))
 
--- no line of a sheet stands under a condition
+-- no line of a sheet is under a condition
 pub plain_law : ReadAsBefore → VersionOneIsPlain
 plain_law law file round seat one =
     ap (λ (version : Version). parts_of version round (unwrap_or (sheet_of file seat round) [])) one

@@ -1,5 +1,7 @@
 -- Names of players, and their seats.
-use Rattle.std.proofs.Common.{◌≡◌, ℕ, suc, ◌+◌, ◌-◌, ◌<◌, ◌≤◌, Bool, true, false, not, ◌&&◌, ◌||◌, cond, List, [], ◌∷◌, ◌++◌, length, take, drop, get_or, Option, Some, None, refl, sym, ap, subst, ◌∙◌, true≢false, length-take-le, arith, add-one, drop-cons}
+use Rattle.std.proofs.Common.{◌≡◌, ℕ, suc, ◌+◌, ◌-◌, ◌<◌, ◌≤◌, Bool, true, false, not, ◌&&◌, ◌||◌, cond, List, [], ◌∷◌}
+use Rattle.std.proofs.Common.{◌++◌, length, take, drop, get_or, Option, Some, None, refl, sym, ap, subst, ◌∙◌}
+use Rattle.std.proofs.Common.{true≢false, length-take-le, arith, add-one, drop-cons}
 use Rattle.std.proofs.lemmas.Bool.{and_parts, and_from, le-leb}
 use Rattle.std.proofs.lemmas.Bool.Decides.{same_from_decides, Decides-eqb}
 use Rattle.std.proofs.lemmas.List.{take-append-drop}
@@ -36,7 +38,7 @@ pointwise_is_same_word [] (y ∷ b) = refl
 pointwise_is_same_word (x ∷ a) [] = refl
 pointwise_is_same_word (x ∷ a) (y ∷ b) = ap (λ t. nat_eq x y && t) (pointwise_is_same_word a b)
 
--- the letters stand before the room
+-- the letters are before the room
 first_of_filled : (a : List ℕ) → take (length a) (filled a) ≡ a
 unfolding filled
 first_of_filled a = take-append_seam a (replicate (8 - length a) 0)
@@ -119,7 +121,7 @@ twice false l true n rest h ih = refl
 twice false l false true rest h ih = refl
 twice false l false false rest h ih = ih h
 
--- names do not differ where one of them stands among those before it
+-- names do not differ where one of them is among those before it
 repeats : (before after : List (List ℕ)) (name : List ℕ) → list_any (is_equal name) before ≡ true
     → all_differ (before ++ name ∷ after) ≡ false
 repeats [] after name h = absurd (true≢false (sym h))

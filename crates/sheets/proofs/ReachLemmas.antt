@@ -1,18 +1,21 @@
 -- How far the lines after the players line have come, after each of them.
-use Rattle.std.proofs.Common.{◌≡◌, ℕ, ◌-◌, List, [], ◌∷◌, ◌++◌, true, false, cond, Option, Some, None, length, take, refl, sym, ◌∙◌, ap, arith, subst}
+use Rattle.std.proofs.Common.{◌≡◌, ℕ, ◌-◌, List, [], ◌∷◌, ◌++◌, true, false, cond, Option, Some, None, length, take}
+use Rattle.std.proofs.Common.{refl, sym, ◌∙◌, ap, arith, subst}
 use Rattle.std.proofs.Math.Seq.{take-length}
 use Rattle.std.specs.Prelude.{is_some}
 use Rattle.order_grammar.specs.Line.{reading_of}
 use Rattle.order_grammar.specs.declared.condition.Version.{Version}
 use Rattle.order_grammar.specs.declared.fault.Fault.{Fault}
 use Rattle.sheets.specs.Collecting.{HasBegun, Open, IsOpen, Stands, Reaches, closed, StopsAt, StopsBy}
-use Rattle.sheets.specs.File.{is_sheet_line, begins, sheet_key_begun, unread_fault, same_sheet_key, sheet_in, good_lines}
+use Rattle.sheets.specs.File.{is_sheet_line, begins, sheet_key_begun, unread_fault, same_sheet_key, sheet_in}
+use Rattle.sheets.specs.File.{good_lines}
 use Rattle.sheets.specs.Text.{written_lines, BeginsWith}
 use Rattle.sheets.specs.declared.open_sheet.OpenSheet.{OpenSheet}
 use Rattle.sheets.specs.declared.fault.FileFault.{FileFault}
 use Rattle.sheets.specs.declared.sheet_key.SheetKey.{SheetKey}
-use Rattle.sheets.proofs.TextLemmas.{begins_with_nothing, one_after_another, front_by_rest, lines_of_both}
-use Rattle.sheets.proofs.BodyLemmas.{option_or-cond, stands_same, stands_inside, stands_stray, stands_closed, stands_begun, stands_bad, too_many}
+use Rattle.sheets.proofs.TextLemmas.{begins_with_nothing, one_after_another, prefix_by_rest, lines_of_both}
+use Rattle.sheets.proofs.BodyLemmas.{option_or-cond, stands_same, stands_inside, stands_stray, stands_closed}
+use Rattle.sheets.proofs.BodyLemmas.{stands_begun, stands_bad, too_many}
 
 module _ (version : Version) (players body : List (List ℕ)) (sheets : SheetKey → Option (List (List ℕ)))
     (unread : List Fault) (good : ℕ) where
@@ -27,7 +30,7 @@ module _ (version : Version) (players body : List (List ℕ)) (sheets : SheetKey
   kept_before line lines text (Some sheet) (Some had) is h s =
       let front : List ℕ = h.1.0 in
       let same : written_lines (take (length sheet.text.now - length text) sheet.text.now) ≡ had.lines =
-      ap written_lines (front_by_rest front had.lines text sheet.text.now h.1.1) ∙ h.1.1.first in
+      ap written_lines (prefix_by_rest front had.lines text sheet.text.now h.1.1) ∙ h.1.1.first in
       stands_same version players body (λ q. cond (same_sheet_key had.sheet_key q) (Some had.lines) (sheets q)) unread
       good (closed (Some sheet) text sheets) (line ∷ lines) None
       (λ q. ap (λ p. cond (same_sheet_key p q) (Some

@@ -1,11 +1,12 @@
 -- What rounds take up of their sheets, seat by seat: the standing lines, and what is told of lines that were
 -- not taken up.
-use Rattle.std.proofs.Common.{◌≡◌, ℕ, suc, ◌+◌, ◌-◌, ◌<◌, List, [], ◌∷◌, ◌++◌, length, map, zero-add, sym, ap, ◌∙◌, append_assoc, arith}
+use Rattle.std.proofs.Common.{◌≡◌, ℕ, suc, ◌+◌, ◌-◌, ◌<◌, List, [], ◌∷◌, ◌++◌, length, map, zero-add, sym, ap, ◌∙◌}
+use Rattle.std.proofs.Common.{append_assoc, arith}
 use Rattle.std.specs.List.{range_with_len}
 use Rattle.std.proofs.lemmas.List.{map-append}
 use Rattle.std.proofs.lemmas.List.FromFn.{map-range_with_len_more}
-use Rattle.sheets.specs.Part.{Numbered, Parts, StandsAtHead, groups_of, lines_in, lines_in_groups, parts_for}
-use Rattle.sheets.specs.Taken.{after_all_before, after_each, after_lines_before, groups_for, told_of_left}
+use Rattle.sheets.specs.Part.{Numbered, Parts, IsAtHead, written_turns_of, lines_in, lines_in_written_turns, parts_for}
+use Rattle.sheets.specs.Taken.{after_all_before, after_each, after_lines_before, written_turns_for, told_of_left}
 use Rattle.tables.specs.Seat.{seat_at}
 use Rattle.tables.specs.declared.round.Round.{Round}
 use Rattle.tables.specs.declared.seat.Seat.{Seat}
@@ -33,26 +34,26 @@ standing_goes_on {State} step file round seat total state after sheet taker with
     ap (λ (all : State). after_all_before step file round all (range_with_len (seat + 1) (total - (seat + 1)))) here
     ∙ ap (λ (seats : List ℕ). after_all_before step file round state seats) (sym (next_seat seat total within))
 
--- the groups of the seats so far, and those of one more
-pub groups_more : (file : List ℕ) (round : Round) (seat : ℕ) (old : List Parts) (sheet new : Parts) (taker : Seat) →
-    map groups_of old ≡ groups_for seat file round → taker ≡ seat_at seat → sheet ≡ parts_for file round taker.0 →
+-- the written turns of the seats so far, and those of one more
+pub more_written_turns : (file : List ℕ) (round : Round) (seat : ℕ) (old : List Parts) (sheet new : Parts) (taker : Seat) →
+    map written_turns_of old ≡ written_turns_for seat file round → taker ≡ seat_at seat → sheet ≡ parts_for file round taker.0 →
     new ≡ record { before = []; opened = sheet.opened }
-    → map groups_of (old ++ new ∷ []) ≡ groups_for (seat + 1) file round
-groups_more file round seat old sheet new taker before is_seat is_sheet left =
-    let here : groups_of new ≡ groups_of (parts_for file round seat) =
-    ap groups_of left ∙ ap groups_of is_sheet ∙ ap (λ (s : Seat). groups_of (parts_for file round s.0)) is_seat
+    → map written_turns_of (old ++ new ∷ []) ≡ written_turns_for (seat + 1) file round
+more_written_turns file round seat old sheet new taker before is_seat is_sheet left =
+    let here : written_turns_of new ≡ written_turns_of (parts_for file round seat) =
+    ap written_turns_of left ∙ ap written_turns_of is_sheet ∙ ap (λ (s : Seat). written_turns_of (parts_for file round s.0)) is_seat
     in
-    map-append groups_of old (new ∷ [])
-    ∙ ap (λ (groups : List (List (List Numbered))). groups ++ groups_of new ∷ []) before
-    ∙ ap (λ (groups : List (List Numbered)). groups_for seat file round ++ groups ∷ []) here
-    ∙ sym (map-range_with_len_more (λ seat. groups_of (parts_for file round seat)) 0 seat seat (zero-add seat))
+    map-append written_turns_of old (new ∷ [])
+    ∙ ap (λ (written_turns : List (List (List Numbered))). written_turns ++ written_turns_of new ∷ []) before
+    ∙ ap (λ (written_turns : List (List Numbered)). written_turns_for seat file round ++ written_turns ∷ []) here
+    ∙ sym (map-range_with_len_more (λ seat. written_turns_of (parts_for file round seat)) 0 seat seat (zero-add seat))
 
--- once the standing lines are ruled a sheet stands at a head
-pub at_head : (sheet new : Parts) → new ≡ record { before = []; opened = sheet.opened } → StandsAtHead new
+-- once the standing lines are ruled a sheet is at a head
+pub at_head : (sheet new : Parts) → new ≡ record { before = []; opened = sheet.opened } → IsAtHead new
 at_head sheet new left = ap (λ (parts : Parts). parts.before) left
 
--- what is left of a sheet at a head is its groups
-lines_at_head : (sheet : Parts) → StandsAtHead sheet → lines_in sheet ≡ lines_in_groups (groups_of sheet)
+-- what is left of a sheet at a head is its written turns
+lines_at_head : (sheet : Parts) → IsAtHead sheet → lines_in sheet ≡ lines_in_written_turns (written_turns_of sheet)
 lines_at_head sheet stands =
     let none : length sheet.before ≡ 0 = ap (λ (lines : List Numbered). length lines) stands in
     omega arith
@@ -62,10 +63,10 @@ pub left_goes_on : {Told : Type 0} (tell : Seat → ℕ → List Told → List T
     ((seat : Seat) (count : ℕ) (rest : List Told) → tell seat count [] ++ rest ≡ tell seat count rest) →
     (old new : List Told) (seat count : ℕ) (sheet : Parts) (others : List Parts)
     → new ≡ old ++ tell (seat_at seat) count [] → count ≡ lines_in sheet →
-    StandsAtHead sheet → new ++ told_of_left tell (seat + 1) (map groups_of others)
-    ≡ old ++ told_of_left tell seat (map groups_of (sheet ∷ others))
+    IsAtHead sheet → new ++ told_of_left tell (seat + 1) (map written_turns_of others)
+    ≡ old ++ told_of_left tell seat (map written_turns_of (sheet ∷ others))
 left_goes_on {Told} tell first old new seat count sheet others told counted stands =
-    let rest : List Told = told_of_left tell (seat + 1) (map groups_of others) in
+    let rest : List Told = told_of_left tell (seat + 1) (map written_turns_of others) in
     ap (λ (all : List Told). all ++ rest) told
     ∙ append_assoc old (tell (seat_at seat) count []) rest
     ∙ ap (λ (all : List Told). old ++ all)

@@ -1,14 +1,16 @@
 -- Where a text may be cut between two of its lines.
-use Rattle.std.proofs.Common.{◌≡◌, ℕ, ◌+◌, ◌-◌, ◌<◌, List, [], ◌∷◌, ◌++◌, true, false, cond, length, get_or, take, drop, refl, sym, ◌∙◌, ap, zero, suc, add-one, get_or-take, append_assoc, arith, eqb, subst}
+use Rattle.std.proofs.Common.{◌≡◌, ℕ, ◌+◌, ◌-◌, ◌<◌, List, [], ◌∷◌, ◌++◌, true, false, cond, length, get_or, take, drop}
+use Rattle.std.proofs.Common.{refl, sym, ◌∙◌, ap, zero, suc, add-one, get_or-take, append_assoc, arith, eqb, subst}
 use Rattle.std.specs.Prelude.{not}
 use Rattle.std.proofs.lemmas.List.Elements.{filter-append}
 use Rattle.std.proofs.lemmas.List.{append-nil, length-append, take-append-drop, length-drop}
 use Rattle.std.proofs.lemmas.Bool.{ne_eqb}
 use Rattle.std.proofs.Math.Seq.{take-suc, take-append_seam, take-length}
 use Rattle.std.proofs.lemmas.Grind.{common_steps}
-use Rattle.sheets.specs.Text.{without_return, last_line, lines_from, lines_of, rest_of, is_blank, written, written_lines, IsCut, BeginsWith}
+use Rattle.sheets.specs.Text.{without_return, last_line, lines_from, lines_of, rest_of, is_blank, written}
+use Rattle.sheets.specs.Text.{written_lines, IsCut, BeginsWith}
 
--- what follows an LF is read apart from what stands before it
+-- what follows an LF is read apart from what is before it
 closed : (line front more : List ℕ) → lines_from line ((front ++ 10 ∷ []) ++ more)
     ≡ lines_from line (front ++ 10 ∷ []) ++ lines_from [] more
 closed line [] more = refl
@@ -29,7 +31,7 @@ cut_after_newline front rest = record {
       ∙ filter-append _ (lines_from [] (front ++ 10 ∷ [])) (lines_from [] more);
 }
 
--- nothing has only nothing as its front
+-- nothing has only nothing as its prefix
 nothing_before : (more left : List ℕ) → more ++ left ≡ [] → more ≡ []
 nothing_before [] left e = refl
 nothing_before (byte ∷ more) left e = cc
@@ -125,7 +127,7 @@ pub begins_with_nothing : (text : List ℕ) → BeginsWith [] [] text text
 unfolding written_lines
 begins_with_nothing text = record { whole = refl; first = refl; cut = cut_at_start text }
 
--- what stands behind a front comes after its lines
+-- what is behind a prefix comes after its lines
 pub one_after_another : (front next : List ℕ) (lines more : List (List ℕ)) (middle rest text : List ℕ)
     → BeginsWith front lines middle text →
     BeginsWith next more rest middle → BeginsWith (front ++ next) (lines ++ more) rest text
@@ -146,10 +148,10 @@ lines_of_both front lines rest text a =
     a.cut.joins rest [] (append-nil rest) in
     ap written_lines a.whole ∙ cut ∙ ap (λ ls. ls ++ written_lines rest) a.first
 
--- the front of a text, by what is left of it
-pub front_by_rest : (front : List ℕ) (lines : List (List ℕ)) (rest text : List ℕ) → BeginsWith front lines rest text →
+-- the prefix of a text, by what is left of it
+pub prefix_by_rest : (front : List ℕ) (lines : List (List ℕ)) (rest text : List ℕ) → BeginsWith front lines rest text →
     take (length text - length rest) text ≡ front
-front_by_rest front lines rest text a =
+prefix_by_rest front lines rest text a =
     rw (a.whole, length-append front rest)
     (let n : (length front + length rest) - length rest ≡ length front =
     omega arith in rw (n, take-append_seam front rest) refl)

@@ -1,9 +1,11 @@
 -- How far the sheets of a file are collected: what is kept, what is open, and what is left to read.
-use Rattle.std.specs.Prelude.{◌≡◌, ℕ, ◌+◌, ◌-◌, ◌<◌, ◌≤◌, false, if◌then◌else◌, List, [], ◌∷◌, ◌++◌, length, take, Option, Some, None, is_some}
+use Rattle.std.specs.Prelude.{◌≡◌, ℕ, ◌+◌, ◌-◌, ◌<◌, ◌≤◌, false, if◌then◌else◌, List, [], ◌∷◌, ◌++◌, length, take}
+use Rattle.std.specs.Prelude.{Option, Some, None, is_some}
 use Rattle.std.specs.Option.{option_or}
 use Rattle.order_grammar.specs.declared.condition.Version.{Version}
 use Rattle.order_grammar.specs.declared.fault.Fault.{Fault}
-use Rattle.sheets.specs.File.{same_sheet_key, block, sheet_in, good_lines, unread_in, players_of, unread_of, sheet_of, version_of, IsAccepted}
+use Rattle.sheets.specs.File.{same_sheet_key, block, sheet_in, good_lines, unread_in, players_of, unread_of, sheet_of}
+use Rattle.sheets.specs.File.{version_of, IsAccepted}
 use Rattle.sheets.specs.Limits.{sheets_most}
 use Rattle.sheets.specs.Text.{written_lines, BeginsWith}
 use Rattle.sheets.specs.declared.fault.FileFault.{FileFault}
@@ -65,21 +67,20 @@ abbrev pub IsBegun : SheetKey → List ℕ → Option OpenSheet → Type 0
 IsBegun sheet_key rest None = ⊥
 IsBegun sheet_key rest (Some sheet) = (sheet.sheet_key ≡ sheet_key) × (sheet.text.now ≡ rest)
 
--- A SHEET line came where no sheet was open and so many good ones had come: it begins the sheet of this
--- post, or it has a fault.
+-- A SHEET line came where no sheet was open and this many good ones had come: it begins the sheet of this post, or it
+-- has a fault.
 abbrev pub HasBegun : List ℕ → Fault → ℕ → List Fault → Option SheetKey → Option OpenSheet → ℕ → List Fault → Type 0
 HasBegun rest fault good unread None sheet count codes =
     (sheet ≡ None) × (count ≡ good) × (codes ≡ unread ++ fault ∷ [])
 HasBegun rest fault good unread (Some sheet_key) sheet count codes =
     IsBegun sheet_key rest sheet × (good < sheets_most) × (count ≡ good + 1) × (codes ≡ unread)
 
--- why reading stops at a SHEET line that would begin the sheet of this post, where so many good ones
--- had come
+-- why reading stops at a SHEET line that would begin the sheet of this post, where this many good ones had come
 abbrev pub StopsAt : ℕ → Option SheetKey → FileFault → Type 0
 StopsAt good None fault = fault ≡ Memory
 StopsAt good (Some sheet_key) fault = (fault ≡ TooManySheets) × (sheets_most ≤ good)
 
--- why reading stops, where there are so many good SHEET lines
+-- why reading stops, where there are this many good SHEET lines
 abbrev pub StopsBy : ℕ → FileFault → Type 0
 StopsBy good Memory = Unit {0}
 StopsBy good TooManySheets = sheets_most < good

@@ -1,6 +1,8 @@
 -- What an order file says: whether it is refused, who plays, the sheet of a player for a round, and
 -- the lines that are in no sheet.
-use Rattle.std.specs.Prelude.{◌≡◌, ℕ, ◌==◌, ◌+◌, Bool, true, false, ◌&&◌, not, nat_le, nat_lt, if◌then◌else◌, List, [], ◌∷◌, ◌++◌, length, codes, Option, Some, None, Result, Ok, Err, IsOk, take_while, is_some, unwrap_or}
+use Rattle.std.specs.Prelude.{◌≡◌, ℕ, ◌==◌, ◌+◌, Bool, true, false, ◌&&◌, not, nat_le, nat_lt, if◌then◌else◌, List, []}
+use Rattle.std.specs.Prelude.{◌∷◌, ◌++◌, length, codes, Option, Some, None, Result, Ok, Err, IsOk, take_while, is_some}
+use Rattle.std.specs.Prelude.{unwrap_or}
 use Rattle.std.specs.Option.{option_or}
 use Rattle.std.specs.List.{list_any}
 use Rattle.order_grammar.specs.Line.{reading_of}
@@ -22,8 +24,8 @@ use Rattle.tables.specs.Round.{same_round}
 use Rattle.tables.specs.declared.round.Round.{Round}
 use Rattle.tables.specs.declared.seat.Seat.{Seat}
 
--- the code of a fault: that which the report of a refused file prints; no report prints that of want
--- of memory, where the file is not refused
+-- the code of a fault: that which the report of a refused file prints; no report prints that of refused memory, where
+-- the file is not refused
 abbrev pub code_of_fault : FileFault → List ℕ
 code_of_fault Header = codes "F1"
 code_of_fault Players = codes "F2"
@@ -53,7 +55,7 @@ version_in (line ∷ lines) = unwrap_or (header_version (reading_of line)) One
 unfoldable pub version_of : List ℕ → Version
 version_of file = version_in (written_lines file)
 
--- no name stands twice
+-- no name is twice
 abbrev pub all_differ : List (List ℕ) → Bool
 all_differ [] = true
 all_differ (name ∷ names) = not (list_any (same_word name) names) && all_differ names

@@ -4,9 +4,10 @@ use Rattle.order_grammar.specs.Line.{reading_of}
 use Rattle.order_grammar.specs.declared.condition.Version.TheVariants.{One}
 use Rattle.order_grammar.specs.declared.fault.Fault.{Fault}
 use Rattle.order_grammar.specs.declared.order.Order.{Order}
-use Rattle.sheets.specs.File.{IsAccepted, content_of, fault_of_reading, sheet_of, players_of, posts_of, last_for, unread_fault, version_of}
+use Rattle.sheets.specs.File.{IsAccepted, content_of, fault_of_reading, sheet_of, players_of, posts_of, last_for}
+use Rattle.sheets.specs.File.{unread_fault, version_of}
 use Rattle.sheets.specs.Limits.{file_most, lines_most}
-use Rattle.sheets.specs.Part.{Numbered, Parts, groups_of, opens_part, parts_for, reading_at, with_line}
+use Rattle.sheets.specs.Part.{Numbered, Parts, written_turns_of, opens_part, parts_for, reading_at, with_line}
 use Rattle.sheets.specs.declared.fault.FileFault.TheVariants.{TooLong}
 use Rattle.tables.specs.Round.{number_most}
 use Rattle.tables.specs.declared.round.Round.{Round}
@@ -34,16 +35,16 @@ SameParts f g = (round : Round) (seat : ℕ) → parts_for f round seat ≡ part
 abbrev pub ArrivalChangesNoParts : Type 0
 ArrivalChangesNoParts = (f g : List ℕ) → SentTheSame f g → version_of f ≡ version_of g → SameParts f g
 
--- a line with this number that stands under no condition
+-- a line with this number that is under no condition
 abbrev pub plain : ℕ → List ℕ → Numbered
 plain number line = record { number = number; condition = None; reading = reading_at number (reading_of line) }
 
--- the parts of lines that stand under no condition, of which so many came before
+-- the parts of lines that are under no condition, of which this many came before
 abbrev pub plain_parts : (Result Order Fault → Bool) → ℕ → List (List ℕ) → Parts
 plain_parts opens count [] = record { before = []; opened = [] }
 plain_parts opens count (line ∷ lines) = with_line opens (plain (count + 1) line) (plain_parts opens (count + 1) lines)
 
--- no line of a file of version 1 stands under a condition, and each has the order that it spells by itself
+-- no line of a file of version 1 is under a condition, and each has the order that it spells by itself
 abbrev pub VersionOneIsPlain : Type 0
 VersionOneIsPlain =
     (file : List ℕ) (round : Round) (seat : ℕ) → version_of file ≡ One
@@ -57,7 +58,7 @@ VersionOneIsPlainOutside = (line : List ℕ) → unread_fault One line ≡ fault
 abbrev pub LongFileIsRefused : Type 0
 LongFileIsRefused = (file : List ℕ) → file_most < length file → content_of file ≡ Err TooLong
 
--- so many players as a game may have
+-- this many players as a game may have
 abbrev pub MayPlay : ℕ → Type 0
 MayPlay players = (3 ≤ players) × (players ≤ 6)
 
@@ -76,7 +77,7 @@ abbrev pub SheetsAreNumbered : Type 0
 SheetsAreNumbered = (file : List ℕ) (seat : ℕ) (round : Round) → IsSome (sheet_of file seat round)
     → number_of round ≤ number_most
 
--- a sheet has no more groups or blocks than lines that may be orders
-abbrev pub SheetsHaveFewGroups : Type 0
-SheetsHaveFewGroups = (file : List ℕ) (round : Round) (seat : ℕ)
-    → length (groups_of (parts_for file round seat)) ≤ lines_most
+-- a sheet has no more written turns or blocks than lines that may be orders
+abbrev pub SheetsHaveFewTurns : Type 0
+SheetsHaveFewTurns = (file : List ℕ) (round : Round) (seat : ℕ)
+    → length (written_turns_of (parts_for file round seat)) ≤ lines_most

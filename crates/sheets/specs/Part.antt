@@ -1,8 +1,8 @@
--- A sheet is taken apart at its heads. In an opening or stock round's sheet each TURN line up to line
--- 512 is a head, and opens a group; in an operating round's sheet each COMPANY line up to line 512 is
--- one, and opens a block. The lines before the first head stand alone. A line past 512 has that fault
--- before any other, so it is no head.
-use Rattle.std.specs.Prelude.{◌≡◌, ℕ, ◌+◌, Bool, true, false, nat_lt, if◌then◌else◌, List, [], ◌∷◌, length, map, Option, Some, None, Result, Ok, Err, codes, unwrap_or}
+-- A sheet is taken apart at its heads. In an opening or stock round's sheet each TURN line up to line 512 is a head,
+-- and opens a written turn; in an operating round's sheet each COMPANY line up to line 512 is one, and opens a block.
+-- The lines before the first head are alone. A line past 512 has that fault before any other, so it is no head.
+use Rattle.std.specs.Prelude.{◌≡◌, ℕ, ◌+◌, Bool, true, false, nat_lt, if◌then◌else◌, List, [], ◌∷◌, length, map, Option}
+use Rattle.std.specs.Prelude.{Some, None, Result, Ok, Err, codes, unwrap_or}
 use Rattle.order_grammar.specs.Condition.{Ordered}
 use Rattle.order_grammar.specs.Version.{ordered_of, reading_in}
 use Rattle.order_grammar.specs.declared.condition.Condition.{Condition}
@@ -21,14 +21,14 @@ use Rattle.sheets.specs.declared.sheet.UnreadLine.{UnreadLine}
 use Rattle.tables.specs.declared.round.Round.{Round}
 use Rattle.tables.specs.declared.round.Round.TheVariants.{Operating}
 
--- a line where it stands in its sheet: its number, and its order or the first fault that it has there; an order may
--- stand under a condition, a fault has none
+-- a line where it is in its sheet: its number, and its order or the first fault that it has there; an order may be
+-- under a condition, a fault has none
 pub record Numbered : Type 0 where
   pub number : ℕ
   pub condition : Option Condition
   pub reading : Result Order Fault
 
--- what a line with this number is where it stands, if by itself it is this
+-- what a line with this number is where it is, if by itself it is this
 abbrev pub reading_at : ℕ → Result Order Fault → Result Order Fault
 reading_at number reading = if nat_lt lines_most number then Err PastLastLine else reading
 
@@ -41,7 +41,7 @@ numbered number reading =
       reading = reading_at number (order_read reading);
     }
 
--- a line that was read, where it stands
+-- a line that was read, where it is
 abbrev pub line_read : NumberedLine → Numbered
 line_read line =
     record {
@@ -50,7 +50,7 @@ line_read line =
       reading = reading_at line.number (order_read (ordered_of line.reading));
     }
 
--- a line that is not read, where it stands
+-- a line that is not read, where it is
 abbrev pub line_unread : UnreadLine → Numbered
 line_unread line = numbered line.number (reading_in line.version line.text.now)
 
@@ -58,11 +58,11 @@ line_unread line = numbered line.number (reading_in line.version line.text.now)
 abbrev pub line_with : ReadLine → Order → Numbered
 line_with read order = record { number = read.number; condition = read.condition; reading = Ok order }
 
--- the line with this number that has this fault where it stands
+-- the line with this number that has this fault where it is
 abbrev pub faulty_line : ℕ → Fault → Numbered
 faulty_line number fault = record { number = number; condition = None; reading = Err fault }
 
--- the order that opens a group
+-- the order that opens a written turn
 abbrev pub is_turn : Result Order Fault → Bool
 is_turn (Ok Turn) = true
 is_turn other = false
@@ -82,7 +82,7 @@ abbrev pub head_word : Round → List ℕ
 head_word (Operating set number) = codes "COMPANY"
 head_word round = codes "TURN"
 
--- a group or block: its head, and the lines after that up to the next head
+-- a written turn or a block: its head, and the lines after that up to the next head
 pub record Part : Type 0 where
   pub head : Numbered
   pub lines : List Numbered
@@ -105,7 +105,7 @@ after_line line parts = record { before = line ∷ parts.before; opened = parts.
 abbrev pub with_line : (Result Order Fault → Bool) → Numbered → Parts → Parts
 with_line opens line parts = if opens line.reading then after_head line parts else after_line line parts
 
--- the parts of lines of a file of some version, of which so many came before
+-- the parts of lines of a file of some version, of which this many came before
 abbrev pub parts_after : Version → (Result Order Fault → Bool) → ℕ → List (List ℕ) → Parts
 parts_after version opens count [] = record { before = []; opened = [] }
 parts_after version opens count (line ∷ lines) =
@@ -123,26 +123,26 @@ parts_of version round lines = parts_after version (opens_part round) 0 lines
 abbrev pub parts_for : List ℕ → Round → ℕ → Parts
 parts_for file round seat = parts_of (version_of file) round (unwrap_or (sheet_of file seat round) [])
 
--- the lines of each group or block
-abbrev pub groups_of : Parts → List (List Numbered)
-groups_of parts = map (λ part. part.lines) parts.opened
+-- the lines of each written turn or a block
+abbrev pub written_turns_of : Parts → List (List Numbered)
+written_turns_of parts = map (λ part. part.lines) parts.opened
 
 -- no line is left before the next head
-abbrev pub StandsAtHead : Parts → Type 0
-StandsAtHead parts = parts.before ≡ []
+abbrev pub IsAtHead : Parts → Type 0
+IsAtHead parts = parts.before ≡ []
 
--- how many lines some groups have
-abbrev pub lines_in_groups : List (List Numbered) → ℕ
-lines_in_groups [] = 0
-lines_in_groups (group ∷ groups) = length group + lines_in_groups groups
+-- how many lines some written turns have
+abbrev pub lines_in_written_turns : List (List Numbered) → ℕ
+lines_in_written_turns [] = 0
+lines_in_written_turns (written ∷ written_turns) = length written + lines_in_written_turns written_turns
 
 -- how many lines there are, heads not counted
 abbrev pub lines_in : Parts → ℕ
-lines_in parts = length parts.before + lines_in_groups (groups_of parts)
+lines_in parts = length parts.before + lines_in_written_turns (written_turns_of parts)
 
 -- the next line before the next head is taken, if there is one
 abbrev pub TakesOrdinary : Parts → Option UnreadLine → Parts → Type 0
-TakesOrdinary old None new = StandsAtHead old × (new ≡ old)
+TakesOrdinary old None new = IsAtHead old × (new ≡ old)
 TakesOrdinary old (Some line) new = old ≡ after_line (line_unread line) new
 
 -- the next head is taken, if there is one

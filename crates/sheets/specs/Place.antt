@@ -1,6 +1,5 @@
--- Which orders have a place where a line stands is said by the kind of the round, and by whether the
--- line stands before the first head or in a part. An order without a place is a fault of its line,
--- after those that the line has by itself.
+-- Which orders have a place where a line stands is said by the kind of the round, and by whether the line is before the
+-- first head or in a part. An order without a place is a fault of its line, after those that the line has by itself.
 use Rattle.std.specs.Prelude.{Bool, true, false, if◌then◌else◌, Result, Ok, Err}
 use Rattle.order_grammar.specs.declared.fault.Fault.{Fault}
 use Rattle.order_grammar.specs.declared.fault.Fault.TheVariants.{OutOfPlace}

@@ -25,7 +25,7 @@ unruled version number lines = record { version = version; number = number; line
 abbrev pub condition_at : ℕ → Result Ordered Fault → Option Condition
 condition_at number reading = if nat_lt lines_most number then None else condition_read reading
 
--- the line with this number is read as what stands there
+-- the line with this number is read as what is there
 pub record IsReadAs (version : Version) (number : ℕ) (line : List ℕ) (read : NumberedLine) : Type 0 where
   pub number_is : read.number ≡ number
   pub condition_is : read.condition ≡ condition_at number (reading_in version line)

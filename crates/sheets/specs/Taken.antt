@@ -1,9 +1,9 @@
--- What every round takes up of its sheets, whatever becomes of a line: first the lines that stand before the
--- first head of each sheet, seat by seat; then the groups, turn by turn; and at the end it tells of the lines
--- that were not taken up.
+-- What every round takes up of its sheets, whatever becomes of a line: first the lines that are before the first head
+-- of each sheet, seat by seat; then the written turns, turn by turn; and at the end it tells of the lines that were not
+-- taken up.
 use Rattle.std.specs.Prelude.{ℕ, ◌+◌, List, [], ◌∷◌, map}
 use Rattle.std.specs.List.{range_with_len}
-use Rattle.sheets.specs.Part.{Numbered, groups_of, lines_in_groups, parts_for}
+use Rattle.sheets.specs.Part.{Numbered, written_turns_of, lines_in_written_turns, parts_for}
 use Rattle.tables.specs.Seat.{seat_at}
 use Rattle.tables.specs.Turns.{InPlay}
 use Rattle.tables.specs.declared.round.Round.{Round}
@@ -25,17 +25,17 @@ abbrev pub after_all_before : {State : Type 0} → (Seat → State → Numbered 
     → State
 after_all_before step file round state seats = after_each (after_lines_before step file round) state seats
 
--- the groups of each seat's sheet for a round
-abbrev pub groups_for : ℕ → List ℕ → Round → List (List (List Numbered))
-groups_for seats file round = map (λ seat. groups_of (parts_for file round seat)) (range_with_len 0 seats)
+-- the written turns of each seat's sheet for a round
+abbrev pub written_turns_for : ℕ → List ℕ → Round → List (List (List Numbered))
+written_turns_for seats file round = map (λ seat. written_turns_of (parts_for file round seat)) (range_with_len 0 seats)
 
--- turns in play: the state so far, whose turn it is, how many have passed, and what is left of the groups
+-- turns in play: the state so far, whose turn it is, how many have passed, and what is left of the written turns
 abbrev pub in_play : {State : Type 0} → State → ℕ → ℕ → List (List (List Numbered)) → InPlay State Numbered
-in_play state seat passes groups = record { now = state; seat = seat; passes = passes; groups = groups }
+in_play state seat passes written_turns = record { now = state; seat = seat; passes = passes; written_turns = written_turns }
 
 -- what is told of the lines that were not taken up, seat by seat, where so much is told in front of the rest
 abbrev pub told_of_left : {Told : Type 0} → (Seat → ℕ → List Told → List Told) → ℕ → List (List (List Numbered))
     → List Told
 told_of_left tell seat [] = []
-told_of_left tell seat (groups ∷ others) = tell (seat_at seat) (lines_in_groups groups)
+told_of_left tell seat (written_turns ∷ others) = tell (seat_at seat) (lines_in_written_turns written_turns)
     (told_of_left tell (seat + 1) others)

@@ -1,6 +1,7 @@
 -- The lines of a text: the pieces between LFs. A CR before an LF is dropped, a last line without LF
 -- counts. A line without words is blank, unless it is too long, and counts nowhere.
-use Rattle.std.specs.Prelude.{◌≡◌, ◌≢◌, ℕ, ◌<◌, ◌==◌, Bool, ◌&&◌, not, nat_le, if◌then◌else◌, List, [], ◌∷◌, ◌++◌, length, slice_index, filter}
+use Rattle.std.specs.Prelude.{◌≡◌, ◌≢◌, ℕ, ◌<◌, ◌==◌, Bool, ◌&&◌, not, nat_le, if◌then◌else◌, List, [], ◌∷◌, ◌++◌}
+use Rattle.std.specs.Prelude.{length, slice_index, filter}
 use Rattle.order_grammar.specs.Limits.{line_most}
 use Rattle.order_grammar.specs.Words.{words_of, has_words}
 
@@ -42,7 +43,7 @@ written lines = filter (λ line. not (is_blank line)) lines
 unfoldable pub written_lines : List ℕ → List (List ℕ)
 written_lines text = written (lines_of text)
 
--- the lines of a front of a text and of any part of the rest are those of both together
+-- the lines of a prefix of a text and of any part of the rest are those of both together
 pub record IsCut (front rest : List ℕ) : Type 0 where
   pub joins : (more left : List ℕ) → more ++ left ≡ rest
       → written_lines (front ++ more) ≡ written_lines front ++ written_lines more
@@ -57,7 +58,7 @@ pub record BeginsWith (front : List ℕ) (lines : List (List ℕ)) (rest text : 
 abbrev pub IsFirstLine : List ℕ → List ℕ → List ℕ → Type 0
 IsFirstLine line rest text = (front : List ℕ) × BeginsWith front (line ∷ []) rest text
 
--- the first LF of a text stands here
+-- the first LF of a text is here
 pub record IsNewline (text : List ℕ) (place : ℕ) : Type 0 where
   pub within : place < length text
   pub is : slice_index text place ≡ 10

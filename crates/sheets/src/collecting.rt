@@ -1,8 +1,10 @@
-ghost use Rattle.std.specs.Prelude.{is_some, ◌≡◌, false, ℕ, ◌+◌, ◌<◌, ◌≤◌, List, [], ◌∷◌, ◌++◌, length, IfOk, Ok, OnOk, IfErr, MatchOption, MatchResult};
+ghost use Rattle.std.specs.Prelude.{is_some, ◌≡◌, false, ℕ, ◌+◌, ◌<◌, ◌≤◌, List, [], ◌∷◌, ◌++◌, length, IfOk, Ok, OnOk};
+ghost use Rattle.std.specs.Prelude.{IfErr, MatchOption, MatchResult};
 ghost use Rattle.std.specs.HashMap.{get};
 ghost use Rattle.order_grammar.specs.Line.{reading_of};
 ghost use Rattle.sheets.specs.Collecting.{HasBegun, Reaches, StopsAt, StopsBy, closed};
-ghost use Rattle.sheets.specs.File.{begins, is_sheet_line, sheet_key_begun, fault_of_reading, same_sheet_key, sheet_in, unread_fault, unread_in, good_lines};
+ghost use Rattle.sheets.specs.File.{begins, is_sheet_line, sheet_key_begun, fault_of_reading, same_sheet_key, sheet_in};
+ghost use Rattle.sheets.specs.File.{unread_fault, unread_in, good_lines};
 ghost use Rattle.sheets.specs.Limits.{file_most, sheets_most};
 ghost use Rattle.sheets.specs.Text.{IsFirstLine, written_lines};
 ghost use Rattle.sheets.specs.declared.sheet_key.SheetKey.{SheetKey};

@@ -27,7 +27,7 @@ pub enum FileFault {
 }
 
 impl FileFault {
-    /// The code of the fault: for a refused file the one that its report prints, and for want of
+    /// The code of the fault: for a refused file the one that its report prints, and for refused
     /// memory one that no report prints.
     pub fn code(self) -> &'static str
         ensures { result.now ≡ code_of_fault self }

@@ -1,7 +1,10 @@
-ghost use Rattle.std.specs.Prelude.{◌≡◌, ℕ, ◌≤◌, List, length, MatchResult, IfOk, OnOk, option_copied, option_map, slice_get, Err};
+ghost use Rattle.std.specs.Prelude.{◌≡◌, ℕ, ◌≤◌, List, length, MatchResult, IfOk, OnOk, option_copied, option_map};
+ghost use Rattle.std.specs.Prelude.{slice_get, Err};
 ghost use Rattle.order_grammar.specs.Line.{reading_of};
 ghost use Rattle.sheets.specs.Block.{block_for};
-ghost use Rattle.sheets.specs.File.{Fails, IsAccepted, body_content, content_of, header_version, lines_content, players_content, players_of, sheet_of, unread_of, version_in, version_numbered, version_of};
+ghost use Rattle.sheets.specs.File.{Fails, IsAccepted, body_content, content_of, header_version, lines_content};
+ghost use Rattle.sheets.specs.File.{players_content, players_of, sheet_of, unread_of, version_in, version_numbered};
+ghost use Rattle.sheets.specs.File.{version_of};
 ghost use Rattle.sheets.specs.Part.{parts_for};
 ghost use Rattle.sheets.specs.Text.{written_lines};
 

@@ -1,6 +1,8 @@
 //! Laws of order files: each function does nothing, and its contract is the law.
 
-ghost use Rattle.sheets.specs.Laws.{ArrivalChangesNoParts, ArrivalChangesNothing, LastSheetCounts, LongFileIsRefused, SheetsAreNumbered, SheetsHaveFewGroups, ThreeToSixPlay, VersionOneIsPlain, VersionOneIsPlainOutside};
+ghost use Rattle.sheets.specs.Laws.{ArrivalChangesNoParts, ArrivalChangesNothing, LastSheetCounts, LongFileIsRefused};
+ghost use Rattle.sheets.specs.Laws.{SheetsAreNumbered, SheetsHaveFewTurns, ThreeToSixPlay, VersionOneIsPlain};
+ghost use Rattle.sheets.specs.Laws.{VersionOneIsPlainOutside};
 
 /// The sheet of a player for a round is the last that the player sent for it.
 pub fn last_sheet_counts()
@@ -9,7 +11,7 @@ pub fn last_sheet_counts()
 
 /// The order in which the sheets of different players arrive changes no player's sheet: two files
 /// in which each player sent the same sheets in the same order have the same sheet for each player
-/// and round. Of the unread lines it says nothing: their codes stand in the order of the file.
+/// and round. Of the unread lines it says nothing: their codes are in the order of the file.
 pub fn arrival_changes_nothing()
     ensures { ArrivalChangesNothing }
 {}
@@ -21,7 +23,7 @@ pub fn arrival_changes_no_parts()
 {}
 
 /// A file of version 1 is read as if there were no conditions: each line has the order that it spells
-/// by itself, or its first fault, and stands under no condition.
+/// by itself, or its first fault, and is under no condition.
 pub fn version_one_is_plain()
     ensures sheets { VersionOneIsPlain }
     ensures outside { VersionOneIsPlainOutside }
@@ -46,7 +48,8 @@ pub fn sheets_are_numbered()
     order_grammar::laws::read_where_spelt()
 }
 
-/// A sheet has at most 512 groups or blocks, since each begins with a line that may be an order.
-pub fn sheets_have_few_groups()
-    ensures { SheetsHaveFewGroups }
+/// A sheet has at most 512 written turns or blocks, since each begins with a line that may be an
+/// order.
+pub fn sheets_have_few_turns()
+    ensures { SheetsHaveFewTurns }
 {}

@@ -1,11 +1,11 @@
 //! From the bytes of an order file to sheets: what each player last sent for each round.
 //!
-//! `collect` goes once over the file and keeps for each sheet only where its text lies; a sheet's
-//! lines are read when they are ruled, by the version of the file, and taking them up takes no
-//! memory. An order has room for a run of 280 places, so a line is read into a place that its reader
-//! holds. To a contract `Sheets` is the file that it was collected from, a `Sheet` the list of its
-//! lines, and `PartsLeft` what is still to come of a sheet: the lines before its next head, and the
-//! groups or blocks that heads open.
+//! `collect` goes once over the file and keeps for each sheet only where its text lies; a sheet's lines
+//! are read when they are ruled, by the version of the file, and taking them up takes no memory. An
+//! order has room for a run of 280 places, so a line is read into a place that its reader holds. To a
+//! contract `Sheets` is the file that it was collected from, a `Sheet` the list of its lines, and
+//! `PartsLeft` what is still to come of a sheet: the lines before its next head, and the written turns
+//! or blocks that heads open.
 //!
 //! Reading order: `fault`, `text` (the lines of a text), `sheet`, `parts` (a sheet as the rounds
 //! take it up), `place` (orders that have none), `players`, `sheet_key` and `open_sheet` (whose sheet it

@@ -1,14 +1,15 @@
 ghost use Rattle.std.specs.Prelude.{◌≡◌, [], Ok};
 ghost use Rattle.sheets.specs.Block.{block_in, opens_block_of};
-ghost use Rattle.sheets.specs.Part.{StandsAtHead, TakesHead, TakesOrdinary, head_word, line_unread, lines_in, opens_part, parts_left};
+ghost use Rattle.sheets.specs.Part.{IsAtHead, TakesHead, TakesOrdinary, head_word, line_unread, lines_in, opens_part};
+ghost use Rattle.sheets.specs.Part.{parts_left};
 
 use crate::sheet::{Lines, UnreadLine};
 use order_grammar::{Order, begins_with_word};
 use std::marker::Model;
 use tables::{Company, Round};
 
-/// What is still to be taken up of a sheet: the lines before the next head, and then group after
-/// group, or block after block, each with its head.
+/// What is still to be taken up of a sheet: the lines before the next head, and then written turn
+/// after written turn, or block after block, each with its head.
 ///
 /// In the sheet of an opening or a stock round a TURN line up to line `LINES_MOST` is a head, in
 /// that of an operating round a COMPANY line.
@@ -61,7 +62,7 @@ impl<'a> PartsLeft<'a> {
 
     /// Takes the next head, which opens the lines after it; `None` where there is no head left.
     pub fn take_head(&mut self) -> Option<UnreadLine<'a>>
-        requires { StandsAtHead self.old }
+        requires { IsAtHead self.old }
         ensures { TakesHead self.old result self.new }
     {
         self.lines.take_unread()

@@ -25,8 +25,8 @@ pub fn is_of_file(order: &Order) -> bool
     )
 }
 
-/// The fault of a line where no order has a place: its first fault where it stands, else
-/// `OutOfPlace`. Its order is put in place of another.
+/// The fault of a line where no order has a place: its first fault where it is, else `OutOfPlace`.
+/// Its order is put in place of another.
 pub fn fault_out_of_place(line: UnreadLine, order: &mut Order) -> Fault
     ensures { placed has_no_place (line_unread line.entry).reading ≡ Err result }
 {

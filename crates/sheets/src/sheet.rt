@@ -60,14 +60,14 @@ impl<'a> Sheet<'a> {
 pub struct NumberedLine<'a> {
     /// Its number in the sheet, from 1; blank lines have none.
     pub number: u32,
-    /// The condition of its order where it stands, if that has one; a line with a fault there has none.
+    /// The condition of its order where it is, if that has one; a line with a fault there has none.
     pub condition: Option<Condition>,
     /// Its order, or the first fault that it has by itself.
     pub reading: Result<Line<'a>, Fault>,
 }
 
 impl<'a> NumberedLine<'a> {
-    /// The order of the line where it stands in its sheet.
+    /// The order of the line where it is in its sheet.
     ///
     /// `PastLastLine`: its number is over `LINES_MOST`, whatever it says; else the first fault that
     /// it has by itself.

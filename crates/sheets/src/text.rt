@@ -1,5 +1,7 @@
-ghost use Rattle.std.specs.Prelude.{◌≡◌, ◌<◌, ℕ, List, [], ◌∷◌, ◌≢◌, EachIndex, IfSome, MatchOption, length, slice_index};
-ghost use Rattle.sheets.specs.Text.{BeginsWith, IsFirstLine, IsNewline, is_blank, lines_from, lines_of, rest_of, without_return, written, written_lines};
+ghost use Rattle.std.specs.Prelude.{◌≡◌, ◌<◌, ℕ, List, [], ◌∷◌, ◌≢◌, EachIndex, IfSome, MatchOption, length};
+ghost use Rattle.std.specs.Prelude.{slice_index};
+ghost use Rattle.sheets.specs.Text.{BeginsWith, IsFirstLine, IsNewline, is_blank, lines_from, lines_of, rest_of};
+ghost use Rattle.sheets.specs.Text.{without_return, written, written_lines};
 
 use order_grammar::{LINE_MOST, has_word};
 

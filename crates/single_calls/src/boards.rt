@@ -134,7 +134,7 @@ fn put_lays(board: &mut Board, tiles: &[Lay]) -> usize {
     tiles.len()
 }
 
-/// Places more tokens than stand in the value of a board; where one is refused, the board is that of
+/// Places more tokens than are in the value of a board; where one is refused, the board is that of
 /// those before it.
 pub fn puts_tokens(rt: &HostRuntime) -> Result<Outcome, Fault> {
     let mut board = board(rt.alloc())?;

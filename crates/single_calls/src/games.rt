@@ -13,7 +13,7 @@ use tables::{Company, Money, Private, Round, Seat};
 
 const ANN: Holder = Holder::Seat(Seat(0));
 
-/// How many events are added; a list grows several times for so many.
+/// How many events are added; a list grows several times for this many.
 const MANY: usize = 20;
 
 /// Adds events one after the other; where one is refused, the game is that of those before it.
@@ -90,8 +90,8 @@ pub fn plays_with(rt: &HostRuntime, sheets: &Sheets) -> Result<Outcome, Fault> {
     })
 }
 
-/// Plays a round more of the script, after so many. Where that is refused, play is broken off, and
-/// the next step answers so again.
+/// Plays a round more of the script, after this many. Where that is refused, play is broken off,
+/// and the next step answers so again.
 pub fn steps(
     rt: &HostRuntime,
     sheets: &Sheets,
@@ -121,7 +121,7 @@ pub fn has_stepped(play: &mut Play, search: &mut Search) -> bool {
     matches!(play.step(search), Ok(Step::Played(_)))
 }
 
-/// Whether play was broken off for want of memory after a round.
+/// Whether play was broken off for refused memory after a round.
 fn is_broken_off(play: &mut Play, search: &mut Search, last: Option<Round>) -> bool {
     play.last_round() == last
         && play.outcome().is_none()

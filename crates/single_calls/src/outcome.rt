@@ -3,7 +3,7 @@
 pub enum Outcome {
     /// It answered what it owes.
     AsOwed,
-    /// It answered want of memory, and left all as it was before.
+    /// It answered refused memory, and left all as it was before.
     AsBefore,
     /// Neither.
     Other,
@@ -19,7 +19,7 @@ impl Outcome {
         }
     }
 
-    /// That of a call which refused, by whether it did so for want of memory and left all as it was.
+    /// That of a call which refused, by whether it did so for refused memory and left all as it was.
     pub fn of_refusal(is_before: bool) -> Outcome {
         if is_before {
             Outcome::AsBefore

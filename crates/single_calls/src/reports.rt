@@ -52,7 +52,7 @@ pub fn tells_end(rt: &HostRuntime, sheets: &Sheets) -> Result<Outcome, Fault> {
     ends(rt, &mut play, &mut search)
 }
 
-/// What follows the rounds of a play that has come to its end.
+/// What follows the rounds of a play that has reached its end.
 fn ends(rt: &HostRuntime, play: &mut Play, search: &mut Search) -> Result<Outcome, Fault> {
     match play.step(search) {
         Ok(Step::Ended(_)) => {

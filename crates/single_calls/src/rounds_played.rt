@@ -22,7 +22,7 @@ pub fn plays_opening(rt: &HostRuntime, sheets: &Sheets) -> Result<Outcome, Fault
     let answer = play_opening(game, sheets, Round::Opening(1));
     made(rt)?;
     Ok(match answer {
-        Ok(game) => Outcome::of_answer(game.cheapest_unsold().is_none()),
+        Ok(game) => Outcome::of_answer(game.now().cheapest_unsold().is_none()),
         Err(_) => Outcome::of_refusal(true),
     })
 }
@@ -34,7 +34,7 @@ pub fn plays_stock(rt: &HostRuntime, sheets: &Sheets) -> Result<Outcome, Fault> 
     let answer = play_stock(game, sheets, Round::Stock(1));
     made(rt)?;
     Ok(match answer {
-        Ok(game) => Outcome::of_answer(game.president(PRR) == Some(Seat(0))),
+        Ok(game) => Outcome::of_answer(game.now().president(PRR) == Some(Seat(0))),
         Err(_) => Outcome::of_refusal(true),
     })
 }

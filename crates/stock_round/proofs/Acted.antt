@@ -2,12 +2,12 @@
 use Rattle.std.proofs.Common.{◌≡◌, ℕ, ◌*◌, ◌==◌, Bool, true, false, ◌||◌, List, [], ◌∷◌, ◌++◌, Option, Some, None, refl}
 use Rattle.std.specs.Prelude.{is_some, unwrap_or}
 use Rattle.certs.specs.President.{successor_of}
-use Rattle.certs.specs.Purchase.{market_price_of, tenth_price_of}
+use Rattle.certs.specs.Purchase.{market_price_of, share_price_of}
 use Rattle.certs.specs.SaleAct.{after_sale, sold, with_president, with_successor}
 use Rattle.events.specs.declared.event.Event.{Event}
 use Rattle.events.specs.declared.event.Event.TheVariants as event
 use Rattle.events.specs.declared.ruling.Ruling.TheVariants.{Obeyed}
-use Rattle.history.specs.Shares.{par_of, president_of, square_of}
+use Rattle.totals.specs.Shares.{par_of, president_of, square_of}
 use Rattle.history.specs.Record.{breaks, with_broken}
 use Rattle.market.specs.Moves.{fallen}
 use Rattle.market.specs.Token.{moved_from, same_square}
@@ -16,28 +16,30 @@ use Rattle.order_grammar.specs.declared.order.Order.{Order}
 use Rattle.order_grammar.specs.declared.order.Order.TheVariants as order
 use Rattle.order_grammar.specs.declared.order.ShareSource.{ShareSource}
 use Rattle.sheets.specs.Part.{Numbered}
-use Rattle.stock_round.specs.Act.{after_exchange, after_purchase, after_start, bought, exchanged, floated_at, is_to_float, with_float}
+use Rattle.stock_round.specs.Act.{after_exchange, after_purchase, after_start, bought, exchanged, floated_at}
+use Rattle.stock_round.specs.Act.{is_to_float, with_float}
 use Rattle.stock_round.specs.Judgement.{exchange_source, refusal_of}
 use Rattle.stock_round.specs.Turn.{InTurn, acted, after_ruling, stock_rules}
 use Rattle.tables.specs.declared.roster.Company.{Company}
 use Rattle.tables.specs.declared.roster.Company.TheVariants.{NewYorkCentral}
 use Rattle.tables.specs.declared.seat.Seat.{Seat}
 use Rattle.tables.specs.declared.squares.Square.{Square}
-use Rattle.turns.proofs.Acted.{LineTells, in_both, in_either, nobody, nobody_ruled, one_more, or_nothing, turns_tell}
+use Rattle.turns.proofs.Acted.{LineSaysWhoActed, in_both, in_either, nobody, nobody_ruled, one_more, or_nothing}
+use Rattle.turns.proofs.Acted.{turns_tell}
 use Rattle.turns.proofs.Ruled.{of_ruled}
-use Rattle.turns.specs.Acted.{TellsWhoActed, TurnsTellWhoActed}
-use Rattle.turns.specs.Ruling.{has_place_in_group}
+use Rattle.turns.specs.Acted.{SaysWhoActed, TurnsSayWhoActed}
+use Rattle.turns.specs.Ruling.{has_place_in_turn}
 
 module _ (seat : Seat) (seats : ℕ) where
   -- nobody acts where the bank breaks
-  in_break : (events : List Event) → TellsWhoActed seat false events (with_broken seats events)
+  in_break : (events : List Event) → SaysWhoActed seat false events (with_broken seats events)
   in_break events =
       in_either seat false events (events ++ event.Broken ∷ []) events (breaks seats events)
       (one_more seat false events event.Broken refl) (nobody seat events)
 
   -- nor where a presidency moves from this seat, if any has it
   in_succession : (events : List Event) (company : Company) (old : Option Seat)
-      → TellsWhoActed seat false events (with_successor seats events company old)
+      → SaysWhoActed seat false events (with_successor seats events company old)
   in_succession events company None = nobody seat events
   in_succession events company (Some old) =
       let new : Seat = successor_of seats events company old in
@@ -47,7 +49,7 @@ module _ (seat : Seat) (seats : ℕ) where
 
   -- nor where a company floats
   in_float : (events : List Event) (company : Company)
-      → TellsWhoActed seat false events (with_float seats events company)
+      → SaysWhoActed seat false events (with_float seats events company)
   in_float events company =
       let par : ℕ = unwrap_or (par_of events company) 0 in
       let told : List Event = events ++ event.Floats company (10 * par) ∷ [] in
@@ -58,16 +60,16 @@ module _ (seat : Seat) (seats : ℕ) where
 
   -- nor where a token moves from this square, if it is on one
   in_move : (move : Square → Square) (events : List Event) (company : Company) (square : Option Square) →
-      TellsWhoActed seat false events (moved_from move events company square)
+      SaysWhoActed seat false events (moved_from move events company square)
   in_move move events company None = nobody seat events
   in_move move events company (Some square) =
       in_either seat false events events (events ++ event.Moves company (move square) ∷ [])
       (same_square (move square) square) (nobody seat events)
       (one_more seat false events (event.Moves company (move square)) refl)
 
-  -- nor by what follows from tenths that have moved
+  -- nor by what follows from shares that have moved
   in_what_follows : (events : List Event) (company : Company)
-      → TellsWhoActed seat false events (with_float seats (with_president seats events company) company)
+      → SaysWhoActed seat false events (with_float seats (with_president seats events company) company)
   in_what_follows events company =
       let presided : List Event = with_president seats events company in
       in_both seat false false events presided (with_float seats presided company)
@@ -75,30 +77,30 @@ module _ (seat : Seat) (seats : ℕ) where
 
   -- by a purchase the seat acts
   in_purchase : (events : List Event) (company : Company) (from : ShareSource)
-      → TellsWhoActed seat true events (after_purchase seats events seat company from)
+      → SaysWhoActed seat true events (after_purchase seats events seat company from)
   in_purchase events company from =
       let paid : List Event = bought events seat company from in
       in_both seat true false events paid (after_purchase seats events seat company from)
-      (one_more seat true events (event.Bought company seat 1 from (tenth_price_of events company from)) refl)
+      (one_more seat true events (event.Bought company seat 1 from (share_price_of events company from)) refl)
       (in_what_follows paid company)
 
   -- nobody acts by the events of a sale, since its line has told of it
-  in_sale : (events : List Event) (company : Company) (tenths : ℕ)
-      → TellsWhoActed seat false events (after_sale seats events seat company tenths)
-  in_sale events company tenths =
-      let price : ℕ = tenths * market_price_of events company in
-      let told : List Event = events ++ event.Sells company seat tenths price ∷ [] in
-      let paid : List Event = sold seats events seat company tenths in
+  in_sale : (events : List Event) (company : Company) (shares : ℕ)
+      → SaysWhoActed seat false events (after_sale seats events seat company shares)
+  in_sale events company shares =
+      let price : ℕ = shares * market_price_of events company in
+      let told : List Event = events ++ event.Sells company seat shares price ∷ [] in
+      let paid : List Event = sold seats events seat company shares in
       let presided : List Event = with_president seats paid company in
-      in_both seat false false events paid (after_sale seats events seat company tenths)
-      (in_both seat false false events told paid (one_more seat false events (event.Sells company seat tenths price)
+      in_both seat false false events paid (after_sale seats events seat company shares)
+      (in_both seat false false events told paid (one_more seat false events (event.Sells company seat shares price)
       refl) (in_break told))
-      (in_both seat false false paid presided (after_sale seats events seat company tenths)
+      (in_both seat false false paid presided (after_sale seats events seat company shares)
       (in_succession paid company (president_of paid company))
-      (in_move (fallen tenths) presided company (square_of presided company)))
+      (in_move (fallen shares) presided company (square_of presided company)))
 
   -- nor by an exchange
-  in_exchange : (events : List Event) → TellsWhoActed seat false events (after_exchange seats events seat)
+  in_exchange : (events : List Event) → SaysWhoActed seat false events (after_exchange seats events seat)
   in_exchange events =
       let done : List Event = exchanged events seat in
       in_both seat false false events done (after_exchange seats events seat)
@@ -119,7 +121,7 @@ has_sold false false = refl
 -- by a line whose order is done
 order_tells : (seats : ℕ) (seat : Seat) (turn : InTurn) (number : ℕ) (condition : Option Condition) (done : Order)
     → refusal_of seats turn.events seat turn.actions.bought done ≡ None →
-    LineTells stock_rules seat turn (after_ruling seats seat turn number (Obeyed condition done))
+    LineSaysWhoActed stock_rules seat turn (after_ruling seats seat turn number (Obeyed condition done))
 order_tells seats seat turn number condition (order.Par company price) kept =
     let line : Event = event.Ruled seat number (Obeyed condition (order.Par company price)) in
     let ruled : List Event = turn.events ++ line ∷ [] in
@@ -138,13 +140,13 @@ order_tells seats seat turn number condition (order.BuyShare company from) kept 
           (one_more seat false turn.events line refl) (in_purchase seat seats ruled company from);
       acted = has_bought (is_some turn.actions.bought || turn.actions.sold);
     }
-order_tells seats seat turn number condition (order.Sell company tenths) kept =
-    let line : Event = event.Ruled seat number (Obeyed condition (order.Sell company tenths)) in
+order_tells seats seat turn number condition (order.Sell company shares) kept =
+    let line : Event = event.Ruled seat number (Obeyed condition (order.Sell company shares)) in
     let ruled : List Event = turn.events ++ line ∷ [] in
     record {
       acts = true;
-      told = in_both seat true false turn.events ruled (after_sale seats ruled seat company tenths)
-          (one_more seat true turn.events line refl) (in_sale seat seats ruled company tenths);
+      told = in_both seat true false turn.events ruled (after_sale seats ruled seat company shares)
+          (one_more seat true turn.events line refl) (in_sale seat seats ruled company shares);
       acted = has_sold (is_some turn.actions.bought) turn.actions.sold;
     }
 order_tells seats seat turn number condition order.ExchangeMohawk kept =
@@ -159,11 +161,11 @@ order_tells seats seat turn number condition order.ExchangeMohawk kept =
 order_tells seats seat turn number condition other kept = absurd (cc)
 
 -- so each turn of a stock round tells who acted in it
-pub stock_turns_tell : TurnsTellWhoActed stock_rules
+pub stock_turns_tell : TurnsSayWhoActed stock_rules
 stock_turns_tell =
     turns_tell stock_rules refl
     (λ (seats : ℕ) (seat : Seat) (turn : InTurn) (line : Numbered).
     of_ruled (acted seats seat) (refusal_of seats turn.events seat turn.actions.bought) seat turn line.number
-    (LineTells stock_rules seat turn)
-    (nobody_ruled stock_rules seat turn line.number) (order_tells seats seat turn line.number) has_place_in_group
+    (LineSaysWhoActed stock_rules seat turn)
+    (nobody_ruled stock_rules seat turn line.number) (order_tells seats seat turn line.number) has_place_in_turn
     turn.events line)

@@ -1,9 +1,10 @@
 -- What an obeyed order brings keeps a list sound.
-use Rattle.std.proofs.Common.{◌≡◌, ℕ, ◌*◌, ◌≤◌, ◌<◌, Bool, true, false, not, ◌&&◌, ◌||◌, if◌then◌else◌, List, Option, Some, None, is_some, ℤ, pos, ◌≤ℤ◌, refl, sym, subst, ap, arith}
+use Rattle.std.proofs.Common.{◌≡◌, ℕ, ◌*◌, ◌≤◌, ◌<◌, Bool, true, false, not, ◌&&◌, ◌||◌, if◌then◌else◌, List, Option}
+use Rattle.std.proofs.Common.{Some, None, is_some, ℤ, pos, ◌≤ℤ◌, refl, sym, subst, ap, arith}
 use Rattle.std.proofs.lemmas.Bool.Decides.{nat_tests}
 use Rattle.std.proofs.lemmas.Int.{ints}
 use Rattle.std.specs.Int.Signed.{lt_z}
-use Rattle.certs.specs.Purchase.{is_sold_out_there, is_short_of_cash, tenth_price_of}
+use Rattle.certs.specs.Purchase.{is_sold_out_there, is_short_of_cash, share_price_of}
 use Rattle.events.specs.Event.{is_par_value, place_of_source}
 use Rattle.events.specs.declared.event.Event.{Event}
 use Rattle.events.specs.declared.event.Event.TheVariants as event
@@ -11,16 +12,17 @@ use Rattle.events.specs.declared.event.Holder.{Holder}
 use Rattle.events.specs.declared.event.Holder.TheVariants as holder
 use Rattle.events.specs.declared.event.Shareholder.TheVariants.{InitialOffering}
 use Rattle.history.proofs.Blocks.{float_sound as float_law}
-use Rattle.history.proofs.Purchases.{exchange_sound as exchange_law, purchase_sound as purchase_law, start_by_purchase_sound}
-use Rattle.history.specs.Bids.{free_cash_of}
-use Rattle.history.specs.LookBack.{Game, is_closed, is_sold, owner_of, with_event}
-use Rattle.history.specs.Shares.{is_floated, shares_of, square_of}
+use Rattle.history.proofs.Purchases.{exchange_sound as exchange_law, purchase_sound as purchase_law}
+use Rattle.history.proofs.Purchases.{start_by_purchase_sound}
+use Rattle.totals.specs.Bids.{free_cash_of}
+use Rattle.totals.specs.LookBack.{Game, is_closed, is_sold, owner_of, with_event}
+use Rattle.totals.specs.Shares.{is_floated, shares_of, square_of}
 use Rattle.history.specs.Sound.{IsLed, IsSound, least_offered}
 use Rattle.order_grammar.specs.declared.order.ShareSource.{ShareSource}
 use Rattle.order_grammar.specs.declared.order.ShareSource.TheVariants as source
 use Rattle.certs.proofs.SaleAllowed.{holds}
 use Rattle.stock_round.proofs.Judged.{is_nothing}
-use Rattle.stock_round.specs.Act.{float_most, is_to_float, president_tenths}
+use Rattle.stock_round.specs.Act.{float_most, is_to_float, president_shares}
 use Rattle.stock_round.specs.Allowed.{MayBuy, MayExchange, MayStart}
 use Rattle.stock_round.specs.Judgement.{exchange_source, is_offered, is_owner, is_pooled}
 use Rattle.tables.specs.Seat.{seat_at}
@@ -38,33 +40,33 @@ paid seats events seat cost may = grind (arith, ints, may)
 
 -- the start of a company
 pub start_sound : (game new : Game) (seat : Seat) (company : Company) (price cost : ℕ)
-    → MayStart game.seats game.events seat company price → seat.0 < game.seats → cost ≡ president_tenths * price
+    → MayStart game.seats game.events seat company price → seat.0 < game.seats → cost ≡ president_shares * price
     → new ≡ with_event (with_event (with_event game (event.Par company price))
     (event.Bought company seat 2 source.InitialOffering cost)) (event.President company seat) → IsSound game
     → IsSound new
 start_sound game new seat company price cost may within is_cost told sound =
     let pays : pos cost ≤ℤ free_cash_of game.seats game.events seat =
     subst (λ (n : ℕ). pos n ≤ℤ free_cash_of game.seats game.events seat) (sym is_cost)
-    (paid game.seats game.events seat (president_tenths * price) may.pays) in
+    (paid game.seats game.events seat (president_shares * price) may.pays) in
     subst IsSound (sym told) (start_by_purchase_sound game company seat price cost
     (holds (is_par_value price) may.par) (is_nothing (square_of game.events company) may.fresh) within pays sound)
 
--- a tenth that is not missing is there
+-- a share that is not missing is there
 there_is : (events : List Event) (company : Company) (from : ShareSource)
     → lt_z (shares_of events company (place_of_source from)) (pos 1) ≡ false
     → pos 1 ≤ℤ shares_of events company (place_of_source from)
 there_is events company from may = grind (arith, ints, may)
 
--- the purchase of a tenth
+-- the purchase of a share
 pub purchase_sound : (game new : Game) (seat : Seat) (company : Company) (from : ShareSource) (price : ℕ)
     → MayBuy game.seats game.events seat company from → seat.0 < game.seats
-    → price ≡ tenth_price_of game.events company from → new ≡ with_event game (event.Bought company seat 1 from price)
+    → price ≡ share_price_of game.events company from → new ≡ with_event game (event.Bought company seat 1 from price)
     → IsSound game → IsSound new
 unfolding is_sold_out_there
 purchase_sound game new seat company from price may within is_price told sound =
     let pays : pos price ≤ℤ free_cash_of game.seats game.events seat =
     subst (λ (n : ℕ). pos n ≤ℤ free_cash_of game.seats game.events seat) (sym is_price)
-    (paid game.seats game.events seat (tenth_price_of game.events company from) may.pays) in
+    (paid game.seats game.events seat (share_price_of game.events company from) may.pays) in
     subst IsSound (sym told)
     (elim (square_of game.events company) as (λ (found : Option Square). square_of game.events company ≡ found
     → is_some found ≡ true → IsSound (with_event game (event.Bought company seat 1 from price))) [
@@ -87,7 +89,7 @@ owns seat (Some (holder.Seat owner)) is = let number : owner.0 ≡ seat.0 =
     grind (arith, nat_tests, is) in ap (λ (n : ℕ). Some (holder.Seat (seat_at n))) number
 owns seat (Some (holder.Company company)) is = absurd (cc)
 
--- where a tenth of NYC is there, the exchange takes it from a place that has one
+-- where a share of NYC is there, the exchange takes it from a place that has one
 has_source : (offered pooled : Bool) (there : (from : ShareSource) → ℤ)
     → (lt_z (pos 0) (there source.InitialOffering) ≡ offered) → (lt_z (pos 0) (there source.BankPool) ≡ pooled)
     → (offered || pooled) ≡ true → pos 1 ≤ℤ there (if offered then source.InitialOffering else source.BankPool)
@@ -110,12 +112,12 @@ exchange_sound game new seat from may within is_from told sound =
     (subst (λ (s : ShareSource). pos 1 ≤ℤ shares_of events company.NewYorkCentral (place_of_source s))
     (sym is_from) there) sound)
 
--- a company that is to float has few tenths left
+-- a company that is to float has few shares left
 few_left : (floated : Bool) (left : ℤ) → (not floated && not (lt_z (pos float_most) left)) ≡ true → left ≤ℤ pos 4
 few_left true left is = absurd (cc)
 few_left false left is = grind (arith, ints, is)
 
--- at least eight tenths are to stay
+-- at least eight shares are to stay
 eight_stay : (events : List Event) (its : Company) → 8 ≤ least_offered events its
 eight_stay events company.Pennsylvania = elim (is_sold events CamdenAmboy) as (λ (b : Bool). 8 ≤ (if b then 8 else 9))
     [ true ↦ omega arith | false ↦ omega arith ]

@@ -1,24 +1,26 @@
 -- An order that breaks no rule can be done, and still can after an event that changes nothing of what
 -- parties have and own.
-use Rattle.std.proofs.Common.{◌≡◌, ℕ, ◌*◌, Bool, false, not, ◌||◌, ◌&&◌, List, [], ◌∷◌, ◌++◌, Option, Some, None, is_some, unwrap_or, ℤ, pos, ◌-ℤ◌, ◌+ℤ◌, refl, sym, subst, ap, ◌∙◌}
+use Rattle.std.proofs.Common.{◌≡◌, ℕ, ◌*◌, Bool, false, not, ◌||◌, ◌&&◌, List, [], ◌∷◌, ◌++◌, Option, Some, None}
+use Rattle.std.proofs.Common.{is_some, unwrap_or, ℤ, pos, ◌-ℤ◌, ◌+ℤ◌, refl, sym, subst, ap, ◌∙◌}
 use Rattle.std.specs.Int.Signed.{lt_z}
 use Rattle.certs.proofs.SaleAllowed.{holds, sale_allowed, same_start, still_may_sell}
-use Rattle.certs.specs.Purchase.{in_zone, is_sold_out_there, is_over_six, is_short_of_cash, lifts_six, price_on, purchase_judgement, share_purchase_rules, tenth_price_of}
+use Rattle.certs.specs.Purchase.{in_zone, is_sold_out_there, is_over_six, is_short_of_cash, lifts_six, price_on}
+use Rattle.certs.specs.Purchase.{purchase_judgement, share_purchase_rules, share_price_of}
 use Rattle.certs.specs.declared.deal.Purchase.TheVariants as purchase
 use Rattle.events.specs.Event.{IsQuiet, party_at, place_of_source}
 use Rattle.events.specs.declared.event.Event.{Event}
 use Rattle.events.specs.declared.event.Holder.{Holder}
 use Rattle.events.specs.declared.event.Shareholder.TheVariants.{InitialOffering, BankPool, Seat as OfSeat}
-use Rattle.history.proofs.EventAtEnd.{quiet_same}
-use Rattle.history.specs.Bids.{bids_of, free_cash_of}
-use Rattle.history.specs.Laws.{SaysTheSame}
-use Rattle.history.specs.LookBack.{Game, cash_of, owner_of, with_event}
-use Rattle.history.specs.Shares.{is_started, shares_of, square_of}
+use Rattle.totals.proofs.EventAtEnd.{quiet_same}
+use Rattle.totals.specs.Bids.{bids_of, free_cash_of}
+use Rattle.totals.specs.AtEnd.{SaysTheSame}
+use Rattle.totals.specs.LookBack.{Game, cash_of, owner_of, with_event}
+use Rattle.totals.specs.Shares.{is_started, shares_of, square_of}
 use Rattle.order_grammar.specs.declared.order.Order.{Order}
 use Rattle.order_grammar.specs.declared.order.Order.TheVariants.{Par, BuyShare, Sell, ExchangeMohawk}
 use Rattle.order_grammar.specs.declared.order.ShareSource.{ShareSource}
 use Rattle.order_grammar.specs.declared.order.ShareSource.TheVariants as source
-use Rattle.stock_round.specs.Act.{president_tenths}
+use Rattle.stock_round.specs.Act.{president_shares}
 use Rattle.stock_round.specs.Allowed.{MayAct, MayBuy, MayStart}
 use Rattle.stock_round.specs.Judgement.{exchange_rules, is_no_exchange, is_owner, judgement_of}
 use Rattle.tables.proofs.Rules.{none_broken}
@@ -37,7 +39,7 @@ start_allowed seats events seat company price bought none =
     let kept = none_broken (share_purchase_rules seats events seat (purchase.Par company price) bought) none in
     record { par = kept.1.1.0; fresh = kept.1.1.1.0; pays = kept.1.1.1.1.0 }
 
--- a tenth can be bought
+-- a share can be bought
 purchase_allowed : (seats : ℕ) (events : List Event) (seat : Seat) (company : Company) (from : ShareSource)
     (bought : Option Company) → purchase_judgement seats events seat (purchase.Share company from) bought ≡ None
     → MayBuy seats events seat company from
@@ -52,8 +54,8 @@ pub may_act : (seats : ℕ) (events : List Event) (seat : Seat) (bought : Option
 may_act seats events seat bought (Par company price) none = start_allowed seats events seat company price bought none
 may_act seats events seat bought (BuyShare company from) none =
     purchase_allowed seats events seat company from bought none
-may_act seats events seat bought (Sell company tenths) none =
-    sale_allowed seats events seat (record { company = company; tenths = tenths }) None none
+may_act seats events seat bought (Sell company shares) none =
+    sale_allowed seats events seat (record { company = company; shares = shares }) None none
 may_act seats events seat bought ExchangeMohawk none = (none_broken (exchange_rules events seat) none).0
 may_act seats events seat bought other none = tt
 
@@ -64,9 +66,9 @@ same_free seats before after seat same =
     ap (λ (cash : ℤ). cash -ℤ pos (bids_of after seat)) (same.cash seats (party_at seat))
     ∙ ap (λ (bids : ℕ). cash_of seats before (party_at seat) -ℤ pos bids) (same.bids seat)
 
--- a tenth costs as much
+-- a share costs as much
 same_price : (before after : List Event) (company : Company) (from : ShareSource) → SaysTheSame before after
-    → tenth_price_of after company from ≡ tenth_price_of before company from
+    → share_price_of after company from ≡ share_price_of before company from
 same_price before after company source.InitialOffering same =
     ap (λ (par : Option ℕ). unwrap_or par 0) (same.par company)
 same_price before after company source.BankPool same = ap price_on (same.square company)
@@ -109,18 +111,18 @@ still_may seats before after seat (Par company price) same may =
     record {
       par = may.par;
       fresh = same_start before after company same ∙ may.fresh;
-      pays = same_purse seats before after seat (president_tenths * price) (president_tenths * price) same refl
+      pays = same_purse seats before after seat (president_shares * price) (president_shares * price) same refl
           ∙ may.pays;
     }
 still_may seats before after seat (BuyShare company from) same may =
     record {
-      there = ap (λ (tenths : ℤ). lt_z tenths (pos 1)) (same.shares company (place_of_source from)) ∙ may.there;
+      there = ap (λ (shares : ℤ). lt_z shares (pos 1)) (same.shares company (place_of_source from)) ∙ may.there;
       started = same_start before after company same ∙ may.started;
-      pays = same_purse seats before after seat (tenth_price_of before company from)
-          (tenth_price_of after company from) same (same_price before after company from same) ∙ may.pays;
+      pays = same_purse seats before after seat (share_price_of before company from)
+          (share_price_of after company from) same (same_price before after company from same) ∙ may.pays;
     }
-still_may seats before after seat (Sell company tenths) same may =
-    still_may_sell seats before after seat (record { company = company; tenths = tenths }) same may
+still_may seats before after seat (Sell company shares) same may =
+    still_may_sell seats before after seat (record { company = company; shares = shares }) same may
 still_may seats before after seat ExchangeMohawk same may = same_exchange before after seat same ∙ may
 still_may seats before after seat other same may = tt
 

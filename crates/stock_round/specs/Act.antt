@@ -1,16 +1,16 @@
--- What an obeyed order of a stock turn brings, event by event, each on the list that the one before left.
--- To set a par value is to buy the president's certificate, two tenths, at it. A tenth of the initial
--- offering costs the par value, one of the pool the market price. What a sale brings is said with the certificates,
--- and so is the presidency that passes to a seat that has strictly more tenths than the president. A company floats once at most four tenths are left in its initial
--- offering, and has ten times its par value then.
+-- What an obeyed order of a stock turn brings, event by event, each on the list that the one before left. To set a par
+-- value is to buy the president's certificate, two shares, at it. A share of the initial offering costs the par value,
+-- one of the pool the market price. What a sale brings is said with the certificates, and so is the presidency that
+-- passes to a seat that has strictly more shares than the president. A company floats once at most four shares are left
+-- in its initial offering, and has ten times its par value then.
 use Rattle.std.specs.Prelude.{ℕ, ◌*◌, Bool, not, ◌&&◌, if◌then◌else◌, List, [], ◌∷◌, ◌++◌, unwrap_or, pos}
 use Rattle.std.specs.Int.Signed.{lt_z}
-use Rattle.certs.specs.Purchase.{tenth_price_of}
+use Rattle.certs.specs.Purchase.{share_price_of}
 pub use Rattle.certs.specs.SaleAct.{after_sale, with_president}
 use Rattle.events.specs.declared.event.Event.{Event}
 use Rattle.events.specs.declared.event.Event.TheVariants as event
 use Rattle.events.specs.declared.event.Shareholder.TheVariants.{InitialOffering as AtOffering}
-use Rattle.history.specs.Shares.{is_floated, par_of, shares_of}
+use Rattle.totals.specs.Shares.{is_floated, par_of, shares_of}
 use Rattle.history.specs.Record.{with_broken}
 use Rattle.order_grammar.specs.declared.order.Order.{Order}
 use Rattle.order_grammar.specs.declared.order.Order.TheVariants.{Par, BuyShare, Sell, ExchangeMohawk}
@@ -21,15 +21,15 @@ use Rattle.tables.specs.declared.roster.Company.{Company}
 use Rattle.tables.specs.declared.roster.Company.TheVariants.{NewYorkCentral}
 use Rattle.tables.specs.declared.seat.Seat.{Seat}
 
--- the tenths of a president's certificate
-abbrev pub president_tenths : ℕ
-president_tenths = 2
+-- the shares of a president's certificate
+abbrev pub president_shares : ℕ
+president_shares = 2
 
--- the most tenths that are left in the initial offering of a company that floats
+-- the most shares that are left in the initial offering of a company that floats
 abbrev pub float_most : ℕ
 float_most = 4
 
--- few enough tenths are left in the initial offering, and the company has not floated
+-- few enough shares are left in the initial offering, and the company has not floated
 abbrev pub is_to_float : List Event → Company → Bool
 is_to_float events company = not (is_floated events company)
     && not (lt_z (pos float_most) (shares_of events company AtOffering))
@@ -48,20 +48,20 @@ abbrev pub after_start : List Event → Seat → Company → ℕ → List Event
 after_start events seat company price =
     events
     ++ event.Par company price
-    ∷ event.Bought company seat president_tenths InitialOffering (president_tenths * price)
+    ∷ event.Bought company seat president_shares InitialOffering (president_shares * price)
     ∷ event.President company seat
     ∷ []
 
--- after a seat has paid for a tenth
+-- after a seat has paid for a share
 abbrev pub bought : List Event → Seat → Company → ShareSource → List Event
-bought events seat company from = events ++ event.Bought company seat 1 from (tenth_price_of events company from) ∷ []
+bought events seat company from = events ++ event.Bought company seat 1 from (share_price_of events company from) ∷ []
 
--- after a seat has bought a tenth, and what follows from it
+-- after a seat has bought a share, and what follows from it
 abbrev pub after_purchase : ℕ → List Event → Seat → Company → ShareSource → List Event
 after_purchase seats events seat company from =
     with_float seats (with_president seats (bought events seat company from) company) company
 
--- after a seat has given up MH for a tenth of NYC
+-- after a seat has given up MH for a share of NYC
 abbrev pub exchanged : List Event → Seat → List Event
 exchanged events seat = events ++ event.Exchanged seat (exchange_source events) ∷ []
 
@@ -74,6 +74,6 @@ after_exchange seats events seat =
 abbrev pub after_act : ℕ → Seat → List Event → Order → List Event
 after_act seats seat events (Par company price) = after_start events seat company price
 after_act seats seat events (BuyShare company from) = after_purchase seats events seat company from
-after_act seats seat events (Sell company tenths) = after_sale seats events seat company tenths
+after_act seats seat events (Sell company shares) = after_sale seats events seat company shares
 after_act seats seat events ExchangeMohawk = after_exchange seats events seat
 after_act seats seat events other = events

@@ -1,9 +1,9 @@
--- The rules of a turn of a stock round. A seat may set a company's par value and so buy its president's
--- certificate, buy a tenth, or sell tenths, by the rules on certificates; or give up MH for a tenth of NYC,
--- if it owns MH, the initial offering or the pool has such a tenth, and it would not come to hold over six,
--- where the zone of NYC's square limits that. There is one purchase a turn, but of a company whose square is
--- brown there may be several.
-use Rattle.std.specs.Prelude.{ℕ, ◌==◌, Bool, false, not, ◌||◌, if◌then◌else◌, List, [], ◌∷◌, Option, Some, None, option_map, pos}
+-- The rules of a turn of a stock round. A seat may set a company's par value and so buy its president's certificate,
+-- buy a share, or sell shares, by the rules on certificates; or give up MH for a share of NYC, if it owns MH, the
+-- initial offering or the pool has such a share, and it would not come to hold over six, where the zone of NYC's square
+-- limits that. There is one purchase a turn, but of a company whose square is brown there may be several.
+use Rattle.std.specs.Prelude.{ℕ, ◌==◌, Bool, false, not, ◌||◌, if◌then◌else◌, List, [], ◌∷◌, Option, Some, None}
+use Rattle.std.specs.Prelude.{option_map, pos}
 use Rattle.std.specs.Int.Signed.{lt_z}
 use Rattle.certs.specs.Purchase.{is_over_six, purchase_judgement}
 use Rattle.certs.specs.Sale.{sale_judgement}
@@ -16,8 +16,8 @@ use Rattle.events.specs.declared.ruling.Refusal.{Refusal}
 use Rattle.events.specs.declared.ruling.Refusal.TheVariants.{Stock}
 use Rattle.events.specs.declared.ruling.StockRule.{StockRule}
 use Rattle.events.specs.declared.ruling.StockRule.TheVariants.{NotOfStock, NoExchange}
-use Rattle.history.specs.LookBack.{owner_of}
-use Rattle.history.specs.Shares.{shares_of}
+use Rattle.totals.specs.LookBack.{owner_of}
+use Rattle.totals.specs.Shares.{shares_of}
 use Rattle.order_grammar.specs.declared.order.Order.{Order}
 use Rattle.order_grammar.specs.declared.order.Order.TheVariants.{Par, BuyShare, Sell, ExchangeMohawk}
 use Rattle.order_grammar.specs.declared.order.ShareSource.{ShareSource}
@@ -34,7 +34,7 @@ is_owner seat None = false
 is_owner seat (Some (holder.Seat owner)) = owner.0 == seat.0
 is_owner seat (Some (holder.Company company)) = false
 
--- there is a tenth of NYC in the initial offering
+-- there is a share of NYC in the initial offering
 abbrev pub is_offered : List Event → Bool
 is_offered events = lt_z (pos 0) (shares_of events NewYorkCentral InitialOffering)
 
@@ -42,20 +42,20 @@ is_offered events = lt_z (pos 0) (shares_of events NewYorkCentral InitialOfferin
 abbrev pub is_pooled : List Event → Bool
 is_pooled events = lt_z (pos 0) (shares_of events NewYorkCentral BankPool)
 
--- where the tenth of NYC for MH comes from: the initial offering first, else the bank pool
+-- where the share of NYC for MH comes from: the initial offering first, else the bank pool
 abbrev pub exchange_source : List Event → ShareSource
 exchange_source events = if is_offered events then source.InitialOffering else source.BankPool
 
--- how many tenths MH brings
-abbrev pub exchange_tenths : ℕ
-exchange_tenths = 1
+-- how many shares MH brings
+abbrev pub exchange_shares : ℕ
+exchange_shares = 1
 
--- the seat may not give up MH for a tenth of NYC: it does not own MH; neither the initial offering nor the
--- pool has one; the seat would hold over six tenths
+-- the seat may not give up MH for a share of NYC: it does not own MH; neither the initial offering nor the pool has
+-- one; the seat would hold over six shares
 abbrev pub is_no_exchange : List Event → Seat → Bool
 is_no_exchange events seat =
     not (is_owner seat (owner_of events MohawkHudson))
-    || (not (is_offered events || is_pooled events) || is_over_six events seat NewYorkCentral exchange_tenths)
+    || (not (is_offered events || is_pooled events) || is_over_six events seat NewYorkCentral exchange_shares)
 
 -- the rule that an exchange may break
 abbrev pub exchange_rules : List Event → Seat → List (Rule StockRule)
@@ -68,8 +68,8 @@ judgement_of seats events seat bought (Par company price) =
     purchase_judgement seats events seat (purchase.Par company price) bought
 judgement_of seats events seat bought (BuyShare company from) =
     purchase_judgement seats events seat (purchase.Share company from) bought
-judgement_of seats events seat bought (Sell company tenths) =
-    sale_judgement seats events seat (record { company = company; tenths = tenths }) None
+judgement_of seats events seat bought (Sell company shares) =
+    sale_judgement seats events seat (record { company = company; shares = shares }) None
 judgement_of seats events seat bought ExchangeMohawk = first_broken (exchange_rules events seat)
 judgement_of seats events seat bought other = Some NotOfStock
 

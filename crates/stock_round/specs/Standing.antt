@@ -1,4 +1,4 @@
--- The standing lines of a stock sheet, those before its first group, are ruled at the round's start: no order
+-- The standing lines of a stock sheet, those before its first written turn, are ruled at the round's start: no order
 -- has a place there, whatever its condition.
 use Rattle.std.specs.Prelude.{List, Result, Ok, Err}
 use Rattle.events.specs.declared.event.Event.{Event}

@@ -3,7 +3,7 @@
 -- left.
 use Rattle.std.specs.Prelude.{ℕ, List}
 use Rattle.events.specs.declared.event.Event.{Event}
-use Rattle.history.specs.LookBack.{Game}
+use Rattle.totals.specs.LookBack.{Game}
 use Rattle.sheets.specs.Part.{Numbered}
 pub use Rattle.stock_round.specs.Standing.{after_standing_line}
 use Rattle.stock_round.specs.Turn.{stock_rules}

@@ -1,6 +1,6 @@
--- A seat's turn: the lines of its group are ruled in order, each on the list that the one before left. In a
--- turn a seat buys once, but several certificates of a company whose square is brown, and sells as often as it
--- likes, before and after. A seat that neither bought nor sold passes, also where it gave up MH.
+-- A seat's turn: the lines of its written turn are ruled in order, each on the list that the one before left. In a turn
+-- a seat buys once, but several certificates of a company whose square is brown, and sells as often as it likes, before
+-- and after. A seat that neither bought nor sold passes, also where it gave up MH.
 use Rattle.std.specs.Prelude.{ℕ, Bool, true, false, ◌||◌, List, Some, None, is_some}
 use Rattle.events.specs.declared.event.Event.{Event}
 use Rattle.events.specs.declared.ruling.Ruling.{Ruling}
@@ -16,7 +16,7 @@ use Rattle.tables.specs.Turns.{Play}
 use Rattle.tables.specs.declared.seat.Seat.{Seat}
 use Rattle.turns.specs.RoundOfTurns.{RoundRules, in_turn, turns_of}
 use Rattle.turns.specs.RoundOfTurns as turns
-use Rattle.turns.specs.Ruling.{after_ruling as turn_ruled, has_place_in_group, line_ruling}
+use Rattle.turns.specs.Ruling.{after_ruling as turn_ruled, has_place_in_turn, line_ruling}
 
 -- nothing yet
 abbrev pub no_deals : ShareDeals
@@ -30,7 +30,7 @@ has_acted deals = is_some deals.bought || deals.sold
 abbrev pub with_deal : ShareDeals → Order → ShareDeals
 with_deal deals (Par company price) = record { bought = Some company; sold = deals.sold }
 with_deal deals (BuyShare company from) = record { bought = Some company; sold = deals.sold }
-with_deal deals (Sell company tenths) = record { bought = deals.bought; sold = true }
+with_deal deals (Sell company shares) = record { bought = deals.bought; sold = true }
 with_deal deals other = deals
 
 -- in a turn: the list so far, and what the seat has done
@@ -45,12 +45,12 @@ acted seats seat turn order = in_turn (after_act seats seat turn.events order) (
 abbrev pub after_ruling : ℕ → Seat → InTurn → ℕ → Ruling → InTurn
 after_ruling seats seat turn number ruling = turn_ruled (acted seats seat) seat turn number ruling
 
--- what becomes of a line of a group
+-- what becomes of a line of a written turn
 abbrev pub ruling_in : ℕ → Seat → InTurn → Numbered → Ruling
 ruling_in seats seat turn line =
-    line_ruling has_place_in_group (refusal_of seats turn.events seat turn.actions.bought) turn.events line
+    line_ruling has_place_in_turn (refusal_of seats turn.events seat turn.actions.bought) turn.events line
 
--- in a turn, after a line of a group
+-- in a turn, after a line of a written turn
 abbrev pub after_stock_line : ℕ → Seat → InTurn → Numbered → InTurn
 after_stock_line seats seat turn line = after_ruling seats seat turn line.number (ruling_in seats seat turn line)
 

@@ -5,15 +5,15 @@ ghost use Rattle.stock_round.specs.Act.{after_act, after_exchange, after_purchas
 ghost use Rattle.stock_round.specs.Allowed.{MayAct, MayBuy, MayExchange, MayStart};
 
 use crate::float::record_float;
-use crate::payments::{give_up_mohawk, pay_for_tenth};
+use crate::payments::{give_up_mohawk, pay_for_share};
 use certs::{Sale, record_president, sell_block};
 use history::{Event, History};
 use order_grammar::{Order, ShareSource};
 use std::alloc::AllocError;
 use tables::{Amount, Company, Seat};
 
-/// The tenths of a president's certificate.
-const PRESIDENT_TENTHS: u8 = 2;
+/// The shares of a president's certificate.
+const PRESIDENT_SHARES: u8 = 2;
 
 /// Does what a seat orders in its turn, which nothing keeps it from.
 pub(crate) fn act(history: &mut History, seat: Seat, order: &Order) -> Result<(), AllocError>
@@ -29,9 +29,9 @@ pub(crate) fn act(history: &mut History, seat: Seat, order: &Order) -> Result<()
     match order {
         Order::Par { company, price } => start(history, seat, *company, *price),
         Order::BuyShare { company, from } => buy(history, seat, *company, *from),
-        Order::Sell { company, tenths } => {
-            let (company, tenths) = (*company, *tenths);
-            sell_block(history, seat, Sale { company, tenths })
+        Order::Sell { company, shares } => {
+            let (company, shares) = (*company, *shares);
+            sell_block(history, seat, Sale { company, shares })
         }
         Order::ExchangeMohawk => exchange(history, seat),
         _ => Ok(()),
@@ -57,15 +57,15 @@ fn start(
     history.append(Event::Bought {
         company,
         seat,
-        tenths: PRESIDENT_TENTHS,
+        shares: PRESIDENT_SHARES,
         from: ShareSource::InitialOffering,
-        price: Amount::from(PRESIDENT_TENTHS) * price,
+        price: Amount::from(PRESIDENT_SHARES) * price,
     })?;
     history.append(Event::President { company, seat })?;
     Ok(())
 }
 
-/// A seat buys a tenth of a company.
+/// A seat buys a share of a company.
 fn buy(
     history: &mut History,
     seat: Seat,
@@ -81,12 +81,12 @@ fn buy(
         ≡ after_purchase history.old.seats history.old.events seat company from) }
     ensures sound { OnOk result (IsSound history.new) }
 {
-    pay_for_tenth(history, seat, company, from)?;
+    pay_for_share(history, seat, company, from)?;
     record_president(history, company)?;
     record_float(history, company)
 }
 
-/// A seat gives up MH for a tenth of NYC.
+/// A seat gives up MH for a share of NYC.
 fn exchange(history: &mut History, seat: Seat) -> Result<(), AllocError>
     requires few { history.old.seats ≤ 6 }
     requires at_table { seat.0 < history.old.seats }

@@ -46,7 +46,7 @@ fn move_up_if_sold_out(history: &mut History, company: Company) -> Result<(), Al
     Ok(())
 }
 
-/// Whether all tenths of a company are with players.
+/// Whether all shares of a company are with players.
 fn is_sold_out(history: &History, company: Company) -> bool
     ensures { result ≡ is_sold_out history.now.events company }
 {

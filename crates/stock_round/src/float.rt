@@ -1,20 +1,20 @@
 ghost use Rattle.std.specs.Prelude.{◌≡◌, OnOk, true, unwrap_or};
-ghost use Rattle.history.specs.Shares.{par_of};
+ghost use Rattle.totals.specs.Shares.{par_of};
 ghost use Rattle.history.specs.Sound.{IsSound};
 ghost use Rattle.stock_round.specs.Act.{floated_at, is_to_float, with_float};
 
 use crate::prices::par_value;
-use history::{Event, History, Shareholder, Tenths};
+use history::{Event, History, ShareCount, Shareholder};
 use std::alloc::AllocError;
 use tables::{Amount, Company};
 
-/// The most tenths that are left in the initial offering of a company that floats.
-const FLOAT_MOST: Tenths = 4;
+/// The most shares that are left in the initial offering of a company that floats.
+const FLOAT_MOST: ShareCount = 4;
 
 /// How many times its par value a company has when it floats.
-const TENTHS_OF_COMPANY: Amount = 10;
+const SHARES_OF_COMPANY: Amount = 10;
 
-/// A company floats, where few enough of its tenths are left in the initial offering and it has not
+/// A company floats, where few enough of its shares are left in the initial offering and it has not
 /// floated yet: the bank pays it ten times its par value.
 pub(crate) fn record_float(history: &mut History, company: Company) -> Result<(), AllocError>
     requires { IsSound history.old }
@@ -47,7 +47,7 @@ fn float(history: &mut History, company: Company) -> Result<(), AllocError>
         (unwrap_or (par_of history.old.events company) 0)) }
     ensures sound { OnOk result (IsSound history.new) }
 {
-    let amount = TENTHS_OF_COMPANY * par_value(history, company);
+    let amount = SHARES_OF_COMPANY * par_value(history, company);
     history.append(Event::Floats { company, amount })?;
     history.record_broken()?;
     Ok(())

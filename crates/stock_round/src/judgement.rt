@@ -1,6 +1,7 @@
 ghost use Rattle.std.specs.Prelude.{◌≡◌, ◌≤◌, ◌<◌, None};
-ghost use Rattle.history.specs.LookBack.{owner_of};
-ghost use Rattle.stock_round.specs.Judgement.{exchange_rules, exchange_source, is_no_exchange, is_offered, is_owner, is_pooled, judgement_of};
+ghost use Rattle.totals.specs.LookBack.{owner_of};
+ghost use Rattle.stock_round.specs.Judgement.{exchange_rules, exchange_source, is_no_exchange, is_offered, is_owner};
+ghost use Rattle.stock_round.specs.Judgement.{is_pooled, judgement_of};
 ghost use Rattle.tables.specs.Rules.{first_broken};
 ghost use Rattle.tables.specs.declared.roster.Private.TheVariants.{MohawkHudson};
 
@@ -9,8 +10,8 @@ use history::{History, Holder, Shareholder, StockRule};
 use order_grammar::{Order, ShareSource};
 use tables::{Company, Private, Seat};
 
-/// How many tenths MH brings.
-const EXCHANGE_TENTHS: u8 = 1;
+/// How many shares MH brings.
+const EXCHANGE_SHARES: u8 = 1;
 
 /// The first rule that an order of a seat breaks in its turn, in which it has bought of this
 /// company or of none; `None` if it breaks none. There are at most six seats.
@@ -39,10 +40,10 @@ pub(crate) fn judge(
             };
             may_buy(history, seat, purchase, bought).err()
         }
-        Order::Sell { company, tenths } => {
+        Order::Sell { company, shares } => {
             let sale = Sale {
                 company: *company,
-                tenths: *tenths,
+                shares: *shares,
             };
             may_sell(history, seat, sale, None).err()
         }
@@ -61,7 +62,7 @@ fn judge_exchange(history: &History, seat: Seat) -> Option<StockRule>
     None
 }
 
-/// Whether a seat may not exchange MH: it does not own it, no tenth of NYC is there, or the seat
+/// Whether a seat may not exchange MH: it does not own it, no share of NYC is there, or the seat
 /// would come over six.
 fn is_no_exchange(history: &History, seat: Seat) -> bool
     ensures { result ≡ is_no_exchange history.now.events seat }
@@ -72,7 +73,7 @@ fn is_no_exchange(history: &History, seat: Seat) -> bool
             &history.now(),
             seat,
             Company::NewYorkCentral,
-            EXCHANGE_TENTHS,
+            EXCHANGE_SHARES,
         )
 }
 
@@ -86,7 +87,7 @@ fn owns_mohawk(history: &History, seat: Seat) -> bool
     }
 }
 
-/// Whether there is a tenth of NYC in the initial offering.
+/// Whether there is a share of NYC in the initial offering.
 fn is_offered(history: &History) -> bool
     ensures { result ≡ is_offered history.now.events }
 {
@@ -100,7 +101,7 @@ fn is_pooled(history: &History) -> bool
     history.shares(Company::NewYorkCentral, Shareholder::BankPool) > 0
 }
 
-/// Where the tenth of NYC for MH comes from: the initial offering first, else the bank pool.
+/// Where the share of NYC for MH comes from: the initial offering first, else the bank pool.
 pub(crate) fn exchange_source(history: &History) -> ShareSource
     ensures { result ≡ exchange_source history.now.events }
 {

@@ -1,10 +1,10 @@
 //! Laws of the definitions, each the contract of a function that does nothing.
 ghost use Rattle.std.specs.Prelude.{◌≡◌, ℕ, List};
-ghost use Rattle.history.specs.LookBack.{Game};
+ghost use Rattle.totals.specs.LookBack.{Game};
 ghost use Rattle.stock_round.specs.StockRound.{EndsSoon, IsStockRound};
 ghost use Rattle.stock_round.specs.Turn.{stock_rules};
 ghost use Rattle.tables.specs.declared.round.Round.{Round};
-ghost use Rattle.turns.specs.Acted.{TurnsTellWhoActed};
+ghost use Rattle.turns.specs.Acted.{TurnsSayWhoActed};
 
 /// A stock round has at most one outcome: the sheets and the game before it say what the game after
 /// it is.
@@ -13,14 +13,14 @@ pub fn one_stock_round()
         → IsStockRound file round old a → IsStockRound file round old b → a ≡ b }
 {}
 
-/// A stock round has an outcome, whatever the sheets say: its turns come to an end, after at most
-/// 513 for each seat.
+/// A stock round has an outcome, whatever the sheets say: its turns reach an end, after at most 513
+/// for each seat.
 pub fn stock_round_ends()
     ensures { (file : List ℕ) (round : Round) (old : Game) → EndsSoon file round old }
 {}
 
 /// A seat acted in its turn exactly where the list of events says so: the new events of the turn
 /// name it as the seat that acted last, and where it did not act they name nobody.
-pub fn stock_turns_tell_who_acted()
-    ensures { TurnsTellWhoActed stock_rules }
+pub fn stock_turns_say_who_acted()
+    ensures { TurnsSayWhoActed stock_rules }
 {}

@@ -5,14 +5,14 @@ ghost use Rattle.stock_round.specs.Act.{bought, exchanged};
 ghost use Rattle.stock_round.specs.Allowed.{MayBuy, MayExchange};
 
 use crate::judgement::exchange_source;
-use crate::prices::tenth_cost;
+use crate::prices::share_cost;
 use history::{Event, History};
 use order_grammar::ShareSource;
 use std::alloc::AllocError;
 use tables::{Company, Seat};
 
-/// A seat pays for a tenth of a company, and has it.
-pub(crate) fn pay_for_tenth(
+/// A seat pays for a share of a company, and has it.
+pub(crate) fn pay_for_share(
     history: &mut History,
     seat: Seat,
     company: Company,
@@ -26,18 +26,18 @@ pub(crate) fn pay_for_tenth(
         ≡ bought history.old.events seat company from) }
     ensures sound { OnOk result (IsSound history.new) }
 {
-    let price = tenth_cost(history, company, from);
+    let price = share_cost(history, company, from);
     history.append(Event::Bought {
         company,
         seat,
-        tenths: 1,
+        shares: 1,
         from,
         price,
     })?;
     Ok(())
 }
 
-/// A seat has a tenth of NYC, and nobody has MH.
+/// A seat has a share of NYC, and nobody has MH.
 pub(crate) fn give_up_mohawk(history: &mut History, seat: Seat) -> Result<(), AllocError>
     requires at_table { seat.0 < history.old.seats }
     requires may { MayExchange history.old.events seat }

@@ -77,8 +77,8 @@ impl TurnRules for StockTurns {
 }
 
 /// Plays a stock round with the sheets for it. The list of events must be sound, and its seats
-/// those of the sheets' players; a seat without a sheet passes. An `Err` comes from want of memory
-/// alone, and the game is dropped.
+/// those of the sheets' players; a seat without a sheet passes. It fails only if memory is refused,
+/// and the game is dropped.
 pub fn play_stock(history: History, sheets: &Sheets, round: Round) -> Result<History, AllocError>
     requires sound { IsSound history }
     requires seats { history.seats ≡ length (players_of sheets.now) }

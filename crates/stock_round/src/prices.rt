@@ -1,21 +1,21 @@
 ghost use Rattle.std.specs.Prelude.{◌≡◌, ◌≤◌, pos, unwrap_or};
 ghost use Rattle.std.specs.Int.RustNames.{unsigned_abs};
-ghost use Rattle.certs.specs.Purchase.{tenth_price_of};
-ghost use Rattle.history.specs.Shares.{par_of};
+ghost use Rattle.certs.specs.Purchase.{share_price_of};
+ghost use Rattle.totals.specs.Shares.{par_of};
 ghost use Rattle.history.specs.Sound.{IsLed};
 
-use certs::tenth_price;
+use certs::share_price;
 use history::History;
 use order_grammar::ShareSource;
 use tables::{Amount, Company, Money};
 
-/// What a seat pays for a tenth of a company that is started, in dollars.
-pub(crate) fn tenth_cost(history: &History, company: Company, from: ShareSource) -> Amount
+/// What a seat pays for a share of a company that is started, in dollars.
+pub(crate) fn share_cost(history: &History, company: Company, from: ShareSource) -> Amount
     requires { IsLed history.now.events company }
-    ensures price { result ≡ tenth_price_of history.now.events company from }
+    ensures price { result ≡ share_price_of history.now.events company from }
     ensures small { result ≤ 350 }
 {
-    amount_of(tenth_price(&history.now(), company, from))
+    amount_of(share_price(&history.now(), company, from))
 }
 
 /// The par value of a company that is started, in dollars.

@@ -4,7 +4,7 @@ ghost use Rattle.sheets.specs.Part.{line_unread};
 ghost use Rattle.stock_round.specs.Judgement.{refusal_of};
 ghost use Rattle.stock_round.specs.Turn.{after_stock_line};
 ghost use Rattle.turns.specs.RoundOfTurns.{in_turn};
-ghost use Rattle.turns.specs.Ruling.{has_place_in_group};
+ghost use Rattle.turns.specs.Ruling.{has_place_in_turn};
 
 use crate::act::act;
 use crate::deals::ShareDeals;
@@ -16,14 +16,14 @@ use std::alloc::AllocError;
 use tables::{Company, Seat};
 use turns::Family;
 
-/// The lines of a group, in a turn in which the seat has bought of this company or of none.
+/// The lines of a written turn, in a turn in which the seat has bought of this company or of none.
 #[derive(Clone, Copy, Debug)]
 struct TurnLines {
     bought: Option<Company>,
 }
 
 impl Family for TurnLines {
-    ghost place = { has_place_in_group };
+    ghost place = { has_place_in_turn };
 
     ghost judgement = { λ lines game seat. refusal_of game.seats game.events seat lines.bought };
 
@@ -38,8 +38,8 @@ impl Family for TurnLines {
     }
 }
 
-/// Rules a line of a group, and does what it orders if it is obeyed. Its order is put in place of
-/// another. Answers what the seat has done by then.
+/// Rules a line of a written turn, and does what it orders if it is obeyed. Its order is put in
+/// place of another. Answers what the seat has done by then.
 pub(crate) fn rule_line(
     history: &mut History,
     seat: Seat,

@@ -5,7 +5,7 @@ use Rattle.tables.specs.Roster.{companies, place_of_company, same_company}
 use Rattle.tables.specs.declared.roster.Company.{Company}
 use Rattle.tables.specs.declared.roster.Company.TheVariants.{Pennsylvania}
 
--- a company stands at its place in the roster
+-- a company is at its place in the roster
 at_place : (company : Company) → get_or companies (place_of_company company) Pennsylvania ≡ company
 at_place Pennsylvania = refl
 at_place _ = refl

@@ -1,5 +1,6 @@
 -- Tables that are filled entry by entry, and tables by the places of the roster.
-use Rattle.std.proofs.Common.{◌≡◌, ℕ, ◌+◌, ◌<◌, ◌==◌, if◌then◌else◌, List, ℤ, pos, ◌+ℤ◌, length, get_or, set, sym, subst, inl, inr, arith}
+use Rattle.std.proofs.Common.{◌≡◌, ℕ, ◌+◌, ◌<◌, ◌==◌, if◌then◌else◌, List, ℤ, pos, ◌+ℤ◌, length, get_or, set, sym}
+use Rattle.std.proofs.Common.{subst, inl, inr, arith}
 use Rattle.std.proofs.lemmas.Bool.{cases_eq}
 use Rattle.std.proofs.lemmas.Bool.Decides.{nat_tests}
 use Rattle.std.proofs.lemmas.Grind.{get_or-set_at}
@@ -7,7 +8,8 @@ use Rattle.std.proofs.lemmas.Int.{ints}
 use Rattle.std.proofs.lemmas.List.{get_or-set_same, get_or-set_other}
 use Rattle.tables.specs.Roster.{companies, place_of_company}
 use Rattle.tables.specs.declared.roster.Company.{Company}
-use Rattle.tables.specs.declared.roster.Company.TheVariants.{Pennsylvania, NewYorkCentral, CanadianPacific, BaltimoreOhio, ChesapeakeOhio, Erie, NewHaven, BostonMaine}
+use Rattle.tables.specs.declared.roster.Company.TheVariants.{Pennsylvania, NewYorkCentral, CanadianPacific}
+use Rattle.tables.specs.declared.roster.Company.TheVariants.{BaltimoreOhio, ChesapeakeOhio, Erie, NewHaven, BostonMaine}
 
 -- what holds of the entries so far, and of one more, holds of all of them
 pub filled_more : {A : Type 0} (P : ℕ → A → Type 0) (d : A) (table : List A) (n : ℕ) (entry : A) → n < length table

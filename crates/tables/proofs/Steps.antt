@@ -83,7 +83,7 @@ ends_later step over a z going ends =
       not_before = λ k less. none_before step over a z ends k going less;
     }
 
--- an end within so many steps
+-- an end within this many steps
 pub record EndsWithin {A : Type 0} (step : A → A) (over : A → Bool) (a : A) (most : ℕ) : Type 0 where
   pub last : A
   pub ends : Ends step over a last

@@ -1,6 +1,8 @@
--- Turns to the left: each lap of the table takes a group of each seat, so that after 512 laps none is
--- left, and in the next lap all pass.
-use Rattle.std.proofs.Common.{◌≡◌, ℕ, zero, suc, ◌+◌, ◌-◌, ◌*◌, ◌<◌, ◌≤◌, Bool, true, false, nat_le, nat_lt, min, if◌then◌else◌, List, [], length, drop, set, sum_by, unwrap_or, refl, sym, subst, ap, ◌∙◌, inl, inr, arith}
+-- Turns to the left: each lap of the table takes a written turn of each seat, so that after 512 laps none is left, and
+-- in the next lap all pass.
+use Rattle.std.proofs.Common.{◌≡◌, ℕ, zero, suc, ◌+◌, ◌-◌, ◌*◌, ◌<◌, ◌≤◌, Bool, true, false, nat_le, nat_lt, min}
+use Rattle.std.proofs.Common.{if◌then◌else◌, List, [], length, drop, set, sum_by, unwrap_or, refl, sym, subst, ap, ◌∙◌}
+use Rattle.std.proofs.Common.{inl, inr, arith}
 use Rattle.std.proofs.Math.Nat.{mul-le-mul_right}
 use Rattle.std.proofs.lemmas.Bool.{cases_eq, cases_lt}
 use Rattle.std.proofs.lemmas.Bool.Decides.{nat_tests}
@@ -10,55 +12,57 @@ use Rattle.std.proofs.lemmas.Option.{slice_get_past, unwrap_or-slice_get}
 use Rattle.tables.proofs.Steps.{EndsWithin, ends_once, ends_within, iterate_first, iterate_plus}
 use Rattle.tables.specs.Seat.{left_of, seat_at}
 use Rattle.tables.specs.Steps.{iterate}
-use Rattle.tables.specs.Turns.{CanBegin, EndSoon, InPlay, IsIdleWithoutLines, Play, Turned, TurnsEnd, after_turn, groups_at, groups_left, next_group, turn_over, turns_most, turns_over}
+use Rattle.tables.specs.Turns.{CanBegin, EndSoon, InPlay, IsIdleWithoutLines, Play, Turned, TurnsEnd, after_turn}
+use Rattle.tables.specs.Turns.{written_turns_at, written_turns_left, next_written_turn, turn_over, turns_most}
+use Rattle.tables.specs.Turns.{turns_over}
 
--- how many groups a seat has
+-- how many written turns a seat has
 abbrev count_at : {Line : Type 0} → List (List (List Line)) → ℕ → ℕ
-count_at groups seat = length (groups_at groups seat)
+count_at written_turns seat = length (written_turns_at written_turns seat)
 
--- the groups after a seat has taken its next one
+-- the written turns after a seat has taken its next one
 abbrev taken : {Line : Type 0} → List (List (List Line)) → ℕ → List (List (List Line))
-taken groups seat = set groups seat (drop 1 (groups_at groups seat))
+taken written_turns seat = set written_turns seat (drop 1 (written_turns_at written_turns seat))
 
--- a seat past the end has no groups
-none_past : {Line : Type 0} (groups : List (List (List Line))) (seat : ℕ) → length groups ≤ seat
-    → count_at groups seat ≡ 0
-none_past groups seat past = ap (λ found. length (unwrap_or found [])) (slice_get_past groups seat past)
+-- a seat past the end has no written turns
+none_past : {Line : Type 0} (written_turns : List (List (List Line))) (seat : ℕ) → length written_turns ≤ seat
+    → count_at written_turns seat ≡ 0
+none_past written_turns seat past = ap (λ found. length (unwrap_or found [])) (slice_get_past written_turns seat past)
 
--- the seat that has taken a group has one less
-one_less : {Line : Type 0} (groups : List (List (List Line))) (seat : ℕ)
-    → count_at (taken groups seat) seat ≡ count_at groups seat - 1
-one_less groups seat =
-    elim (cases_lt seat (length groups)) [
+-- the seat that has taken a written turn has one less
+one_less : {Line : Type 0} (written_turns : List (List (List Line))) (seat : ℕ)
+    → count_at (taken written_turns seat) seat ≡ count_at written_turns seat - 1
+one_less written_turns seat =
+    elim (cases_lt seat (length written_turns)) [
       | inl within ↦
-          ap (λ its. length its) (unwrap_or-slice_get (taken groups seat) seat []
-          ∙ get_or-set_same groups seat (drop 1 (groups_at groups seat)) [] within)
-          ∙ length-drop 1 (groups_at groups seat)
+          ap (λ its. length its) (unwrap_or-slice_get (taken written_turns seat) seat []
+          ∙ get_or-set_same written_turns seat (drop 1 (written_turns_at written_turns seat)) [] within)
+          ∙ length-drop 1 (written_turns_at written_turns seat)
       | inr past ↦
-          let none = none_past groups seat past in
-          ap (λ all. count_at all seat) (set_past groups seat (drop 1 (groups_at groups seat)) past) ∙ omega arith
+          let none = none_past written_turns seat past in
+          ap (λ all. count_at all seat) (set_past written_turns seat (drop 1 (written_turns_at written_turns seat)) past) ∙ omega arith
     ]
 
--- another seat has the groups that it had
-same_elsewhere : {Line : Type 0} (groups : List (List (List Line))) (seat other : ℕ) → (other ≡ seat → ⊥)
-    → count_at (taken groups seat) other ≡ count_at groups other
-same_elsewhere groups seat other apart =
-    ap (λ its. length its) (unwrap_or-slice_get (taken groups seat) other []
-    ∙ get_or-set_other groups seat other (drop 1 (groups_at groups seat)) [] apart
-    ∙ sym (unwrap_or-slice_get groups other []))
+-- another seat has the written turns that it had
+same_elsewhere : {Line : Type 0} (written_turns : List (List (List Line))) (seat other : ℕ) → (other ≡ seat → ⊥)
+    → count_at (taken written_turns seat) other ≡ count_at written_turns other
+same_elsewhere written_turns seat other apart =
+    ap (λ its. length its) (unwrap_or-slice_get (taken written_turns seat) other []
+    ∙ get_or-set_other written_turns seat other (drop 1 (written_turns_at written_turns seat)) [] apart
+    ∙ sym (unwrap_or-slice_get written_turns other []))
 
 -- how many seats to the left of a seat another is
 abbrev ahead : ℕ → ℕ → ℕ → ℕ
 ahead table seat other = if nat_le seat other then other - seat else other + table - seat
 
--- 1 for a seat among the next so many, itself the first
+-- 1 for a seat among the next this many, itself the first
 abbrev to_come : ℕ → ℕ → ℕ → ℕ → ℕ
 to_come table seat count other = if nat_lt (ahead table seat other) count then 1 else 0
 
--- at the table each seat has at most so many groups, and the next few of them one more
+-- at the table each seat has at most this many written turns, and the next few of them one more
 record Bounded {State Line : Type 0} (table most more : ℕ) (at : InPlay State Line) : Type 0 where
   pub at_table : at.seat < table
-  pub bound : (other : ℕ) → other < table → count_at at.groups other ≤ most + to_come table at.seat more other
+  pub bound : (other : ℕ) → other < table → count_at at.written_turns other ≤ most + to_come table at.seat more other
 
 -- the number of the seat at the left
 abbrev left_number : ℕ → ℕ → ℕ
@@ -80,19 +84,19 @@ left_is seats seat = grind (arith, nat_tests)
 -- after a turn one fewer of the next seats has one more
 bound_after : {State Line : Type 0} (play : Play State Line) (most more : ℕ) (at : InPlay State Line)
     → Bounded (min play.seats 256) most (suc more) at → (other : ℕ) → other < min play.seats 256
-    → count_at (taken at.groups at.seat) other ≤ most
+    → count_at (taken at.written_turns at.seat) other ≤ most
     + to_come (min play.seats 256) (left_number (min play.seats 256) at.seat) more other
 bound_after play most more at before other within =
     elim (cases_eq other at.seat) [
       | inl same ↦
-          let less : count_at (taken at.groups at.seat) other ≡ count_at at.groups other - 1 =
-          ap (λ (seat : ℕ). count_at (taken at.groups at.seat) seat) same ∙ one_less at.groups at.seat
-          ∙ ap (λ (seat : ℕ). count_at at.groups seat - 1) (sym same)
+          let less : count_at (taken at.written_turns at.seat) other ≡ count_at at.written_turns other - 1 =
+          ap (λ (seat : ℕ). count_at (taken at.written_turns at.seat) seat) same ∙ one_less at.written_turns at.seat
+          ∙ ap (λ (seat : ℕ). count_at at.written_turns seat - 1) (sym same)
           in
           let had = before.bound other within in
           grind (arith, less, had)
       | inr apart ↦
-          let same = same_elsewhere at.groups at.seat other apart in
+          let same = same_elsewhere at.written_turns at.seat other apart in
           let nearer = one_nearer (min play.seats 256) at.seat more other before.at_table within apart in
           let had = before.bound other within in
           omega (arith, same, nearer, had)
@@ -104,7 +108,7 @@ bounded_after : {State Line : Type 0} (play : Play State Line) (most more : ℕ)
 bounded_after play most more at before =
     record {
       at_table = left_at_table play.seats at.seat before.at_table;
-      bound = λ other within. subst (λ (seat : ℕ). count_at (taken at.groups at.seat) other
+      bound = λ other within. subst (λ (seat : ℕ). count_at (taken at.written_turns at.seat) other
           ≤ most + to_come (min play.seats 256) seat more other) (sym (left_is play.seats at.seat))
           (bound_after play most more at before other within);
     }
@@ -133,7 +137,7 @@ lap_begins table most at before =
           all_ahead table at.seat other before.at_table within in grind (arith, had, all);
     }
 
--- so many laps take so many groups of each seat
+-- this many laps take this many written turns of each seat
 laps : {State Line : Type 0} (play : Play State Line) (most : ℕ) (at : InPlay State Line)
     → Bounded (min play.seats 256) most 0 at → Bounded (min play.seats 256) 0 0
     (iterate (after_turn play) (most * min play.seats 256) at)
@@ -151,7 +155,7 @@ laps {State} {Line} play (suc most) at before =
     subst (λ (to : InPlay State Line). Bounded table 0 0 to) together
     (laps play most (iterate (after_turn play) table at) one_lap)
 
--- where no groups are left, none is left after a turn
+-- where no written turns are left, none is left after a turn
 none_after : {State Line : Type 0} (play : Play State Line) (at : InPlay State Line)
     → Bounded (min play.seats 256) 0 0 at → Bounded (min play.seats 256) 0 0 (after_turn play at)
 none_after play at before =
@@ -161,13 +165,13 @@ none_after play at before =
           before.bound other within in grind (arith, had);
     })
 
--- a seat without groups does not act
+-- a seat without written turns does not act
 passes_without : {State Line : Type 0} (play : Play State Line) → IsIdleWithoutLines play → (at : InPlay State Line)
-    → count_at at.groups at.seat ≡ 0 → (play.turn (seat_at at.seat) (next_group (groups_at at.groups at.seat))
+    → count_at at.written_turns at.seat ≡ 0 → (play.turn (seat_at at.seat) (next_written_turn (written_turns_at at.written_turns at.seat))
     at.now).acted ≡ false
 passes_without {State} {Line} play idle at none =
-    ap (λ (groups : List (List Line)). (play.turn (seat_at at.seat) (next_group groups) at.now).acted)
-    (nil_from_length (groups_at at.groups at.seat) none)
+    ap (λ (written_turns : List (List Line)). (play.turn (seat_at at.seat) (next_written_turn written_turns) at.now).acted)
+    (nil_from_length (written_turns_at at.written_turns at.seat) none)
     ∙ idle (seat_at at.seat) at.now
 
 -- a pass is one more
@@ -175,12 +179,12 @@ one_pass_more : {State Line : Type 0} (play : Play State Line) (at : InPlay Stat
     → turned.acted ≡ false → (turn_over play at turned).passes ≡ at.passes + 1
 one_pass_more play at turned passed = ap (λ (b : Bool). if b then 0 else at.passes + 1) passed
 
--- so many passes in succession
+-- this many passes in succession
 record Passed {State Line : Type 0} (table passes : ℕ) (at : InPlay State Line) : Type 0 where
   pub none_left : Bounded table 0 0 at
   pub all_passed : at.passes ≡ passes
 
--- where no groups are left all pass
+-- where no written turns are left all pass
 all_pass : {State Line : Type 0} (play : Play State Line) → IsIdleWithoutLines play
     → (turns : ℕ) (at : InPlay State Line) → Bounded (min play.seats 256) 0 0 at
     → Passed (min play.seats 256) (at.passes + turns) (iterate (after_turn play) turns at)
@@ -190,7 +194,7 @@ all_pass play idle (suc turns) at none =
     let here = iterate (after_turn play) turns at in
     let had = before.none_left.bound here.seat before.none_left.at_table in
     let passed = passes_without play idle here (grind (arith, had)) in
-    let one = one_pass_more play here (play.turn (seat_at here.seat) (next_group (groups_at here.groups here.seat))
+    let one = one_pass_more play here (play.turn (seat_at here.seat) (next_written_turn (written_turns_at here.written_turns here.seat))
     here.now) passed in
     record {
       none_left = none_after play here before.none_left;
@@ -208,7 +212,7 @@ bounded_at_start : {State Line : Type 0} (play : Play State Line) (start : InPla
 bounded_at_start play start begins some =
     record {
       at_table = begins.at_table some;
-      bound = λ other within. let few = begins.few_groups other in omega (arith, few);
+      bound = λ other within. let few = begins.few_written_turns other in omega (arith, few);
     }
 
 -- the turns end after 512 laps and one in which all pass, if not before
@@ -248,21 +252,21 @@ pub turns_end_once : {State Line : Type 0} (play : Play State Line) (start a b :
     → TurnsEnd play start a → TurnsEnd play start b → a ≡ b
 turns_end_once play start a b first second = ends_once (after_turn play) (turns_over play) start a b first second
 
--- a turn takes a group of its seat, if one is left
-one_group_less : {Line : Type 0} (groups : List (List (List Line))) (seat : ℕ)
-    → sum_by (λ its. length its) (taken groups seat) + count_at groups seat
-    ≡ sum_by (λ its. length its) groups + (count_at groups seat - 1)
-one_group_less groups seat =
-    elim (cases_lt seat (length groups)) [
+-- a turn takes a written turn of its seat, if one is left
+one_written_turn_less : {Line : Type 0} (written_turns : List (List (List Line))) (seat : ℕ)
+    → sum_by (λ its. length its) (taken written_turns seat) + count_at written_turns seat
+    ≡ sum_by (λ its. length its) written_turns + (count_at written_turns seat - 1)
+one_written_turn_less written_turns seat =
+    elim (cases_lt seat (length written_turns)) [
       | inl within ↦
-          let sums = sum_by-set (λ its. length its) groups seat (drop 1 (groups_at groups seat)) [] within in
-          let here = ap (λ its. length its) (unwrap_or-slice_get groups seat []) in
-          let dropped = length-drop 1 (groups_at groups seat) in
+          let sums = sum_by-set (λ its. length its) written_turns seat (drop 1 (written_turns_at written_turns seat)) [] within in
+          let here = ap (λ its. length its) (unwrap_or-slice_get written_turns seat []) in
+          let dropped = length-drop 1 (written_turns_at written_turns seat) in
           omega (arith, sums, here, dropped)
       | inr past ↦
-          let none = none_past groups seat past in
+          let none = none_past written_turns seat past in
           let same = ap (λ all. sum_by (λ its. length its) all)
-          (set_past groups seat (drop 1 (groups_at groups seat)) past) in
+          (set_past written_turns seat (drop 1 (written_turns_at written_turns seat)) past) in
           omega (arith, none, same)
     ]
 
@@ -285,12 +289,12 @@ fewer_passed left after seats passes less going =
     let product = mul-le-mul_right seats less in
     omega (arith, product)
 
--- a seat that acted had a group
-had_a_group : {State Line : Type 0} (play : Play State Line) → IsIdleWithoutLines play → (at : InPlay State Line)
-    → (play.turn (seat_at at.seat) (next_group (groups_at at.groups at.seat)) at.now).acted ≡ true
-    → 0 < count_at at.groups at.seat
-had_a_group play idle at acted =
-    elim (cases_lt 0 (count_at at.groups at.seat)) [
+-- a seat that acted had a written turn
+had_a_written_turn : {State Line : Type 0} (play : Play State Line) → IsIdleWithoutLines play → (at : InPlay State Line)
+    → (play.turn (seat_at at.seat) (next_written_turn (written_turns_at at.written_turns at.seat)) at.now).acted ≡ true
+    → 0 < count_at at.written_turns at.seat
+had_a_written_turn play idle at acted =
+    elim (cases_lt 0 (count_at at.written_turns at.seat)) [
       | inl some ↦ some
       | inr none ↦ let passed = passes_without play idle at (omega arith) in cc
     ]
@@ -299,14 +303,14 @@ had_a_group play idle at acted =
 pub turns_most_falls : {State Line : Type 0} (play : Play State Line) (at : InPlay State Line)
     → IsIdleWithoutLines play → turns_over play at ≡ false → turns_most play (after_turn play at) < turns_most play at
 turns_most_falls {State} {Line} play at idle going =
-    let turned : Turned State = play.turn (seat_at at.seat) (next_group (groups_at at.groups at.seat)) at.now in
+    let turned : Turned State = play.turn (seat_at at.seat) (next_written_turn (written_turns_at at.written_turns at.seat)) at.now in
     let fewer = not_all_passed play at going in
-    let less = one_group_less at.groups at.seat in
-    let after : ℕ = sum_by (λ its. length its) (taken at.groups at.seat) in
+    let less = one_written_turn_less at.written_turns at.seat in
+    let after : ℕ = sum_by (λ its. length its) (taken at.written_turns at.seat) in
     elim turned.acted as (λ (b : Bool). turned.acted ≡ b
     → after * play.seats + (play.seats - (if b then 0 else at.passes + 1)) < turns_most play at) [
-      | true ↦ λ acted. let had = had_a_group play idle at acted in fewer_acted (groups_left at) after play.seats
+      | true ↦ λ acted. let had = had_a_written_turn play idle at acted in fewer_acted (written_turns_left at) after play.seats
           at.passes (omega (arith, had, less)) fewer
-      | false ↦ λ passed. fewer_passed (groups_left at) after play.seats at.passes (omega (arith, less)) fewer
+      | false ↦ λ passed. fewer_passed (written_turns_left at) after play.seats at.passes (omega (arith, less)) fewer
     ]
     refl

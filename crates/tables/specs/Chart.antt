@@ -1,6 +1,7 @@
 -- The stock market. Each square has a price; some lie in a zone, y yellow, o orange or b brown; p marks
 -- the par values, w what has no mark, and x is no square.
-use Rattle.std.specs.Prelude.{ℕ, zero, suc, ◌+◌, ◌==◌, Bool, true, false, if◌then◌else◌, List, [], ◌∷◌, ◌++◌, map, Option, Some, None, slice_get, unwrap_or, is_some, find}
+use Rattle.std.specs.Prelude.{ℕ, zero, suc, ◌+◌, ◌==◌, Bool, true, false, if◌then◌else◌, List, [], ◌∷◌, ◌++◌, map}
+use Rattle.std.specs.Prelude.{Option, Some, None, slice_get, unwrap_or, is_some, find}
 use Rattle.tables.specs.declared.chart.Entry.{Entry}
 use Rattle.tables.specs.declared.squares.Square.{Square}
 use Rattle.tables.specs.declared.squares.Zone.{Zone}

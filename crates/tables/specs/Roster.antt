@@ -5,7 +5,8 @@ use Rattle.std.specs.Prelude.{ℕ, ◌-◌, ◌*◌, ◌==◌, Bool, if◌then�
 use Rattle.tables.specs.declared.roster.Company.{Company}
 use Rattle.tables.specs.declared.roster.Company.TheVariants as company
 use Rattle.tables.specs.declared.roster.Private.{Private}
-use Rattle.tables.specs.declared.roster.Private.TheVariants.{SchuylkillValley, ChamplainStLawrence, DelawareHudson, MohawkHudson, CamdenAmboy, BaltimoreOhio}
+use Rattle.tables.specs.declared.roster.Private.TheVariants.{SchuylkillValley, ChamplainStLawrence, DelawareHudson}
+use Rattle.tables.specs.declared.roster.Private.TheVariants.{MohawkHudson, CamdenAmboy, BaltimoreOhio}
 
 -- the companies in roster order
 abbrev pub companies : List Company
@@ -111,7 +112,7 @@ token_supply_of company.Erie = 3
 token_supply_of company.NewHaven = 2
 token_supply_of company.BostonMaine = 2
 
--- the price of a company's next token when so many lie: the home token is free, the second costs 40 and
--- each later one 100
+-- the price of a company's next token when this many lie: the home token is free, the second costs 40 and each later
+-- one 100
 abbrev pub token_price_of : ℕ → ℕ
 token_price_of laid = if laid == 0 then 0 else if laid == 1 then 40 else 100

@@ -15,7 +15,7 @@ all_seats seats = map seat_at (range_with_len 0 seats)
 abbrev pub left_of : ℕ → Seat → Seat
 left_of seats seat = if nat_lt (seat.0 + 1) (min seats 256) then seat_at (seat.0 + 1) else seat_at 0
 
--- so many seats to the left, beginning with this one
+-- this many seats to the left, beginning with this one
 abbrev pub seats_from : ℕ → ℕ → Seat → List Seat
 seats_from seats zero seat = []
 seats_from seats (suc count) seat = seat ∷ seats_from seats count (left_of seats seat)

@@ -11,7 +11,7 @@ ghost use Rattle.tables.specs.Turns.{TurnsComeNearer, TurnsEndOnce, TurnsEndSoon
 use crate::rolling_stock::Kind;
 use crate::roster::{Company, Private};
 
-/// The lists of all companies, privates and kinds of trains are in order: each stands at its place.
+/// The lists of all companies, privates and kinds of trains are in order: each is at its place.
 pub fn rosters_in_order()
     ensures companies { Company.ALL ≡ companies }
     ensures company_places { map place_of_company companies ≡ range_with_len 0 8 }
@@ -38,7 +38,7 @@ pub fn one_end_of_turns<S, L>()
 {}
 
 /// Turns to the left have an outcome, after at most 513 turns for each seat, where no seat acts
-/// without lines and none has over 512 groups.
+/// without lines and none has over 512 written turns.
 pub fn turns_end_soon<S, L>()
     ensures { TurnsEndSoon S L }
 {}

@@ -1,5 +1,6 @@
 ghost use Rattle.std.specs.Prelude.{◌≡◌, ◌<◌, codes};
-ghost use Rattle.tables.specs.Train.{code_of_kind, limit_of, place_of_kind, rounds_in_set_of, rusting_of, stops_of, trains_of};
+ghost use Rattle.tables.specs.Train.{code_of_kind, limit_of, place_of_kind, rounds_in_set_of, rusting_of, stops_of};
+ghost use Rattle.tables.specs.Train.{trains_of};
 
 use crate::seat::Amount;
 

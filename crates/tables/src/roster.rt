@@ -1,5 +1,6 @@
 ghost use Rattle.std.specs.Prelude.{◌≡◌, ◌<◌, codes};
-ghost use Rattle.tables.specs.Roster.{code_of_company, code_of_private, face_of, place_of_company, place_of_private, revenue_of, token_price_of, token_supply_of};
+ghost use Rattle.tables.specs.Roster.{code_of_company, code_of_private, face_of, place_of_company, place_of_private};
+ghost use Rattle.tables.specs.Roster.{revenue_of, token_price_of, token_supply_of};
 
 use crate::seat::Amount;
 
@@ -169,7 +170,7 @@ pub fn tokens(company: Company) -> usize
     }
 }
 
-/// What a company pays for its next token when so many of its tokens lie: nothing for the home
+/// What a company pays for its next token when this many of its tokens lie: nothing for the home
 /// token, 40 for the second and 100 for each later one.
 pub fn token_price(laid: usize) -> Amount
     ensures { result ≡ token_price_of laid }

@@ -30,7 +30,7 @@ impl Seat {
         usize::from(self.0)
     }
 
-    /// The seat at its left at a table of so many: the next, and after the last the first.
+    /// The seat at its left at a table of this many: the next, and after the last the first.
     pub fn left(self, seats: usize) -> Seat
         ensures { result ≡ left_of seats self }
     {

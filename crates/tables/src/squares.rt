@@ -12,7 +12,7 @@ pub enum Zone {
     White,
     /// Certificates are not counted against the limit.
     Yellow,
-    /// Nor does the limit of six tenths hold.
+    /// Nor does the limit of six shares hold.
     Orange,
     /// Several certificates may be bought in a turn, too.
     Brown,

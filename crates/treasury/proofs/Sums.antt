@@ -2,7 +2,7 @@
 use Rattle.std.proofs.Common.{◌≡◌, ◌+ℤ◌, ◌-ℤ◌, ℤ, Bool, true, false, if◌then◌else◌, pos, arith}
 use Rattle.std.proofs.lemmas.Int.{ints}
 use Rattle.treasury.specs.Accounts.{IsSum}
-use Rattle.history.specs.LookBack.{IsModerate}
+use Rattle.totals.specs.LookBack.{IsModerate}
 use mir.Syntax.{w128}
 use mir.Val.{SFits, of_z, to_z}
 

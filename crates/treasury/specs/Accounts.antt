@@ -8,8 +8,8 @@ use Rattle.events.specs.declared.event.Event.{Event}
 use Rattle.events.specs.declared.event.Holder.TheVariants as holder
 use Rattle.events.specs.declared.event.Party.{Party}
 use Rattle.events.specs.declared.event.Party.TheVariants as party
-use Rattle.history.specs.LookBack.{Game, IsModerate, cash_of, same_party}
-use Rattle.history.specs.declared.look_back.GameView.{GameView}
+use Rattle.totals.specs.LookBack.{Game, IsModerate, cash_of, same_party}
+use Rattle.totals.specs.declared.look_back.GameView.{GameView}
 use Rattle.tables.specs.Roster.{place_of_company}
 use Rattle.tables.specs.Seat.{seat_at}
 use Rattle.tables.specs.declared.roster.Company.{Company}

@@ -1,7 +1,7 @@
 ghost use Rattle.std.specs.Prelude.{◌≡◌, ◌↔◌, ◌+ℤ◌, FitsSigned, IsErr, OnErr, OnOk, true};
 ghost use Rattle.std.specs.Int.{w128};
 ghost use Rattle.events.specs.declared.event.Party.TheVariants as party;
-ghost use Rattle.history.specs.LookBack.{IsModerate};
+ghost use Rattle.totals.specs.LookBack.{IsModerate};
 ghost use Rattle.treasury.specs.Accounts.{
   AreAccountsAt,
   AreAccountsOf,

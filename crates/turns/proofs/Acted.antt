@@ -1,5 +1,6 @@
 -- The new events of a turn tell who acted in it, where those of each line do.
-use Rattle.std.proofs.Common.{◌≡◌, ℕ, zero, suc, Bool, true, false, ◌||◌, if◌then◌else◌, List, [], ◌∷◌, ◌++◌, Option, Some, None, append-nil, refl, sym, subst, ap, ◌∙◌}
+use Rattle.std.proofs.Common.{◌≡◌, ℕ, zero, suc, Bool, true, false, ◌||◌, if◌then◌else◌, List, [], ◌∷◌, ◌++◌, Option}
+use Rattle.std.proofs.Common.{Some, None, append-nil, refl, sym, subst, ap, ◌∙◌}
 use Rattle.std.specs.Option.{option_or}
 use Rattle.std.proofs.lemmas.List.{append_assoc}
 use Rattle.events.specs.Event.{actor_of}
@@ -7,11 +8,11 @@ use Rattle.events.specs.declared.event.Event.{Event}
 use Rattle.events.specs.declared.event.Event.TheVariants as event
 use Rattle.events.specs.declared.ruling.Ruling.{Ruling}
 use Rattle.events.specs.declared.ruling.Ruling.TheVariants.{Obeyed}
-use Rattle.history.specs.LookBack.{last_said}
+use Rattle.totals.specs.LookBack.{last_said}
 use Rattle.sheets.specs.Part.{Numbered}
 use Rattle.tables.specs.Steps.{iterate}
 use Rattle.tables.specs.declared.seat.Seat.{Seat}
-use Rattle.turns.specs.Acted.{TellsWhoActed, TurnsTellWhoActed}
+use Rattle.turns.specs.Acted.{SaysWhoActed, TurnsSayWhoActed}
 use Rattle.turns.specs.RoundOfTurns.{InTurn, RoundRules, after_lines, in_turn}
 use Rattle.turns.specs.Ruling.{obeyed_by, recorded}
 
@@ -43,19 +44,19 @@ in_one_of_both seat false true = refl
 in_one_of_both seat false false = refl
 
 -- a list that stays as it is tells that nobody acted
-pub nobody : (seat : Seat) (events : List Event) → TellsWhoActed seat false events events
+pub nobody : (seat : Seat) (events : List Event) → SaysWhoActed seat false events events
 nobody seat events = record { more = []; longer = sym (append-nil events); last = refl }
 
 -- by one more event
 pub one_more : (seat : Seat) (acted : Bool) (events : List Event) (event : Event)
     → actor_of event ≡ (if acted then Some seat else None) →
-    TellsWhoActed seat acted events (events ++ event ∷ [])
+    SaysWhoActed seat acted events (events ++ event ∷ [])
 one_more seat acted events event says = record { more = event ∷ []; longer = refl; last = says }
 
 -- a list that goes on, and then on
-pub in_both : (seat : Seat) (first second : Bool) (a b c : List Event) → TellsWhoActed seat first a b
-    → TellsWhoActed seat second b c →
-    TellsWhoActed seat (first || second) a c
+pub in_both : (seat : Seat) (first second : Bool) (a b c : List Event) → SaysWhoActed seat first a b
+    → SaysWhoActed seat second b c →
+    SaysWhoActed seat (first || second) a c
 in_both seat first second a b c before after =
     record {
       more = before.more ++ after.more;
@@ -70,8 +71,8 @@ in_both seat first second a b c before after =
 
 -- nor do steps in none of which anybody acted
 pub nobody_in_steps : (seat : Seat) (step : List Event → List Event)
-    → ((events : List Event) → TellsWhoActed seat false events (step events)) →
-    (n : ℕ) (events : List Event) → TellsWhoActed seat false events (iterate step n events)
+    → ((events : List Event) → SaysWhoActed seat false events (step events)) →
+    (n : ℕ) (events : List Event) → SaysWhoActed seat false events (iterate step n events)
 nobody_in_steps seat step each zero events = nobody seat events
 nobody_in_steps seat step each (suc n) events =
     in_both seat false false events (iterate step n events) (step (iterate step n events))
@@ -79,16 +80,16 @@ nobody_in_steps seat step each (suc n) events =
 
 -- either of two lists
 pub in_either : (seat : Seat) (acted : Bool) (old one other : List Event) (b : Bool)
-    → TellsWhoActed seat acted old one →
-    TellsWhoActed seat acted old other → TellsWhoActed seat acted old (if b then one else other)
+    → SaysWhoActed seat acted old one →
+    SaysWhoActed seat acted old other → SaysWhoActed seat acted old (if b then one else other)
 in_either seat acted old one other true first second = first
 in_either seat acted old one other false first second = second
 
 -- a line of a turn tells who acted in it, and the turn has it too
-pub record LineTells {TurnActions : Type 0} (rules : RoundRules TurnActions) (seat : Seat)
+pub record LineSaysWhoActed {TurnActions : Type 0} (rules : RoundRules TurnActions) (seat : Seat)
     (old new : InTurn TurnActions) : Type 0 where
   pub acts : Bool
-  pub told : TellsWhoActed seat acts old.events new.events
+  pub told : SaysWhoActed seat acts old.events new.events
   pub acted : rules.has_acted new.actions ≡ (rules.has_acted old.actions || acts)
 
 -- of three the first two or the last two first
@@ -103,10 +104,10 @@ or_nothing false = refl
 
 module _ {TurnActions : Type 0} (rules : RoundRules TurnActions) (seats : ℕ) (seat : Seat)
     (line_tells : (turn : InTurn TurnActions) (line : Numbered)
-    → LineTells rules seat turn (rules.line seats seat turn line)) where
+    → LineSaysWhoActed rules seat turn (rules.line seats seat turn line)) where
   -- so do some lines
   lines_tell : (turn : InTurn TurnActions) (lines : List Numbered)
-      → LineTells rules seat turn (after_lines rules seats seat turn lines)
+      → LineSaysWhoActed rules seat turn (after_lines rules seats seat turn lines)
   lines_tell turn [] = record {
     acts = false;
     told = nobody seat turn.events;
@@ -126,22 +127,22 @@ module _ {TurnActions : Type 0} (rules : RoundRules TurnActions) (seats : ℕ) (
       }
 
   -- so does a turn, at the start of which the seat has not acted
-  group_tells : rules.has_acted rules.nothing ≡ false → (events : List Event) (lines : List Numbered) →
-      TellsWhoActed seat (rules.has_acted (after_lines rules seats seat (in_turn events rules.nothing) lines).actions)
+  written_turn_says : rules.has_acted rules.nothing ≡ false → (events : List Event) (lines : List Numbered) →
+      SaysWhoActed seat (rules.has_acted (after_lines rules seats seat (in_turn events rules.nothing) lines).actions)
       events (after_lines rules seats seat (in_turn events rules.nothing) lines).events
-  group_tells idle events lines =
+  written_turn_says idle events lines =
       let all = lines_tell (in_turn events rules.nothing) lines in
       let acted : all.acts ≡ rules.has_acted (after_lines rules seats seat (in_turn events rules.nothing)
       lines).actions =
       sym (all.acted ∙ ap (λ (b : Bool). b || all.acts) idle)
       in
-      subst (λ (b : Bool). TellsWhoActed seat b events
+      subst (λ (b : Bool). SaysWhoActed seat b events
       (after_lines rules seats seat (in_turn events rules.nothing) lines).events) acted all.told
 
 -- a ruling by which no order is done names nobody
 pub nobody_ruled : {TurnActions : Type 0} (rules : RoundRules TurnActions) (seat : Seat) (turn : InTurn TurnActions)
     (number : ℕ) (ruling : Ruling) →
-    obeyed_by ruling ≡ None → LineTells rules seat turn (in_turn (recorded seat number ruling turn.events) turn.actions)
+    obeyed_by ruling ≡ None → LineSaysWhoActed rules seat turn (in_turn (recorded seat number ruling turn.events) turn.actions)
 nobody_ruled rules seat turn number (Obeyed condition order) none = absurd (cc)
 nobody_ruled rules seat turn number other none =
     record {
@@ -154,7 +155,7 @@ nobody_ruled rules seat turn number other none =
 -- so each turn of a round tells it
 pub turns_tell : {TurnActions : Type 0} (rules : RoundRules TurnActions) → rules.has_acted rules.nothing ≡ false →
     ((seats : ℕ) (seat : Seat) (turn : InTurn TurnActions) (line : Numbered)
-    → LineTells rules seat turn (rules.line seats seat turn line)) →
-    TurnsTellWhoActed rules
+    → LineSaysWhoActed rules seat turn (rules.line seats seat turn line)) →
+    TurnsSayWhoActed rules
 turns_tell rules idle line_tells seats seat events lines =
-    group_tells rules seats seat (line_tells seats seat) idle events lines
+    written_turn_says rules seats seat (line_tells seats seat) idle events lines

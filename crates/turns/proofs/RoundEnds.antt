@@ -2,20 +2,20 @@
 use Rattle.std.proofs.Common.{◌≡◌, ℕ, zero, suc, ◌+◌, ◌≤◌, false, List, length, map, refl, sym, ap, ◌∙◌, arith}
 use Rattle.std.specs.List.{range_with_len}
 use Rattle.events.specs.declared.event.Event.{Event}
-use Rattle.history.specs.LookBack.{Game}
-use Rattle.sheets.proofs.GroupLemmas.{few_groups}
-use Rattle.sheets.specs.Part.{Numbered, groups_of, parts_for}
+use Rattle.totals.specs.LookBack.{Game}
+use Rattle.sheets.proofs.GroupLemmas.{few_written_turns}
+use Rattle.sheets.specs.Part.{Numbered, written_turns_of, parts_for}
 use Rattle.tables.proofs.Turns.{turns_end_once, turns_end_soon}
-use Rattle.tables.specs.Turns.{CanBegin, EndSoon, InPlay, groups_at}
+use Rattle.tables.specs.Turns.{CanBegin, EndSoon, InPlay, written_turns_at}
 use Rattle.tables.specs.declared.round.Round.{Round}
 use Rattle.turns.proofs.Turns.{no_lines, priority_at_table}
 use Rattle.turns.specs.RoundOfTurns.{EndsSoon, IsRoundOfTurns, RoundRules, finished, opened, turns_of}
 
--- each of some sheets has few groups
+-- each of some sheets has few written turns
 few_at : (file : List ℕ) (round : Round) (first count seat : ℕ) →
-    length (groups_at (map (λ seat. groups_of (parts_for file round seat)) (range_with_len first count)) seat) ≤ 512
+    length (written_turns_at (map (λ seat. written_turns_of (parts_for file round seat)) (range_with_len first count)) seat) ≤ 512
 few_at file round first zero seat = omega arith
-few_at file round first (suc count) zero = few_groups file round first
+few_at file round first (suc count) zero = few_written_turns file round first
 few_at file round first (suc count) (suc seat) = few_at file round (first + 1) count seat
 
 module _ {TurnActions : Type 0} (rules : RoundRules TurnActions) where
@@ -25,7 +25,7 @@ module _ {TurnActions : Type 0} (rules : RoundRules TurnActions) where
   can_begin file round old =
       record {
         at_table = λ some. priority_at_table old.seats old.events some;
-        few_groups = λ seat. few_at file round 0 old.seats seat;
+        few_written_turns = λ seat. few_at file round 0 old.seats seat;
       }
 
   -- a round of turns ends soon, where no seat acts by doing nothing

@@ -1,18 +1,20 @@
 -- What leads from each list to the next within a round of turns leads from its ROUND event to its end.
-use Rattle.std.proofs.Common.{ℕ, zero, suc, ◌+◌, ◌==◌, Bool, true, false, if◌then◌else◌, List, [], ◌∷◌, ◌++◌, sym, subst, append-nil}
+use Rattle.std.proofs.Common.{ℕ, zero, suc, ◌+◌, ◌==◌, Bool, true, false, if◌then◌else◌, List, [], ◌∷◌, ◌++◌, sym}
+use Rattle.std.proofs.Common.{subst, append-nil}
 use Rattle.std.specs.List.{range_with_len}
 use Rattle.std.proofs.lemmas.List.{append_assoc}
 use Rattle.events.specs.declared.event.Event.{Event}
 use Rattle.events.specs.declared.event.Event.TheVariants as event
-use Rattle.history.specs.LookBack.{Game}
-use Rattle.sheets.specs.Part.{Numbered, lines_in_groups, parts_for}
+use Rattle.totals.specs.LookBack.{Game}
+use Rattle.sheets.specs.Part.{Numbered, lines_in_written_turns, parts_for}
 use Rattle.sheets.specs.Taken.{after_each, after_lines_before}
 use Rattle.tables.specs.Seat.{seat_at}
 use Rattle.tables.specs.Steps.{iterate}
-use Rattle.tables.specs.Turns.{InPlay, after_turn, groups_at, next_group}
+use Rattle.tables.specs.Turns.{InPlay, after_turn, written_turns_at, next_written_turn}
 use Rattle.tables.specs.declared.round.Round.{Round}
 use Rattle.tables.specs.declared.seat.Seat.{Seat}
-use Rattle.turns.specs.RoundOfTurns.{InTurn, IsRoundOfTurns, RoundRules, after_group, after_lines, after_standing, finished, in_turn, left_from, opened, turns_of}
+use Rattle.turns.specs.RoundOfTurns.{InTurn, IsRoundOfTurns, RoundRules, after_written_turn, after_lines}
+use Rattle.turns.specs.RoundOfTurns.{after_standing, finished, in_turn, left_from, opened, turns_of}
 
 -- what leads from a list to itself, on over another, and over each step of a round
 pub record LeadsOverSteps {TurnActions : Type 0} (rules : RoundRules TurnActions)
@@ -66,9 +68,9 @@ module _ {TurnActions : Type 0} (rules : RoundRules TurnActions) (Leads : List E
   over_turn : (seats : ℕ) (at : InPlay (List Event) Numbered) → Leads at.now (after_turn (turns_of rules seats) at).now
   over_turn seats at =
       let seat : Seat = seat_at at.seat in
-      let turn : InTurn TurnActions = after_group rules seats seat at.now (next_group (groups_at at.groups at.seat)) in
+      let turn : InTurn TurnActions = after_written_turn rules seats seat at.now (next_written_turn (written_turns_at at.written_turns at.seat)) in
       leads.further at.now turn.events (after_turn (turns_of rules seats) at).now
-      (over_lines seats seat (in_turn at.now rules.nothing) (next_group (groups_at at.groups at.seat)))
+      (over_lines seats seat (in_turn at.now rules.nothing) (next_written_turn (written_turns_at at.written_turns at.seat)))
       (over_pass (rules.has_acted turn.actions) turn.events seat)
 
   -- over some turns
@@ -91,13 +93,13 @@ module _ {TurnActions : Type 0} (rules : RoundRules TurnActions) (Leads : List E
       (leads.further events told (told ++ rest) (leads.leaves events seat lines) (others told))
 
   -- over those of seats
-  over_left : (seat : ℕ) (groups : List (List (List Numbered))) (events : List Event)
-      → Leads events (events ++ left_from seat groups)
+  over_left : (seat : ℕ) (written_turns : List (List (List Numbered))) (events : List Event)
+      → Leads events (events ++ left_from seat written_turns)
   over_left seat [] events = subst (λ (new : List Event). Leads events new) (sym (append-nil events))
       (leads.stays events)
-  over_left seat (group ∷ groups) events =
-      over_count (lines_in_groups group == 0) events (seat_at seat) (lines_in_groups group)
-      (left_from (seat + 1) groups) (λ all. over_left (seat + 1) groups all)
+  over_left seat (written ∷ written_turns) events =
+      over_count (lines_in_written_turns written == 0) events (seat_at seat) (lines_in_written_turns written)
+      (left_from (seat + 1) written_turns) (λ all. over_left (seat + 1) written_turns all)
 
   -- over the whole round
   pub round_leads : (file : List ℕ) (round : Round) (old new : Game) → IsRoundOfTurns rules file round old new →
@@ -115,6 +117,6 @@ module _ {TurnActions : Type 0} (rules : RoundRules TurnActions) (Leads : List E
       (over_standing file round begun (range_with_len 0 old.seats))
       (leads.further start.now played.last.now (finished rules old.seats played.last) turned
       (leads.further played.last.now shut (finished rules old.seats played.last)
-      (leads.closed old.seats played.last.now) (over_left 0 played.last.groups shut)))
+      (leads.closed old.seats played.last.now) (over_left 0 played.last.written_turns shut)))
       in
       subst (λ (game : Game). Leads begun game.events) (sym played.after) whole

@@ -1,5 +1,6 @@
 -- What the ruling of a line says of its order.
-use Rattle.std.proofs.Common.{◌≡◌, ℕ, Bool, true, false, if◌then◌else◌, Option, Some, None, option_map, List, Result, Ok, Err, refl, subst}
+use Rattle.std.proofs.Common.{◌≡◌, ℕ, Bool, true, false, if◌then◌else◌, Option, Some, None, option_map, List, Result}
+use Rattle.std.proofs.Common.{Ok, Err, refl, subst}
 use Rattle.events.specs.declared.event.Event.{Event}
 use Rattle.events.specs.declared.ruling.Refusal.{Refusal}
 use Rattle.events.specs.declared.ruling.Refusal.TheVariants as refusal
@@ -13,7 +14,8 @@ use Rattle.order_grammar.specs.declared.order.Order.{Order}
 use Rattle.sheets.specs.Part.{Numbered}
 use Rattle.tables.specs.declared.seat.Seat.{Seat}
 use Rattle.turns.specs.RoundOfTurns.{InTurn, in_turn}
-use Rattle.turns.specs.Ruling.{IsToDo, after_ruling, judged, line_ruling, obeyed_by, placed_ruling, recorded, ruling_of, under}
+use Rattle.turns.specs.Ruling.{IsToDo, after_ruling, judged, line_ruling, obeyed_by, placed_ruling, recorded, ruling_of}
+use Rattle.turns.specs.Ruling.{under}
 use Rattle.turns.specs.Small.{IsSmallOrder, IsSmallReading, IsSmallRuling}
 
 -- a small order is ruled as one

@@ -1,5 +1,6 @@
 -- Orders that were read name small sums, so the lines of a sheet do.
-use Rattle.std.proofs.Common.{◌≡◌, ℕ, ◌+◌, Bool, true, false, nat_lt, if◌then◌else◌, List, [], ◌∷◌, unwrap_or, Result, Ok, Err, refl, sym, subst, arith}
+use Rattle.std.proofs.Common.{◌≡◌, ℕ, ◌+◌, Bool, true, false, nat_lt, if◌then◌else◌, List, [], ◌∷◌, unwrap_or, Result}
+use Rattle.std.proofs.Common.{Ok, Err, refl, sym, subst, arith}
 use Rattle.std.proofs.lemmas.Bool.Decides.{nat_tests}
 use Rattle.order_grammar.proofs.VersionLemmas.{read_spells_in}
 use Rattle.order_grammar.specs.Condition.{Ordered}
@@ -14,7 +15,8 @@ use Rattle.order_grammar.specs.declared.order.TrainSource.TheVariants.{Bank, Ban
 use Rattle.turns.specs.Small.{IsReady, IsSmallOrder, IsSmallReading, PartsAreSmall}
 use Rattle.sheets.specs.File.{sheet_of, version_of}
 use Rattle.sheets.specs.Limits.{lines_most}
-use Rattle.sheets.specs.Part.{Numbered, Parts, after_head, after_line, numbered, opens_part, parts_after, parts_for, reading_at}
+use Rattle.sheets.specs.Part.{Numbered, Parts, after_head, after_line, numbered, opens_part, parts_after, parts_for}
+use Rattle.sheets.specs.Part.{reading_at}
 use Rattle.sheets.specs.Reading.{order_read}
 use Rattle.tables.specs.declared.round.Round.{Round}
 
@@ -35,7 +37,7 @@ small_reading : (version : Version) (line : List ℕ) (reading : Result Ordered 
 small_reading version line (Ok spelt) read = small_order spelt.order (read_spells_in version line spelt read).small.1
 small_reading version line (Err fault) read = tt
 
--- also where it stands
+-- also where it is
 small_where : (past : Bool) (reading : Result Order Fault) → IsSmallReading reading
     → IsSmallReading (if past then Err PastLastLine else reading)
 small_where true reading small = tt

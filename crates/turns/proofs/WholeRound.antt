@@ -3,21 +3,22 @@ use Rattle.std.proofs.Common.{◌≡◌, ℕ, List, [], ◌∷◌, ◌++◌, len
 use Rattle.std.specs.List.{range_with_len}
 use Rattle.events.specs.declared.event.Event.{Event}
 use Rattle.events.specs.declared.event.Event.TheVariants as event
-use Rattle.history.specs.LookBack.{Game, priority_of, with_event}
+use Rattle.totals.specs.LookBack.{Game, priority_of, with_event}
 use Rattle.sheets.specs.File.{players_of}
 use Rattle.sheets.specs.Part.{Numbered}
 use Rattle.tables.specs.Turns.{InPlay, TurnsEnd}
 use Rattle.tables.specs.declared.round.Round.{Round}
-use Rattle.turns.specs.RoundOfTurns.{IsRoundOfTurns, RoundRules, TurnsLead, after_standing, finished, groups_for, in_play, left_from, opened, turns_of}
+use Rattle.turns.specs.RoundOfTurns.{IsRoundOfTurns, RoundRules, TurnsLead, after_standing, finished, written_turns_for}
+use Rattle.turns.specs.RoundOfTurns.{in_play, left_from, opened, turns_of}
 
 module _ {TurnActions : Type 0} (rules : RoundRules TurnActions) where
   -- the round before its first turn
-  begun : (file : List ℕ) (round : Round) (old told ruled : Game) (first : ℕ) (groups : List (List (List Numbered))) →
+  begun : (file : List ℕ) (round : Round) (old told ruled : Game) (first : ℕ) (written_turns : List (List (List Numbered))) →
       old.seats ≡ length (players_of file) → told ≡ with_event old (event.Round round) →
       ruled.events ≡ after_standing rules file round told.events (range_with_len 0 (length (players_of file))) →
-      groups ≡ groups_for (length (players_of file)) file round → first ≡ (priority_of old.seats old.events).0 →
-      in_play ruled.events first 0 groups ≡ opened rules old.seats file round old.events
-  begun file round old told ruled first groups players is_told is_ruled are_groups is_first =
+      written_turns ≡ written_turns_for (length (players_of file)) file round → first ≡ (priority_of old.seats old.events).0 →
+      in_play ruled.events first 0 written_turns ≡ opened rules old.seats file round old.events
+  begun file round old told ruled first written_turns players is_told is_ruled are_written_turns is_first =
       let start : List Event = old.events ++ event.Round round ∷ [] in
       let events : ruled.events ≡ after_standing rules file round start (range_with_len 0 old.seats) =
       is_ruled
@@ -25,56 +26,56 @@ module _ {TurnActions : Type 0} (rules : RoundRules TurnActions) where
       (range_with_len 0 (length (players_of file)))) is_told
       ∙ ap (λ (seats : ℕ). after_standing rules file round start (range_with_len 0 seats)) (sym players)
       in
-      let all : groups ≡ groups_for old.seats file round =
-      are_groups ∙ ap (λ (seats : ℕ). groups_for seats file round) (sym players) in
-      ap (λ (events : List Event). in_play events first 0 groups) events
-      ∙ ap (λ (seat : ℕ). in_play (after_standing rules file round start (range_with_len 0 old.seats)) seat 0 groups)
+      let all : written_turns ≡ written_turns_for old.seats file round =
+      are_written_turns ∙ ap (λ (seats : ℕ). written_turns_for seats file round) (sym players) in
+      ap (λ (events : List Event). in_play events first 0 written_turns) events
+      ∙ ap (λ (seat : ℕ). in_play (after_standing rules file round start (range_with_len 0 old.seats)) seat 0 written_turns)
       is_first
-      ∙ ap (λ (groups : List (List (List Numbered))). in_play
+      ∙ ap (λ (written_turns : List (List (List Numbered))). in_play
       (after_standing rules file round start (range_with_len 0 old.seats)) (priority_of old.seats old.events).0 0
-      groups) all
+      written_turns) all
 
   -- the list after the round
   over : (old turned ended new : Game) (left : List (List (List Numbered))) (last : InPlay (List Event) Numbered)
-      → turned.seats ≡ old.seats → last.now ≡ turned.events → last.groups ≡ left → ended.seats ≡ turned.seats
+      → turned.seats ≡ old.seats → last.now ≡ turned.events → last.written_turns ≡ left → ended.seats ≡ turned.seats
       → ended.events ≡ rules.closed turned.seats turned.events → new.seats ≡ ended.seats
       → new.events ≡ ended.events ++ left_from 0 left
       → new ≡ record { seats = old.seats; events = finished rules old.seats last }
-  over old turned ended new left last seats events groups ended_seats is_ended new_seats is_new =
+  over old turned ended new left last seats events written_turns ended_seats is_ended new_seats is_new =
       let game : ℕ → List Event → Game = λ seats events. record { seats = seats; events = events } in
       let list : new.events ≡ finished rules old.seats last =
       is_new
       ∙ ap (λ (events : List Event). events ++ left_from 0 left)
       (is_ended ∙ ap (λ (n : ℕ). rules.closed n turned.events) seats
       ∙ ap (λ (events : List Event). rules.closed old.seats events) (sym events))
-      ∙ ap (λ (groups : List (List (List Numbered))). rules.closed old.seats last.now ++ left_from 0 groups)
-      (sym groups)
+      ∙ ap (λ (written_turns : List (List (List Numbered))). rules.closed old.seats last.now ++ left_from 0 written_turns)
+      (sym written_turns)
       in
       ap (λ (n : ℕ). game n new.events) (new_seats ∙ ended_seats ∙ seats)
       ∙ ap (λ (events : List Event). game old.seats events) list
 
   -- the ROUND event, the standing lines, the turns, the close and what was left are a round
   pub whole_round : (file : List ℕ) (round : Round) (old told ruled turned ended new : Game) (first : ℕ)
-      (groups left : List (List (List Numbered))) →
+      (written_turns left : List (List (List Numbered))) →
       old.seats ≡ length (players_of file) → told ≡ with_event old (event.Round round) → ruled.seats ≡ told.seats →
       ruled.events ≡ after_standing rules file round told.events (range_with_len 0 (length (players_of file))) →
-      groups ≡ groups_for (length (players_of file)) file round → first ≡ (priority_of old.seats old.events).0
+      written_turns ≡ written_turns_for (length (players_of file)) file round → first ≡ (priority_of old.seats old.events).0
       → turned.seats ≡ ruled.seats →
-      TurnsLead rules ruled.seats (in_play ruled.events first 0 groups) turned.events left
+      TurnsLead rules ruled.seats (in_play ruled.events first 0 written_turns) turned.events left
       → ended.seats ≡ turned.seats →
       ended.events ≡ rules.closed turned.seats turned.events → new.seats ≡ ended.seats
       → new.events ≡ ended.events ++ left_from 0 left →
       IsRoundOfTurns rules file round old new
-  whole_round file round old told ruled turned ended new first groups left players is_told ruled_seats is_ruled
-      are_groups is_first turned_seats lead ended_seats is_ended new_seats is_new =
+  whole_round file round old told ruled turned ended new first written_turns left players is_told ruled_seats is_ruled
+      are_written_turns is_first turned_seats lead ended_seats is_ended new_seats is_new =
       let seats : ruled.seats ≡ old.seats = ruled_seats ∙ ap (λ (game : Game). game.seats) is_told in
-      let start = begun file round old told ruled first groups players is_told is_ruled are_groups is_first in
+      let start = begun file round old told ruled first written_turns players is_told is_ruled are_written_turns is_first in
       record {
         last = lead.last;
         turns =
             subst (λ (play : InPlay (List Event) Numbered). TurnsEnd (turns_of rules old.seats) play lead.last) start
-            (subst (λ (n : ℕ). TurnsEnd (turns_of rules n) (in_play ruled.events first 0 groups) lead.last) seats
+            (subst (λ (n : ℕ). TurnsEnd (turns_of rules n) (in_play ruled.events first 0 written_turns) lead.last) seats
             lead.turns);
-        after = over old turned ended new left lead.last (turned_seats ∙ seats) lead.events_then lead.groups_then
+        after = over old turned ended new left lead.last (turned_seats ∙ seats) lead.events_then lead.then_written_turns
             ended_seats is_ended new_seats is_new;
       }

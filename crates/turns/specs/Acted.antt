@@ -4,24 +4,24 @@
 use Rattle.std.specs.Prelude.{◌≡◌, ℕ, Bool, if◌then◌else◌, List, ◌++◌, Some, None}
 use Rattle.events.specs.Event.{actor_of}
 use Rattle.events.specs.declared.event.Event.{Event}
-use Rattle.history.specs.LookBack.{last_said}
+use Rattle.totals.specs.LookBack.{last_said}
 use Rattle.sheets.specs.Part.{Numbered}
 use Rattle.tables.specs.Turns.{Turned}
 use Rattle.tables.specs.declared.seat.Seat.{Seat}
 use Rattle.turns.specs.RoundOfTurns.{RoundRules, turns_of}
 
 -- the list goes on, and by what is new the seat acted last, or nobody acted
-pub record TellsWhoActed (seat : Seat) (acted : Bool) (old new : List Event) : Type 0 where
+pub record SaysWhoActed (seat : Seat) (acted : Bool) (old new : List Event) : Type 0 where
   pub more : List Event
   pub longer : new ≡ old ++ more
   pub last : last_said actor_of more ≡ (if acted then Some seat else None)
 
 -- a turn that has led from a list to this tells who acted in it
-abbrev pub TurnTells : Seat → List Event → Turned (List Event) → Type 0
-TurnTells seat old turn = TellsWhoActed seat turn.acted old turn.state
+abbrev pub TurnSaysWhoActed : Seat → List Event → Turned (List Event) → Type 0
+TurnSaysWhoActed seat old turn = SaysWhoActed seat turn.acted old turn.state
 
 -- each turn of a round does, whatever its lines are
-abbrev pub TurnsTellWhoActed : {TurnActions : Type 0} → RoundRules TurnActions → Type 0
-TurnsTellWhoActed rules =
+abbrev pub TurnsSayWhoActed : {TurnActions : Type 0} → RoundRules TurnActions → Type 0
+TurnsSayWhoActed rules =
     (seats : ℕ) (seat : Seat) (events : List Event) (lines : List Numbered)
-    → TurnTells seat events ((turns_of rules seats).turn seat lines events)
+    → TurnSaysWhoActed seat events ((turns_of rules seats).turn seat lines events)

@@ -1,16 +1,16 @@
--- A round of turns, from a list to a list: the ROUND event; the standing lines, seat by seat; turns to the
--- left, the first by the holder of priority, in each of which a seat takes up the next group of its sheet, and
--- passes where it does not act in it; then what follows the turns, and what was left. The turns are over once
--- all seats have passed in succession, or where something else ends them. What a line does, what acting is,
--- what else ends the turns and what follows them is each kind of round's own.
+-- A round of turns, from a list to a list: the ROUND event; the standing lines, seat by seat; turns to the left, the
+-- first by the holder of priority, in each of which a seat takes up the next written turn of its sheet, and passes
+-- where it does not act in it; then what follows the turns, and what was left. The turns are over once all seats have
+-- passed in succession, or where something else ends them. What a line does, what acting is, what else ends the turns
+-- and what follows them is each kind of round's own.
 use Rattle.std.specs.Prelude.{◌≡◌, ℕ, ◌*◌, ◌≤◌, Bool, List, [], ◌∷◌, ◌++◌}
 use Rattle.std.specs.List.{range_with_len}
 use Rattle.events.specs.declared.event.Event.{Event}
 use Rattle.events.specs.declared.event.Event.TheVariants as event
-use Rattle.history.specs.LookBack.{Game, priority_of}
+use Rattle.totals.specs.LookBack.{Game, priority_of}
 use Rattle.history.specs.Record.{with_left}
 use Rattle.sheets.specs.Part.{Numbered}
-pub use Rattle.sheets.specs.Taken.{groups_for, in_play}
+pub use Rattle.sheets.specs.Taken.{written_turns_for, in_play}
 use Rattle.sheets.specs.Taken.{after_all_before, after_each, told_of_left}
 use Rattle.tables.specs.Turns.{InPlay, Play, Turned, TurnsEnd}
 use Rattle.tables.specs.declared.round.Round.{Round}
@@ -25,9 +25,9 @@ pub record InTurn (TurnActions : Type 0) : Type 0 where
 abbrev pub in_turn : {TurnActions : Type 0} → List Event → TurnActions → InTurn TurnActions
 in_turn events actions = record { events = events; actions = actions }
 
--- what a kind of round says for itself: the list after a standing line of a seat; what a seat has done before
--- the first line of its turn, and where a line of it leads at a table of so many seats; whether a seat that has
--- done this has acted; what ends the turns before all have passed; and the list after what follows the turns
+-- what a kind of round says for itself: the list after a standing line of a seat; what a seat has done before the first
+-- line of its turn, and where a line of it leads at a table of this many seats; whether a seat that has done this has
+-- acted; what ends the turns before all have passed; and the list after what follows the turns
 pub record RoundRules (TurnActions : Type 0) : Type 0 where
   pub standing : Seat → List Event → Numbered → List Event
   pub nothing : TurnActions
@@ -41,26 +41,26 @@ abbrev pub after_standing : {TurnActions : Type 0} → RoundRules TurnActions �
     → List Event
 after_standing rules file round events seats = after_all_before rules.standing file round events seats
 
--- after lines of a group, in order
+-- after lines of a written turn, in order
 abbrev pub after_lines : {TurnActions : Type 0} → RoundRules TurnActions → ℕ → Seat → InTurn TurnActions
     → List Numbered → InTurn TurnActions
 after_lines rules seats seat turn lines = after_each (rules.line seats seat) turn lines
 
--- after a group of lines, at the start of which a seat has done nothing
-abbrev pub after_group : {TurnActions : Type 0} → RoundRules TurnActions → ℕ → Seat → List Event → List Numbered
+-- after a written turn, at the start of which a seat has done nothing
+abbrev pub after_written_turn : {TurnActions : Type 0} → RoundRules TurnActions → ℕ → Seat → List Event → List Numbered
     → InTurn TurnActions
-after_group rules seats seat events lines = after_lines rules seats seat (in_turn events rules.nothing) lines
+after_written_turn rules seats seat events lines = after_lines rules seats seat (in_turn events rules.nothing) lines
 
 -- where a turn has led, and whether the seat acted in it
 abbrev pub turned : {TurnActions : Type 0} → RoundRules TurnActions → InTurn TurnActions → Turned (List Event)
 turned rules turn = record { state = turn.events; acted = rules.has_acted turn.actions }
 
--- the turns of a round at a table of so many seats
+-- the turns of a round at a table of this many seats
 abbrev pub turns_of : {TurnActions : Type 0} → RoundRules TurnActions → ℕ → Play (List Event) Numbered
 turns_of rules seats =
     record {
       seats = seats;
-      turn = λ seat lines events. turned rules (after_group rules seats seat events lines);
+      turn = λ seat lines events. turned rules (after_written_turn rules seats seat events lines);
       pass = λ seat events. events ++ event.Passes seat ∷ [];
       over = rules.over;
     }
@@ -71,23 +71,23 @@ abbrev pub opened : {TurnActions : Type 0} → RoundRules TurnActions → ℕ �
 opened rules seats file round events =
     in_play
     (after_standing rules file round (events ++ event.Round round ∷ []) (range_with_len 0 seats))
-    (priority_of seats events).0 0 (groups_for seats file round)
+    (priority_of seats events).0 0 (written_turns_for seats file round)
 
 -- the lines that were not taken up, seat by seat
 abbrev pub left_from : ℕ → List (List (List Numbered)) → List Event
-left_from seat groups = told_of_left with_left seat groups
+left_from seat written_turns = told_of_left with_left seat written_turns
 
 -- the list at the end of the round
 abbrev pub finished : {TurnActions : Type 0} → RoundRules TurnActions → ℕ → InPlay (List Event) Numbered → List Event
-finished rules seats last = rules.closed seats last.now ++ left_from 0 last.groups
+finished rules seats last = rules.closed seats last.now ++ left_from 0 last.written_turns
 
--- the turns lead from a round in play to these events and these groups that are left
+-- the turns lead from a round in play to these events and these written turns that are left
 pub record TurnsLead {TurnActions : Type 0} (rules : RoundRules TurnActions) (seats : ℕ)
-    (from : InPlay (List Event) Numbered) (events : List Event) (groups : List (List (List Numbered))) : Type 0 where
+    (from : InPlay (List Event) Numbered) (events : List Event) (written_turns : List (List (List Numbered))) : Type 0 where
   pub last : InPlay (List Event) Numbered
   pub turns : TurnsEnd (turns_of rules seats) from last
   pub events_then : last.now ≡ events
-  pub groups_then : last.groups ≡ groups
+  pub then_written_turns : last.written_turns ≡ written_turns
 
 -- new is old after a round of turns with the sheets of the file
 pub record IsRoundOfTurns {TurnActions : Type 0} (rules : RoundRules TurnActions) (file : List ℕ) (round : Round)

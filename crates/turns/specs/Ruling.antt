@@ -1,8 +1,9 @@
 -- One way for a line. What becomes of it is the first of four: its own fault; that its order has no place where the
--- line stands; that the condition of its order does not hold; the first rule that the order breaks. Else it is obeyed.
--- That is recorded, and an order that is obeyed is done. Each family of lines says for itself which orders have a place
--- in them, by which rules these are judged, and what an order brings.
-use Rattle.std.specs.Prelude.{◌≡◌, ℕ, Bool, true, false, IsTrue, not, if◌then◌else◌, List, [], ◌∷◌, ◌++◌, Option, Some, None, Result, Ok, Err}
+-- line is; that the condition of its order does not hold; the first rule that the order breaks. Else it is obeyed. That
+-- is recorded, and an order that is obeyed is done. Each family of lines says for itself which orders have a place in
+-- them, by which rules these are judged, and what an order brings.
+use Rattle.std.specs.Prelude.{◌≡◌, ℕ, Bool, true, false, IsTrue, not, if◌then◌else◌, List, [], ◌∷◌, ◌++◌, Option, Some}
+use Rattle.std.specs.Prelude.{None, Result, Ok, Err}
 use Rattle.events.specs.declared.event.Event.{Event}
 use Rattle.events.specs.declared.event.Event.TheVariants as event
 use Rattle.events.specs.declared.ruling.Refusal.{Refusal}
@@ -18,7 +19,7 @@ use Rattle.sheets.specs.Place.{is_of_file, placed}
 use Rattle.tables.specs.declared.seat.Seat.{Seat}
 use Rattle.turns.specs.RoundOfTurns.{InTurn, in_turn}
 
--- what becomes of an order that stands under this condition, if any, and breaks this rule first, or none
+-- what becomes of an order that is under this condition, if any, and breaks this rule first, or none
 abbrev pub judged : Option Condition → Order → Option Refusal → Ruling
 judged condition order None = Obeyed condition order
 judged condition order (Some rule) = Refused rule condition order
@@ -69,9 +70,9 @@ abbrev pub IsOrderToDo : (Order → Bool) → (Order → Option Refusal) → Lis
 IsOrderToDo has_place judgement events line order true = IsToDo has_place judgement events line order
 IsOrderToDo has_place judgement events line order false = obeyed_by (line_ruling has_place judgement events line) ≡ None
 
--- an order of a group of lines is one of play
-abbrev pub has_place_in_group : Order → Bool
-has_place_in_group order = not (is_of_file order)
+-- an order of a written turn is one of play
+abbrev pub has_place_in_turn : Order → Bool
+has_place_in_turn order = not (is_of_file order)
 
 -- in a turn of a seat, after a line with this number and this ruling, where an order that is done leads so far
 abbrev pub after_ruling : {TurnActions : Type 0} → (InTurn TurnActions → Order → InTurn TurnActions) → Seat

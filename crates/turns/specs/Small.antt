@@ -6,7 +6,7 @@ use Rattle.order_grammar.specs.declared.fault.Fault.{Fault}
 use Rattle.order_grammar.specs.declared.order.Order.{Order}
 use Rattle.order_grammar.specs.declared.order.Order.TheVariants.{Bid, BuyTrain, Limit}
 use Rattle.order_grammar.specs.declared.order.TrainSource.TheVariants.{Company}
-use Rattle.sheets.specs.Part.{Numbered, Parts, StandsAtHead, groups_of}
+use Rattle.sheets.specs.Part.{Numbered, Parts, IsAtHead, written_turns_of}
 
 -- the sum of a bid or a limit is at most 99,999, and the price at which a company is to sell a train
 abbrev pub IsSmallOrder : Order → Type 0
@@ -30,16 +30,16 @@ abbrev pub AreSmall : List Numbered → Type 0
 AreSmall [] = Unit {0}
 AreSmall (line ∷ lines) = IsSmallReading line.reading × AreSmall lines
 
--- and those of the lines of some groups
-abbrev pub GroupsAreSmall : List (List Numbered) → Type 0
-GroupsAreSmall [] = Unit {0}
-GroupsAreSmall (group ∷ groups) = AreSmall group × GroupsAreSmall groups
+-- and those of the lines of some written turns
+abbrev pub WrittenTurnsAreSmall : List (List Numbered) → Type 0
+WrittenTurnsAreSmall [] = Unit {0}
+WrittenTurnsAreSmall (written ∷ written_turns) = AreSmall written × WrittenTurnsAreSmall written_turns
 
 -- and those of a sheet
 abbrev pub PartsAreSmall : Parts → Type 0
-PartsAreSmall parts = AreSmall parts.before × GroupsAreSmall (groups_of parts)
+PartsAreSmall parts = AreSmall parts.before × WrittenTurnsAreSmall (written_turns_of parts)
 
 -- a sheet whose standing lines are ruled
 pub record IsReady (parts : Parts) : Type 0 where
-  pub stands : StandsAtHead parts
+  pub stands : IsAtHead parts
   pub small : PartsAreSmall parts

@@ -1,15 +1,16 @@
 ghost use Rattle.std.specs.Prelude.{◌≡◌, ◌<◌, ◌≤◌, ◌++◌, [], All, IfOk, OnOk, length, map};
 ghost use Rattle.std.specs.List.{range_with_len};
 ghost use Rattle.events.specs.declared.event.Event.TheVariants as event;
-ghost use Rattle.history.specs.LookBack.{with_event};
+ghost use Rattle.totals.specs.LookBack.{with_event};
 ghost use Rattle.history.specs.Sound.{IsSound};
 ghost use Rattle.history.specs.Record.{left_recorded};
 ghost use Rattle.sheets.specs.File.{players_of};
-ghost use Rattle.sheets.specs.Part.{groups_of};
+ghost use Rattle.sheets.specs.Part.{written_turns_of};
 ghost use Rattle.sheets.specs.Taken.{after_each};
 ghost use Rattle.tables.specs.Seat.{left_of, seat_at};
 ghost use Rattle.tables.specs.Turns.{after_turn};
-ghost use Rattle.turns.specs.RoundOfTurns.{IsRoundOfTurns, TurnsLead, after_standing, groups_for, in_play, left_from, turns_of};
+ghost use Rattle.turns.specs.RoundOfTurns.{IsRoundOfTurns, TurnsLead, after_standing, written_turns_for, in_play};
+ghost use Rattle.turns.specs.RoundOfTurns.{left_from, turns_of};
 ghost use Rattle.turns.specs.Small.{IsReady, PartsAreSmall};
 
 use crate::rules::TurnRules;
@@ -25,8 +26,8 @@ use tables::{PLAYERS_MOST, Round, Seat};
 type Unruled<'a> = ArrayVec<PartsLeft<'a>, PLAYERS_MOST>;
 
 /// Plays a round of turns with the sheets for it; a seat without a sheet passes. The list of events
-/// must be sound, its seats those of the sheets' players, and the round may begin. An `Err` comes
-/// from want of memory alone, and the game is dropped.
+/// must be sound, its seats those of the sheets' players, and the round may begin. It fails only if
+/// memory is refused, and the game is dropped.
 pub fn play_round<T: TurnRules>(
     rules: &T,
     mut history: History,
@@ -39,7 +40,7 @@ pub fn play_round<T: TurnRules>(
     ensures round { IfOk result (λ new. IsRoundOfTurns T.rules sheets.now round history new) }
     ensures underway { IfOk result T.holds }
 {
-    let first = history.priority();
+    let first = history.now().priority();
     begin(rules, &mut history, round)?;
     let mut unruled = rule_all_standing(rules, &mut history, sheets, round)?;
     let unruled = unruled.as_mut_slice();
@@ -72,8 +73,8 @@ fn rule_all_standing<'a, T: TurnRules>(
     ensures events { OnOk result (history.new.events
         ≡ after_standing T.rules sheets.now round history.old.events
         (range_with_len 0 (length (players_of sheets.now)))) }
-    ensures left { IfOk result (λ unruled. map groups_of unruled.items
-        ≡ groups_for (length (players_of sheets.now)) sheets.now round) }
+    ensures left { IfOk result (λ unruled. map written_turns_of unruled.items
+        ≡ written_turns_for (length (players_of sheets.now)) sheets.now round) }
     ensures each { IfOk result (λ unruled. length unruled.items ≡ length (players_of sheets.now)) }
     ensures some { IfOk result (λ unruled. 0 < length unruled.items) }
     ensures ready { IfOk result (λ unruled. All IsReady unruled.items) }
@@ -89,7 +90,7 @@ fn rule_all_standing<'a, T: TurnRules>(
     Ok(unruled)
 }
 
-/// Rules the standing lines of a seat's sheet, those before its first group.
+/// Rules the standing lines of a seat's sheet, those before its first written turn.
 fn rule_standing<T: TurnRules>(
     rules: &T,
     history: &mut History,
@@ -125,8 +126,8 @@ fn take_turns<T: TurnRules>(
     requires underway { T.holds history.old }
     ensures seats { OnOk result (history.new.seats ≡ history.old.seats) }
     ensures turns { OnOk result (TurnsLead T.rules history.old.seats
-        (in_play history.old.events first 0 (map groups_of unruled.old))
-        history.new.events (map groups_of unruled.new)) }
+        (in_play history.old.events first 0 (map written_turns_of unruled.old))
+        history.new.events (map written_turns_of unruled.new)) }
     ensures ready { OnOk result (All IsReady unruled.new) }
     ensures underway { OnOk result (T.holds history.new) }
 {
@@ -159,9 +160,9 @@ fn play_turn<T: TurnRules>(
     ensures each { OnOk result (length unruled.new ≡ length unruled.old) }
     ensures turn { IfOk result (λ after.
         in_play history.new.events (left_of history.old.seats (seat_at seat)).0 after
-        (map groups_of unruled.new)
+        (map written_turns_of unruled.new)
         ≡ after_turn (turns_of T.rules history.old.seats)
-        (in_play history.old.events seat passes (map groups_of unruled.old))) }
+        (in_play history.old.events seat passes (map written_turns_of unruled.old))) }
     ensures passes { IfOk result (λ after. after ≤ length unruled.old) }
     ensures ready { OnOk result (All IsReady unruled.new) }
     ensures underway { OnOk result (T.holds history.new) }
@@ -183,7 +184,7 @@ fn pass<T: TurnRules>(_rules: &T, history: &mut History, seat: Seat) -> Result<(
     Ok(())
 }
 
-/// Tells how many lines of each sheet were not taken up, heads of groups not counted.
+/// Tells how many lines of each sheet were not taken up, heads of written turns not counted.
 fn record_all_left<T: TurnRules>(
     rules: &T,
     history: &mut History,
@@ -194,7 +195,7 @@ fn record_all_left<T: TurnRules>(
     requires underway { T.holds history.old }
     ensures seats { OnOk result (history.new.seats ≡ history.old.seats) }
     ensures events { OnOk result (history.new.events
-        ≡ history.old.events ++ left_from 0 (map groups_of unruled.now)) }
+        ≡ history.old.events ++ left_from 0 (map written_turns_of unruled.now)) }
     ensures underway { OnOk result (T.holds history.new) }
 {
     for (seat, sheet) in unruled.iter().enumerate() {

@@ -1,7 +1,7 @@
 ghost use Rattle.std.specs.Prelude.{◌≡◌, ◌≤◌, ◌<◌, ℕ, List, OnOk, IfOk, false};
 ghost use Rattle.events.specs.declared.event.Event.{Event};
 ghost use Rattle.events.specs.declared.event.Event.TheVariants as event;
-ghost use Rattle.history.specs.LookBack.{Game, with_event};
+ghost use Rattle.totals.specs.LookBack.{Game, with_event};
 ghost use Rattle.history.specs.Sound.{IsSound};
 ghost use Rattle.history.specs.Record.{left_recorded};
 ghost use Rattle.sheets.specs.Part.{line_unread};
@@ -16,8 +16,8 @@ use sheets::UnreadLine;
 use std::alloc::AllocError;
 use tables::Seat;
 
-/// What a kind of round of turns says for itself. Each call that changes the game errs only for
-/// want of memory, and the game is dropped then.
+/// What a kind of round of turns says for itself. Each call that changes the game fails only if
+/// memory is refused, and the game is dropped then.
 pub trait TurnRules {
     /// What a seat has done in a turn.
     type TurnActions: Copy;
@@ -50,8 +50,8 @@ pub trait TurnRules {
     fn nothing(&self) -> Self::TurnActions
         ensures { result ≡ rules.nothing };
 
-    /// Rules a line of a group, and does what it orders if it is obeyed. Its order is put in place of
-    /// another. Answers what the seat has done in its turn by then.
+    /// Rules a line of a written turn, and does what it orders if it is obeyed. Its order is put in
+    /// place of another. Answers what the seat has done in its turn by then.
     fn rule_line(
         &self,
         history: &mut History,

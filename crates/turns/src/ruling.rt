@@ -3,7 +3,7 @@ ghost use Rattle.std.specs.Prelude.{◌≡◌, Bool, IfOk, MatchResult, OnOk, Op
 ghost use Rattle.events.specs.declared.event.Event.TheVariants as event;
 ghost use Rattle.events.specs.declared.ruling.Refusal.{Refusal as RefusalCode};
 ghost use Rattle.events.specs.declared.ruling.Ruling.TheVariants.{Faulty};
-ghost use Rattle.history.specs.LookBack.{Game, with_event};
+ghost use Rattle.totals.specs.LookBack.{Game, with_event};
 ghost use Rattle.history.specs.Sound.{IsSound};
 ghost use Rattle.order_grammar.specs.declared.order.Order.{Order as OrderOfPlay};
 ghost use Rattle.sheets.specs.Part.{line_unread, line_with};
@@ -41,7 +41,7 @@ pub trait Family {
 
 /// Rules a line of a seat's sheet by its own fault, its place, its condition and its rules, in this
 /// order, and records what becomes of it. Its order is put in place of another. Answers whether that
-/// is obeyed and is to be done. An `Err` comes from want of memory alone.
+/// is obeyed and is to be done. It fails only if memory is refused.
 pub fn rule_line<F: Family>(
     family: &F,
     history: &mut History,
@@ -85,8 +85,8 @@ fn placed<F: Family>(family: &F, line: UnreadLine, order: &mut Order) -> Result<
 }
 
 /// Rules an order that has a place in a line by the line's condition and the rules of its family, and
-/// records what becomes of it. Answers whether it is obeyed and is to be done. An `Err` comes from
-/// want of memory alone.
+/// records what becomes of it. Answers whether it is obeyed and is to be done. It fails only if
+/// memory is refused.
 pub fn rule_order<F: Family>(
     family: &F,
     history: &mut History,
@@ -131,7 +131,7 @@ fn judge_under<F: Family>(
 }
 
 /// Records what becomes of the order of a line under its condition, if it has one: it breaks this rule
-/// first, or none. Answers whether it is obeyed. An `Err` comes from want of memory alone.
+/// first, or none. Answers whether it is obeyed. It fails only if memory is refused.
 pub fn record(
     history: &mut History,
     seat: Seat,
@@ -160,7 +160,7 @@ pub fn record(
     Ok(obeyed)
 }
 
-/// Records the fault of the line with this number. An `Err` comes from want of memory alone.
+/// Records the fault of the line with this number. It fails only if memory is refused.
 pub fn record_fault(
     history: &mut History,
     seat: Seat,

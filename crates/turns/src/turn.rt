@@ -1,7 +1,7 @@
 ghost use Rattle.std.specs.Prelude.{◌≡◌, ◌≤◌, ◌<◌, OnOk, IfOk, drop};
-ghost use Rattle.sheets.specs.Part.{groups_of};
-ghost use Rattle.tables.specs.Turns.{next_group};
-ghost use Rattle.turns.specs.RoundOfTurns.{after_group, in_turn, turned};
+ghost use Rattle.sheets.specs.Part.{written_turns_of};
+ghost use Rattle.tables.specs.Turns.{next_written_turn};
+ghost use Rattle.turns.specs.RoundOfTurns.{after_written_turn, in_turn, turned};
 ghost use Rattle.turns.specs.Small.{IsReady, PartsAreSmall};
 
 use crate::rules::TurnRules;
@@ -11,8 +11,8 @@ use sheets::PartsLeft;
 use std::alloc::AllocError;
 use tables::Seat;
 
-/// A seat's turn: it takes up the next group of its sheet, if there is one. Answers whether the
-/// seat acted.
+/// A seat's turn: it takes up the next written turn of its sheet, if there is one. Answers whether
+/// the seat acted.
 pub(crate) fn take_turn<T: TurnRules>(
     rules: &T,
     history: &mut History,
@@ -26,9 +26,9 @@ pub(crate) fn take_turn<T: TurnRules>(
     ensures seats { OnOk result (history.new.seats ≡ history.old.seats) }
     ensures turn { IfOk result (λ acted.
         record { state = history.new.events; acted = acted }
-        ≡ turned T.rules (after_group T.rules history.old.seats seat history.old.events
-        (next_group (groups_of sheet.old)))) }
-    ensures left { OnOk result (groups_of sheet.new ≡ drop 1 (groups_of sheet.old)) }
+        ≡ turned T.rules (after_written_turn T.rules history.old.seats seat history.old.events
+        (next_written_turn (written_turns_of sheet.old)))) }
+    ensures left { OnOk result (written_turns_of sheet.new ≡ drop 1 (written_turns_of sheet.old)) }
     ensures ready { OnOk result (IsReady sheet.new) }
     ensures underway { OnOk result (T.holds history.new) }
 {
@@ -39,7 +39,7 @@ pub(crate) fn take_turn<T: TurnRules>(
     Ok(rules.has_acted(actions))
 }
 
-/// Rules the lines of a group. Answers what the seat has done by them.
+/// Rules the lines of a written turn. Answers what the seat has done by them.
 fn rule_lines<T: TurnRules>(
     rules: &T,
     history: &mut History,
@@ -52,8 +52,8 @@ fn rule_lines<T: TurnRules>(
     requires underway { T.holds history.old }
     ensures seats { OnOk result (history.new.seats ≡ history.old.seats) }
     ensures turn { IfOk result (λ actions. in_turn history.new.events actions
-        ≡ after_group T.rules history.old.seats seat history.old.events sheet.old.before) }
-    ensures left { OnOk result (groups_of sheet.new ≡ groups_of sheet.old) }
+        ≡ after_written_turn T.rules history.old.seats seat history.old.events sheet.old.before) }
+    ensures left { OnOk result (written_turns_of sheet.new ≡ written_turns_of sheet.old) }
     ensures ready { OnOk result (IsReady sheet.new) }
     ensures underway { OnOk result (T.holds history.new) }
 {

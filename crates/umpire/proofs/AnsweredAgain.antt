@@ -13,7 +13,8 @@ use Rattle.umpire.specs.Certified.{AreCertified, Certifies, CertifyGame}
 use Rattle.umpire.specs.Groups.{groups_of}
 use Rattle.umpire.specs.Laws.{ArePartedAgain}
 use Rattle.umpire.specs.Parting.{certificates_most, certificates_of, order_file_of}
-use Rattle.umpire.specs.ReadAgain.{AcceptsWhatWasWritten, AreReadAgain, CanBeWritten, CertifyingCanBeWritten, IsReadAgain}
+use Rattle.umpire.specs.ReadAgain.{AcceptsWhatWasWritten, AreReadAgain, CanBeWritten, CertifyingCanBeWritten}
+use Rattle.umpire.specs.ReadAgain.{IsReadAgain}
 use Rattle.umpire.specs.Verify.{AnswersGame, AnswersInput, HasAllGroups, HasGroup, HaveGroups}
 use Rattle.umpire.specs.Written.{certificates_text}
 

@@ -1,24 +1,26 @@
 -- How far the lines of a file have gone over.
-use Rattle.std.proofs.Common.{◌≡◌, ℕ, ◌+◌, ◌-◌, ◌≤◌, false, true, List, [], ◌∷◌, ◌++◌, length, take, drop, ap, refl, sym, ◌∙◌, append_assoc, arith}
+use Rattle.std.proofs.Common.{◌≡◌, ℕ, ◌+◌, ◌-◌, ◌≤◌, false, true, List, [], ◌∷◌, ◌++◌, length, take, drop, ap, refl}
+use Rattle.std.proofs.Common.{sym, ◌∙◌, append_assoc, arith}
 use Rattle.std.specs.Prelude.{Option}
 use Rattle.std.proofs.lemmas.List.{append-nil, length-append}
 use Rattle.std.proofs.Math.Seq.{drop-append_seam, take-append_seam}
 use Rattle.sheets.specs.Text.{is_blank, lines_of}
-use Rattle.umpire.specs.Failure.{AppendsFront}
+use Rattle.umpire.specs.Failure.{AppendsPrefix}
 use Rattle.umpire.specs.Gathered.{Gathers, IsFromHeader}
 use Rattle.umpire.specs.Migrated.{body_in_two, file_in_two, header_of_two, is_if_line}
-use Rattle.umpire.proofs.EndedLines.{FirstEnded, body_by_line, file_by_blank, file_by_header, line_goes, line_stays, no_body_in_two, nothing_in_two}
+use Rattle.umpire.proofs.EndedLines.{FirstEnded, body_by_line, file_by_blank, file_by_header, line_goes, line_stays}
+use Rattle.umpire.proofs.EndedLines.{no_body_in_two, nothing_in_two}
 use Rattle.umpire.proofs.GatherLemmas.{front_behind, gathers_both, gathers_none}
 
--- the front of a text, by what is left of it
+-- the prefix of a text, by what is left of it
 front_of : (front rest : List ℕ) → take (length (front ++ rest) - length rest) (front ++ rest) ≡ front
 front_of front rest =
     rw (length-append front rest)
     (let n : (length front + length rest) - length rest ≡ length front =
     omega arith in rw (n, take-append_seam front rest) refl)
 
-pub front_by_rest : (text front rest : List ℕ) → text ≡ front ++ rest → take (length text - length rest) text ≡ front
-front_by_rest text front rest is = rw is (front_of front rest)
+pub prefix_by_rest : (text front rest : List ℕ) → text ≡ front ++ rest → take (length text - length rest) text ≡ front
+prefix_by_rest text front rest is = rw is (front_of front rest)
 
 -- blank lines came first
 pub record AreBlank (file rest : List ℕ) : Type 0 where
@@ -72,7 +74,7 @@ pub blank_file_stays : (file text : List ℕ) (found : IsFromHeader file text) �
 blank_file_stays file text found none = found.stays ∙ ap (λ l. found.front ++ file_in_two l) none
     ∙ rw nothing_in_two (append-nil found.front)
 
--- another is what stands before that, the header and the body
+-- another is what is before that, the header and the body
 pub file_by_parts : (file text line rest : List ℕ) (lines : List (List ℕ)) (found : IsFromHeader file text)
     → lines_of text ≡ line ∷ lines → FirstEnded text line rest →
     file_in_two file ≡ found.front ++ (header_of_two ++ body_in_two (drop (length line) text))
@@ -151,22 +153,22 @@ putting_all old mid new before after behind text kept rest so_far none last =
     rw (none, no_body_in_two) (append-nil so_far.stretch ∙ sym tail) in
     rw (so_far.whole, body) (gathers_both _ _ _ _ _ _ _ _ so_far.gathers last)
 
--- a front of the stretch that is put is a front of all
-pub front_of_stretch : (old mid new : Option (List ℕ)) (before after text kept rest stretch : List ℕ)
+-- a prefix of the stretch that is put is a prefix of all
+pub prefix_of_stretch : (old mid new : Option (List ℕ)) (before after text kept rest stretch : List ℕ)
     (so_far : Putting old mid before after text kept rest) → stretch ≡ so_far.stretch
-    → AppendsFront mid new (after ++ stretch) → AppendsFront old new (before ++ body_in_two text)
-front_of_stretch old mid new before after text kept rest stretch so_far is front =
+    → AppendsPrefix mid new (after ++ stretch) → AppendsPrefix old new (before ++ body_in_two text)
+prefix_of_stretch old mid new before after text kept rest stretch so_far is front =
     rw (so_far.whole, ← is) (front_behind old mid new before after so_far.out stretch (body_in_two rest)
     so_far.gathers front)
 
--- so is a front of the X behind it
-pub front_of_x : (old mid there new : Option (List ℕ))
+-- so is a prefix of the X behind it
+pub prefix_of_x : (old mid there new : Option (List ℕ))
     (before after between text kept rest line next stretch : List ℕ)
     (so_far : Putting old mid before after text kept rest) →
     FirstEnded rest line next → is_if_line line ≡ true → stretch ≡ so_far.stretch
-    → Gathers mid there after between stretch → AppendsFront there new (between ++ 88 ∷ []) →
-    AppendsFront old new (before ++ body_in_two text)
-front_of_x old mid there new before after between text kept rest line next stretch so_far first goes is one front =
+    → Gathers mid there after between stretch → AppendsPrefix there new (between ++ 88 ∷ []) →
+    AppendsPrefix old new (before ++ body_in_two text)
+prefix_of_x old mid there new before after between text kept rest line next stretch so_far first goes is one front =
     let body : body_in_two rest ≡ 88 ∷ (first.end ++ body_in_two next) =
     body_by_line rest line next first ∙ ap (λ l. l ++ (first.end ++ body_in_two next)) (line_goes line goes) in
     let whole : body_in_two text ≡ (so_far.out ++ stretch) ++ (88 ∷ (first.end ++ body_in_two next)) =
@@ -177,36 +179,36 @@ front_of_x old mid there new before after between text kept rest line next stret
     (front_behind old there new before between (so_far.out ++ stretch) (88 ∷ []) (first.end ++ body_in_two next)
     (gathers_both _ _ _ _ _ _ _ _ so_far.gathers one) front)
 
--- and a front of what is left
-pub front_of_rest : (old mid new : Option (List ℕ)) (before after text kept rest : List ℕ)
-    → Putting old mid before after text kept rest → rest ≡ [] → AppendsFront mid new (after ++ kept)
-    → AppendsFront old new (before ++ body_in_two text)
-front_of_rest old mid new before after text kept rest so_far none front =
+-- and a prefix of what is left
+pub prefix_of_rest : (old mid new : Option (List ℕ)) (before after text kept rest : List ℕ)
+    → Putting old mid before after text kept rest → rest ≡ [] → AppendsPrefix mid new (after ++ kept)
+    → AppendsPrefix old new (before ++ body_in_two text)
+prefix_of_rest old mid new before after text kept rest so_far none front =
     let tail : kept ≡ so_far.stretch = so_far.is_kept ∙ ap (λ l. so_far.stretch ++ l) none
     ∙ append-nil so_far.stretch in
-    front_of_stretch old mid new before after text kept rest kept so_far tail front
+    prefix_of_stretch old mid new before after text kept rest kept so_far tail front
 
 -- a line is no longer than its text
 pub line_within : (text line rest : List ℕ) → FirstEnded text line rest → length line ≤ length text
 line_within text line rest first = rw (first.whole, length-append line (first.end ++ rest)) (omega arith)
 
--- a front of what is written of a file is a front of all
-pub front_of_file : (old mid new : Option (List ℕ)) (before after file text line rest first : List ℕ)
+-- a prefix of what is written of a file is a prefix of all
+pub prefix_of_file : (old mid new : Option (List ℕ)) (before after file text line rest first : List ℕ)
     (lines : List (List ℕ)) (found : IsFromHeader file text) → lines_of text ≡ line ∷ lines
     → FirstEnded text line rest →
-    first ≡ found.front → Gathers old mid before after first → AppendsFront mid new (after ++ header_of_two)
-    → AppendsFront old new (before ++ file_in_two file)
-front_of_file old mid new before after file text line rest first lines found are ended is gathers front =
+    first ≡ found.front → Gathers old mid before after first → AppendsPrefix mid new (after ++ header_of_two)
+    → AppendsPrefix old new (before ++ file_in_two file)
+prefix_of_file old mid new before after file text line rest first lines found are ended is gathers front =
     rw (file_by_parts file text line rest lines found are ended, ← is)
     (front_behind old mid new before after first header_of_two (body_in_two (drop (length line) text)) gathers front)
 
-pub front_of_body : (old mid there new : Option (List ℕ))
+pub prefix_of_body : (old mid there new : Option (List ℕ))
     (before after between file text line rest first left : List ℕ) (lines : List (List ℕ))
     (found : IsFromHeader file text) → lines_of text ≡ line ∷ lines → FirstEnded text line rest →
     first ≡ found.front → Gathers old mid before after first → Gathers mid there after between header_of_two
-    → left ≡ drop (length line) text → AppendsFront there new (between ++ body_in_two left)
-    → AppendsFront old new (before ++ file_in_two file)
-front_of_body old mid there new before after between file text line rest first left lines found are ended is gathers
+    → left ≡ drop (length line) text → AppendsPrefix there new (between ++ body_in_two left)
+    → AppendsPrefix old new (before ++ file_in_two file)
+prefix_of_body old mid there new before after between file text line rest first left lines found are ended is gathers
     one behind_it front =
     let body : List ℕ = body_in_two left in
     let parts : file_in_two file ≡ (first ++ header_of_two) ++ body =

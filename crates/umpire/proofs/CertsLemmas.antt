@@ -1,5 +1,6 @@
 -- Certificates that are written, group by group.
-use Rattle.std.proofs.Common.{◌≡◌, ℕ, ◌+◌, ◌<◌, suc, List, [], ◌∷◌, ◌++◌, Result, Ok, Err, add-one, append_assoc, drop, drop-cons, get_or, length, refl, sym, ap, subst, ◌∙◌}
+use Rattle.std.proofs.Common.{◌≡◌, ℕ, ◌+◌, ◌<◌, suc, List, [], ◌∷◌, ◌++◌, Result, Ok, Err, add-one, append_assoc, drop}
+use Rattle.std.proofs.Common.{drop-cons, get_or, length, refl, sym, ap, subst, ◌∙◌}
 use Rattle.std.specs.Prelude.{ℤ, Option, Some, Bool, false, IfSome, IsOk}
 use Rattle.std.specs.Io.KnownBytes.{Appends}
 use Rattle.std.specs.List.{flat_map}
@@ -8,7 +9,7 @@ use Rattle.std.proofs.lemmas.List.{append-nil}
 use Rattle.std.proofs.lemmas.List.Concat.{flat_map-append}
 use Rattle.best_run.specs.Keeping.{KeepsBest}
 use Rattle.certificate.specs.declared.group.Group.{Group}
-use Rattle.certificate.specs.declared.runner.RunnerFault.{RunnerFault}
+use Rattle.legal_runs.specs.declared.runner.RunnerFault.{RunnerFault}
 use Rattle.operating.specs.Calls.{AreMade, Call}
 use Rattle.order_grammar.specs.declared.order.Order.TheVariants.{Certs}
 use Rattle.operating.specs.Answered.{AreAnswered}

@@ -1,9 +1,11 @@
 -- The first line of a text with its end, and what stands for it in version 2.
-use Rattle.std.proofs.Common.{◌≡◌, ℕ, ◌<◌, ◌⊎◌, inl, inr, Bool, true, false, cond, List, [], ◌∷◌, ◌++◌, length, refl, sym, ap, ◌∙◌, append_assoc, arith, eqb, map}
+use Rattle.std.proofs.Common.{◌≡◌, ℕ, ◌<◌, ◌⊎◌, inl, inr, Bool, true, false, cond, List, [], ◌∷◌, ◌++◌, length, refl}
+use Rattle.std.proofs.Common.{sym, ap, ◌∙◌, append_assoc, arith, eqb, map}
 use Rattle.std.proofs.lemmas.Bool.{cases_Bool, eqb-true}
 use Rattle.std.proofs.lemmas.List.{length-append}
 use Rattle.sheets.specs.Text.{is_blank, lines_from, lines_of, rest_of, without_return}
-use Rattle.umpire.specs.Migrated.{body_in_two, ended_in_two, ended_lines, ended_lines_from, file_in_two, header_of_two, is_if_line, line_in_two, lines_in_two, return_of, text_of_ended}
+use Rattle.umpire.specs.Migrated.{body_in_two, ended_in_two, ended_lines, ended_lines_from, file_in_two, header_of_two}
+use Rattle.umpire.specs.Migrated.{is_if_line, line_in_two, lines_in_two, return_of, text_of_ended}
 
 -- the bytes before an LF are the line and the CR behind it
 one_byte : (byte : ℕ) (is : Bool) → eqb byte 13 ≡ is → cond is [] (byte ∷ []) ++ cond is (13 ∷ []) [] ≡ byte ∷ []
@@ -15,7 +17,7 @@ both_parts [] = refl
 both_parts (byte ∷ []) = one_byte byte (eqb byte 13) refl
 both_parts (byte ∷ next ∷ bytes) = ap (λ l. byte ∷ l) (both_parts (next ∷ bytes))
 
--- that CR stands there or it does not
+-- that CR is there or it does not
 abbrev pub IsReturn : List ℕ → Type 0
 IsReturn bytes = (bytes ≡ []) ⊎ (bytes ≡ 13 ∷ [])
 

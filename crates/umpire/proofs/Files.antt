@@ -1,5 +1,6 @@
 -- What was read of a file says what the whole file says.
-use Rattle.std.proofs.Common.{◌≡◌, ℕ, ◌<◌, ◌≤◌, ◌⊎◌, inl, inr, Bool, false, List, [], length, ap, refl, sym, subst, arith, ◌∙◌}
+use Rattle.std.proofs.Common.{◌≡◌, ℕ, ◌<◌, ◌≤◌, ◌⊎◌, inl, inr, Bool, false, List, [], length, ap, refl, sym, subst}
+use Rattle.std.proofs.Common.{arith, ◌∙◌}
 use Rattle.std.specs.Prelude.{Option, Some, None, Result, Ok, Err, IfSome, IsOk}
 use Rattle.std.proofs.KnownBytes.{Appends-nil, Keeps-refl}
 use Rattle.std.proofs.lemmas.List.{take_all, length-take-le}
@@ -8,7 +9,7 @@ use Rattle.sheets.proofs.ContentLemmas.{too_long}
 use Rattle.sheets.specs.File.{Content, IsAccepted, content_of}
 use Rattle.sheets.specs.declared.fault.FileFault.{FileFault}
 use Rattle.sheets.specs.declared.fault.FileFault.TheVariants.{TooLong}
-use Rattle.umpire.specs.Failure.{AppendsFront}
+use Rattle.umpire.specs.Failure.{AppendsPrefix}
 use Rattle.umpire.specs.Run.{IsReported, IsRefused, IsCutShort, IsFileOf, IsReadFault, Stops, as_read}
 use Rattle.umpire.specs.declared.fault.Fault.{Fault}
 use Rattle.umpire.specs.declared.fault.Fault.TheVariants.{Read, Write, Memory, File, Certificate}
@@ -117,22 +118,22 @@ stops given old new file read_failed write_failed (File fault) read unfailed kno
     (unfailed, known.1, refused given old new file fault read known.2)
 stops given old new file read_failed write_failed (Certificate round company) read unfailed known = absurd known
 
--- nothing of a report is a front of it
-front_of_none : (given old : Option (List ℕ)) (file : List ℕ) → IsFileOf given file
+-- nothing of a report is a prefix of it
+prefix_of_none : (given old : Option (List ℕ)) (file : List ℕ) → IsFileOf given file
     → (text : List ℕ) × IsReport file text → IsCutShort given old old
-front_of_none given old file whole some =
-    let none : AppendsFront old old some.0 = record { count = 0; within = omega arith; appended = Appends-nil old } in
+prefix_of_none given old file whole some =
+    let none : AppendsPrefix old old some.0 = record { count = 0; within = omega arith; appended = Appends-nil old } in
     record { file = file; text = some.0; whole = whole; report = some.1; front = none }
 
--- where nothing is written yet, that is a front of the report, since each file has one
+-- where nothing is written yet, that is a prefix of the report, since each file has one
 pub nothing_written : ((file : List ℕ) → (text : List ℕ) × IsReport file text) → (given old : Option (List ℕ))
     → IsCutShort given old old
-nothing_written some None old = front_of_none None old [] tt (some [])
-nothing_written some (Some bytes) old = front_of_none (Some bytes) old bytes refl (some bytes)
+nothing_written some None old = prefix_of_none None old [] tt (some [])
+nothing_written some (Some bytes) old = prefix_of_none (Some bytes) old bytes refl (some bytes)
 
--- a front of the line that says why a file is refused is a front of its report
+-- a prefix of the line that says why a file is refused is a prefix of its report
 pub cut_in_refusal : (file : List ℕ) (old new : Option (List ℕ)) (fault : FileFault) → content_of file ≡ Err fault →
-    AppendsFront old new (refusal_line fault) → IsCutShort (Some file) old new
+    AppendsPrefix old new (refusal_line fault) → IsCutShort (Some file) old new
 cut_in_refusal file old new fault is front =
     let report : IsReport file (refusal_line fault) =
     subst (λ (r : Result Content FileFault). IsReportOf file r (refusal_line fault)) (sym is) refl in

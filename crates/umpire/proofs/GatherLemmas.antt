@@ -4,9 +4,9 @@ use Rattle.std.specs.Prelude.{Option}
 use Rattle.std.specs.Io.KnownBytes.{Appends}
 use Rattle.std.proofs.KnownBytes.{Appends-nil, Appends-trans}
 use Rattle.std.proofs.lemmas.List.{append-nil}
-use Rattle.umpire.specs.Failure.{AppendsFront}
+use Rattle.umpire.specs.Failure.{AppendsPrefix}
 use Rattle.umpire.specs.Gathered.{Gathers}
-use Rattle.umpire.proofs.Parts.{LeavesRest, front_of_part, none_of}
+use Rattle.umpire.proofs.Parts.{LeavesRest, prefix_of_part, none_of}
 
 -- nothing has come
 pub gathers_none : (old : Option (List ℕ)) (before : List ℕ) → Gathers old old before before []
@@ -52,10 +52,10 @@ pub gathers_end : (old mid new : Option (List ℕ)) (after text : List ℕ) → 
 gathers_end old mid new after text gathered written =
     rw (← gathered.whole) (Appends-trans old mid new gathered.done after gathered.appended written)
 
--- a front of what is gathered, with what comes behind it, is a front of the whole
+-- a prefix of what is gathered, with what comes behind it, is a prefix of the whole
 pub front_behind : (old mid new : Option (List ℕ)) (before between first second rest : List ℕ)
-    → Gathers old mid before between first → AppendsFront mid new (between ++ second)
-    → AppendsFront old new (before ++ (first ++ (second ++ rest)))
+    → Gathers old mid before between first → AppendsPrefix mid new (between ++ second)
+    → AppendsPrefix old new (before ++ (first ++ (second ++ rest)))
 front_behind old mid new before between first second rest a front =
     let behind : List ℕ = (between ++ second) ++ rest in
     let whole : a.done ++ behind ≡ before ++ (first ++ (second ++ rest)) =
@@ -64,26 +64,26 @@ front_behind old mid new before between first second rest a front =
     in
     let left : LeavesRest old mid (before ++ (first ++ (second ++ rest))) behind =
     record { done = a.done; whole = whole; appended = a.appended } in
-    front_of_part old mid new (before ++ (first ++ (second ++ rest))) behind (between ++ second) rest left refl front
+    prefix_of_part old mid new (before ++ (first ++ (second ++ rest))) behind (between ++ second) rest left refl front
 
 -- so it is where nothing of it was written
 pub front_so_far : (old mid : Option (List ℕ)) (before between first rest : List ℕ)
-    → Gathers old mid before between first → AppendsFront old mid (before ++ (first ++ rest))
+    → Gathers old mid before between first → AppendsPrefix old mid (before ++ (first ++ rest))
 front_so_far old mid before between first rest a =
     front_behind old mid mid before between first [] rest a (none_of mid (between ++ []))
 
--- what was gathered is written, and a front of the text behind it
+-- what was gathered is written, and a prefix of the text behind it
 pub front_after : (old mid new : Option (List ℕ)) (before text : List ℕ) → Appends old mid before
-    → AppendsFront mid new text → AppendsFront old new (before ++ text)
+    → AppendsPrefix mid new text → AppendsPrefix old new (before ++ text)
 front_after old mid new before text written front =
     let left : LeavesRest old mid (before ++ text) text = record { done = before; whole = refl; appended = written } in
-    front_of_part old mid new (before ++ text) text text [] left (sym (append-nil text)) front
+    prefix_of_part old mid new (before ++ text) text text [] left (sym (append-nil text)) front
 
 -- what was gathered from nothing on is what is left of a text
 pub front_at_end : (old mid new : Option (List ℕ)) (before after text : List ℕ) → Gathers old mid before after text
-    → before ≡ [] → AppendsFront mid new after → AppendsFront old new text
+    → before ≡ [] → AppendsPrefix mid new after → AppendsPrefix old new text
 front_at_end old mid new before after text gathered none front =
     let whole : gathered.done ++ after ≡ text = gathered.whole ∙ ap (λ l. l ++ text) none in
     let left : LeavesRest old mid text after = record
     { done = gathered.done; whole = whole; appended = gathered.appended } in
-    front_of_part old mid new text after after [] left (sym (append-nil after)) front
+    prefix_of_part old mid new text after after [] left (sym (append-nil after)) front

@@ -1,5 +1,6 @@
 -- The laws of going over to version 2.
-use Rattle.std.proofs.Common.{◌≡◌, ℕ, ◌≤◌, cond, List, ◌++◌, Option, Some, None, Result, Ok, Err, length, refl, sym, subst, arith, inl, inr}
+use Rattle.std.proofs.Common.{◌≡◌, ℕ, ◌≤◌, cond, List, ◌++◌, Option, Some, None, Result, Ok, Err, length, refl, sym}
+use Rattle.std.proofs.Common.{subst, arith, inl, inr}
 use Rattle.std.specs.Prelude.{◌↔◌, nat_lt, is_some, IsOk}
 use Rattle.std.proofs.lemmas.Bool.{cases_Bool, ltb-false}
 use Rattle.order_grammar.specs.declared.condition.Version.{Version}
@@ -7,7 +8,8 @@ use Rattle.order_grammar.specs.declared.condition.Version.TheVariants.{One, Two}
 use Rattle.report.specs.Laws.{DiffersInVersion, SamePartsSameReport}
 use Rattle.report.specs.Report.{IsReport, game_line}
 use Rattle.rounds.specs.ReadAlike.{AreReadAlike}
-use Rattle.sheets.specs.File.{Content, IsAccepted, content_of, lines_content, players_of, sheet_of, unread_of, version_of}
+use Rattle.sheets.specs.File.{Content, IsAccepted, content_of, lines_content, players_of, sheet_of, unread_of}
+use Rattle.sheets.specs.File.{version_of}
 use Rattle.sheets.specs.Laws.{SameParts}
 use Rattle.sheets.specs.Limits.{file_most}
 use Rattle.sheets.specs.Text.{written_lines}
@@ -15,10 +17,12 @@ use Rattle.sheets.specs.declared.fault.FileFault.{FileFault}
 use Rattle.sheets.specs.declared.fault.FileFault.TheVariants.{TooLong}
 use Rattle.umpire.specs.Migrated.{file_in_two, migrated, migrated_from, named_version}
 use Rattle.tables.specs.declared.round.Round.{Round}
-use Rattle.umpire.specs.MigrationLaws.{AcceptedSaysTheSame, GoesOverOnce, GrowsNoLonger, MigrationChangesNoReport, RefusedAlike, SaysTheSame}
+use Rattle.umpire.specs.MigrationLaws.{AcceptedSaysTheSame, GoesOverOnce, GrowsNoLonger, MigrationChangesNoReport}
+use Rattle.umpire.specs.MigrationLaws.{RefusedAlike, SaysTheSame}
 use Rattle.umpire.proofs.HeaderLemmas.{file_fits}
 use Rattle.umpire.proofs.MigrationLemmas.{accepted_names}
-use Rattle.umpire.proofs.SheetsInTwo.{all_unread_alike, content_goes, goes_to_two, parts_alike, players_alike, posted_alike, version_named, with_body}
+use Rattle.umpire.proofs.SheetsInTwo.{all_unread_alike, content_goes, goes_to_two, parts_alike, players_alike}
+use Rattle.umpire.proofs.SheetsInTwo.{posted_alike, version_named, with_body}
 
 -- what a file goes over to, by the version that it names
 goes : (file : List ℕ) (named : Option Version) → named_version (written_lines file) ≡ named

@@ -8,7 +8,8 @@ use Rattle.order_grammar.proofs.WordLemmas.{gives_first}
 use Rattle.order_grammar.specs.Token.{GivesFirst}
 use Rattle.order_grammar.specs.Words.{Placed, raised, texts_of}
 use Rattle.order_grammar.specs.declared.words.Token.{Token}
-use Rattle.umpire.specs.Groups.{begins_group, group_begun, groups_in, second_of_words, with_line, with_lines, with_marks}
+use Rattle.umpire.specs.Groups.{begins_group, group_begun, groups_in, second_of_words, with_line, with_lines}
+use Rattle.umpire.specs.Groups.{with_marks}
 use Rattle.certificate.specs.declared.group.Group.{Group}
 
 -- the next line is of the group
@@ -18,9 +19,9 @@ pub next_line : (lines rest : List (List ℕ)) (line : List ℕ) (group : Group)
 next_line lines rest line group next e b w = rw (e, b, w) refl
 
 -- the next line begins another group
-pub next_group : (lines rest : List (List ℕ)) (line : List ℕ) (group : Option Group) → lines ≡ line ∷ rest
+pub next_written_turn : (lines rest : List (List ℕ)) (line : List ℕ) (group : Option Group) → lines ≡ line ∷ rest
     → begins_group line ≡ true → with_lines lines group ≡ group
-next_group lines rest line group e b = rw (e, b) refl
+next_written_turn lines rest line group e b = rw (e, b) refl
 
 -- a malformed group stays one
 pub malformed : (lines : List (List ℕ)) → with_lines lines None ≡ None

@@ -1,5 +1,7 @@
 -- A header line has at least eleven bytes, so that no file grows as it goes over to version 2.
-use Rattle.std.proofs.Common.{◌≡◌, ℕ, ◌≤◌, ◌+◌, ◌-◌, inl, inr, Bool, true, false, cond, List, [], ◌∷◌, ◌++◌, Result, Ok, Err, Option, Some, None, codes, length, refl, sym, ap, subst, ◌∙◌, append_assoc, arith, eqb, map}
+use Rattle.std.proofs.Common.{◌≡◌, ℕ, ◌≤◌, ◌+◌, ◌-◌, inl, inr, Bool, true, false, cond, List, [], ◌∷◌, ◌++◌, Result, Ok}
+use Rattle.std.proofs.Common.{Err, Option, Some, None, codes, length, refl, sym, ap, subst, ◌∙◌, append_assoc, arith}
+use Rattle.std.proofs.Common.{eqb, map}
 use Rattle.std.specs.Prelude.{◌&&◌, nat_le}
 use Rattle.std.proofs.lemmas.Bool.{and_parts, cases_Bool, eqb-true, leb-true}
 use Rattle.std.proofs.lemmas.List.{append-nil, length-append, length-map}
@@ -20,7 +22,8 @@ use Rattle.order_grammar.proofs.PartLemmas.{rows_of_orders}
 use Rattle.order_grammar.proofs.SpellsLemmas.{read_spells}
 use Rattle.sheets.specs.File.{header_version, version_numbered}
 use Rattle.sheets.specs.Text.{is_blank, without_return, written, written_lines}
-use Rattle.umpire.specs.Migrated.{EndedLine, ended_in_two, ended_lines, ended_lines_from, file_in_two, header_of_two, is_if_line, line_in_two, lines_in_two, named_version, return_of, text_of_ended}
+use Rattle.umpire.specs.Migrated.{EndedLine, ended_in_two, ended_lines, ended_lines_from, file_in_two, header_of_two}
+use Rattle.umpire.specs.Migrated.{is_if_line, line_in_two, lines_in_two, named_version, return_of, text_of_ended}
 use Rattle.umpire.proofs.EndedLines.{both_parts}
 use Rattle.umpire.proofs.MigratedLines.{plain, plain_lines}
 

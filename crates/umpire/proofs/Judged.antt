@@ -4,12 +4,12 @@ use Rattle.std.proofs.lemmas.List.{append-nil}
 use Rattle.std.specs.Prelude.{IsOk}
 use Rattle.certificate.specs.Checked.{AnswersBy, AnswersByNext}
 use Rattle.certificate.specs.declared.group.Group.{Group}
-use Rattle.certificate.specs.declared.runner.RunnerFault.{RunnerFault}
-use Rattle.certificate.specs.declared.runner.RunnerFault.TheVariants as runner
+use Rattle.legal_runs.specs.declared.runner.RunnerFault.{RunnerFault}
+use Rattle.legal_runs.specs.declared.runner.RunnerFault.TheVariants as runner
 use Rattle.operating.specs.Answered.{AreAnswered}
 use Rattle.operating.specs.Calls.{AreCutShort, AreMade, Call, unanswered}
 use Rattle.rounds.specs.Faults.{fault_in_turn}
-use Rattle.rounds.specs.GameCalls.{AreFront, GameCalls, RefusedCallsAreAFront, SomeCalls}
+use Rattle.rounds.specs.GameCalls.{ArePrefix, GameCalls, RefusedCallsAreAPrefix, SomeCalls}
 use Rattle.rounds.specs.Play.{Played}
 use Rattle.rounds.specs.StepsCall.{GamesAreAnswered}
 use Rattle.rounds.specs.declared.fault.PlayFault.{PlayFault}
@@ -107,14 +107,14 @@ pub refused_lacks :
 refused_lacks file groups fault round company is judged =
     subst (λ (why : PlayFault). IsJudged {A = List ℕ} file groups (Err why)) is judged
 
-module _ (answered : GamesAreAnswered) (some_calls : SomeCalls) (fronts : RefusedCallsAreAFront) (file : List ℕ)
+module _ (answered : GamesAreAnswered) (some_calls : SomeCalls) (fronts : RefusedCallsAreAPrefix) (file : List ℕ)
     (accepted : IsAccepted file) where
   -- play that was broken off by a refusal
   refused_by :
       (groups left : List (Option Group)) (round : Round) (company : Company) (some whole : List Call)
       (played : Played) →
       GameCalls file (Ok played) whole → AreMade AnswersByNext groups some left
-      → AreFront (play.Refused round company) some whole →
+      → ArePrefix (play.Refused round company) some whole →
       LacksGroup file groups round company
   refused_by groups left round company some whole played is made front =
       elim front [

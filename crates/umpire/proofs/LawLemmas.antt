@@ -1,5 +1,6 @@
 -- A text behind a file and an LF, of whose lines the first alone divides, is found again.
-use Rattle.std.proofs.Common.{◌≡◌, ℕ, ◌+◌, ◌-◌, ◌<◌, ◌≤◌, List, [], ◌∷◌, ◌++◌, true, false, cond, length, take, refl, sym, ◌∙◌, zero, suc, append_assoc, arith, eqb, subst}
+use Rattle.std.proofs.Common.{◌≡◌, ℕ, ◌+◌, ◌-◌, ◌<◌, ◌≤◌, List, [], ◌∷◌, ◌++◌, true, false, cond, length, take, refl}
+use Rattle.std.proofs.Common.{sym, ◌∙◌, zero, suc, append_assoc, arith, eqb, subst}
 use Rattle.std.proofs.lemmas.List.{length-append}
 use Rattle.std.proofs.Math.Seq.{take-append_seam}
 use Rattle.std.specs.Prelude.{Bool, Some, None}
@@ -74,9 +75,9 @@ found_behind : (begins : Bool) (file text found : List ℕ) → from_divider tru
 found_behind begins [] text found e = rw e refl
 found_behind begins (byte ∷ file) text found e = rw (found_behind (eqb byte 10) file text found e) refl
 
-front_of_file : (file text : List ℕ) → without_newline
+prefix_of_file : (file text : List ℕ) → without_newline
     (take (length (file ++ 10 ∷ text) - length text) (file ++ 10 ∷ text)) ≡ file
-front_of_file file text =
+prefix_of_file file text =
     let all : file ++ 10 ∷ text ≡ (file ++ 10 ∷ []) ++ text = sym (append_assoc file (10 ∷ []) text) in
     let seam : (length (file ++ 10 ∷ []) + length text) - length text ≡ length (file ++ 10 ∷ []) = omega arith in
     rw (
@@ -92,4 +93,4 @@ pub parted_again : PartsWhatWasJoined
 unfolding order_file_of certificates_of
 parted_again file text b =
     let found = found_behind true file text text (only_first text b) in
-    record { order_file = rw found (front_of_file file text); certificates = rw found refl }
+    record { order_file = rw found (prefix_of_file file text); certificates = rw found refl }

@@ -1,11 +1,13 @@
 -- The lines of a file that has gone over to version 2.
-use Rattle.std.proofs.Common.{◌≡◌, ℕ, ◌<◌, ◌⊎◌, inl, inr, true, false, cond, List, [], ◌∷◌, ◌++◌, length, refl, sym, ap, ◌∙◌, append_assoc, arith, eqb, map}
+use Rattle.std.proofs.Common.{◌≡◌, ℕ, ◌<◌, ◌⊎◌, inl, inr, true, false, cond, List, [], ◌∷◌, ◌++◌, length, refl, sym, ap}
+use Rattle.std.proofs.Common.{◌∙◌, append_assoc, arith, eqb, map}
 use Rattle.std.specs.Prelude.{codes}
 use Rattle.std.specs.List.{AllByRecursion}
 use Rattle.std.proofs.lemmas.Bool.{cases_Bool}
 use Rattle.std.proofs.lemmas.List.{append-nil}
 use Rattle.sheets.specs.Text.{is_blank, last_line, lines_from, lines_of, without_return}
-use Rattle.umpire.specs.Migrated.{EndedLine, ended_by_newline, ended_in_two, ended_lines, ended_lines_from, file_in_two, header_of_two, is_if_line, line_in_two, lines_in_two, return_of, text_of_ended}
+use Rattle.umpire.specs.Migrated.{EndedLine, ended_by_newline, ended_in_two, ended_lines, ended_lines_from, file_in_two}
+use Rattle.umpire.specs.Migrated.{header_of_two, is_if_line, line_in_two, lines_in_two, return_of, text_of_ended}
 use Rattle.sheets.proofs.TextLemmas.{without_return-last}
 use Rattle.umpire.proofs.EndedLines.{IsReturn, both_parts, return_is}
 
@@ -13,11 +15,11 @@ use Rattle.umpire.proofs.EndedLines.{IsReturn, both_parts, return_is}
 abbrev NoNewline : List ℕ → Type 0
 NoNewline bytes = AllByRecursion (λ byte. eqb byte 10 ≡ false) bytes
 
-clear_front : (bytes : List ℕ) → NoNewline bytes → NoNewline (without_return bytes)
-clear_front [] none = tt
-clear_front (byte ∷ []) none = elim (eqb byte 13) as (λ b. NoNewline (cond b [] (byte ∷ [])))
+clear_prefix : (bytes : List ℕ) → NoNewline bytes → NoNewline (without_return bytes)
+clear_prefix [] none = tt
+clear_prefix (byte ∷ []) none = elim (eqb byte 13) as (λ b. NoNewline (cond b [] (byte ∷ [])))
     [ true ↦ tt | false ↦ none ]
-clear_front (byte ∷ next ∷ bytes) none = (none.0, clear_front (next ∷ bytes) none.1)
+clear_prefix (byte ∷ next ∷ bytes) none = (none.0, clear_prefix (next ∷ bytes) none.1)
 
 clear_more : (bytes : List ℕ) (byte : ℕ) → NoNewline bytes → eqb byte 10 ≡ false → NoNewline (bytes ++ byte ∷ [])
 clear_more [] byte none e = (e, tt)
@@ -42,8 +44,8 @@ all_is_line bytes none = sym (append-nil (without_return bytes)) ∙ ap (λ l. w
 newline_ends : (begun : List ℕ) (lines : List EndedLine) → NoNewline begun → IsReturn (return_of begun)
     → IsEnded (ended_by_newline begun) lines
 newline_ends begun lines clear (inl none) =
-    record { clear = clear_front begun clear; ends = inl (rw none refl, ap return_of (all_is_line begun none) ∙ none) }
-newline_ends begun lines clear (inr one) = record { clear = clear_front begun clear; ends = inr (inl (rw one refl)) }
+    record { clear = clear_prefix begun clear; ends = inl (rw none refl, ap return_of (all_is_line begun none) ∙ none) }
+newline_ends begun lines clear (inr one) = record { clear = clear_prefix begun clear; ends = inr (inl (rw one refl)) }
 
 -- so are the lines of every text
 are_ended : (begun text : List ℕ) → NoNewline begun → AreEnded (ended_lines_from begun text)

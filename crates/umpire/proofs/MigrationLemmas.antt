@@ -1,18 +1,20 @@
 -- What going over to version 2 leaves: what is written of what was read is what is written of the whole file.
 use Rattle.std.proofs.Common.{◌≡◌, ℕ, Bool, true, false, cond, List, [], ◌∷◌, length, ap, refl, sym, subst, ◌∙◌}
-use Rattle.std.specs.Prelude.{Option, Some, None, Result, Ok, Err, IfErr, IfSome, IsOk, OnErr, OnOk, is_some, nat_lt, unwrap_or}
+use Rattle.std.specs.Prelude.{Option, Some, None, Result, Ok, Err, IfErr, IfSome, IsOk, OnErr, OnOk, is_some, nat_lt}
+use Rattle.std.specs.Prelude.{unwrap_or}
 use Rattle.std.specs.Io.KnownBytes.{Appends}
 use Rattle.std.proofs.KnownBytes.{Keeps-refl}
 use Rattle.order_grammar.specs.Line.{reading_of}
 use Rattle.order_grammar.specs.declared.condition.Version.{Version}
 use Rattle.order_grammar.specs.declared.condition.Version.TheVariants.{One, Two}
 use Rattle.report.specs.Report.{refusal_line}
-use Rattle.sheets.specs.File.{Content, IsAccepted, content_of, header_version, lines_content, players_content, version_in, version_of}
+use Rattle.sheets.specs.File.{Content, IsAccepted, content_of, header_version, lines_content, players_content}
+use Rattle.sheets.specs.File.{version_in, version_of}
 use Rattle.sheets.specs.Limits.{file_most}
 use Rattle.sheets.specs.Text.{written_lines}
 use Rattle.sheets.specs.declared.fault.FileFault.{FileFault}
 use Rattle.sheets.specs.declared.fault.FileFault.TheVariants.{Header, TooLong}
-use Rattle.umpire.specs.Failure.{AppendsFront}
+use Rattle.umpire.specs.Failure.{AppendsPrefix}
 use Rattle.umpire.specs.Migrated.{file_in_two, migrated, named_version}
 use Rattle.umpire.specs.Migration.{IsMigrated, IsMigratedShort, StopsMigration, answer_to, migration_of}
 use Rattle.umpire.specs.Run.{IsReadFault, IsWriteFault, as_read}
@@ -53,7 +55,7 @@ cut_short given old new file read known =
     record {
       file = says_all.whole;
       whole = says_all.is_whole;
-      front = subst (λ (text : List ℕ). AppendsFront old new text)
+      front = subst (λ (text : List ℕ). AppendsPrefix old new text)
           (sym (of_whole given file says_all ∙ ap migration_of (sym known.whole))) known.front;
     }
 
@@ -86,9 +88,9 @@ migration_unread given old read_failed write_failed Write is unfailed = absurd i
 migration_unread given old read_failed write_failed (File fault) is unfailed = absurd is
 migration_unread given old read_failed write_failed (Certificate round company) is unfailed = absurd is
 
--- what a write that failed leaves, or want of memory, where this is written of the file
+-- what a write that failed leaves, or memory is refused, where this is written of the file
 pub migration_cut : (file text : List ℕ) (old new : Option (List ℕ)) (failed : Bool) (fault : Fault)
-    → IsWriteFault failed fault → migration_of file ≡ text → AppendsFront old new text
+    → IsWriteFault failed fault → migration_of file ≡ text → AppendsPrefix old new text
     → StopsMigration (Some file) old new false failed fault
 migration_cut file text old new failed Read is of front = absurd is
 migration_cut file text old new failed Write is of front =
@@ -145,7 +147,7 @@ migrated_by (Ok done) file text old new accepted is written =
 migrated_by (Err fault) file text old new accepted is written = tt
 
 pub cut_by : (result : Result (Unit {0}) Fault) (file text : List ℕ) (old new : Option (List ℕ)) (failed : Bool)
-    → migration_of file ≡ text → IfErr result (IsWriteFault failed) → OnErr result (AppendsFront old new text)
+    → migration_of file ≡ text → IfErr result (IsWriteFault failed) → OnErr result (AppendsPrefix old new text)
     → IfErr result (StopsMigration (Some file) old new false failed)
 cut_by (Ok done) file text old new failed of is front = tt
 cut_by (Err fault) file text old new failed of is front = migration_cut file text old new failed fault is of front

@@ -1,5 +1,6 @@
 -- Where the last line that divides stands, as a text is read line by line.
-use Rattle.std.proofs.Common.{◌≡◌, ℕ, ◌≤◌, List, [], ◌∷◌, ◌++◌, true, false, cond, length, refl, ◌∙◌, ap, suc, arith, eqb}
+use Rattle.std.proofs.Common.{◌≡◌, ℕ, ◌≤◌, List, [], ◌∷◌, ◌++◌, true, false, cond, length, refl, ◌∙◌, ap, suc, arith}
+use Rattle.std.proofs.Common.{eqb}
 use Rattle.std.specs.Prelude.{Bool, ◌&&◌, Option, Some, None, Result, Ok, Err, codes, ◌↔◌}
 use Rattle.std.specs.Option.{option_or}
 use Rattle.order_grammar.specs.Line.{cert_reading_of}
@@ -61,7 +62,7 @@ behind_first byte bytes =
     elim (eqb byte 10) as (λ b. from_divider b bytes ≡ from_divider true (cond b bytes (rest_of bytes)))
     [ true ↦ refl | false ↦ later bytes ]
 
--- the first line divides, or what stands behind it is looked at
+-- the first line divides, or what is behind it is looked at
 pub at_line : (text line : List ℕ) (lines : List (List ℕ)) → lines_of text ≡ line ∷ lines →
     from_divider true text ≡ option_or (from_divider true (rest_of text)) (cond (is_divider line) (Some text) None)
 at_line [] line lines e = cc

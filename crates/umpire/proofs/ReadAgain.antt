@@ -1,11 +1,14 @@
 -- Certificates are read as they were written.
-use Rattle.std.proofs.Common.{◌≡◌, ℕ, zero, suc, ◌+◌, ◌-◌, ◌<◌, ◌≤◌, ◌⊎◌, Bool, true, false, cond, List, [], ◌∷◌, ◌++◌, decimal, Option, Some, None, Result, Ok, codes, length, take, drop, map, append_assoc, refl, sym, ap, subst, ◌∙◌, inl, inr, arith}
+use Rattle.std.proofs.Common.{◌≡◌, ℕ, zero, suc, ◌+◌, ◌-◌, ◌<◌, ◌≤◌, ◌⊎◌, Bool, true, false, cond, List, [], ◌∷◌, ◌++◌}
+use Rattle.std.proofs.Common.{decimal, Option, Some, None, Result, Ok, codes, length, take, drop, map, append_assoc}
+use Rattle.std.proofs.Common.{refl, sym, ap, subst, ◌∙◌, inl, inr, arith}
 use Rattle.std.specs.List.{AllByRecursion, flat_map}
-use Rattle.std.proofs.lemmas.List.{append-nil, drop_all, length-drop, length-take, length-take-le, take-append-drop, take_all}
+use Rattle.std.proofs.lemmas.List.{append-nil, drop_all, length-drop, length-take, length-take-le, take-append-drop}
+use Rattle.std.proofs.lemmas.List.{take_all}
 use Rattle.std.proofs.lemmas.List.Concat.{flat_map-cons}
 use Rattle.certificate.specs.Digits.{bits_of_digits, digits_of}
 use Rattle.certificate.specs.Holding.{AreFilling}
-use Rattle.certificate.specs.declared.claim.ClaimedRun.{ClaimedRun}
+use Rattle.legal_runs.specs.declared.claim.ClaimedRun.{ClaimedRun}
 use Rattle.certificate.specs.declared.group.Group.{Group}
 use Rattle.certificate.proofs.Printed.{reads_what_was_printed}
 use Rattle.map_tables.specs.Text.{text_of_place}
@@ -17,7 +20,8 @@ use Rattle.tables.specs.declared.round.Round.{Round}
 use Rattle.order_grammar.specs.Form.{cert_forms}
 use Rattle.order_grammar.specs.Line.{cert_reading_of}
 use Rattle.order_grammar.specs.Print.{spaced, spelling_of, text_of_round}
-use Rattle.order_grammar.specs.Spells.{ArePlaces, End, HasSpelling, IsCompany, IsKind, IsNumber, IsRoundOfLine, IsWord, SpellsIn, Then}
+use Rattle.order_grammar.specs.Spells.{ArePlaces, End, HasSpelling, IsCompany, IsKind, IsNumber, IsRoundOfLine, IsWord}
+use Rattle.order_grammar.specs.Spells.{SpellsIn, Then}
 use Rattle.order_grammar.specs.Texts.{certificate}
 use Rattle.order_grammar.specs.Words.{first_of_words, raised, same_word, words_of}
 use Rattle.order_grammar.specs.declared.order.Order.{Order}
@@ -33,7 +37,9 @@ use Rattle.umpire.specs.ReadAgain.{AreReadAgain, CanBeWritten, IsReadAgain, Read
 use Rattle.umpire.specs.Written.{certificates_text, claim_line, group_text, marks_lines, marks_lines_within, order_line}
 use Rattle.umpire.proofs.GroupLemmas.{raised_digits}
 use Rattle.umpire.proofs.MarksLines.{HasLine, full_digits, has_line, marks_of}
-use Rattle.umpire.proofs.WrittenLines.{ArePrintable, IsWritten, all_written, both_printable, both_written, claim_fits, line_written, lines_written, nothing_written, printable_company, printable_kind, printable_number, printable_places, printable_round, printable_spaced}
+use Rattle.umpire.proofs.WrittenLines.{ArePrintable, IsWritten, all_written, both_printable, both_written, claim_fits}
+use Rattle.umpire.proofs.WrittenLines.{line_written, lines_written, nothing_written, printable_company, printable_kind}
+use Rattle.umpire.proofs.WrittenLines.{printable_number, printable_places, printable_round, printable_spaced}
 
 -- whether a line begins a group, by its first word
 begins_by : (line word : List ℕ) → first_of_words (words_of line) ≡ word
@@ -63,7 +69,7 @@ claims_of : List ClaimedRun → List (List ℕ)
 claims_of [] = []
 claims_of (claimed ∷ runs) = spelling_of (Claim claimed.kind claimed.run) ∷ claims_of runs
 
--- the MARKS lines of bits, at most so many of them
+-- the MARKS lines of bits, at most this many of them
 marks_within : ℕ → List Bool → List (List ℕ)
 marks_within zero bits = []
 marks_within (suc count) [] = []
@@ -285,10 +291,10 @@ passed [] more none = refl
 passed (line ∷ lines) more none = rw none.0 (passed lines more none.1)
 
 -- a line that begins a group begins it with what is read of it
-groups_at : (line : List ℕ) (lines : List (List ℕ)) (begun : Option Group) → begins_group line ≡ true
+written_turns_at : (line : List ℕ) (lines : List (List ℕ)) (begun : Option Group) → begins_group line ≡ true
     → group_begun (cert_reading_of line) ≡ begun →
     groups_in (line ∷ lines) ≡ with_lines lines begun ∷ groups_in lines
-groups_at line lines begun begins is = rw (begins, is) refl
+written_turns_at line lines begun begins is = rw (begins, is) refl
 
 -- lines that begin with a group, if there are any
 abbrev BeginAnew : List (List ℕ) → Type 0
@@ -328,7 +334,7 @@ group_read group more can anew =
     in
     let head : groups_in (cert_of group ∷ ((claims ++ marks) ++ more))
     ≡ with_lines ((claims ++ marks) ++ more) (Some begun) ∷ groups_in ((claims ++ marks) ++ more) =
-    groups_at (cert_of group) ((claims ++ marks) ++ more) (Some begun) cert.begins (ap group_begun cert.reads)
+    written_turns_at (cert_of group) ((claims ++ marks) ++ more) (Some begun) cert.begins (ap group_begun cert.reads)
     in
     record {
       first = Some (having group group.claim.runs (group.bits ++ read_marks.filling));

@@ -1,5 +1,6 @@
 -- A file that has gone over to version 2 has the same players, unread lines and parts of sheets.
-use Rattle.std.proofs.Common.{◌≡◌, ℕ, ◌+◌, ◌≤◌, inl, inr, Bool, true, false, cond, List, [], ◌∷◌, Option, Some, None, Result, Ok, Err, codes, length, take, refl, sym, ap, ◌∙◌, arith, map}
+use Rattle.std.proofs.Common.{◌≡◌, ℕ, ◌+◌, ◌≤◌, inl, inr, Bool, true, false, cond, List, [], ◌∷◌, Option, Some, None}
+use Rattle.std.proofs.Common.{Result, Ok, Err, codes, length, take, refl, sym, ap, ◌∙◌, arith, map}
 use Rattle.std.specs.Prelude.{not, ◌&&◌, nat_lt, is_some, option_map, unwrap_or}
 use Rattle.std.specs.List.{list_all, prefix_len}
 use Rattle.std.specs.Option.{option_or}
@@ -18,7 +19,10 @@ use Rattle.order_grammar.specs.declared.fault.Fault.TheVariants.{UnknownWord}
 use Rattle.order_grammar.specs.declared.order.Order.{Order}
 use Rattle.order_grammar.proofs.KeywordLemmas.{same_word-is}
 use Rattle.order_grammar.proofs.VersionLemmas.{one_is_as_it_was, same_without_if}
-use Rattle.sheets.specs.File.{Content, begins, block, body_content, body_in, body_of, content_of, good_lines, header_version, is_sheet_line, lines_begun, lines_content, players_content, players_in, players_named, players_of, sheet_key_at, same_sheet_key, sheet_in, sheet_of, unread_fault, unread_in, unread_of, version_in, version_of}
+use Rattle.sheets.specs.File.{Content, begins, block, body_content, body_in, body_of, content_of, good_lines}
+use Rattle.sheets.specs.File.{header_version, is_sheet_line, lines_begun, lines_content, players_content, players_in}
+use Rattle.sheets.specs.File.{players_named, players_of, sheet_key_at, same_sheet_key, sheet_in, sheet_of, unread_fault}
+use Rattle.sheets.specs.File.{unread_in, unread_of, version_in, version_of}
 use Rattle.sheets.specs.Laws.{SameParts}
 use Rattle.sheets.specs.Limits.{file_most, sheets_most}
 use Rattle.sheets.specs.Part.{opens_part, parts_after}

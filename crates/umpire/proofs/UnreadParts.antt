@@ -1,5 +1,6 @@
 -- The lines for unread lines, written a part at a time.
-use Rattle.std.proofs.Common.{◌≡◌, ℕ, ◌+◌, List, [], ◌∷◌, ◌++◌, length, take, drop, ap, append_assoc, arith, sym, take-append-drop, ◌∙◌}
+use Rattle.std.proofs.Common.{◌≡◌, ℕ, ◌+◌, List, [], ◌∷◌, ◌++◌, length, take, drop, ap, append_assoc, arith, sym}
+use Rattle.std.proofs.Common.{take-append-drop, ◌∙◌}
 use Rattle.std.specs.Prelude.{Option, codes, decimal}
 use Rattle.std.specs.Io.KnownBytes.{Appends}
 use Rattle.std.proofs.lemmas.List.{append-nil}
@@ -24,7 +25,7 @@ lines_parted before (fault ∷ part) later =
     lines_parted (before + 1) part later ∙ ap (λ n. here ++ unread_lines n later) (grind arith) in
     rw others (line_parted (codes "UNREAD ") (decimal (before + 1)) (code_of fault) here there)
 
--- the lines of the first so many faults, and then those of the others
+-- the lines of the first this many faults, and then those of the others
 pub unread_parted : (before most : ℕ) (faults part later : List Fault) → part ≡ take most faults
     → later ≡ drop most faults →
     unread_lines before faults ≡ unread_lines before part ++ unread_lines (before + length part) later

@@ -1,5 +1,6 @@
 -- What the check of certificates answers, by what it has read and by how the game was judged.
-use Rattle.std.proofs.Common.{◌≡◌, ℕ, zero, suc, ◌+◌, ◌-◌, ◌<◌, ◌≤◌, ◌⊎◌, inl, inr, Bool, true, false, List, [], ◌∷◌, ◌++◌, length, take, refl, sym, ap, subst, ◌∙◌, cond, eqb, arith}
+use Rattle.std.proofs.Common.{◌≡◌, ℕ, zero, suc, ◌+◌, ◌-◌, ◌<◌, ◌≤◌, ◌⊎◌, inl, inr, Bool, true, false, List, [], ◌∷◌}
+use Rattle.std.proofs.Common.{◌++◌, length, take, refl, sym, ap, subst, ◌∙◌, cond, eqb, arith}
 use Rattle.std.proofs.lemmas.Bool.{le-ltb, lt-ltb}
 use Rattle.std.proofs.lemmas.List.{length-take-le, take_all}
 use Rattle.std.specs.Prelude.{Option, Some, None, Result, Ok, Err, IfErr, IfSome, IsOk, OnOk, nat_lt, unwrap_or}
@@ -16,10 +17,13 @@ use Rattle.tables.specs.declared.roster.Company.{Company}
 use Rattle.tables.specs.declared.round.Round.{Round}
 use Rattle.umpire.proofs.PartingLemmas.{found_within}
 use Rattle.umpire.specs.Groups.{groups_of}
-use Rattle.umpire.specs.Parting.{certificates_most, certificates_of, file_before, from_divider, order_file_of, without_newline}
-use Rattle.umpire.specs.Rounds.{IsTextOfRounds, TellsAllRounds}
+use Rattle.umpire.specs.Parting.{certificates_most, certificates_of, file_before, from_divider, order_file_of}
+use Rattle.umpire.specs.Parting.{without_newline}
+use Rattle.umpire.specs.Rounds.{IsTextOfRounds, WritesAllRounds}
 use Rattle.umpire.specs.Run.{IsFileOf, IsReadFault, IsReported, IsWriteFault}
-use Rattle.umpire.specs.Verify.{AnswersContent, AnswersGame, AnswersInput, HasAllGroups, IsAnswered, IsGameAnswered, IsRefusal, LacksGroup, Refuses, StopsGame, StopsVerify, content_of_input, uncertified_line}
+use Rattle.umpire.specs.Verify.{AnswersContent, AnswersGame, AnswersInput, HasAllGroups, IsAnswered, IsGameAnswered}
+use Rattle.umpire.specs.Verify.{IsRefusal, LacksGroup, Refuses, StopsGame, StopsVerify, content_of_input}
+use Rattle.umpire.specs.Verify.{uncertified_line}
 use Rattle.umpire.specs.declared.fault.Fault.{Fault}
 use Rattle.umpire.specs.declared.fault.Fault.TheVariants.{Read, Write, Memory, File, Certificate}
 
@@ -296,7 +300,7 @@ writing_stops file groups old new failed (Certificate round company) is = absurd
 pub rounds_told :
     (file : List ℕ) (ended : Underway) (text : List ℕ) (old new : Option (List ℕ)) → IsTextOfRounds file ended text
     → Appends old new text →
-    TellsAllRounds file ended old new
+    WritesAllRounds file ended old new
 rounds_told file ended text old new all written =
     record {
       last = all.last;

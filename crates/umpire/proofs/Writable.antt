@@ -3,7 +3,7 @@ use Rattle.std.proofs.Common.{◌≡◌, ℕ, ◌<◌, ◌≤◌, Bool, true, �
 use Rattle.std.specs.Prelude.{IsTrue}
 use Rattle.std.specs.List.{AllByRecursion}
 use Rattle.std.proofs.lemmas.Bool.{and_from, le-leb}
-use Rattle.certificate.specs.Places.{ClaimsHavePlaces}
+use Rattle.legal_runs.specs.Places.{ClaimsHavePlaces}
 use Rattle.certificate.specs.declared.group.Group.{Group}
 use Rattle.operating.specs.Calls.{Call}
 use Rattle.order_grammar.specs.Spells.{is_round_of_line}

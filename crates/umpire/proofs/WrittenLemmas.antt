@@ -1,5 +1,6 @@
 -- MARKS lines, one after the other.
-use Rattle.std.proofs.Common.{◌≡◌, ℕ, ◌<◌, ◌≤◌, List, [], ◌∷◌, ◌++◌, true, false, append_assoc, length, take, drop, refl, ◌∙◌, ap, zero, suc, arith}
+use Rattle.std.proofs.Common.{◌≡◌, ℕ, ◌<◌, ◌≤◌, List, [], ◌∷◌, ◌++◌, true, false, append_assoc, length, take, drop}
+use Rattle.std.proofs.Common.{refl, ◌∙◌, ap, zero, suc, arith}
 use Rattle.std.specs.Prelude.{Bool, IsTrue, codes}
 use Rattle.certificate.specs.Digits.{digits_of}
 use Rattle.std.proofs.lemmas.List.{length-drop}

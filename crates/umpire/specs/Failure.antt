@@ -8,13 +8,13 @@ took_none (Ok count) [] = false
 took_none (Ok count) (byte ∷ bytes) = count == 0
 took_none (Err error) bytes = false
 
--- a writer holds what it held, and a front of the text after it
-pub record AppendsFront (old new : Option (List ℕ)) (text : List ℕ) : Type 0 where
+-- a writer holds what it held, and a prefix of the text after it
+pub record AppendsPrefix (old new : Option (List ℕ)) (text : List ℕ) : Type 0 where
   pub count : ℕ
   pub within : count ≤ length text
   pub appended : Appends old new (take count text)
 
--- a reader gave so many bytes at most
+-- a reader gave this many bytes at most
 pub record TakesAtMost (most : ℕ) (old new : Option (List ℕ)) : Type 0 where
   pub taken : List ℕ
   pub consumed : Consumes old new taken

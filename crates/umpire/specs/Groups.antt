@@ -1,9 +1,10 @@
 -- The groups of a text of certificates. A line whose first word is CERT begins one, spelt or not, and it goes up to the
 -- next such line. It is well formed where that line is spelt, CLAIM lines come then, and then MARKS lines, and no other
 -- line with words. The digits of its MARKS lines may be parted into lines anyhow. Lines before the first are not looked at.
-use Rattle.std.specs.Prelude.{ℕ, Bool, true, false, if◌then◌else◌, List, [], ◌∷◌, ◌++◌, codes, Option, Some, None, option_and_then, Result, Ok}
+use Rattle.std.specs.Prelude.{ℕ, Bool, true, false, if◌then◌else◌, List, [], ◌∷◌, ◌++◌, codes, Option, Some, None}
+use Rattle.std.specs.Prelude.{option_and_then, Result, Ok}
 use Rattle.certificate.specs.Digits.{bits_of_digits}
-use Rattle.certificate.specs.declared.claim.ClaimedRun.{ClaimedRun}
+use Rattle.legal_runs.specs.declared.claim.ClaimedRun.{ClaimedRun}
 use Rattle.certificate.specs.declared.group.Group.{Group}
 use Rattle.order_grammar.specs.Line.{cert_reading_of}
 use Rattle.order_grammar.specs.Words.{words_of, first_of_words, same_word}

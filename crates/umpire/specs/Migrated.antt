@@ -1,7 +1,8 @@
 -- What a file goes over to. A file of version 2 stays as it is. In a file of version 1 the first line that is not blank
 -- becomes `GAME 1830 2`, and each line whose first word is IF and whose fault is G3 becomes `X`, since in version 2 it could
 -- be an order. The ends of lines and all other bytes stay.
-use Rattle.std.specs.Prelude.{ℕ, ◌==◌, Bool, true, false, ◌&&◌, if◌then◌else◌, List, [], ◌∷◌, ◌++◌, map, codes, Option, Some, None, Result, Err}
+use Rattle.std.specs.Prelude.{ℕ, ◌==◌, Bool, true, false, ◌&&◌, if◌then◌else◌, List, [], ◌∷◌, ◌++◌, map, codes, Option}
+use Rattle.std.specs.Prelude.{Some, None, Result, Err}
 use Rattle.std.specs.List.{flat_map}
 use Rattle.order_grammar.specs.Line.{reading_of}
 use Rattle.order_grammar.specs.Words.{words_of, first_of_words, same_word}

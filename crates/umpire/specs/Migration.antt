@@ -4,7 +4,7 @@ use Rattle.std.specs.Io.KnownBytes.{Appends, Keeps}
 use Rattle.report.specs.Report.{refusal_line}
 use Rattle.sheets.specs.File.{Content, IsAccepted, content_of}
 use Rattle.sheets.specs.declared.fault.FileFault.{FileFault}
-use Rattle.umpire.specs.Failure.{AppendsFront}
+use Rattle.umpire.specs.Failure.{AppendsPrefix}
 use Rattle.umpire.specs.Migrated.{migrated}
 use Rattle.umpire.specs.Run.{IsFileOf, IsRefused}
 use Rattle.umpire.specs.declared.fault.Fault.{Fault}
@@ -26,11 +26,11 @@ pub record IsMigrated (given old new : Option (List ℕ)) : Type 0 where
   pub accepted : IsAccepted file
   pub written : Appends old new (migrated file)
 
--- a front of what is written of the file, or nothing, follows what the writer held
+-- a prefix of what is written of the file, or nothing, follows what the writer held
 pub record IsMigratedShort (given old new : Option (List ℕ)) : Type 0 where
   pub file : List ℕ
   pub whole : IsFileOf given file
-  pub front : AppendsFront old new (migration_of file)
+  pub front : AppendsPrefix old new (migration_of file)
 
 -- what a fault leaves, and which calls of the reader and the writer have failed
 abbrev pub StopsMigration : Option (List ℕ) → Option (List ℕ) → Option (List ℕ) → Bool → Bool → Fault → Type 0

@@ -1,5 +1,6 @@
 -- How the input of a check of certificates is parted: into an order file, and the text of the certificates behind it.
-use Rattle.std.specs.Prelude.{ℕ, ◌==◌, ◌-◌, Bool, true, false, ◌&&◌, if◌then◌else◌, List, [], ◌∷◌, length, take, Option, Some, None, unwrap_or, Result, Ok}
+use Rattle.std.specs.Prelude.{ℕ, ◌==◌, ◌-◌, Bool, true, false, ◌&&◌, if◌then◌else◌, List, [], ◌∷◌, length, take, Option}
+use Rattle.std.specs.Prelude.{Some, None, unwrap_or, Result, Ok}
 use Rattle.std.specs.Option.{option_or}
 use Rattle.order_grammar.specs.Line.{cert_reading_of}
 use Rattle.order_grammar.specs.declared.fault.Fault.{Fault}
@@ -21,7 +22,7 @@ abbrev pub begin_with_divider : List (List ℕ) → Bool
 begin_with_divider [] = false
 begin_with_divider (line ∷ lines) = is_divider line
 
--- what stands in a text from its last such line on; a line may begin with the first byte, or not
+-- what is in a text from its last such line on; a line may begin with the first byte, or not
 abbrev pub from_divider : Bool → List ℕ → Option (List ℕ)
 from_divider begins [] = None
 from_divider begins (byte ∷ bytes) =

@@ -4,7 +4,7 @@ use Rattle.std.specs.Io.KnownBytes.{Appends, Keeps}
 use Rattle.report.specs.Report.{IsReport, refusal_line}
 use Rattle.sheets.specs.File.{IsAccepted, content_of}
 use Rattle.sheets.specs.declared.fault.FileFault.{FileFault}
-use Rattle.umpire.specs.Failure.{AppendsFront}
+use Rattle.umpire.specs.Failure.{AppendsPrefix}
 use Rattle.umpire.specs.declared.fault.Fault.{Fault}
 use Rattle.umpire.specs.declared.fault.Fault.TheVariants.{Read, Write, Memory, File, Certificate}
 
@@ -12,7 +12,7 @@ use Rattle.umpire.specs.declared.fault.Fault.TheVariants.{Read, Write, Memory, F
 unfoldable pub as_read : List ℕ → List ℕ
 as_read bytes = take 67108865 bytes
 
--- the first of the bytes that a reader gives, so many at most, where they are known
+-- the first of the bytes that a reader gives, this many at most, where they are known
 abbrev pub AreFirst : ℕ → Option (List ℕ) → List ℕ → Type 0
 AreFirst most given bytes = IfSome given (λ all. bytes ≡ take most all)
 
@@ -56,13 +56,13 @@ pub record IsRefused (given old new : Option (List ℕ)) (fault : FileFault) : T
   pub refused : content_of file ≡ Err fault
   pub written : Appends old new (refusal_line fault)
 
--- a front of the file's report, or nothing, follows what the writer held
+-- a prefix of the file's report, or nothing, follows what the writer held
 pub record IsCutShort (given old new : Option (List ℕ)) : Type 0 where
   pub file : List ℕ
   pub text : List ℕ
   pub whole : IsFileOf given file
   pub report : IsReport file text
-  pub front : AppendsFront old new text
+  pub front : AppendsPrefix old new text
 
 -- what a fault leaves, and which calls of the reader and the writer have failed
 abbrev pub Stops : Option (List ℕ) → Option (List ℕ) → Option (List ℕ) → Bool → Bool → Fault → Type 0

@@ -1,7 +1,8 @@
 -- What the check of certificates answers. The input is parted into an order file and the text of certificates behind it.
 -- The game of the file is played, and its runner answers each call by the next group of the text: the k-th RUN BEST that
 -- is obeyed is judged by the k-th group, and groups left over are not looked at.
-use Rattle.std.specs.Prelude.{◌≡◌, ℕ, ◌+◌, ◌≤◌, nat_lt, Bool, true, false, if◌then◌else◌, List, [], ◌∷◌, ◌++◌, length, codes, Option, Some, None, Result, Ok, Err, IsOk}
+use Rattle.std.specs.Prelude.{◌≡◌, ℕ, ◌+◌, ◌≤◌, nat_lt, Bool, true, false, if◌then◌else◌, List, [], ◌∷◌, ◌++◌, length}
+use Rattle.std.specs.Prelude.{codes, Option, Some, None, Result, Ok, Err, IsOk}
 use Rattle.std.specs.Io.KnownBytes.{Appends, Keeps}
 use Rattle.certificate.specs.Checked.{Shows}
 use Rattle.certificate.specs.declared.group.Group.{Group}

@@ -3,7 +3,7 @@
 use Rattle.std.specs.Prelude.{ℕ, zero, suc, Bool, List, [], ◌∷◌, ◌++◌, length, take, drop, codes}
 use Rattle.std.specs.List.{flat_map}
 use Rattle.certificate.specs.Digits.{digits_of}
-use Rattle.certificate.specs.declared.claim.ClaimedRun.{ClaimedRun}
+use Rattle.legal_runs.specs.declared.claim.ClaimedRun.{ClaimedRun}
 use Rattle.certificate.specs.declared.group.Group.{Group}
 use Rattle.order_grammar.specs.Print.{spelling_of}
 use Rattle.order_grammar.specs.declared.order.Order.{Order}
@@ -25,7 +25,7 @@ claim_line claimed = order_line (Claim claimed.kind claimed.run)
 abbrev pub marks_line : List Bool → List ℕ
 marks_line bits = ended (codes "MARKS " ++ digits_of (take 4000 bits))
 
--- MARKS lines of bits, at most so many of them
+-- MARKS lines of bits, at most this many of them
 abbrev pub marks_lines_within : ℕ → List Bool → List ℕ
 marks_lines_within zero bits = []
 marks_lines_within (suc count) [] = []

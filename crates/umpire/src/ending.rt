@@ -3,7 +3,7 @@ ghost use Rattle.report.specs.Report.{unread_lines};
 ghost use Rattle.rounds.specs.Steps.{HasEnded};
 ghost use Rattle.std.specs.Io.KnownBytes.{Appends};
 ghost use Rattle.std.specs.Prelude.{◌≡◌, false, IfErr, OnErr, OnOk};
-ghost use Rattle.umpire.specs.Failure.{AppendsFront};
+ghost use Rattle.umpire.specs.Failure.{AppendsPrefix};
 ghost use Rattle.umpire.specs.Run.{IsWriteFault};
 ghost use Rattle.umpire.specs.Watched.{has_failed, inside};
 
@@ -31,7 +31,7 @@ pub(crate) fn write_end<W: Write>(
         (W.contents (inside writer.new)) (end_text_of play.now)) }
     ensures unfailed { OnOk result (has_failed writer.new ≡ false) }
     ensures err { IfErr result (IsWriteFault (has_failed writer.new)) }
-    ensures front { OnErr result (AppendsFront (W.contents (inside writer.old))
+    ensures front { OnErr result (AppendsPrefix (W.contents (inside writer.old))
         (W.contents (inside writer.new)) (end_text_of play.now)) }
 {
     write_unread(alloc, play.sheets().unread(), writer)?;
@@ -51,7 +51,7 @@ fn write_unread<W: Write>(
         (W.contents (inside writer.new)) (unread_lines 0 unread.now)) }
     ensures unfailed { OnOk result (has_failed writer.new ≡ false) }
     ensures err { IfErr result (IsWriteFault (has_failed writer.new)) }
-    ensures front { OnErr result (AppendsFront (W.contents (inside writer.old))
+    ensures front { OnErr result (AppendsPrefix (W.contents (inside writer.old))
         (W.contents (inside writer.new)) (unread_lines 0 unread.now)) }
 {
     let mut before = 0;

@@ -1,5 +1,6 @@
 ghost use Rattle.std.specs.Prelude.{◌≡◌, IfOk, OnOk};
-ghost use Rattle.umpire.specs.Groups.{begins_group, group_begun, group_if, groups_of, second_of_words, with_line, with_lines, with_marks, with_run};
+ghost use Rattle.umpire.specs.Groups.{begins_group, group_begun, group_if, groups_of, second_of_words, with_line};
+ghost use Rattle.umpire.specs.Groups.{with_lines, with_marks, with_run};
 ghost use Rattle.order_grammar.specs.Line.{cert_reading_of};
 ghost use Rattle.order_grammar.specs.Words.{texts_of};
 ghost use Rattle.sheets.specs.Text.{lines_of};
@@ -9,8 +10,8 @@ use order_grammar::{Line, Order, Words, begins_with_word, read_cert_line};
 use sheets::first_line;
 use std::alloc::{AllocError, Global};
 
-/// Reads the groups of a text of certificates, in order; `None` is one that is malformed. The only
-/// error is want of memory.
+/// Reads the groups of a text of certificates, in order; `None` is one that is malformed. It fails
+/// only if memory is refused.
 pub fn read_groups(alloc: Global, text: &[u8]) -> Result<Vec<Option<Group>>, AllocError>
     ensures { IfOk result (λ groups. groups.items ≡ groups_of text.now) }
 {

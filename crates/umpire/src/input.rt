@@ -28,7 +28,7 @@ pub(crate) fn read_file<R: Read>(alloc: Global, reader: &mut Watched<R>) -> Resu
     read_first(alloc, FILE_MOST + 1, reader)
 }
 
-/// Reads so many bytes, or all where there are no more.
+/// Reads this many bytes, or all where there are no more.
 pub(crate) fn read_first<R: Read>(
     alloc: Global,
     most: usize,

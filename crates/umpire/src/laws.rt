@@ -25,7 +25,7 @@ pub fn certifying_groups_can_be_written()
     ensures { CertifyingCanBeWritten }
 {
     rounds::laws::calls_are_named();
-    certificate::laws::claims_have_places()
+    legal_runs::laws::claims_have_places()
 }
 
 /// An accepted order file, one LF, and the text of groups that certify its game, as `certs` writes

@@ -3,7 +3,7 @@ ghost use Rattle.sheets.specs.Text.{is_blank};
 ghost use Rattle.std.specs.Io.KnownBytes.{Appends};
 ghost use Rattle.std.specs.List.{list_all};
 ghost use Rattle.std.specs.Prelude.{◌≡◌, ◌≤◌, ◌++◌, false, drop, length, IfErr, OnErr, OnOk, Some};
-ghost use Rattle.umpire.specs.Failure.{AppendsFront, TakesWithin};
+ghost use Rattle.umpire.specs.Failure.{AppendsPrefix, TakesWithin};
 ghost use Rattle.umpire.specs.Gathered.{Gathers, IsFromHeader, is_clean};
 ghost use Rattle.umpire.specs.Migrated.{body_in_two, file_in_two, is_if_line};
 ghost use Rattle.umpire.specs.Migration.{IsMigrated, StopsMigration};
@@ -31,7 +31,7 @@ const HEADER: &[u8] = b"GAME 1830 2";
 /// - `Ok`: the new file, whole;
 /// - `File`, where the file is refused: the one line that says so, whole;
 /// - `Read`, where a read failed: nothing more;
-/// - `Write`, where a write failed or took nothing: a front of the new file, or of that line;
+/// - `Write`, where a write failed or took nothing: a prefix of the new file, or of that line;
 /// - `Memory`, where memory was refused: the same, or nothing more.
 pub fn migrate<R: Read, W: Write>(
     alloc: Global,
@@ -86,7 +86,7 @@ fn write_in_two<W: Write>(alloc: Global, file: &[u8], writer: &mut Watched<W>) -
         (W.contents (inside writer.new)) (file_in_two file.now)) }
     ensures unfailed { OnOk result (has_failed writer.new ≡ false) }
     ensures err { IfErr result (IsWriteFault (has_failed writer.new)) }
-    ensures front { OnErr result (AppendsFront (W.contents (inside writer.old))
+    ensures front { OnErr result (AppendsPrefix (W.contents (inside writer.old))
         (W.contents (inside writer.new)) (file_in_two file.now)) }
 {
     let mut gathered = Vec::new(alloc);
@@ -107,7 +107,7 @@ fn put_in_two<W: Write>(
         (file_in_two file.now)) }
     ensures unfailed { OnOk result (has_failed writer.new ≡ false) }
     ensures err { IfErr result (IsWriteFault (has_failed writer.new)) }
-    ensures front { OnErr result (AppendsFront (W.contents (inside writer.old))
+    ensures front { OnErr result (AppendsPrefix (W.contents (inside writer.old))
         (W.contents (inside writer.new)) (gathered.old.items ++ file_in_two file.now)) }
 {
     let text = from_header(file);
@@ -144,7 +144,7 @@ fn is_blank(line: &[u8]) -> bool
     line.len() <= LINE_MOST && !has_word(line)
 }
 
-/// Puts what stands behind a header line behind what is gathered, each line as one of version 2.
+/// Puts what is behind a header line behind what is gathered, each line as one of version 2.
 fn put_body<W: Write>(
     gathered: &mut Vec<u8>,
     text: &[u8],
@@ -156,7 +156,7 @@ fn put_body<W: Write>(
         (body_in_two text.now)) }
     ensures unfailed { OnOk result (has_failed writer.new ≡ false) }
     ensures err { IfErr result (IsWriteFault (has_failed writer.new)) }
-    ensures front { OnErr result (AppendsFront (W.contents (inside writer.old))
+    ensures front { OnErr result (AppendsPrefix (W.contents (inside writer.old))
         (W.contents (inside writer.new)) (gathered.old.items ++ body_in_two text.now)) }
 {
     // What is not put yet, of which the lines from `rest` on are ahead.
@@ -213,7 +213,7 @@ fn is_printable_line(line: &[u8]) -> bool
     true
 }
 
-/// Whether a byte may stand before a comment.
+/// Whether a byte may be before a comment.
 fn is_printable(byte: u8) -> bool
     ensures { result ≡ is_printable byte }
 {

@@ -1,5 +1,6 @@
 //! Laws of going over to version 2, each the contract of a function that does nothing.
-ghost use Rattle.umpire.specs.MigrationLaws.{AcceptedSaysTheSame, GoesOverOnce, GrowsNoLonger, MigrationChangesNoReport, RefusedAlike};
+ghost use Rattle.umpire.specs.MigrationLaws.{AcceptedSaysTheSame, GoesOverOnce, GrowsNoLonger};
+ghost use Rattle.umpire.specs.MigrationLaws.{MigrationChangesNoReport, RefusedAlike};
 
 /// A file that has gone over to version 2 stays as it is where it goes over again.
 pub fn file_goes_over_once()

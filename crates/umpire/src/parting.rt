@@ -35,7 +35,7 @@ pub fn part(input: &[u8]) -> Parted<'_>
     }
 }
 
-/// What stands in a text from its last line `CERTS 1` on.
+/// What is in a text from its last line `CERTS 1` on.
 fn from_divider(text: &[u8]) -> Option<&[u8]>
     ensures { MatchOption result (from_divider true text.now ≡ None)
         (λ found. from_divider true text.now ≡ Some found.now) }

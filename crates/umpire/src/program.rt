@@ -3,8 +3,8 @@ ghost use Rattle.rounds.specs.Steps.{ComesNearer, IsUnbroken, StepLeads, started
 ghost use Rattle.sheets.specs.File.{IsAccepted};
 ghost use Rattle.std.specs.Io.KnownBytes.{Appends};
 ghost use Rattle.std.specs.Prelude.{◌≡◌, false, IfErr, IfOk, Ok, OnErr, OnOk};
-ghost use Rattle.umpire.specs.Failure.{AppendsFront, TakesWithin};
-ghost use Rattle.umpire.specs.Rounds.{TellsAllRounds, TellsFront};
+ghost use Rattle.umpire.specs.Failure.{AppendsPrefix, TakesWithin};
+ghost use Rattle.umpire.specs.Rounds.{WritesAllRounds, WritesPrefixOfRounds};
 ghost use Rattle.umpire.specs.Run.{IsReported, IsWriteFault, Stops};
 ghost use Rattle.umpire.specs.Watched.{has_failed, inside};
 
@@ -28,8 +28,8 @@ use std::io::{Read, Write};
 /// - `Ok`: the report, whole;
 /// - `File`, where the file is refused: the one line that says so, whole;
 /// - `Read`, where a read failed: nothing more;
-/// - `Write`, where a write failed or took nothing: a front of the report;
-/// - `Memory`, where memory was refused: a front of the report, or nothing more.
+/// - `Write`, where a write failed or took nothing: a prefix of the report;
+/// - `Memory`, where memory was refused: a prefix of the report, or nothing more.
 pub fn run<R: Read, W: Write>(
     alloc: Global,
     reader: &mut Watched<R>,
@@ -47,7 +47,8 @@ pub fn run<R: Read, W: Write>(
         (W.contents (inside writer.old)) (W.contents (inside writer.new))
         (has_failed reader.new) (has_failed writer.new)) }
 {
-    // A law, which does nothing when it runs: each file has a report, and nothing is a front of it.
+    // A law, which does nothing when it runs: each file has a report, and nothing is a prefix of
+    // it.
     report::laws::some_report();
     let file = read_file(alloc, reader)?;
     write_answer(alloc, file.as_slice(), writer)
@@ -111,7 +112,7 @@ pub(crate) fn write_header<W: Write>(
         (W.contents (inside writer.new)) (header sheets.now)) }
     ensures unfailed { OnOk result (has_failed writer.new ≡ false) }
     ensures err { IfErr result (IsWriteFault (has_failed writer.new)) }
-    ensures front { OnErr result (AppendsFront (W.contents (inside writer.old))
+    ensures front { OnErr result (AppendsPrefix (W.contents (inside writer.old))
         (W.contents (inside writer.new)) (header sheets.now)) }
 {
     let text = header_text(alloc, sheets)?;
@@ -128,11 +129,11 @@ fn write_rounds<W: Write>(
 ) -> Result<(), Fault>
     requires unfailed { has_failed writer.old ≡ false }
     requires started { play.old ≡ started play.old.file }
-    ensures ok { OnOk result (TellsAllRounds play.old.file play.new
+    ensures ok { OnOk result (WritesAllRounds play.old.file play.new
         (W.contents (inside writer.old)) (W.contents (inside writer.new))) }
     ensures unfailed { OnOk result (has_failed writer.new ≡ false) }
     ensures err { IfErr result (IsWriteFault (has_failed writer.new)) }
-    ensures front { OnErr result (TellsFront play.old.file
+    ensures front { OnErr result (WritesPrefixOfRounds play.old.file
         (W.contents (inside writer.old)) (W.contents (inside writer.new))) }
 {
     let mut search = Search::new(alloc);

@@ -1,7 +1,7 @@
 ghost use Rattle.report.specs.Report.{refusal_line};
 ghost use Rattle.std.specs.Io.KnownBytes.{Appends};
 ghost use Rattle.std.specs.Prelude.{◌≡◌, false, IfErr, OnErr, OnOk};
-ghost use Rattle.umpire.specs.Failure.{AppendsFront};
+ghost use Rattle.umpire.specs.Failure.{AppendsPrefix};
 ghost use Rattle.umpire.specs.Run.{IsWriteFault};
 ghost use Rattle.umpire.specs.Watched.{has_failed, inside};
 
@@ -24,7 +24,7 @@ pub(crate) fn write_refusal<W: Write>(
         (W.contents (inside writer.new)) (refusal_line fault)) }
     ensures unfailed { OnOk result (has_failed writer.new ≡ false) }
     ensures err { IfErr result (IsWriteFault (has_failed writer.new)) }
-    ensures front { OnErr result (AppendsFront (W.contents (inside writer.old))
+    ensures front { OnErr result (AppendsPrefix (W.contents (inside writer.old))
         (W.contents (inside writer.new)) (refusal_line fault)) }
 {
     let line = refusal_text(alloc, fault)?;

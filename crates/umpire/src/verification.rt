@@ -7,7 +7,8 @@ ghost use Rattle.umpire.specs.Failure.{TakesAtMost};
 ghost use Rattle.umpire.specs.Groups.{groups_of};
 ghost use Rattle.umpire.specs.Rounds.{IsTextOfRounds};
 ghost use Rattle.umpire.specs.Run.{IsReported, IsWriteFault};
-ghost use Rattle.umpire.specs.Verify.{IsAnswered, IsGameAnswered, IsJudged, Refuses, StopsGame, StopsVerify, uncertified_line};
+ghost use Rattle.umpire.specs.Verify.{IsAnswered, IsGameAnswered, IsJudged, Refuses, StopsGame, StopsVerify};
+ghost use Rattle.umpire.specs.Verify.{uncertified_line};
 ghost use Rattle.umpire.specs.Watched.{has_failed, inside};
 
 use crate::ending::write_end;
@@ -134,7 +135,7 @@ fn write_judgement<W: Write>(
 
 /// Plays the game as far as its sheets go; each RUN BEST that is obeyed is judged by its group. The
 /// answer is the text of each round, told before the next is played, one after the other. The errors
-/// are want of memory, and the round and the company of the first RUN BEST that has no group.
+/// are refused memory, and the round and the company of the first RUN BEST that has no group.
 fn play_checked(
     alloc: Global,
     play: &mut Play,
@@ -147,12 +148,12 @@ fn play_checked(
 {
     // Laws, which do nothing when they run: a file's game makes one list of calls, and each of them is
     // answered; those of the steps are those of the game, or of one that is broken off, and then they
-    // are a front of that list.
+    // are a prefix of that list.
     rounds::laws::some_calls();
     rounds::laws::calls_are_answered();
     rounds::laws::steps_call_the_game();
     rounds::laws::broken_steps_call_a_broken_game();
-    rounds::laws::refused_calls_are_a_front();
+    rounds::laws::refused_calls_are_a_prefix();
     let mut checked = Checked::new(groups);
     let mut told = Vec::new(alloc);
     loop {

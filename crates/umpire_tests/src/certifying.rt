@@ -37,13 +37,13 @@ fn joined(alloc: Global, texts: &[&[u8]]) -> Result<Vec<u8>, AllocError> {
     Ok(all)
 }
 
-/// The order file of the game, and what stands behind it.
+/// The order file of the game, and what is behind it.
 fn with_behind(alloc: Global, behind: &str) -> Result<Vec<u8>, AllocError> {
     let file = file(alloc, "RUN BEST\n")?;
     joined(alloc, &[file.as_slice(), behind.as_bytes()])
 }
 
-/// The outcome of a call over devices that give and take so many bytes at a time.
+/// The outcome of a call over devices that give and take this many bytes at a time.
 fn outcome_in(alloc: Global, call: Call, input: &[u8], most: usize) -> Outcome {
     outcome_by(
         alloc,
@@ -62,7 +62,7 @@ fn has_word(outcome: &Outcome, owed: &str) -> bool {
     told == owed && status(&outcome.result) == 4
 }
 
-/// Whether a call answered that a read failed, after so many, and wrote nothing.
+/// Whether a call answered that a read failed, after this many, and wrote nothing.
 fn stops_reading(outcome: &Outcome, reads: usize) -> bool {
     outcome.result == Err(Fault::Read)
         && has_word(outcome, "Read")
@@ -121,8 +121,8 @@ fn any_write_may_fail(alloc: Global, call: Call, input: &[u8], text: &[u8]) -> b
         && writes_that_may_fail(alloc, call, input, text, Trouble::TakesNothing) == text.len()
 }
 
-/// Whether a call over devices that give and take so many bytes at a time is well, and writes this
-/// text.
+/// Whether a call over devices that give and take this many bytes at a time is well, and writes
+/// this text.
 fn writes(alloc: Global, call: Call, input: &[u8], most: usize, text: &[u8]) -> bool {
     let outcome = outcome_in(alloc, call, input, most);
     outcome.result == Ok(()) && outcome.text.as_slice() == text

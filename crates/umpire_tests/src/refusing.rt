@@ -53,7 +53,7 @@ SHEET ANN OR2.1
 COMPANY PRR
 ";
 
-/// What stands after the run.
+/// What is after the run.
 const AFTER: &str = "PAY
 SHEET BOB OR2.1
 SHEET CYD OR2.1

@@ -195,7 +195,7 @@ fn end_at<R: Runner>(
     }
 }
 
-/// What shows of the game of these sheets once so many steps are taken.
+/// What shows of the game of these sheets once this many steps are taken.
 fn after(alloc: Global, sheets: &Sheets, steps: u32) -> Result<Shown, AllocError> {
     let mut search = Search::new(alloc);
     let mut play = Play::start(alloc, sheets)?;
@@ -214,7 +214,7 @@ fn end_at_second(alloc: Global, sheets: &Sheets) -> Result<Option<Vec<u8>>, Allo
     end_at(alloc, &mut play, &mut search)
 }
 
-/// What shows once so many steps are taken with a runner that refuses to answer, and what shows
+/// What shows once this many steps are taken with a runner that refuses to answer, and what shows
 /// after one more, with one that would answer.
 fn after_refusals(
     alloc: Global,

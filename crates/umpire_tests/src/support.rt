@@ -44,7 +44,7 @@ pub(crate) enum AfterEnd {
     Gives,
 }
 
-/// Gives a text, at most so many bytes a call, and then its end. One call, counted from 0, may
+/// Gives a text, at most this many bytes a call, and then its end. One call, counted from 0, may
 /// fail.
 #[derive(Drop)]
 pub(crate) struct Source<'a> {
@@ -127,7 +127,7 @@ pub(crate) enum Trouble {
     TakesNothing,
 }
 
-/// Keeps what is written, at most so many bytes a call, with trouble at one call, counted from 0.
+/// Keeps what is written, at most this many bytes a call, with trouble at one call, counted from 0.
 #[derive(Drop)]
 pub(crate) struct Sink {
     pub(crate) text: Vec<u8>,

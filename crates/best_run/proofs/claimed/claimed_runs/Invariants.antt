@@ -1,4 +1,4 @@
--- The runs so far stand before those that are told of the trains that are left; all of these can be written out.
+-- The runs so far are before those that are told of the trains that are left; all of these can be written out.
 use Rattle.std.proofs.Common.{◌≡◌, [], ◌++◌, drop, reverse}
 use Rattle.std.specs.List.{AllByRecursion}
 use Rattle.best_run.specs.MovePath.{CanBeClaimed, runs_told, written}

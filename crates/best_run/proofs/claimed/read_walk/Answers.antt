@@ -9,7 +9,7 @@ use Rattle.best_run.specs.MovePath.{after_walk, turned_about, walk_told}
 use Rattle.best_run.proofs.Told.{about_reversed, last_read}
 use Rattle.best_run.proofs.claimed.read_walk.Goals as goal
 
--- what is written to all items of a vector stands there
+-- what is written to all items of a vector is there
 all_written : (new old : List Step) (n : ℕ) → n ≡ length new → take n (new ++ drop (length new) old) ≡ new
 all_written new old n all =
     take-append-le n new (drop (length new) old) (omega (arith, all))

@@ -3,12 +3,12 @@ use Rattle.std.proofs.Common.{◌≡◌, List, ap, refl, subst, sym, ◌∙◌, 
 use Rattle.reach.specs.Position.{Position}
 use Rattle.tables.specs.declared.rolling_stock.Kind.{Kind}
 use Rattle.tables.specs.declared.roster.Company.{Company}
-use Rattle.certificate.specs.Claim.{ClaimHolds, NameRuns}
-use Rattle.certificate.specs.Set.{IsGreatest, TrainRun}
+use Rattle.legal_runs.specs.Claim.{ClaimHolds, NameRuns}
+use Rattle.legal_runs.specs.Set.{IsGreatest, TrainRun}
 use Rattle.certificate.specs.Tree.{greatest_first}
-use Rattle.certificate.specs.declared.claim.Claim.{Claim}
-use Rattle.certificate.specs.declared.claim.ClaimedRun.{ClaimedRun}
-use Rattle.certificate.proofs.Greatest.{order_of_trains}
+use Rattle.legal_runs.specs.declared.claim.Claim.{Claim}
+use Rattle.legal_runs.specs.declared.claim.ClaimedRun.{ClaimedRun}
+use Rattle.legal_runs.proofs.Greatest.{order_of_trains}
 use Rattle.certificate.proofs.Leaves.{same_number}
 use Rattle.best_run.specs.Answer.{IsBest}
 use Rattle.best_run.specs.MovePath.{CanBeRead, runs_in, written}

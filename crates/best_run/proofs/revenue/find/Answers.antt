@@ -1,8 +1,8 @@
--- What has been explored from the start is the greatest, and the runs that the trail tells earn it.
+-- What has been explored from the start is the greatest, and the runs that the path tells earn it.
 use Rattle.std.proofs.Common.{◌≡◌, List, [], arith}
-use Rattle.certificate.specs.Set.{IsGreatest, TrainRun}
-use Rattle.certificate.proofs.Greatest.{a_greatest_exists, one_greatest}
-use Rattle.best_run.specs.Described.{Describes}
+use Rattle.legal_runs.specs.Set.{IsGreatest, TrainRun}
+use Rattle.legal_runs.proofs.Greatest.{a_greatest_exists, one_greatest}
+use Rattle.search_task.specs.Described.{Describes}
 use Rattle.best_run.specs.MovePath.{marks_in, runs_told}
 use Rattle.best_run.proofs.Greatest.{TellSet, can_claim, greatest_found, names_them, tell_set}
 use Rattle.best_run.proofs.revenue.find.Goals as goal

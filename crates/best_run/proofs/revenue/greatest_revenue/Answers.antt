@@ -1,9 +1,9 @@
 -- It is the greatest in whichever order the trains are.
 use Rattle.std.proofs.Common.{List, subst, ◌∙◌}
 use Rattle.tables.specs.declared.rolling_stock.Kind.{Kind}
-use Rattle.certificate.specs.Set.{IsGreatest}
+use Rattle.legal_runs.specs.Set.{IsGreatest}
 use Rattle.certificate.specs.Tree.{greatest_first}
-use Rattle.certificate.proofs.Greatest.{order_of_trains}
+use Rattle.legal_runs.proofs.Greatest.{order_of_trains}
 use Rattle.certificate.proofs.Leaves.{same_number}
 use Rattle.best_run.proofs.revenue.greatest_revenue.Goals as goal
 

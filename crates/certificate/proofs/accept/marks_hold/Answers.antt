@@ -1,5 +1,6 @@
 -- What the walk has read over the tree, and what is left.
-use Rattle.std.proofs.Common.{◌≡◌, ◌≤◌, ℕ, Bool, true, false, Some, None, List, [], ◌∷◌, refl, ap, sym, ◌∙◌, subst, arith}
+use Rattle.std.proofs.Common.{◌≡◌, ◌≤◌, ℕ, Bool, true, false, Some, None, List, [], ◌∷◌, refl, ap, sym, ◌∙◌, subst}
+use Rattle.std.proofs.Common.{arith}
 use Rattle.map_tables.specs.declared.place.Stop.{Stop}
 use Rattle.reach.specs.Position.{Position}
 use Rattle.tables.specs.declared.rolling_stock.Kind.{Kind}
@@ -9,7 +10,7 @@ use Rattle.certificate.specs.Read.{AreZeros}
 use Rattle.certificate.specs.Tree.{Node, root_of}
 use Rattle.certificate.specs.Walking.{AreCrossed, node_from, reached_in}
 use Rattle.certificate.specs.declared.reader.Reader.{Reader}
-use Rattle.certificate.proofs.Read.{if_whole, reached_are, root_is, root_stands, walk_reads}
+use Rattle.certificate.proofs.Read.{if_whole, reached_are, root_is, root_is_between, walk_reads}
 use Rattle.certificate.proofs.Walking.{none_crossed}
 use Rattle.certificate.proofs.accept.marks_hold.Goals as goal
 
@@ -24,7 +25,7 @@ returns-then-not-choose g c =
     let bits : List Bool = g.M.Marks.left c.args.marks in
     let rest : List Bool = g.M.Marks.left c.choose.new.decider.marks in
     let nodes : List Node = node_from tree [] 0 ∷ [] in
-    let walk = c.choose.ensures.walks [] (root_stands position tree c.of-tree.ensures.tree)
+    let walk = c.choose.ensures.walks [] (root_is_between position tree c.of-tree.ensures.tree)
     (subst (λ (u : List Bool). AreCrossed u []) (sym c.new-used.ensures) none_crossed) (omega arith) in
     let read = walk_reads {S = Reader g.row.M.Denot} (λ s. g.M.Marks.left s.marks) (λ s. s.revenue) position
     tree.company reached revenue low (record { marks = c.args.marks; revenue = revenue }) c.choose.new.decider
@@ -52,7 +53,7 @@ returns g c =
     let bits : List Bool = g.M.Marks.left c.args.marks in
     let rest : List Bool = g.M.Marks.left c.choose.new.decider.marks in
     let nodes : List Node = node_from tree [] 0 ∷ [] in
-    let walk = c.choose.ensures.walks [] (root_stands position tree c.of-tree.ensures.tree)
+    let walk = c.choose.ensures.walks [] (root_is_between position tree c.of-tree.ensures.tree)
     (subst (λ (u : List Bool). AreCrossed u []) (sym c.new-used.ensures) none_crossed) (omega arith) in
     let read = walk_reads {S = Reader g.row.M.Denot} (λ s. g.M.Marks.left s.marks) (λ s. s.revenue) position
     tree.company reached revenue low (record { marks = c.args.marks; revenue = revenue }) c.choose.new.decider

@@ -1,16 +1,17 @@
 -- What the walk has written are the marks of the tree.
-use Rattle.std.proofs.Common.{◌≡◌, ◌≤◌, ℕ, Bool, None, is_some, List, [], ◌∷◌, ◌++◌, append-nil, refl, ap, sym, ◌∙◌, subst, arith}
+use Rattle.std.proofs.Common.{◌≡◌, ◌≤◌, ℕ, Bool, None, is_some, List, [], ◌∷◌, ◌++◌, append-nil, refl, ap, sym, ◌∙◌}
+use Rattle.std.proofs.Common.{subst, arith}
 use Rattle.map_tables.specs.declared.place.Stop.{Stop}
 use Rattle.reach.specs.Position.{Position}
 use Rattle.tables.specs.declared.rolling_stock.Kind.{Kind}
 use Rattle.tables.specs.declared.roster.Company.{Company}
 use Rattle.certificate.specs.Filled.{AreMarksFilled}
 use Rattle.certificate.specs.Holding.{AreMarks, Writes}
-use Rattle.certificate.specs.Set.{IsGreatest}
+use Rattle.legal_runs.specs.Set.{IsGreatest}
 use Rattle.certificate.specs.Tree.{Node, root_of}
 use Rattle.certificate.specs.Walking.{AreCrossed, node_from, reached_in}
 use Rattle.certificate.specs.declared.writer.Writer.{Writer}
-use Rattle.certificate.proofs.Read.{reached_are, root_is, root_stands, walk_writes, whole_written}
+use Rattle.certificate.proofs.Read.{reached_are, root_is, root_is_between, walk_writes, whole_written}
 use Rattle.certificate.proofs.Walking.{none_crossed}
 use Rattle.certificate.proofs.accept.write_marks.Goals as goal
 
@@ -24,7 +25,7 @@ returns-in-None g c =
     let low : revenue ≤ 4294967295 = omega arith in
     let start : Writer = record { bits = c.new.result; revenue = revenue; refused = None } in
     let nodes : List Node = node_from tree [] 0 ∷ [] in
-    let walk = c.choose-whole.ensures.walks [] (root_stands position tree c.of-tree.ensures.tree)
+    let walk = c.choose-whole.ensures.walks [] (root_is_between position tree c.of-tree.ensures.tree)
     (subst (λ (u : List Bool). AreCrossed u []) (sym c.new-used.ensures) none_crossed) (omega arith) in
     let made = walk_writes {S = Writer} (λ w. w.bits) (λ w. w.revenue) (λ w. is_some w.refused) position tree.company
     reached revenue low start c.choose-whole.new.decider nodes c.choose-whole.result refl walk in

@@ -1,11 +1,14 @@
--- Each further border that is crossed was not. A run that comes to a stop came over a border.
-use Rattle.std.proofs.Common.{◌≡◌, ◌+◌, ◌-◌, ◌*◌, ◌<◌, ◌≤◌, false, not, count_by, List, [], ◌∷◌, length, drop, replicate}
+-- Each further border that is crossed was not. A run that reaches a stop came over a border.
+use Rattle.std.proofs.Common.{◌≡◌, ◌+◌, ◌-◌, ◌*◌, ◌<◌, ◌≤◌, false, not, count_by, List, [], ◌∷◌, length, drop}
+use Rattle.std.proofs.Common.{replicate}
 use Rattle.map_tables.specs.declared.place.Stop.{Stop}
 use Rattle.reach.specs.Walk.{entered_at}
 use Rattle.reach.specs.declared.walk.Step.{Step}
-use Rattle.certificate.specs.Set.{TrainRun}
-use Rattle.certificate.specs.Tree.{for_each, goes_over, run_borders, setting_out, taken_borders, with_steps, ways_at, ways_by, ways_from}
-use Rattle.certificate.specs.Walking.{AreCrossed, Continues, LeavesOver, Stands, StandsBetween, may_take, node_at, node_from, reached_in, set_outs, trains_of_tree}
+use Rattle.legal_runs.specs.Set.{TrainRun}
+use Rattle.certificate.specs.Tree.{for_each, goes_over, run_borders, setting_out, taken_borders, with_steps, ways_at}
+use Rattle.certificate.specs.Tree.{ways_by, ways_from}
+use Rattle.certificate.specs.Walking.{AreCrossed, Continues, LeavesOver, IsOnRun, IsBetweenRuns, may_take, node_at}
+use Rattle.certificate.specs.Walking.{node_from, reached_in, set_outs, trains_of_tree}
 use Rattle.certificate.proofs.Walking.{end_rank}
 use Rattle.certificate.proofs.tree_walk.+walk.Given as goal
 
@@ -42,7 +45,7 @@ decreases-choose-trains g l = l.place
 abbrev pub invariant-choose-trains : goal.invariant-choose-trains
 invariant-choose-trains g l =
     (l.used ≡ l.fn.used)
-    × ((settled : List TrainRun) → StandsBetween (g.N.Network.position l.network) l.tree l.fn.value settled
+    × ((settled : List TrainRun) → IsBetweenRuns (g.N.Network.position l.network) l.tree l.fn.value settled
     → AreCrossed l.fn.used (run_borders settled) →
     l.fn.first ≤ length (trains_of_tree l.tree) →
     (l.place ≤ length (trains_of_tree l.tree))
@@ -53,7 +56,7 @@ invariant-choose-trains g l =
 abbrev pub invariant-set_out-loop-stop : goal.invariant-set_out-loop-stop
 invariant-set_out-loop-stop g l =
     (l.used ≡ l.fn.used) × (l.seen ≡ replicate 186 false)
-    × ((settled : List TrainRun) → StandsBetween (g.N.Network.position l.network) l.tree l.fn.value settled
+    × ((settled : List TrainRun) → IsBetweenRuns (g.N.Network.position l.network) l.tree l.fn.value settled
     → AreCrossed l.fn.used (run_borders settled) →
     l.fn.place < length (trains_of_tree l.tree) →
     LeavesOver g.D.Decider.decides (g.N.Network.position l.network) l.tree l.fn.decider
@@ -67,7 +70,7 @@ abbrev pub invariant-follow-loop-link : goal.invariant-follow-loop-link
 invariant-follow-loop-link g l =
     (l.used ≡ l.fn.used) × (l.seen ≡ l.fn.seen)
     × ((settled : List TrainRun) (steps : List Step) (stops : List Stop) →
-    Stands (g.N.Network.position l.network) l.tree l.begun l.fn.used l.fn.seen settled steps stops →
+    IsOnRun (g.N.Network.position l.network) l.tree l.begun l.fn.used l.fn.seen settled steps stops →
     ((step : Step) → entered_at step ≡ l.fn.at → Continues steps stops step) →
     LeavesOver g.D.Decider.decides (g.N.Network.position l.network) l.tree l.fn.decider
     (with_steps (may_take (reached_in l.tree) (node_at l.tree l.begun settled steps) l.fn.at.end)

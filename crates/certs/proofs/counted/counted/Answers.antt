@@ -1,7 +1,7 @@
 use Rattle.std.proofs.Common.{◌≡◌, ◌+ℤ◌, ◌<◌, List, ℤ, get_or, pos, ap, ◌∙◌, rules}
 use Rattle.certs.proofs.Counts.{counted_all, counted_more, low_fits, low_more}
 use Rattle.certs.specs.Counted.{certificates_in, privates_owned}
-use Rattle.history.specs.LookBack.{owner_in}
+use Rattle.totals.specs.LookBack.{owner_in}
 use Rattle.tables.specs.Roster.{companies}
 use Rattle.tables.specs.declared.roster.Company.{Company}
 use Rattle.tables.specs.declared.roster.Company.TheVariants.{Pennsylvania}

@@ -1,7 +1,7 @@
 use Rattle.std.proofs.Common.{◌≡◌, ◌+ℤ◌, ℤ, drop, pos}
 use Rattle.certs.proofs.Counts.{IsLow}
 use Rattle.certs.specs.Counted.{certificates_in, privates_owned}
-use Rattle.history.specs.LookBack.{owner_in}
+use Rattle.totals.specs.LookBack.{owner_in}
 use Rattle.tables.specs.Roster.{companies}
 use Rattle.tables.specs.declared.roster.Company.{Company}
 use Rattle.certs.proofs.counted.counted.Given as goal

@@ -1,6 +1,6 @@
 use Rattle.std.proofs.Common.{◌≡◌, ◌≤◌, take, sum_by}
 use Rattle.certs.specs.Counted.{one_owned}
-use Rattle.history.specs.LookBack.{owner_in}
+use Rattle.totals.specs.LookBack.{owner_in}
 use Rattle.tables.specs.Roster.{privates}
 use Rattle.certs.proofs.counted.privates_owned.Given as goal
 

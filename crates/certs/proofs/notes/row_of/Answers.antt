@@ -1,8 +1,8 @@
 use Rattle.certs.proofs.NoteLemmas.{kept_is, kept_moderate, row_bounded, row_is}
 use Rattle.certs.proofs.notes.row_of.Goals as goal
 
-pub returns-clause-tenths : goal.returns-clause-tenths
-returns-clause-tenths c =
+pub returns-clause-shares : goal.returns-clause-shares
+returns-clause-shares c =
     row_is
     c.args.past.now.events.now
     c.args.company

@@ -12,9 +12,9 @@ returns-then-shares-least c =
     let now = c.args.now.now in
     let least : ℤ = to_z w128 (of_z w128 c.args.least) in
     let fits : SFits w128 c.shares.result = record { sfits = c.shares.type_inv } in
-    let tenths = to_z-of_z w128 c.shares.result fits ∙ c.shares.ensures.sum in
+    let shares = to_z-of_z w128 c.shares.result fits ∙ c.shares.ensures.sum in
     one_has_from now.events.now c.args.company least now.seats c.loop.counter c.loop.other c.left-other.result true
-    c.loop-test.true c.left-other.ensures (ap (λ (z : ℤ). le_z least z) (sym tenths) ∙ c.if-shares-least.true)
+    c.loop-test.true c.left-other.ensures (ap (λ (z : ℤ). le_z least z) (sym shares) ∙ c.if-shares-least.true)
     ∙ c.loop.invariant
     ∙ ap (λ (z : ℤ). another_has now.seats now.events.now c.args.company c.args.seat z)
     (to_z-of_z w128 c.args.least c.ranges.least)
@@ -24,7 +24,7 @@ loop-preserved c =
     let now = c.args.now.now in
     let least : ℤ = to_z w128 (of_z w128 c.args.least) in
     let fits : SFits w128 c.shares.result = record { sfits = c.shares.type_inv } in
-    let tenths = to_z-of_z w128 c.shares.result fits ∙ c.shares.ensures.sum in
+    let shares = to_z-of_z w128 c.shares.result fits ∙ c.shares.ensures.sum in
     one_has_from now.events.now c.args.company least now.seats c.loop.counter c.loop.other c.left-other.result false
-    c.loop-test.true c.left-other.ensures (ap (λ (z : ℤ). le_z least z) (sym tenths) ∙ c.if-shares-least.false)
+    c.loop-test.true c.left-other.ensures (ap (λ (z : ℤ). le_z least z) (sym shares) ∙ c.if-shares-least.false)
     ∙ c.loop.invariant

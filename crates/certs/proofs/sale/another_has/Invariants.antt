@@ -3,7 +3,7 @@ use Rattle.certs.specs.Sale.{another_has, one_has}
 use Rattle.tables.specs.Seat.{left_of, seats_from}
 use Rattle.certs.proofs.sale.another_has.Given as goal
 
--- one of the others has so many where one of those that are still to come has
+-- one of the others has this many where one of those that are still to come has
 abbrev pub invariant-loop : goal.invariant-loop
 invariant-loop l =
     one_has l.fn.now.events.now l.fn.company l.fn.least (seats_from l.end (l.end - l.counter) (left_of l.end l.other))

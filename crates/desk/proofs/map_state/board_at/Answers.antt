@@ -2,16 +2,16 @@ use Rattle.std.proofs.Common.{[], ap, ◌∙◌}
 use Rattle.std.specs.Prelude.{List}
 use Rattle.std.proofs.lemmas.List.{take_all}
 use Rattle.std.specs.List.{fold}
-use Rattle.board.specs.MapState.{map_state_of}
+use Rattle.board_state.specs.MapState.{map_state_of}
 use Rattle.desk.proofs.Laid.{all_laid}
 use Rattle.desk.specs.Laid.{laid_then}
 use Rattle.events.specs.declared.event.Event.{Event}
-use Rattle.history.specs.Trains.{phase_of}
+use Rattle.totals.specs.Trains.{phase_of}
 use Rattle.desk.proofs.map_state.board_at.Goals as goal
 
 pub returns : goal.returns
 returns c =
-    let events = c.args.past.now.events.now in
+    let events = c.args.view.now.events.now in
     c.loop-event.invariant
     ∙ ap (λ (passed : List Event). fold laid_then (map_state_of [] [] (phase_of events)) passed)
     (take_all c.loop-event.event-index events c.loop-event-test.false)

@@ -1,11 +1,11 @@
 use Rattle.std.proofs.Common.{◌≡◌, [], take}
 use Rattle.std.specs.List.{fold}
-use Rattle.board.specs.MapState.{map_state_of}
+use Rattle.board_state.specs.MapState.{map_state_of}
 use Rattle.desk.specs.Laid.{laid_then}
-use Rattle.history.specs.Trains.{phase_of}
+use Rattle.totals.specs.Trains.{phase_of}
 use Rattle.desk.proofs.map_state.board_at.Given as goal
 
 -- what lies by the events so far
 abbrev pub invariant-loop-event : goal.invariant-loop-event
 invariant-loop-event l =
-    l.board ≡ fold laid_then (map_state_of [] [] (phase_of l.past.events.now)) (take l.event-index l.past.events.now)
+    l.board ≡ fold laid_then (map_state_of [] [] (phase_of l.view.events.now)) (take l.event-index l.view.events.now)

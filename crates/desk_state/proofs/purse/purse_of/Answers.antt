@@ -1,6 +1,6 @@
 use Rattle.std.proofs.Common.{◌≡◌, ap, ◌∙◌, rules}
 use Rattle.events.specs.Event.{party_at}
-use Rattle.history.specs.LookBack.{cash_of}
+use Rattle.totals.specs.LookBack.{cash_of}
 use Rattle.desk_state.proofs.purse.purse_of.Goals as goal
 
 pub returns-clause-cash : goal.returns-clause-cash

@@ -1,6 +1,6 @@
--- The lay in hand stands at the end of those that are left: it lies on the hex, or leaves what lay there.
+-- The lay in hand is at the end of those that are left: it lies on the hex, or leaves what lay there.
 use Rattle.std.proofs.Common.{sym, ◌∙◌}
-use Rattle.board.proofs.Tiles.{tile_here, tile_before}
+use Rattle.board_state.proofs.Tiles.{tile_here, tile_before}
 use Rattle.desk_state.proofs.stock_left.tile_on.Goals as goal
 
 pub returns-then-same_hex : goal.returns-then-same_hex

@@ -1,4 +1,4 @@
-use Rattle.history.proofs.EventAtEnd.{cash_of_at_end}
+use Rattle.totals.proofs.EventAtEnd.{cash_of_at_end}
 use Rattle.history.proofs.laws.cash_moves.Goals as goal
 
 pub returns : goal.returns

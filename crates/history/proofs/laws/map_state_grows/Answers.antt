@@ -1,4 +1,4 @@
-use Rattle.history.proofs.InOrder.{lays_grow, tokens_grow}
+use Rattle.totals.proofs.InOrder.{lays_grow, tokens_grow}
 use Rattle.history.proofs.laws.map_state_grows.Goals as goal
 
 pub returns-clause-lays : goal.returns-clause-lays

@@ -1,4 +1,4 @@
-use Rattle.history.proofs.Soundness.{quiet_sound}
+use Rattle.history.proofs.NearlySound.{quiet_sound}
 use Rattle.history.proofs.laws.quiet_keeps_sound.Goals as goal
 
 pub returns : goal.returns

@@ -1,4 +1,4 @@
-use Rattle.history.proofs.InOrder.{rulings_at_end}
+use Rattle.totals.proofs.InOrder.{rulings_at_end}
 use Rattle.history.proofs.laws.rulings_are_counted.Goals as goal
 
 pub returns : goal.returns

@@ -2,7 +2,7 @@
 use Rattle.std.proofs.Common.{◌≡◌, ◌∙◌, ap, sym, Option, None}
 use Rattle.std.specs.Option.{option_or}
 use Rattle.operating.specs.Discards.{first_held, lines_of, next_discard}
-use Rattle.history.specs.Shares.{president_of}
+use Rattle.totals.specs.Shares.{president_of}
 use Rattle.tables.specs.Train.{kinds}
 use Rattle.tables.specs.declared.rolling_stock.Kind.{Kind}
 use Rattle.operating.proofs.discards.next_discard.Goals as goal

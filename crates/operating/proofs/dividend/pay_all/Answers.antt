@@ -1,7 +1,7 @@
 use Rattle.std.proofs.Common.{◌≡◌, OnOk, refl, subst, ap, ◌∙◌, arith}
 use Rattle.events.specs.declared.event.Holder.TheVariants as holder
 use Rattle.events.specs.declared.event.Shareholder.TheVariants as place
-use Rattle.history.specs.LookBack.{Game}
+use Rattle.totals.specs.LookBack.{Game}
 use Rattle.operating.proofs.Dividends.{all_are_paid, paid_seats, pool_most, seat_most, seats_go_on}
 use Rattle.operating.specs.Dividend.{dividend_of, paid_for}
 use Rattle.tables.specs.declared.seat.Seat.{Seat}

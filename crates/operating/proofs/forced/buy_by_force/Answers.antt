@@ -1,6 +1,6 @@
 -- Money is raised while the company still has no train.
 use Rattle.std.proofs.Common.{◌≤◌, ◌<◌, ◌∙◌, ap, sym, subst}
-use Rattle.history.specs.LookBack.{Game}
+use Rattle.totals.specs.LookBack.{Game}
 use Rattle.operating.proofs.ForcedLemmas.{still_none}
 use Rattle.operating.proofs.ForcedSteps.{forced_then}
 use Rattle.operating.proofs.forced.buy_by_force.Goals as goal

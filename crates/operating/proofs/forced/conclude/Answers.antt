@@ -1,6 +1,6 @@
 -- The company buys, once its president has paid what it lacks, or he is bankrupt.
 use Rattle.std.proofs.Common.{◌≡◌, None, ap, sym, subst, ◌∙◌}
-use Rattle.history.specs.LookBack.{Game}
+use Rattle.totals.specs.LookBack.{Game}
 use Rattle.operating.proofs.ForcedBuying.{forced_allowed}
 use Rattle.operating.proofs.ForcedSteps.{bankrupt_then, bought_then}
 use Rattle.operating.specs.Forced.{cheapest}

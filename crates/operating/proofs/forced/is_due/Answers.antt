@@ -1,7 +1,7 @@
 -- A purchase is due where the company has no train, and can run by what lies.
 use Rattle.std.proofs.Common.{◌≡◌, true, false, List, ap, sym, subst, ◌∙◌}
-use Rattle.board.specs.MapState.{MapState, position_of}
-use Rattle.certificate.specs.TwoTrain.{CanRun}
+use Rattle.board_state.specs.MapState.{MapState, position_of}
+use Rattle.legal_runs.specs.TwoTrain.{CanRun}
 use Rattle.events.specs.declared.event.Event.{Event}
 use Rattle.operating.specs.Forced.{has_trains}
 use Rattle.operating.proofs.forced.is_due.Goals as goal

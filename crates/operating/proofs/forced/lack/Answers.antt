@@ -3,7 +3,7 @@ use Rattle.std.proofs.Common.{◌≡◌, ◌≤◌, ℕ, ℤ, pos, ◌-ℤ◌, a
 use Rattle.std.proofs.lemmas.Int.{ints}
 use mir.Syntax.{w128}
 use mir.Val.{of_z, to_z}
-use Rattle.history.specs.LookBack.{IsModerate, cash_of}
+use Rattle.totals.specs.LookBack.{IsModerate, cash_of}
 use Rattle.operating.specs.Forced.{cheapest, lack_of}
 use Rattle.operating.specs.Trains.{cost_of}
 use Rattle.operating.proofs.forced.lack.Goals as goal

@@ -2,7 +2,7 @@
 use Rattle.std.proofs.Common.{◌≡◌, ◌≤◌, ◌<◌, true, Option, Some, is_none, refl, ap, sym, subst, ◌∙◌}
 use Rattle.certs.proofs.SaleAllowed.{may_sell_after}
 use Rattle.events.specs.declared.event.Event.TheVariants as event
-use Rattle.history.specs.LookBack.{Game}
+use Rattle.totals.specs.LookBack.{Game}
 use Rattle.order_grammar.specs.declared.condition.Condition.{Condition}
 use Rattle.order_grammar.specs.declared.order.Order.TheVariants.{Raise}
 use Rattle.operating.proofs.ForcedSteps.{nothing, raise_obeyed, raised}
@@ -23,7 +23,7 @@ pub sell_block-requires-clause-may : goal.sell_block-requires-clause-may
 sell_block-requires-clause-may c =
     let none : is_none c.raise_rule-broken.result ≡ true = sym c.in_ok-record.ensures.obeyed ∙ c.if-branch.true in
     may_sell_after c.args.history.now c.record.new.history
-    (event.Ruled c.args.by.president (line_with c.args.line (Raise c.args.sale.company c.args.sale.tenths)).number
+    (event.Ruled c.args.by.president (line_with c.args.line (Raise c.args.sale.company c.args.sale.shares)).number
     _) c.args.by.president c.args.sale (Some c.args.by.company)
     c.in_ok-record.ensures.ruling
     (record {
@@ -42,7 +42,7 @@ sell_block-requires-clause-may c =
       token = refl;
     })
     (raise_obeyed c.args.due c.args.by c.args.history.now
-    (line_with c.args.line (Raise c.args.sale.company c.args.sale.tenths)).condition c.args.sale
+    (line_with c.args.line (Raise c.args.sale.company c.args.sale.shares)).condition c.args.sale
     (ap (λ (its : Option Condition). raise_rule c.args.due c.args.by c.args.history.now its c.args.sale)
     (sym c.as_ref.ensures.value) ∙ sym c.raise_rule-broken.ensures ∙ nothing c.raise_rule-broken.result none))
 
@@ -54,10 +54,10 @@ pub returns-in_ok-sell_block-clause-after : goal.returns-in_ok-sell_block-clause
 returns-in_ok-sell_block-clause-after c =
     let none : is_none c.raise_rule-broken.result ≡ true = sym c.in_ok-record.ensures.obeyed ∙ c.if-branch.true in
     raised c.args.due c.args.by c.args.history.now c.record.new.history c.sell_block.new.history
-    (line_with c.args.line (Raise c.args.sale.company c.args.sale.tenths)) c.args.sale
+    (line_with c.args.line (Raise c.args.sale.company c.args.sale.shares)) c.args.sale
     (ap (λ (its : Option Condition). raise_rule c.args.due c.args.by c.args.history.now its c.args.sale)
     (sym c.as_ref.ensures.value) ∙ sym c.raise_rule-broken.ensures ∙ nothing c.raise_rule-broken.result none)
     (told_obeyed c.args.history.now c.record.new.history c.args.by.president
-    (line_with c.args.line (Raise c.args.sale.company c.args.sale.tenths))
-    (Raise c.args.sale.company c.args.sale.tenths) c.raise_rule-broken.result c.in_ok-record.ensures.ruling none)
+    (line_with c.args.line (Raise c.args.sale.company c.args.sale.shares))
+    (Raise c.args.sale.company c.args.sale.shares) c.raise_rule-broken.result c.in_ok-record.ensures.ruling none)
     c.in_ok-sell_block.ensures.seats c.in_ok-sell_block.ensures.events

@@ -1,6 +1,6 @@
 -- The line in hand is ruled before those that are left.
 use Rattle.std.proofs.Common.{ap, sym, ◌∙◌}
-use Rattle.history.specs.LookBack.{Game}
+use Rattle.totals.specs.LookBack.{Game}
 use Rattle.operating.specs.Forced.{after_raises}
 use Rattle.sheets.specs.Part.{Parts}
 use Rattle.operating.proofs.forced.rule_raises.Goals as goal

@@ -1,4 +1,4 @@
--- The president sells one tenth more where he falls short.
+-- The president sells one share more where he falls short.
 use Rattle.std.proofs.Common.{sym, ◌∙◌}
 use Rattle.operating.proofs.ForcedSteps.{not_sold, sold_then}
 use Rattle.operating.proofs.forced.sell_further.Goals as goal

@@ -1,16 +1,16 @@
--- The president sells a tenth of the first company of which he may.
+-- The president sells a share of the first company of which he may.
 use Rattle.std.proofs.Common.{◌≡◌, None, sym, ◌∙◌}
-use Rattle.operating.proofs.ForcedSteps.{may_sell_tenth, none_sold, one_sold}
+use Rattle.operating.proofs.ForcedSteps.{may_sell_share, none_sold, one_sold}
 use Rattle.operating.proofs.forced.sell_next.Goals as goal
 
 pub sell_block-requires-clause-may : goal.sell_block-requires-clause-may
 sell_block-requires-clause-may c =
-    may_sell_tenth c.args.by c.args.history.now c.in-Some.company _ c.tenth_of.ensures
+    may_sell_share c.args.by c.args.history.now c.in-Some.company _ c.share_of.ensures
     (sym c.next_to_sell.ensures ∙ c.in-Some.is)
 
 pub returns-in-Some-clause-after : goal.returns-in-Some-clause-after
 returns-in-Some-clause-after c =
-    one_sold c.args.by c.args.history.now c.sell_block.new.history c.in-Some.company _ c.tenth_of.ensures
+    one_sold c.args.by c.args.history.now c.sell_block.new.history c.in-Some.company _ c.share_of.ensures
     (sym c.next_to_sell.ensures ∙ c.in-Some.is) c.in_ok-sell_block.ensures.seats c.in_ok-sell_block.ensures.events
 
 pub returns-clause-after : goal.returns-clause-after

@@ -1,4 +1,4 @@
-use Rattle.board.proofs.Lawfulness.{lawful}
+use Rattle.board_state.proofs.Lawfulness.{lawful}
 use Rattle.operating.proofs.Outcome.{turn_ends}
 use Rattle.operating.proofs.laws.company_turn_ends.Goals as goal
 

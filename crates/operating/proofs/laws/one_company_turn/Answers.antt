@@ -1,4 +1,4 @@
-use Rattle.board.proofs.Lawfulness.{lawful}
+use Rattle.board_state.proofs.Lawfulness.{lawful}
 use Rattle.operating.proofs.Outcome.{one_turn}
 use Rattle.operating.proofs.laws.one_company_turn.Goals as goal
 

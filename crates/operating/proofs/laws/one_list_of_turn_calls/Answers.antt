@@ -1,5 +1,5 @@
-use Rattle.board.proofs.Lawfulness.{lawful}
-use Rattle.operating.proofs.OneTurnCalled.{a_front, one_list}
+use Rattle.board_state.proofs.Lawfulness.{lawful}
+use Rattle.operating.proofs.OneTurnCalled.{a_prefix, one_list}
 use Rattle.operating.proofs.TurnCalled.{turn_called}
 use Rattle.operating.proofs.laws.one_list_of_turn_calls.Goals as goal
 
@@ -14,6 +14,6 @@ returns-clause-some c = turn_called
 
 pub returns-clause-front : goal.returns-clause-front
 returns-clause-front c =
-    a_front
+    a_prefix
     (lawful c.neighbours_pair.ensures c.printed_links_are_in_order.ensures c.laid_links_are_in_order.ensures
     c.values_are_at_most_80.ensures)

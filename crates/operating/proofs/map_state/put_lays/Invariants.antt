@@ -1,6 +1,6 @@
 -- The first of them have been told, and the others are as they were.
 use Rattle.std.proofs.Common.{◌≡◌, ◌-◌, length}
-use Rattle.history.specs.Operating.{lays_of}
+use Rattle.totals.specs.Operating.{lays_of}
 use Rattle.operating.specs.MapState.{BeginsWith}
 use Rattle.operating.proofs.map_state.put_lays.Given as goal
 

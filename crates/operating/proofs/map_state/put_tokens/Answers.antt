@@ -1,8 +1,8 @@
 -- The next is told, until there is none.
 use Rattle.std.proofs.Common.{ap, sym, subst, ◌∙◌}
 use Rattle.std.specs.Prelude.{slice_get}
-use Rattle.board.specs.MapState.{MapState}
-use Rattle.history.specs.Operating.{tokens_of}
+use Rattle.board_state.specs.MapState.{MapState}
+use Rattle.totals.specs.Operating.{tokens_of}
 use Rattle.operating.proofs.Fronts.{all_told, next}
 use Rattle.operating.specs.MapState.{BeginsWith}
 use Rattle.operating.proofs.map_state.put_tokens.Goals as goal

@@ -1,8 +1,8 @@
 use Rattle.std.proofs.Common.{◌≡◌, ◌∙◌, ap, sym, subst, Some}
 use Rattle.std.proofs.lemmas.Int.{to_z-of_z}
 use mir.Syntax.{w64}
-use Rattle.history.specs.LookBack.{IsModerate}
-use Rattle.history.specs.Trains.{train_count}
+use Rattle.totals.specs.LookBack.{IsModerate}
+use Rattle.totals.specs.Trains.{train_count}
 use Rattle.operating.proofs.PhaseLemmas.{excess_is}
 use Rattle.operating.proofs.phases.excess.Goals as goal
 

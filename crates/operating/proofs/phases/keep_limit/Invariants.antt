@@ -4,7 +4,7 @@ use Rattle.operating.specs.Phases.{with_next_discarded}
 use Rattle.operating.proofs.phases.keep_limit.Given as goal
 use Rattle.tables.specs.Steps.{iterate}
 
--- so many are discarded
+-- this many are discarded
 abbrev pub invariant-loop : goal.invariant-loop
 invariant-loop l = record {
   so_far : l.history ≡ iterate (with_next_discarded l.company) l.counter l.fn.history;

@@ -1,5 +1,5 @@
 use Rattle.std.proofs.Common.{ap, refl, subst, ◌∙◌, ◌<◌}
-use Rattle.history.specs.Trains.{so_many}
+use Rattle.totals.specs.Trains.{at_least_zero}
 use Rattle.operating.proofs.Folding.{iterate_goes_on}
 use Rattle.operating.proofs.PhaseLemmas.{counted_whole, none_rusted, one_rusts}
 use Rattle.operating.specs.Phases.{with_one_rusted}
@@ -10,7 +10,7 @@ loop-init c = record { so_far = refl; rusted = none_rusted c.args.owner c.args.k
 
 pub loop-preserved : goal.loop-preserved
 loop-preserved c =
-    let many = c.so_many-end.ensures ∙ ap so_many (counted_whole c.trains.result c.from.result
+    let many = c.at_least_zero-end.ensures ∙ ap at_least_zero (counted_whole c.trains.result c.from.result
     (record { sfits = c.trains.type_inv }) (record { sfits = c.from.type_inv }) c.from.ensures
     ∙ c.trains.ensures) in
     record {

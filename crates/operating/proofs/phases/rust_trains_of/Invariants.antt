@@ -4,7 +4,7 @@ use Rattle.operating.specs.Phases.{with_one_rusted}
 use Rattle.operating.proofs.phases.rust_trains_of.Given as goal
 use Rattle.tables.specs.Steps.{iterate}
 
--- so many have rusted
+-- this many have rusted
 abbrev pub invariant-loop : goal.invariant-loop
 invariant-loop l = record {
   so_far : l.history ≡ iterate (with_one_rusted l.owner l.kind) l.counter l.fn.history;

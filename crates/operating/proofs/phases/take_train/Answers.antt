@@ -1,6 +1,6 @@
 use Rattle.std.proofs.Common.{ℕ, sym, ap, subst, ◌∙◌}
 use Rattle.events.specs.declared.event.Event.TheVariants as event
-use Rattle.history.specs.LookBack.{Game, with_event}
+use Rattle.totals.specs.LookBack.{Game, with_event}
 use Rattle.operating.proofs.Buying.{train_sound}
 use Rattle.history.specs.Sound.{IsSound}
 use Rattle.operating.specs.Phases.{with_trade}

@@ -1,8 +1,8 @@
 -- The table that is laid out has the game as it was.
 use Rattle.std.proofs.Common.{◌≡◌, Result, Ok, Err, ap, sym, subst, ◌∙◌}
 use Rattle.std.proofs.lemmas.Result.{err_from_is_err_and}
-use Rattle.certificate.specs.declared.runner.RunnerFault.{RunnerFault}
-use Rattle.history.specs.LookBack.{Game}
+use Rattle.legal_runs.specs.declared.runner.RunnerFault.{RunnerFault}
+use Rattle.totals.specs.LookBack.{Game}
 use Rattle.operating.specs.Calls.{Makes}
 use Rattle.operating.specs.TurnCalls.{TurnCalls}
 use Rattle.operating.proofs.playing.play_company.Goals as goal

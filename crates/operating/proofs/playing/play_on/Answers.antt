@@ -2,11 +2,11 @@ use Rattle.std.proofs.Common.{◌≡◌, ℕ, ◌≤◌, ◌<◌, List, [], Some
 use Rattle.std.specs.Prelude.{Box}
 use Rattle.std.specs.Global.{Global}
 use Rattle.std.proofs.lemmas.Result.{err_from_is_err_and}
-use Rattle.board.specs.MapState.{MapState}
-use Rattle.certificate.specs.declared.runner.RunnerFault.{RunnerFault}
-use Rattle.certificate.specs.declared.runner.RunnerFault.TheVariants.{Memory}
-use Rattle.history.specs.LookBack.{Game}
-use Rattle.history.specs.Shares.{president_of}
+use Rattle.board_state.specs.MapState.{MapState}
+use Rattle.legal_runs.specs.declared.runner.RunnerFault.{RunnerFault}
+use Rattle.legal_runs.specs.declared.runner.RunnerFault.TheVariants.{Memory}
+use Rattle.totals.specs.LookBack.{Game}
+use Rattle.totals.specs.Shares.{president_of}
 use Rattle.history.specs.Sound.{IsSound}
 use Rattle.operating.proofs.Begun.{HasBegun, block_called, block_led, end_led, settled_led}
 use Rattle.operating.proofs.Blocks.{block_small}
@@ -16,7 +16,7 @@ use Rattle.operating.proofs.Tables.{end_front, home_front}
 use Rattle.operating.proofs.TurnCalled.{end_calls, turn_broken_off, turn_calls}
 use Rattle.operating.specs.Calls.{Makes}
 use Rattle.operating.specs.CompanyTurn.{state}
-use Rattle.operating.specs.MapState.{IsFront}
+use Rattle.operating.specs.MapState.{IsPrefix}
 use Rattle.operating.specs.Table.{game_on}
 use Rattle.operating.specs.Turn.{LinesLead}
 use Rattle.operating.specs.TurnCalls.{LinesCall, TurnCalls}
@@ -35,9 +35,9 @@ pub rule_lines-requires-clause-order : goal.rule_lines-requires-clause-order
 rule_lines-requires-clause-order g c =
     record {
       sound = subst IsSound (sym c.begin-turn.ensures.history) c.in_ok-place_home.ensures.sound;
-      front = subst (λ (board : Box MapState Global). IsFront board.value c.begin-turn.result.history.events)
+      front = subst (λ (board : Box MapState Global). IsPrefix board.value c.begin-turn.result.history.events)
           (sym c.begin-turn.ensures.board)
-          (subst (λ (game : Game). IsFront c.args.table.board.value game.events) (sym c.begin-turn.ensures.history)
+          (subst (λ (game : Game). IsPrefix c.args.table.board.value game.events) (sym c.begin-turn.ensures.history)
           (home_front c.args.table.board.value c.args.table.history c.place_home.new.history c.args.company
           c.in_ok-place_home.ensures.event c.requires.laid.front));
     }
@@ -102,7 +102,8 @@ end-requires-clause-at_table g c =
     c.settle.new.self.history c.rule_lines.new.self.progress c.settle.new.self.progress (Some c.in-Some.president)
     c.in_ok-place_home.ensures.event block settled in
     let president : Some c.in-Some.president ≡ president_of c.args.table.history.events c.args.company =
-    sym c.in-Some.is ∙ c.president-president.ensures in
+    sym c.in-Some.is ∙ c.president-president.ensures
+    ∙ ap (λ events. president_of events c.args.company) c.now.ensures.events in
     let there = president_there c.args.table.history c.settle.new.self.history c.args.company
     (Some c.in-Some.president) c.requires.laid.sound c.requires.floated president seats in
     subst (λ (by : Operator). by.president.0 < c.settle.new.self.history.seats)
@@ -138,7 +139,8 @@ returns-clause-turn g c =
     let settled = settled_led file c.args.round c.args.company c.in-Some.president first turn raises begun
     c.rule_lines.new.self c.settle.new.self c.in_ok-rule_lines.ensures.by c.in_ok-settle.ensures.turn in
     let president : Some c.in-Some.president ≡ president_of c.args.table.history.events c.args.company =
-    sym c.in-Some.is ∙ c.president-president.ensures in
+    sym c.in-Some.is ∙ c.president-president.ensures
+    ∙ ap (λ events. president_of events c.args.company) c.now.ensures.events in
     let ended = end_led file c.args.round c.args.company c.in-Some.president first turn raises begun c.settle.new.self
     raises c.end.new.self.history (c.in_ok-settle.ensures.order.by ∙ c.in_ok-rule_lines.ensures.by) refl
     c.in_ok-end.ensures.turn in
@@ -182,7 +184,8 @@ returns-clause-calls g c =
     let settled = settled_led file c.args.round c.args.company c.in-Some.president first turn raises begun
     c.rule_lines.new.self c.settle.new.self c.in_ok-rule_lines.ensures.by c.in_ok-settle.ensures.turn in
     let president : Some c.in-Some.president ≡ president_of c.args.table.history.events c.args.company =
-    sym c.in-Some.is ∙ c.president-president.ensures in
+    sym c.in-Some.is ∙ c.president-president.ensures
+    ∙ ap (λ events. president_of events c.args.company) c.now.ensures.events in
     let ended = end_led file c.args.round c.args.company c.in-Some.president first turn raises begun c.settle.new.self
     raises c.end.new.self.history (c.in_ok-settle.ensures.order.by ∙ c.in_ok-rule_lines.ensures.by) refl
     c.in_ok-end.ensures.turn in
@@ -224,7 +227,8 @@ returns-in_err-settle-clause-calls g c =
     (LinesCall turn.by turn.round lines (state turn) (Ok (state c.rule_lines.new.self))) c.rule_lines.new.runner)
     (sym same) c.in_ok-rule_lines.ensures.calls) in
     let president : Some c.in-Some.president ≡ president_of c.args.table.history.events c.args.company =
-    sym c.in-Some.is ∙ c.president-president.ensures in
+    sym c.in-Some.is ∙ c.president-president.ensures
+    ∙ ap (λ events. president_of events c.args.company) c.now.ensures.events in
     subst (λ (met : Result Table RunnerFault). Makes g.R.Runner.earns c.args.runner.now
     (TurnCalls file c.args.round c.args.company c.args.table.history (game_on met)) c.rule_lines.new.runner)
     (sym is)
@@ -264,7 +268,8 @@ returns-in_err-end-clause-calls g c =
     (LinesCall turn.by turn.round lines (state turn) (Ok (state c.rule_lines.new.self))) c.rule_lines.new.runner)
     (sym same) c.in_ok-rule_lines.ensures.calls) in
     let president : Some c.in-Some.president ≡ president_of c.args.table.history.events c.args.company =
-    sym c.in-Some.is ∙ c.president-president.ensures in
+    sym c.in-Some.is ∙ c.president-president.ensures
+    ∙ ap (λ events. president_of events c.args.company) c.now.ensures.events in
     subst (λ (met : Result Table RunnerFault). Makes g.R.Runner.earns c.args.runner.now
     (TurnCalls file c.args.round c.args.company c.args.table.history (game_on met)) c.rule_lines.new.runner)
     (sym is)
@@ -294,7 +299,8 @@ returns-in_err-rule_lines-clause-calls g c =
     }
     in
     let president : Some c.in-Some.president ≡ president_of c.args.table.history.events c.args.company =
-    sym c.in-Some.is ∙ c.president-president.ensures in
+    sym c.in-Some.is ∙ c.president-president.ensures
+    ∙ ap (λ events. president_of events c.args.company) c.now.ensures.events in
     let same : c.duplicate-raises.result.before ≡ c.block-orders.result.before =
     ap (λ (parts : Parts). parts.before) c.duplicate-raises.ensures in
     let fault : RunnerFault = c.in_err-rule_lines.field-0.0 in

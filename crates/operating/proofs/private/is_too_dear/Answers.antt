@@ -3,7 +3,7 @@ use Rattle.std.proofs.Common.{ℤ, pos, ap, ◌∙◌, SFits}
 use Rattle.std.specs.Int.{w128}
 use Rattle.std.specs.Int.Signed.{lt_z}
 use Rattle.std.proofs.lemmas.Int.{to_z-of_z}
-use Rattle.history.specs.LookBack.{cash_of}
+use Rattle.totals.specs.LookBack.{cash_of}
 use Rattle.operating.proofs.private.is_too_dear.Goals as goal
 
 pub returns : goal.returns

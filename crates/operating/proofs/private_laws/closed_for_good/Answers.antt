@@ -1,4 +1,5 @@
-use Rattle.operating.proofs.ClosedPrivates.{closed_has_no_owner, closed_stays_closed, others_keep_closed, sales_keep_closed}
+use Rattle.operating.proofs.ClosedPrivates.{closed_has_no_owner, closed_stays_closed, others_keep_closed}
+use Rattle.operating.proofs.ClosedPrivates.{sales_keep_closed}
 use Rattle.operating.proofs.private_laws.closed_for_good.Goals as goal
 
 pub returns-clause-owner : goal.returns-clause-owner

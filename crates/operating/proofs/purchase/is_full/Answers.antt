@@ -3,7 +3,7 @@ use Rattle.std.proofs.Common.{◌∙◌, ap, not, pos, Some, ◌-ℤ◌}
 use Rattle.std.specs.Int.Signed.{lt_z}
 use Rattle.std.proofs.lemmas.Int.{to_z-of_z}
 use mir.Syntax.{w64}
-use Rattle.history.specs.Trains.{train_count}
+use Rattle.totals.specs.Trains.{train_count}
 use Rattle.operating.proofs.PhaseLemmas.{at_limit}
 use Rattle.operating.specs.Trains.{traded_count}
 use Rattle.tables.specs.Train.{limit_of}

@@ -1,4 +1,4 @@
-use Rattle.board.specs.MapState.{position_of}
+use Rattle.board_state.specs.MapState.{position_of}
 use Rattle.operating.proofs.Judged.{run_counted}
 use Rattle.operating.proofs.running.run_on.Goals as goal
 

@@ -1,6 +1,7 @@
 use Rattle.std.proofs.Common.{sym, ◌∙◌}
 use Rattle.order_grammar.specs.declared.order.Value.TheVariants.{Number}
-use Rattle.order_grammar.proofs.ClassLemmas.{digits_reading-raised, digits_reading-none, digits_reading-large, digits_reading-value}
+use Rattle.order_grammar.proofs.ClassLemmas.{digits_reading-raised, digits_reading-none, digits_reading-large}
+use Rattle.order_grammar.proofs.ClassLemmas.{digits_reading-value}
 use Rattle.order_grammar.proofs.class.read_number.Goals as goal
 
 pub returns-in-None : goal.returns-in-None

@@ -1,7 +1,8 @@
 use Rattle.std.proofs.Common.{sym, ◌∙◌}
 use Rattle.order_grammar.specs.Class.{round_of_series}
 use Rattle.order_grammar.specs.declared.order.Value.TheVariants.{Round}
-use Rattle.order_grammar.proofs.ClassLemmas.{round_number-digits, digits_reading-none, digits_reading-large, digits_reading-value}
+use Rattle.order_grammar.proofs.ClassLemmas.{round_number-digits, digits_reading-none, digits_reading-large}
+use Rattle.order_grammar.proofs.ClassLemmas.{digits_reading-value}
 use Rattle.order_grammar.proofs.class.read_round_number.Goals as goal
 
 pub returns-in-None : goal.returns-in-None

@@ -13,6 +13,6 @@ returns-clause-value c =
     (YieldsList-from_slice text cc) (λ x b q k. search (rules, tests)) in
     c.unwrap_or.ensures ∙ position-end (λ b. b == stop) text c.position.result p ∙ sym (length-before stop text)
 
-pub returns-clause-front : goal.returns-clause-front
-returns-clause-front c =
+pub returns-clause-prefix : goal.returns-clause-prefix
+returns-clause-prefix c =
     rw (returns-clause-value c) (take-before c.args.stop c.args.text.now)

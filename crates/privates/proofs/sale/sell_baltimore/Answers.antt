@@ -1,7 +1,7 @@
 use Rattle.std.proofs.Common.{◌≡◌, ℕ, ◌++◌, ◌∷◌, List, ◌∙◌, ap}
 use Rattle.events.specs.declared.event.Event.{Event}
 use Rattle.events.specs.declared.event.Event.TheVariants.{Given, Par, President, Sold}
-use Rattle.history.specs.LookBack.{Game, with_event}
+use Rattle.totals.specs.LookBack.{Game, with_event}
 use Rattle.privates.proofs.Sales.{bop_underway, four_more}
 use Rattle.privates.specs.Sale.{par_set_by, started_at}
 use Rattle.tables.specs.declared.roster.Company.TheVariants.{BaltimoreOhio}

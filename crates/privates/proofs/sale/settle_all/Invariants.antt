@@ -4,7 +4,7 @@ use Rattle.privates.specs.Underway.{IsUnderway}
 use Rattle.tables.specs.Steps.{iterate}
 use Rattle.privates.proofs.sale.settle_all.Given as goal
 
--- so many steps have led here
+-- this many steps have led here
 abbrev pub invariant-loop-private : goal.invariant-loop-private
 invariant-loop-private l = record {
   seats : l.history.seats ≡ l.fn.history.seats;

@@ -1,7 +1,7 @@
 -- The only bidder can pay his bid.
 use Rattle.std.proofs.Common.{ℕ, List, ap, ◌∙◌, arith}
 use Rattle.events.specs.declared.event.Event.{Event}
-use Rattle.history.specs.Bids.{bids_on}
+use Rattle.totals.specs.Bids.{bids_on}
 use Rattle.privates.proofs.StandingBids.{first_stands, may_pay_bid}
 use Rattle.privates.proofs.sale.settle_bids.Goals as goal
 

@@ -2,7 +2,7 @@
 use Rattle.std.proofs.Common.{◌≡◌, List, [], sym, ◌∙◌, subst}
 use Rattle.map_tables.specs.declared.track.Link.{Link}
 use Rattle.reach.specs.Position.{IsAmong}
-use Rattle.reach.specs.Reached.{StandInOrder, stop_order}
+use Rattle.reach.specs.Reached.{AreSortedBy, stop_order}
 use Rattle.reach.specs.Search.{AreMarkedStops, KeepsNone}
 use Rattle.reach.proofs.Reaching.{marked_reach}
 use Rattle.reach.proofs.answer.reached.Goals as goal
@@ -21,5 +21,5 @@ returns g c =
     marked_reach position c.args.company c.keeps_laws.ensures marks found.arrive found.tokens found.closed
     c.in_ok-stops.stops.items c.search.new.keeper.items
     (subst (λ ls. AreMarkedStops marks ls) (sym copied) c.marked_stops.ensures.marked)
-    (subst (λ ls. StandInOrder stop_order ls) (sym copied) c.marked_stops.ensures.in_order)
+    (subst (λ ls. AreSortedBy stop_order ls) (sym copied) c.marked_stops.ensures.in_order)
     (found.taken (none_among c.in_ok-links.links.items c.in_ok-links.ensures.items))

@@ -1,5 +1,6 @@
 -- A spot that has been looked at waits no more, and once none waits what is marked holds all walks.
-use Rattle.std.proofs.Common.{◌≡◌, ◌+◌, ◌-◌, ◌*◌, ◌<◌, ◌≤◌, List, [], ◌∷◌, ◌++◌, Bool, true, false, inl, refl, length, ap, sym, subst, arith, length-append}
+use Rattle.std.proofs.Common.{◌≡◌, ◌+◌, ◌-◌, ◌*◌, ◌<◌, ◌≤◌, List, [], ◌∷◌, ◌++◌, Bool, true, false, inl, refl, length}
+use Rattle.std.proofs.Common.{ap, sym, subst, arith, length-append}
 use Rattle.std.proofs.lemmas.List.Sums.{count_by-le-length}
 use Rattle.map_tables.specs.declared.track.Link.{Link}
 use Rattle.reach.specs.Position.{Position}
@@ -43,7 +44,7 @@ loop-spot-preserved g c =
       taken = λ none. c.in_ok-look.ensures.taken (c.loop-spot.invariant.taken none);
     }
 
--- what is left to do is less: a spot waits no more, and each that waits anew is marked anew
+-- what is left to do is less: a spot waits no more, and each that waits again is marked again
 less : (old new : List Bool) (rest before waiting : List Spot) (spot : Spot) → length new ≡ length old
     → marked old ≤ marked new → length waiting + marked old ≡ length rest + marked new → before ≡ rest ++ spot ∷ []
     → 2 * (length new - marked new) + length waiting < 2 * (length old - marked old) + length before

@@ -1,4 +1,4 @@
-use Rattle.report.specs.Statement.{tenths_column}
+use Rattle.report.specs.Statement.{shares_column}
 use Rattle.report.proofs.Seats.{elements_step}
 use Rattle.report.proofs.statement.push_holdings.Goals as goal
 use Rattle.events.specs.declared.event.Shareholder.TheVariants.{Seat as OfSeat}
@@ -6,6 +6,6 @@ use Rattle.tables.specs.Roster.{companies}
 
 pub loop-company-preserved : goal.loop-company-preserved
 loop-company-preserved c =
-    elements_step (λ company. tenths_column c.args.standing.now.past.events.now company (OfSeat c.args.seat))
+    elements_step (λ company. shares_column c.args.snapshot.now.past.events.now company (OfSeat c.args.seat))
     companies c.loop-company.company-index _ _ _ _
-    c.loop-company-test.true c.loop-company.invariant c.in_ok-push_tenths.ensures
+    c.loop-company-test.true c.loop-company.invariant c.in_ok-push_shares.ensures

@@ -3,7 +3,7 @@ use Rattle.report.specs.Report.{ends_round, rounds_in}
 use Rattle.report.proofs.Rounds.{with_events}
 use Rattle.report.proofs.text.length_of_round.Given as goal
 
--- the events so far are the front of the first round
+-- the events so far are the prefix of the first round
 pub record Front (l : goal.Live-loop-length) : Type 0 where
   pub some : 1 ≤ l.length
   pub within : l.length ≤ length l.events

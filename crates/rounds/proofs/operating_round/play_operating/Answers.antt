@@ -1,6 +1,6 @@
 use Rattle.std.proofs.Common.{◌≡◌, [], Result, Err, inl, refl, sym, ap, subst, ◌∙◌}
 use Rattle.std.proofs.lemmas.Result.{err_from_is_err_and}
-use Rattle.history.specs.LookBack.{Game}
+use Rattle.totals.specs.LookBack.{Game}
 use Rattle.operating.proofs.Calls.{broken_off}
 use Rattle.operating.specs.Calls.{Makes, Unasked}
 use Rattle.rounds.proofs.Called.{turns_followed, turns_of_round}

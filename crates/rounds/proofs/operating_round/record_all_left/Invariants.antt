@@ -1,6 +1,6 @@
 use Rattle.std.proofs.Common.{◌≡◌, ◌-◌, ◌++◌, length}
 use Rattle.std.specs.List.{range_with_len}
-use Rattle.history.specs.Operating.{rulings_in_round}
+use Rattle.totals.specs.Operating.{rulings_in_round}
 use Rattle.history.specs.Sound.{IsSound}
 use Rattle.rounds.specs.OperatingRound.{told_left}
 use Rattle.sheets.specs.File.{players_of}

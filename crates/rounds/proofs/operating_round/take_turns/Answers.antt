@@ -1,7 +1,8 @@
-use Rattle.std.proofs.Common.{◌≡◌, Bool, true, false, ◌&&◌, [], ◌∷◌, ◌++◌, Result, Ok, Err, refl, is_some, sym, ap, subst, ◌∙◌}
+use Rattle.std.proofs.Common.{◌≡◌, Bool, true, false, ◌&&◌, [], ◌∷◌, ◌++◌, Result, Ok, Err, refl, is_some, sym, ap}
+use Rattle.std.proofs.Common.{subst, ◌∙◌}
 use Rattle.std.proofs.lemmas.Result.{err_from_is_err_and}
-use Rattle.history.specs.LookBack.{Game}
-use Rattle.history.specs.Shares.{is_floated, square_of}
+use Rattle.totals.specs.LookBack.{Game}
+use Rattle.totals.specs.Shares.{is_floated, square_of}
 use Rattle.operating.proofs.Calls.{no_more, none_after, once_more, silent}
 use Rattle.operating.specs.Calls.{Makes, Unasked}
 use Rattle.rounds.proofs.Called.{next_turn}

@@ -1,5 +1,5 @@
 use Rattle.std.proofs.Common.{◌≡◌, List, Result}
-use Rattle.history.specs.LookBack.{Game}
+use Rattle.totals.specs.LookBack.{Game}
 use Rattle.operating.specs.Calls.{Makes}
 use Rattle.operating.specs.Table.{IsLaidOut}
 use Rattle.rounds.proofs.Idle.{idle_of}

@@ -4,7 +4,8 @@ use Rattle.std.specs.List.{list_any}
 use Rattle.std.specs.Map.{keys_of}
 use Rattle.indexmap.proofs.CallerLemmas.{insert_entry-new}
 use Rattle.sheets.specs.File.{all_differ, with_seats}
-use Rattle.sheets.proofs.PlayerLemmas.{is_equal, seat_there, repeated, now_seated, now_differ, no_players, all_play, keys_of-seats, none_from}
+use Rattle.sheets.proofs.PlayerLemmas.{is_equal, seat_there, repeated, now_seated, now_differ, no_players, all_play}
+use Rattle.sheets.proofs.PlayerLemmas.{keys_of-seats, none_from}
 use Rattle.sheets.proofs.players.players_from.Goals as goal
 
 pub returns-then-is_some : goal.returns-then-is_some

@@ -1,6 +1,7 @@
 use Rattle.std.proofs.Common.{ℕ, List, ◌+◌, take, sym, arith, length, ◌≡◌}
 use Rattle.std.proofs.lemmas.Bool.{eqb-false}
-use Rattle.sheets.proofs.TextLemmas.{begins_with_line, begins_with_last, behind, lines_at_newline, lines_without_newline, rest_at_newline, rest_without_newline}
+use Rattle.sheets.proofs.TextLemmas.{begins_with_line, begins_with_last, behind, lines_at_newline}
+use Rattle.sheets.proofs.TextLemmas.{lines_without_newline, rest_at_newline, rest_without_newline}
 use Rattle.sheets.proofs.text.first_line.Goals as goal
 
 pub returns-in-Some-clause-first : goal.returns-in-Some-clause-first

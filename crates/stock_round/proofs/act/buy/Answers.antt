@@ -3,6 +3,6 @@ use Rattle.stock_round.proofs.act.buy.Goals as goal
 
 pub record_float-requires : goal.record_float-requires
 record_float-requires c =
-    president_sound c.pay_for_tenth.new.history c.record_president.new.history c.args.company
+    president_sound c.pay_for_share.new.history c.record_president.new.history c.args.company
     c.in_ok-record_president.ensures.seats c.in_ok-record_president.ensures.events
-    c.in_ok-pay_for_tenth.ensures.sound
+    c.in_ok-pay_for_share.ensures.sound

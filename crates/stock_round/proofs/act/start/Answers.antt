@@ -1,6 +1,6 @@
 use Rattle.std.proofs.Common.{ℕ, ◌*◌, ap, ◌∙◌}
 use Rattle.events.specs.declared.event.Event.TheVariants as event
-use Rattle.history.specs.LookBack.{Game, with_event}
+use Rattle.totals.specs.LookBack.{Game, with_event}
 use Rattle.order_grammar.specs.declared.order.ShareSource.TheVariants.{InitialOffering}
 use Rattle.stock_round.proofs.Acts.{start_sound}
 use Rattle.stock_round.proofs.act.start.Goals as goal

@@ -2,7 +2,7 @@ use Rattle.std.proofs.Common.{◌≡◌, [], ◌∷◌, ◌++◌, Result, Ok, Er
 use Rattle.std.proofs.lemmas.Result.{on_ok_weaker}
 use Rattle.events.specs.declared.event.Event.TheVariants as event
 use Rattle.events.specs.declared.ruling.Ruling.TheVariants.{Faulty}
-use Rattle.history.specs.LookBack.{Game, with_event}
+use Rattle.totals.specs.LookBack.{Game, with_event}
 use Rattle.order_grammar.specs.declared.fault.Fault.{Fault}
 use Rattle.order_grammar.specs.declared.order.Order.{Order}
 use Rattle.sheets.specs.Part.{Numbered, line_unread}

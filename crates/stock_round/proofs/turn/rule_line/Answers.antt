@@ -4,7 +4,7 @@ use Rattle.sheets.specs.Part.{line_unread}
 use Rattle.stock_round.proofs.Judged.{may_act_after}
 use Rattle.stock_round.specs.Judgement.{judgement_of, refusal_of}
 use Rattle.turns.proofs.Ruled.{none_as_refusal}
-use Rattle.turns.specs.Ruling.{IsOrderToDo, IsToDo, has_place_in_group}
+use Rattle.turns.specs.Ruling.{IsOrderToDo, IsToDo, has_place_in_turn}
 use Rattle.stock_round.proofs.turn.rule_line.Goals as goal
 
 pub act-requires-clause-may : goal.act-requires-clause-may
@@ -13,8 +13,8 @@ act-requires-clause-may c =
     let events = c.args.history.now.events in
     let line = line_unread c.args.line in
     let order = c.rule_line.new.order in
-    let to_do : IsToDo has_place_in_group judgement events line order =
-    subst (IsOrderToDo has_place_in_group judgement events line order) c.if-not-branch.false
+    let to_do : IsToDo has_place_in_turn judgement events line order =
+    subst (IsOrderToDo has_place_in_turn judgement events line order) c.if-not-branch.false
     c.in_ok-rule_line.ensures.order
     in
     may_act_after c.args.history.now c.rule_line.new.history _ c.args.seat c.args.deals.bought order

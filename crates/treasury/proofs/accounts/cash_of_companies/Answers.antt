@@ -3,7 +3,7 @@ use Rattle.std.proofs.lemmas.List.{length-set}
 use Rattle.events.specs.declared.event.Holder.TheVariants as holder
 use Rattle.events.specs.declared.event.Party.{Party}
 use Rattle.events.specs.declared.event.Party.TheVariants as party
-use Rattle.history.specs.LookBack.{IsModerate, cash_of}
+use Rattle.totals.specs.LookBack.{IsModerate, cash_of}
 use Rattle.tables.proofs.Filled.{at_places}
 use Rattle.tables.specs.Roster.{companies}
 use Rattle.tables.specs.declared.roster.Company.{Company}

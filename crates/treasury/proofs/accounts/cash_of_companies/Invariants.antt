@@ -3,7 +3,7 @@ use Rattle.tables.specs.Roster.{companies}
 use Rattle.tables.specs.declared.roster.Company.TheVariants.{Pennsylvania}
 use Rattle.events.specs.declared.event.Holder.TheVariants as holder
 use Rattle.events.specs.declared.event.Party.TheVariants as party
-use Rattle.history.specs.LookBack.{IsModerate, cash_of}
+use Rattle.totals.specs.LookBack.{IsModerate, cash_of}
 use Rattle.treasury.proofs.accounts.cash_of_companies.Given as goal
 
 -- the companies so far have their cash

@@ -2,7 +2,7 @@ use Rattle.std.proofs.Common.{◌≡◌, ℕ, ℤ, ap, ◌∙◌, arith, rules}
 use Rattle.std.proofs.lemmas.List.{length-set}
 use Rattle.events.specs.Event.{party_at}
 use Rattle.events.specs.declared.event.Party.{Party}
-use Rattle.history.specs.LookBack.{IsModerate, cash_of}
+use Rattle.totals.specs.LookBack.{IsModerate, cash_of}
 use Rattle.tables.specs.Seat.{seat_at}
 use Rattle.treasury.proofs.Tables.{filled_more}
 use Rattle.treasury.proofs.accounts.cash_of_seats.Goals as goal

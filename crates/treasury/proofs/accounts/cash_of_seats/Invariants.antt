@@ -1,6 +1,6 @@
 use Rattle.std.proofs.Common.{◌≡◌, ◌<◌, ℕ, get_or, length, pos}
 use Rattle.events.specs.Event.{party_at}
-use Rattle.history.specs.LookBack.{IsModerate, cash_of}
+use Rattle.totals.specs.LookBack.{IsModerate, cash_of}
 use Rattle.tables.specs.Seat.{seat_at}
 use Rattle.treasury.proofs.accounts.cash_of_seats.Given as goal
 

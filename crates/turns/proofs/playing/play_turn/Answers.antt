@@ -1,6 +1,6 @@
 use Rattle.std.proofs.Common.{◌++◌, ◌∷◌, [], ◌∙◌, ap}
 use Rattle.events.specs.declared.event.Event.TheVariants.{Passes}
-use Rattle.history.specs.LookBack.{Game}
+use Rattle.totals.specs.LookBack.{Game}
 use Rattle.tables.specs.declared.seat.Seat.{Seat}
 use Rattle.turns.proofs.Turns.{turn_acted, turn_passed}
 use Rattle.turns.proofs.playing.play_turn.Goals as goal

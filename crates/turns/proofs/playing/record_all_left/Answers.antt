@@ -2,10 +2,10 @@ use Rattle.std.proofs.Common.{◌≡◌, ◌+◌, ◌<◌, ℕ, List, [], ◌++�
 use Rattle.std.proofs.Math.Seq.{drop-cons}
 use Rattle.std.proofs.lemmas.List.Elements.{All-get_or}
 use Rattle.history.proofs.Recording.{left_first}
-use Rattle.history.specs.LookBack.{Game}
+use Rattle.totals.specs.LookBack.{Game}
 use Rattle.history.specs.Record.{with_left}
 use Rattle.sheets.proofs.TakenLemmas.{left_goes_on}
-use Rattle.sheets.specs.Part.{Parts, groups_of, lines_in}
+use Rattle.sheets.specs.Part.{Parts, written_turns_of, lines_in}
 use Rattle.tables.specs.declared.seat.Seat.{Seat}
 use Rattle.turns.specs.RoundOfTurns.{left_from}
 use Rattle.turns.specs.Small.{IsReady}
@@ -30,7 +30,7 @@ loop-seat-preserved g c =
           left_goes_on with_left left_first old c.record_seat_left.new.history.events i c.count.result
           (get_or all i d) (drop (i + 1) all) (told ∙ ap (λ (s : Seat). old ++ with_left s c.count.result [])
           c.at.ensures) (c.count.ensures ∙ ap lines_in c.index-unruled-seat.is) ready.stands
-          ∙ ap (λ (left : List Parts). old ++ left_from i (map groups_of left))
+          ∙ ap (λ (left : List Parts). old ++ left_from i (map written_turns_of left))
           (sym (next_sheet all i d c.loop-seat-test.true))
           ∙ c.loop-seat.invariant.events;
       underway = c.in_ok-record_seat_left.ensures.underway;

@@ -1,5 +1,5 @@
 use Rattle.std.proofs.Common.{◌≡◌, ◌++◌, drop, map}
-use Rattle.sheets.specs.Part.{groups_of}
+use Rattle.sheets.specs.Part.{written_turns_of}
 use Rattle.turns.specs.RoundOfTurns.{left_from}
 use Rattle.turns.proofs.playing.record_all_left.Given as goal
 
@@ -7,7 +7,7 @@ use Rattle.turns.proofs.playing.record_all_left.Given as goal
 abbrev pub invariant-loop-seat : goal.invariant-loop-seat
 invariant-loop-seat g l = record {
   seats : l.history.seats ≡ l.fn.history.seats;
-  events : l.history.events ++ left_from l.seat (map groups_of (drop l.seat l.unruled))
-      ≡ l.fn.history.events ++ left_from 0 (map groups_of l.unruled);
+  events : l.history.events ++ left_from l.seat (map written_turns_of (drop l.seat l.unruled))
+      ≡ l.fn.history.events ++ left_from 0 (map written_turns_of l.unruled);
   underway : g.T.TurnRules.holds l.history;
 }

@@ -1,6 +1,6 @@
 use Rattle.std.proofs.Common.{◌<◌, length, rules, sym, subst, ◌∙◌}
 use Rattle.std.proofs.lemmas.List.Elements.{All-push}
-use Rattle.sheets.proofs.TakenLemmas.{groups_more, standing_goes_on}
+use Rattle.sheets.proofs.TakenLemmas.{more_written_turns, standing_goes_on}
 use Rattle.sheets.specs.File.{players_of}
 use Rattle.turns.proofs.Small.{parts_small, ready_after}
 use Rattle.turns.specs.Small.{IsReady, PartsAreSmall}
@@ -18,7 +18,7 @@ loop-seat-preserved g c =
           (length (players_of file)) c.loop-seat.history.events c.rule_standing.new.history.events
           c.parts-sheet.result c.at-seat.result within c.in_ok-rule_standing.ensures.events c.at-seat.ensures
           c.parts-sheet.ensures ∙ c.loop-seat.invariant.events;
-      left = rw c.push.ensures.items (groups_more file c.args.round c.loop-seat.seat c.loop-seat.unruled.items
+      left = rw c.push.ensures.items (more_written_turns file c.args.round c.loop-seat.seat c.loop-seat.unruled.items
           c.parts-sheet.result c.rule_standing.new.sheet c.at-seat.result c.loop-seat.invariant.left c.at-seat.ensures
           c.parts-sheet.ensures c.in_ok-rule_standing.ensures.left);
       each = search rules;

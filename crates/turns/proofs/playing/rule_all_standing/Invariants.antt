@@ -1,8 +1,8 @@
 use Rattle.std.proofs.Common.{◌≡◌, ◌-◌, All, length, map}
 use Rattle.std.specs.List.{range_with_len}
 use Rattle.sheets.specs.File.{players_of}
-use Rattle.sheets.specs.Part.{groups_of}
-use Rattle.turns.specs.RoundOfTurns.{after_standing, groups_for}
+use Rattle.sheets.specs.Part.{written_turns_of}
+use Rattle.turns.specs.RoundOfTurns.{after_standing, written_turns_for}
 use Rattle.turns.specs.Small.{IsReady}
 use Rattle.turns.proofs.playing.rule_all_standing.Given as goal
 
@@ -15,7 +15,7 @@ invariant-loop-seat g l = record {
       (range_with_len l.seat (length (players_of l.sheets) - l.seat))
       ≡ after_standing g.T.TurnRules.rules l.sheets l.round l.fn.history.events
       (range_with_len 0 (length (players_of l.sheets)));
-  left : map groups_of l.unruled.items ≡ groups_for l.seat l.sheets l.round;
+  left : map written_turns_of l.unruled.items ≡ written_turns_for l.seat l.sheets l.round;
   each : length l.unruled.items ≡ l.seat;
   ready : All IsReady l.unruled.items;
   underway : g.T.TurnRules.holds l.history;

@@ -1,6 +1,6 @@
 use Rattle.std.proofs.Common.{◌≡◌, ◌<◌, ◌≤◌, ℕ, List, true, false, Some, map, refl, sym, subst, ap, ◌∙◌, arith}
 use Rattle.events.specs.declared.event.Event.{Event}
-use Rattle.sheets.specs.Part.{Numbered, groups_of}
+use Rattle.sheets.specs.Part.{Numbered, written_turns_of}
 use Rattle.tables.proofs.Steps.{leads_on, leads_to_end}
 use Rattle.tables.proofs.Turns.{turns_most_falls}
 use Rattle.tables.specs.Seat.{left_of, seat_at}
@@ -13,12 +13,12 @@ use Rattle.turns.proofs.playing.take_turns.Goals as goal
 -- a seat's turn is one turn of the round
 one_turn :
     {TurnActions : Type 0} (rules : RoundRules TurnActions) (seats same table : ℕ) (events after : List Event)
-    (seat next passes counted : ℕ) (taker left : Seat) (groups new : List (List (List Numbered))) →
+    (seat next passes counted : ℕ) (taker left : Seat) (written_turns new : List (List (List Numbered))) →
     same ≡ seats → seats ≡ table → taker ≡ seat_at seat → left ≡ left_of table taker → next ≡ left.0 →
     in_play after (left_of same (seat_at seat)).0 counted new
-    ≡ after_turn (turns_of rules same) (in_play events seat passes groups) →
-    in_play after next counted new ≡ after_turn (turns_of rules seats) (in_play events seat passes groups)
-one_turn rules seats same table events after seat next passes counted taker left groups new is_same is_table is_taker
+    ≡ after_turn (turns_of rules same) (in_play events seat passes written_turns) →
+    in_play after next counted new ≡ after_turn (turns_of rules seats) (in_play events seat passes written_turns)
+one_turn rules seats same table events after seat next passes counted taker left written_turns new is_same is_table is_taker
     is_left is_next turn =
     let at_left : next ≡ (left_of same (seat_at seat)).0 =
     is_next
@@ -28,7 +28,7 @@ one_turn rules seats same table events after seat next passes counted taker left
     in
     ap (λ (n : ℕ). in_play after n counted new) at_left
     ∙ turn
-    ∙ ap (λ (n : ℕ). after_turn (turns_of rules n) (in_play events seat passes groups)) is_same
+    ∙ ap (λ (n : ℕ). after_turn (turns_of rules n) (in_play events seat passes written_turns)) is_same
 
 pub loop-passes-preserved : goal.loop-passes-preserved
 loop-passes-preserved g c =
@@ -38,8 +38,8 @@ loop-passes-preserved g c =
     let fewer : c.loop-passes.passes < seats = omega arith in
     let stepped = one_turn rules seats c.loop-passes.history.seats _ c.loop-passes.history.events
     c.play_turn.new.history.events c.loop-passes.seat c.number-seat.result c.loop-passes.passes
-    c.in_ok-passes.passes c.at.result c.left.result (map groups_of c.loop-passes.unruled)
-    (map groups_of c.play_turn.new.unruled) c.loop-passes.invariant.seats c.requires.seats c.at.ensures
+    c.in_ok-passes.passes c.at.result c.left.result (map written_turns_of c.loop-passes.unruled)
+    (map written_turns_of c.play_turn.new.unruled) c.loop-passes.invariant.seats c.requires.seats c.at.ensures
     c.left.ensures c.number-seat.ensures.number c.in_ok-passes.ensures.turn in
     let some : 0 < seats = omega arith in
     let within : (left_of seats c.at.result).0 < seats = left_within seats (Some c.at.result) some in
@@ -66,11 +66,11 @@ loop-passes-smaller g c =
     let unended : rules.over c.loop-passes.history.events ≡ false = sym c.is_over.ensures ∙ c.if-not-is_over.true in
     let fewer : c.loop-passes.passes < seats = omega arith in
     let here : InPlay (List Event) Numbered = in_play c.loop-passes.history.events c.loop-passes.seat
-    c.loop-passes.passes (map groups_of c.loop-passes.unruled) in
+    c.loop-passes.passes (map written_turns_of c.loop-passes.unruled) in
     let stepped = one_turn rules seats c.loop-passes.history.seats _ c.loop-passes.history.events
     c.play_turn.new.history.events c.loop-passes.seat c.number-seat.result c.loop-passes.passes
-    c.in_ok-passes.passes c.at.result c.left.result (map groups_of c.loop-passes.unruled)
-    (map groups_of c.play_turn.new.unruled) c.loop-passes.invariant.seats c.requires.seats c.at.ensures
+    c.in_ok-passes.passes c.at.result c.left.result (map written_turns_of c.loop-passes.unruled)
+    (map written_turns_of c.play_turn.new.unruled) c.loop-passes.invariant.seats c.requires.seats c.at.ensures
     c.left.ensures c.number-seat.ensures.number c.in_ok-passes.ensures.turn in
     subst (λ (next : InPlay (List Event) Numbered). turns_most (turns_of rules seats) next
     < turns_most (turns_of rules seats) here) (sym stepped)
@@ -84,12 +84,12 @@ returns-else-not-is_over-clause-turns g c =
     let done : rules.over c.loop-passes.history.events ≡ true = sym c.is_over.ensures ∙ c.if-not-is_over.false in
     record {
       last = in_play c.loop-passes.history.events c.loop-passes.seat c.loop-passes.passes
-          (map groups_of c.loop-passes.unruled);
+          (map written_turns_of c.loop-passes.unruled);
       turns = leads_to_end (after_turn (turns_of rules seats)) (turns_over (turns_of rules seats)) _ _
           c.loop-passes.invariant.leads (something_ends_them (rules.over c.loop-passes.history.events) seats
           c.loop-passes.passes done);
       events_then = refl;
-      groups_then = refl;
+      then_written_turns = refl;
     }
 
 pub returns-after-loop-passes-clause-turns : goal.returns-after-loop-passes-clause-turns
@@ -99,10 +99,10 @@ returns-after-loop-passes-clause-turns g c =
     let all : seats ≤ c.loop-passes.passes = omega arith in
     record {
       last = in_play c.loop-passes.history.events c.loop-passes.seat c.loop-passes.passes
-          (map groups_of c.loop-passes.unruled);
+          (map written_turns_of c.loop-passes.unruled);
       turns = leads_to_end (after_turn (turns_of rules seats)) (turns_over (turns_of rules seats)) _ _
           c.loop-passes.invariant.leads (all_have_passed (rules.over c.loop-passes.history.events) seats
           c.loop-passes.passes all);
       events_then = refl;
-      groups_then = refl;
+      then_written_turns = refl;
     }

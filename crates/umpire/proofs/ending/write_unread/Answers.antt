@@ -1,6 +1,6 @@
 use Rattle.std.proofs.Common.{arith}
 use Rattle.std.proofs.lemmas.Grind.{common_steps}
-use Rattle.umpire.proofs.Parts.{front_of_part, front_of_text, leaves_all, leaves_less, on_err}
+use Rattle.umpire.proofs.Parts.{prefix_of_part, prefix_of_text, leaves_all, leaves_less, on_err}
 use Rattle.umpire.proofs.UnreadParts.{all_unread_told, unread_parted}
 use Rattle.umpire.proofs.ending.write_unread.Goals as goal
 
@@ -20,7 +20,7 @@ loop-rest-preserved g c =
     }
 
 pub returns-in_err-text-clause-front : goal.returns-in_err-text-clause-front
-returns-in_err-text-clause-front g c = on_err c.from_residual.result (front_of_text _ _ _ _ c.loop-rest.invariant.left)
+returns-in_err-text-clause-front g c = on_err c.from_residual.result (prefix_of_text _ _ _ _ c.loop-rest.invariant.left)
 
 pub returns-in_err-write_text-clause-front : goal.returns-in_err-write_text-clause-front
 returns-in_err-write_text-clause-front g c =
@@ -29,7 +29,7 @@ returns-in_err-write_text-clause-front g c =
     let bytes = rw c.as_slice.ensures.value at c.in_err-write_text.ensures.front in
     let front = rw c.in_ok-text.ensures at bytes in
     on_err c.from_residual-in_err-write_text.result
-    (front_of_part _ _ _ _ _ _ _ c.loop-rest.invariant.left parted front)
+    (prefix_of_part _ _ _ _ _ _ _ c.loop-rest.invariant.left parted front)
 
 pub returns-clause-ok : goal.returns-clause-ok
 returns-clause-ok g c = all_unread_told _ _ _ _ _ (grind (arith, common_steps)) c.loop-rest.invariant.left

@@ -1,5 +1,6 @@
 use Rattle.std.proofs.Common.{sym, ◌∙◌}
-use Rattle.umpire.proofs.BodyLemmas.{front_by_rest, front_of_rest, front_of_stretch, front_of_x, line_within, putting_all, putting_line, putting_none, putting_x}
+use Rattle.umpire.proofs.BodyLemmas.{prefix_by_rest, prefix_of_rest, prefix_of_stretch, prefix_of_x, line_within}
+use Rattle.umpire.proofs.BodyLemmas.{putting_all, putting_line, putting_none, putting_x}
 use Rattle.umpire.proofs.EndedLines.{first_ended}
 use Rattle.umpire.proofs.Parts.{on_err}
 use Rattle.umpire.proofs.migration.put_body.Goals as goal
@@ -12,15 +13,15 @@ pub returns-in_err-put-clause-front : goal.returns-in_err-put-clause-front
 returns-in_err-put-clause-front g c =
     let at = c.loop-piece.invariant.putting in
     on_err c.from_residual.result
-    (front_of_stretch _ _ _ _ _ _ _ _ _ at (front_by_rest _ at.stretch _ at.is_kept) c.in_err-put.ensures.front)
+    (prefix_of_stretch _ _ _ _ _ _ _ _ _ at (prefix_by_rest _ at.stretch _ at.is_kept) c.in_err-put.ensures.front)
 
 pub returns-in_err-put-2-clause-front : goal.returns-in_err-put-2-clause-front
 returns-in_err-put-2-clause-front g c =
     let at = c.loop-piece.invariant.putting in
     let h = c.in-Some.ensures in
     on_err c.from_residual-in_err-put-2.result
-    (front_of_x _ _ _ _ _ _ _ _ _ _ _ _ _ at (first_ended _ _ _ h.lines h.rest)
-    (sym c.is_if_line.ensures ∙ c.if-is_if_line.true) (front_by_rest _ at.stretch _ at.is_kept)
+    (prefix_of_x _ _ _ _ _ _ _ _ _ _ _ _ _ at (first_ended _ _ _ h.lines h.rest)
+    (sym c.is_if_line.ensures ∙ c.if-is_if_line.true) (prefix_by_rest _ at.stretch _ at.is_kept)
     c.in_ok-put.ensures.ok c.in_err-put-2.ensures.front)
 
 pub behind-kept-requires : goal.behind-kept-requires
@@ -35,7 +36,7 @@ loop-piece-preserved g c =
       | then-is_if_line+in_ok-put+in_ok-put-2 w ↦ rw (w.gathered-is, w.writer-is, w.kept-is)
           (record {
             putting = putting_x _ _ _ _ _ _ _ _ _ _ _ _ _ _ _ at first
-                (sym c.is_if_line.ensures ∙ w.if-is_if_line.true) (front_by_rest _ at.stretch _ at.is_kept)
+                (sym c.is_if_line.ensures ∙ w.if-is_if_line.true) (prefix_by_rest _ at.stretch _ at.is_kept)
                 w.in_ok-put.ensures.ok w.in_ok-put-2.ensures.ok w.behind-kept.ensures;
             unfailed = w.in_ok-put-2.ensures.unfailed;
           })
@@ -49,7 +50,7 @@ loop-piece-preserved g c =
 pub returns-in_err-put-3-clause-front : goal.returns-in_err-put-3-clause-front
 returns-in_err-put-3-clause-front g c =
     on_err c.from_residual-in_err-put-3.result
-    (front_of_rest _ _ _ _ _ _ _ _ c.loop-piece.invariant.putting c.in_default.ensures.lines
+    (prefix_of_rest _ _ _ _ _ _ _ _ c.loop-piece.invariant.putting c.in_default.ensures.lines
     c.in_err-put-3.ensures.front)
 
 pub returns-clause-ok : goal.returns-clause-ok

@@ -1,4 +1,5 @@
-use Rattle.umpire.proofs.BodyLemmas.{all_of_file, blank_file_stays, front_by_rest, front_of_body, front_of_file, line_within}
+use Rattle.umpire.proofs.BodyLemmas.{all_of_file, blank_file_stays, prefix_by_rest, prefix_of_body, prefix_of_file}
+use Rattle.umpire.proofs.BodyLemmas.{line_within}
 use Rattle.umpire.proofs.EndedLines.{first_ended}
 use Rattle.umpire.proofs.Parts.{on_err}
 use Rattle.umpire.proofs.migration.put_in_two.Goals as goal
@@ -8,8 +9,8 @@ returns-in_err-put-in-Some-clause-front g c =
     let found = c.from_header-text.ensures in
     let h = c.in-Some.ensures in
     on_err c.from_residual-in_err-put-in-Some.result
-    (front_of_file _ _ _ _ _ _ _ _ _ _ _ found h.lines (first_ended _ _ _ h.lines h.rest)
-    (front_by_rest _ found.front _ found.whole) c.in_ok-put.ensures.ok c.in_err-put-in-Some.ensures.front)
+    (prefix_of_file _ _ _ _ _ _ _ _ _ _ _ found h.lines (first_ended _ _ _ h.lines h.rest)
+    (prefix_by_rest _ found.front _ found.whole) c.in_ok-put.ensures.ok c.in_err-put-in-Some.ensures.front)
 
 pub behind-requires : goal.behind-requires
 behind-requires g c = let h = c.in-Some.ensures in line_within _ _ _ (first_ended _ _ _ h.lines h.rest)
@@ -19,8 +20,8 @@ returns-in_err-put_body-in-Some-clause-front g c =
     let found = c.from_header-text.ensures in
     let h = c.in-Some.ensures in
     on_err c.from_residual-in_err-put_body-in-Some.result
-    (front_of_body _ _ _ _ _ _ _ _ _ _ _ _ _ _ found h.lines (first_ended _ _ _ h.lines h.rest)
-    (front_by_rest _ found.front _ found.whole) c.in_ok-put.ensures.ok c.in_ok-put-in-Some.ensures.ok
+    (prefix_of_body _ _ _ _ _ _ _ _ _ _ _ _ _ _ found h.lines (first_ended _ _ _ h.lines h.rest)
+    (prefix_by_rest _ found.front _ found.whole) c.in_ok-put.ensures.ok c.in_ok-put-in-Some.ensures.ok
     c.behind.ensures c.in_err-put_body-in-Some.ensures.front)
 
 pub returns-in_ok-put_body-in-Some-clause-ok : goal.returns-in_ok-put_body-in-Some-clause-ok
@@ -28,11 +29,11 @@ returns-in_ok-put_body-in-Some-clause-ok g c =
     let found = c.from_header-text.ensures in
     let h = c.in-Some.ensures in
     all_of_file _ _ _ _ _ _ _ _ _ _ _ _ _ _ _ found h.lines (first_ended _ _ _ h.lines h.rest)
-    (front_by_rest _ found.front _ found.whole) c.in_ok-put.ensures.ok c.in_ok-put-in-Some.ensures.ok
+    (prefix_by_rest _ found.front _ found.whole) c.in_ok-put.ensures.ok c.in_ok-put-in-Some.ensures.ok
     c.behind.ensures c.in_ok-put_body-in-Some.ensures.ok
 
 pub returns-in-None-clause-ok : goal.returns-in-None-clause-ok
 returns-in-None-clause-ok g c =
     let found = c.from_header-text.ensures in
-    rw (blank_file_stays _ _ found c.in-None.ensures.lines, ← front_by_rest _ found.front _ found.whole)
+    rw (blank_file_stays _ _ found c.in-None.ensures.lines, ← prefix_by_rest _ found.front _ found.whole)
     c.in_ok-put.ensures.ok

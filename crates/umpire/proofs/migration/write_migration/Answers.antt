@@ -3,7 +3,8 @@ use Rattle.std.proofs.lemmas.Grind.{common_steps}
 use Rattle.std.proofs.lemmas.Result.{err_from_is_err_and}
 use Rattle.std.specs.Prelude.{Err}
 use Rattle.sheets.specs.File.{content_of}
-use Rattle.umpire.proofs.MigrationLemmas.{accepted_goes, cut_by, migrated_by, migration_cut, one_goes, refused_goes, two_stays, write_failed}
+use Rattle.umpire.proofs.MigrationLemmas.{accepted_goes, cut_by, migrated_by, migration_cut, one_goes, refused_goes}
+use Rattle.umpire.proofs.MigrationLemmas.{two_stays, write_failed}
 use Rattle.umpire.proofs.migration.write_migration.Goals as goal
 
 pub returns-in_err-write_refusal-in-Err : goal.returns-in_err-write_refusal-in-Err

@@ -1,6 +1,7 @@
 use Rattle.std.proofs.Common.{refl}
 use Rattle.std.proofs.lemmas.Result.{err_from_is_err_and}
-use Rattle.umpire.proofs.Parts.{all_of_start, all_told, cut_in_end, cut_in_header, cut_in_rounds, front_of_start, stops_short, whole_front}
+use Rattle.umpire.proofs.Parts.{all_of_start, all_told, cut_in_end, cut_in_header, cut_in_rounds, prefix_of_start}
+use Rattle.umpire.proofs.Parts.{stops_short, whole_prefix}
 use Rattle.umpire.proofs.program.write_game.Goals as goal
 
 pub returns-in_err-write_header-clause-err : goal.returns-in_err-write_header-clause-err
@@ -19,7 +20,7 @@ returns-in_err-play-clause-err g c =
       c.in_ok-write_header.ensures.unfailed,
       cut_in_header c.parts_are_the_report.ensures.front
           c.parts_are_the_report.ensures.whole c.some_report.ensures c.args.sheets.now c.requires.accepted _ _
-          (whole_front _ _ _ c.in_ok-write_header.ensures.ok),
+          (whole_prefix _ _ _ c.in_ok-write_header.ensures.ok),
     )
 
 pub returns-in_err-write_rounds-clause-err : goal.returns-in_err-write_rounds-clause-err
@@ -30,7 +31,7 @@ returns-in_err-write_rounds-clause-err g c =
     (stops_short _ _ _ _ _ c.in_err-write_rounds.ensures.err
     (cut_in_rounds c.parts_are_the_report.ensures.front c.parts_are_the_report.ensures.whole c.some_report.ensures
     c.args.sheets.now c.requires.accepted _ _ _ c.in_ok-write_header.ensures.ok
-    (front_of_start _ _ _ _ c.in_ok-play.ensures c.in_err-write_rounds.ensures.front)))
+    (prefix_of_start _ _ _ _ c.in_ok-play.ensures c.in_err-write_rounds.ensures.front)))
 
 pub returns-in_err-write_end-clause-err : goal.returns-in_err-write_end-clause-err
 returns-in_err-write_end-clause-err g c =

@@ -1,7 +1,7 @@
 use Rattle.std.proofs.Common.{◌≡◌, Ok, refl, sym, subst}
 use Rattle.rounds.specs.Steps.{IsUnbroken, PlaysNext, StepLeads}
 use Rattle.rounds.specs.declared.steps.Step.{Step}
-use Rattle.umpire.proofs.Parts.{more_front, on_err, tells_more, tells_none, told_front}
+use Rattle.umpire.proofs.Parts.{more_prefix, on_err, tells_more, tells_none, told_prefix}
 use Rattle.umpire.proofs.program.write_rounds.Goals as goal
 
 pub loop-play-init : goal.loop-play-init
@@ -27,11 +27,11 @@ loop-play-preserved g c =
     }
 
 pub returns-in_err-step-clause-front : goal.returns-in_err-step-clause-front
-returns-in_err-step-clause-front g c = on_err c.from_residual.result (told_front _ _ _ _ c.loop-play.invariant.told)
+returns-in_err-step-clause-front g c = on_err c.from_residual.result (told_prefix _ _ _ _ c.loop-play.invariant.told)
 
 pub returns-in_err-text-clause-front : goal.returns-in_err-text-clause-front
 returns-in_err-text-clause-front g c = on_err c.from_residual-in_err-text.result
-    (told_front _ _ _ _ c.loop-play.invariant.told)
+    (told_prefix _ _ _ _ c.loop-play.invariant.told)
 
 pub returns-in_err-write_text-clause-front : goal.returns-in_err-write_text-clause-front
 returns-in_err-write_text-clause-front g c =
@@ -41,4 +41,4 @@ returns-in_err-write_text-clause-front g c =
     in
     let bytes = rw c.as_slice.ensures.value at c.in_err-write_text.ensures.front in
     let front = rw c.in_ok-text.ensures at bytes in
-    on_err c.from_residual-in_err-write_text.result (more_front _ _ _ _ _ _ _ c.loop-play.invariant.told step front)
+    on_err c.from_residual-in_err-write_text.result (more_prefix _ _ _ _ _ _ _ c.loop-play.invariant.told step front)

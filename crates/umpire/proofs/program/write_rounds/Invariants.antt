@@ -1,11 +1,11 @@
 use Rattle.std.proofs.Common.{◌≡◌, false}
 use Rattle.rounds.specs.Steps.{IsUnbroken, places_ahead}
-use Rattle.umpire.specs.Rounds.{TellsRounds}
+use Rattle.umpire.specs.Rounds.{WritesRounds}
 use Rattle.umpire.proofs.program.write_rounds.Given as goal
 
 -- the rounds so far were told, no fault has broken play off, and no call failed
 pub record Telling (g : goal.Over) (l : goal.Live-loop-play g) : Type 0 where
-  pub told : TellsRounds l.fn.play.file l.play (g.W.Write.contents l.fn.writer.inner)
+  pub told : WritesRounds l.fn.play.file l.play (g.W.Write.contents l.fn.writer.inner)
       (g.W.Write.contents l.writer.inner)
   pub unbroken : IsUnbroken l.play
   pub unfailed : l.writer.failed ≡ false

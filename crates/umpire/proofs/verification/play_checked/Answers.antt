@@ -55,7 +55,7 @@ returns-in_err-step-clause-judged c =
     at.calls made.0 at.called c.in_err-step.ensures.step made.1 in
     rw (told.1, told.2)
     (broken_judged c.calls_are_answered.ensures.games c.some_calls.ensures.accepted
-    c.refused_calls_are_a_front.ensures file c.requires.accepted
+    c.refused_calls_are_a_prefix.ensures file c.requires.accepted
     _ _ fault (at.calls ++ made.0) calls (made_after _ _ _ at.calls made.0 at.made made.2))
 
 pub returns-in-Ended-clause-judged : goal.returns-in-Ended-clause-judged
@@ -68,7 +68,7 @@ returns-in-Ended-clause-judged c =
     in
     let game = c.steps_call_the_game.ensures file at.steps c.loop-told.play c.step.new.self c.in-Ended.field-0
     at.calls at.called stays in
-    answered_have c.calls_are_answered.ensures.games c.some_calls.ensures.accepted c.refused_calls_are_a_front.ensures
+    answered_have c.calls_are_answered.ensures.games c.some_calls.ensures.accepted c.refused_calls_are_a_prefix.ensures
     file c.requires.accepted
     _ _ game.0 at.calls game.1 at.made
 

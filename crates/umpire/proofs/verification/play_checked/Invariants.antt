@@ -1,7 +1,7 @@
 use Rattle.std.proofs.Common.{ℕ, List}
 use Rattle.certificate.specs.Checked.{AnswersByNext}
 use Rattle.operating.specs.Calls.{AreMade, Call}
-use Rattle.report.specs.Parts.{StepsTell}
+use Rattle.report.specs.Parts.{IsTextOfSteps}
 use Rattle.rounds.specs.Steps.{IsUnbroken, places_ahead, started}
 use Rattle.rounds.specs.StepsCall.{StepsCall}
 use Rattle.umpire.proofs.verification.play_checked.Given as goal
@@ -14,7 +14,7 @@ pub record Checking (l : goal.Live-loop-told) : Type 0 where
   pub called : StepsCall steps l.fn.play.file l.play calls
   pub made : AreMade AnswersByNext l.fn.groups.items calls l.checked
   pub rounds : ℕ
-  pub told : StepsTell rounds (started l.fn.play.file) l.play l.told.items
+  pub told : IsTextOfSteps rounds (started l.fn.play.file) l.play l.told.items
   pub unbroken : IsUnbroken l.play
 
 abbrev pub invariant-loop-told : goal.invariant-loop-told

@@ -1,4 +1,4 @@
--- The state stands where it was put.
+-- The state is where it was put.
 use Rattle.std.proofs.Common.{◌≡◌, ◌%◌, Some, slice_get, set, subst, arith}
 use Rattle.best_run.specs.declared.search_state.SearchState.{SearchState}
 use Rattle.best_run.proofs.Kept.{set_held}

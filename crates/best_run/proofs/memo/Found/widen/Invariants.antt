@@ -1,4 +1,4 @@
--- What stands at the places is what stood there before, or the state that is kept.
+-- What is at the places is what was there before, or the state that is kept.
 use Rattle.std.proofs.Common.{◌<◌, ◌≤◌, length}
 use Rattle.best_run.specs.Kept.{IsKept}
 use Rattle.best_run.proofs.memo.Found.widen.Given as goal

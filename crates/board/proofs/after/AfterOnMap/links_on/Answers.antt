@@ -1,6 +1,6 @@
 -- The links of the last tile on its hex, and those of no other change.
 use Rattle.std.proofs.Common.{◌∙◌, ap, sym, cond, Some}
-use Rattle.board.proofs.Tiles.{last_lies}
+use Rattle.board_state.proofs.Tiles.{last_lies}
 use Rattle.map_tables.specs.Lay.{laid_links_of}
 use Rattle.map_tables.specs.OnMap.{by_tile, tile_on}
 use Rattle.map_tables.specs.Print.{printed_links_of}

@@ -1,6 +1,6 @@
 -- The last tile lies on its hex, and changes no other.
 use Rattle.std.proofs.Common.{◌∙◌, ap, sym, cond, Some}
-use Rattle.board.proofs.Tiles.{last_lies}
+use Rattle.board_state.proofs.Tiles.{last_lies}
 use Rattle.map_tables.specs.OnMap.{tile_on}
 use Rattle.board.proofs.after.AfterOnMap.tile_on.Goals as goal
 

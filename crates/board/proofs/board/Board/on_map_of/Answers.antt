@@ -9,4 +9,4 @@ pub returns : goal.returns
 unfolding on_map_of
 returns c =
     c.count_of.ensures ∙ ap (count_by (λ hex. is_tile c.args.number (tile_on c.args.self.now.lays hex)))
-    c.hexes_stand_once.ensures.all
+    c.hexes_are_listed_once.ensures.all

@@ -1,4 +1,4 @@
--- The first rule that is broken stands before what is reached.
+-- The first rule that is broken comes before what is reached.
 use Rattle.board.proofs.LayAnswers.{broken_before}
 use Rattle.board.proofs.board.Board.try_lay.Goals as goal
 

@@ -1,6 +1,6 @@
 -- The tiles, and then the tokens, before the next one have been put.
 use Rattle.std.proofs.Common.{◌≡◌, [], take}
-use Rattle.board.specs.MapState.{map_state_of}
+use Rattle.board_state.specs.MapState.{map_state_of}
 use Rattle.board.proofs.board.Board.with.Given as goal
 
 abbrev pub invariant-loop-lay : goal.invariant-loop-lay

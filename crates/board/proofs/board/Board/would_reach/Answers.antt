@@ -1,6 +1,6 @@
 -- A piece of the tile is reached in the position after the lay, or none is.
 use Rattle.std.proofs.Common.{◌≡◌, ◌∙◌, sym, subst, refl, inl, inr}
-use Rattle.board.specs.MapState.{position_of, with_lay}
+use Rattle.board_state.specs.MapState.{position_of, with_lay}
 use Rattle.board.specs.LayRules.{HaveStopIn, ShareLink}
 use Rattle.map_tables.specs.Lay.{laid_links_of}
 use Rattle.board.proofs.Connected.{by_link, by_stop, piece_is}

@@ -1,6 +1,6 @@
 -- The links of the tile that lies are kept.
 use Rattle.std.proofs.Common.{◌∙◌, ap, sym, []}
-use Rattle.board.specs.MapState.{MapState}
+use Rattle.board_state.specs.MapState.{MapState}
 use Rattle.map_tables.specs.Lay.{laid_links_of}
 use Rattle.map_tables.specs.OnMap.{by_tile, tile_on}
 use Rattle.map_tables.specs.Print.{printed_links_of}

@@ -1,8 +1,8 @@
 -- Nothing lies by tables that have nothing.
 use Rattle.std.proofs.Common.{refl, []}
-use Rattle.board.proofs.Indexed.{all_told, index_of_none}
+use Rattle.board.proofs.Indexed.{all_mapped, index_of_none}
 use Rattle.board.specs.Kept.{held}
 use Rattle.board.proofs.index.Index.none.Goals as goal
 
 pub returns : goal.returns
-returns c = index_of_none _ _ _ _ refl (all_told held 93 c.none.result [] c.none.ensures.links) refl refl
+returns c = index_of_none _ _ _ _ refl (all_mapped held 93 c.none.result [] c.none.ensures.links) refl refl

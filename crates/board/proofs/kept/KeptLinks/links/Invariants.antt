@@ -1,4 +1,4 @@
--- The links so far are told.
+-- The links so far are there.
 use Rattle.std.proofs.Common.{◌≡◌, ◌≤◌, length, take}
 use Rattle.board.proofs.kept.KeptLinks.links.Given as goal
 

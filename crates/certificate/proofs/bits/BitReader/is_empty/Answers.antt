@@ -2,7 +2,8 @@ use Rattle.std.proofs.Common.{◌≡◌, ◌<◌, ◌++◌, length, sym, ◌∙�
 use Rattle.std.proofs.lemmas.Bool.{eq-eqb, eqb-true}
 use Rattle.certificate.specs.Digits.{bits_of, bits_of_bytes}
 use Rattle.certificate.proofs.Digits.{none_there, some_behind, some_bytes, some_in_hand}
-use Rattle.certificate.proofs.bits.BitReader.is_empty.Goals.{then-self-gt0-via-then-self-gt0, then-self-gt0-via-else-self-gt0+then-self-gt0-2}
+use Rattle.certificate.proofs.bits.BitReader.is_empty.Goals.{then-self-gt0-via-then-self-gt0}
+use Rattle.certificate.proofs.bits.BitReader.is_empty.Goals.{then-self-gt0-via-else-self-gt0+then-self-gt0-2}
 use Rattle.certificate.proofs.bits.BitReader.is_empty.Goals as goal
 
 pub returns-then-self-gt0 : goal.returns-then-self-gt0

@@ -2,7 +2,8 @@ use Rattle.std.proofs.Common.{◌≡◌, ◌<◌, ◌++◌, ap, ◌∙◌, arith
 use Rattle.certificate.specs.Digits.{bits_of, bits_of_bytes}
 use Rattle.certificate.specs.declared.bits.BitReader.TheInside.{Inside}
 use Rattle.certificate.proofs.Digits.{open_byte, open_last, read_first}
-use Rattle.certificate.proofs.bits.BitReader.read.Goals.{then-self-eq0+in-Some, then-self-eq0+in_default+else-self-eq0-2, else-self-eq0}
+use Rattle.certificate.proofs.bits.BitReader.read.Goals.{then-self-eq0+in-Some}
+use Rattle.certificate.proofs.bits.BitReader.read.Goals.{then-self-eq0+in_default+else-self-eq0-2, else-self-eq0}
 use Rattle.certificate.proofs.bits.BitReader.read.Goals as goal
 
 pub returns : goal.returns

@@ -1,4 +1,4 @@
--- What the groups before earn is told, and what those after it earn from where they begin.
+-- What the groups before earn is known, and what those after it earn from where they begin.
 use Rattle.std.proofs.Common.{◌≡◌, ◌+◌, ◌≤◌, drop}
 use Rattle.certificate.specs.Walked.{capped}
 use Rattle.certificate.specs.Walking.{earned_from}

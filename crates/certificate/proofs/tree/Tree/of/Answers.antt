@@ -1,4 +1,4 @@
--- The trains of the six kinds are all trains, and what is told of each is so.
+-- The trains of the six kinds are all trains, and what is kept of each is so.
 use Rattle.std.proofs.Common.{◌≡◌, List, [], ap, sym, ◌∙◌, subst, arith}
 use Rattle.map_tables.specs.declared.place.Stop.{Stop}
 use Rattle.reach.specs.Position.{IsAmong, Position}
@@ -17,7 +17,7 @@ returns-clause-tree g c =
     let reached : List Stop = c.reached_stops-reached.result in
     let reach = c.reached_stops-reached.ensures in
     let ranked = c.of-ranking.ensures in
-    let told : (group : Group) (kind : Kind) → group.kind ≡ kind → group.may_earn ≡ may_earn position reached kind []
+    let earns : (group : Group) (kind : Kind) → group.kind ≡ kind → group.may_earn ≡ may_earn position reached kind []
     → group.may_earn ≡ may_earn position reached group.kind [] =
     λ group kind is amount. amount ∙ ap (λ (k : Kind). may_earn position reached k []) (sym is) in
     let size =
@@ -34,22 +34,22 @@ returns-clause-tree g c =
       named = λ stop among. all_named position c.args.company reach.0 reach.1 stop
           (subst (λ (l : List Stop). IsAmong stop l) (sym reach.2) among);
       earnings = (
-        told c.group_of.result Diesel c.group_of.ensures.kind
+        earns c.group_of.result Diesel c.group_of.ensures.kind
             (c.group_of.ensures.may_earn position reached ranked),
         (
-          told c.group_of-2.result Six c.group_of-2.ensures.kind
+          earns c.group_of-2.result Six c.group_of-2.ensures.kind
               (c.group_of-2.ensures.may_earn position reached ranked),
           (
-            told c.group_of-3.result Five c.group_of-3.ensures.kind
+            earns c.group_of-3.result Five c.group_of-3.ensures.kind
                 (c.group_of-3.ensures.may_earn position reached ranked),
             (
-              told c.group_of-4.result Four c.group_of-4.ensures.kind
+              earns c.group_of-4.result Four c.group_of-4.ensures.kind
                   (c.group_of-4.ensures.may_earn position reached ranked),
               (
-                told c.group_of-5.result Three c.group_of-5.ensures.kind
+                earns c.group_of-5.result Three c.group_of-5.ensures.kind
                     (c.group_of-5.ensures.may_earn position reached ranked),
                 (
-                  told c.group_of-6.result Two c.group_of-6.ensures.kind
+                  earns c.group_of-6.result Two c.group_of-6.ensures.kind
                       (c.group_of-6.ensures.may_earn position reached ranked),
                   tt,
                 ),

@@ -1,8 +1,8 @@
 -- A stop is found by its place in the order of the map.
 use Rattle.std.proofs.Common.{◌≡◌, Bool, true, false, refl, sym}
-use Rattle.certificate.specs.Fault.{has_stop}
+use Rattle.legal_runs.specs.Fault.{has_stop}
 use Rattle.certificate.specs.Walking.{reached_in}
-use Rattle.certificate.proofs.Joined.{has_stop_is}
+use Rattle.legal_runs.proofs.Joined.{has_stop_is}
 use Rattle.certificate.proofs.tree.Tree.reaches.Goals as goal
 
 same_test : (a b : Bool) → (a ≡ true → b ≡ true) → (b ≡ true → a ≡ true) → a ≡ b

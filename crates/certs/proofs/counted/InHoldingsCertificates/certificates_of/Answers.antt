@@ -8,5 +8,5 @@ use Rattle.certs.proofs.counted.InHoldingsCertificates.certificates_of.Goals as 
 pub certificates_of-requires : goal.certificates_of-requires
 certificates_of-requires c =
     let its = c.args.self.now in
-    small_kept c.tenths-tenths.result _ c.tenths-tenths.ensures
+    small_kept c.shares-shares.result _ c.shares-shares.ensures
     (small_in _ (index_of (OfSeat its.seat)) (its.holdings.now.bounded (place_of_company c.args.company)))

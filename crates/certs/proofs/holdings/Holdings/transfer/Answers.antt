@@ -1,4 +1,5 @@
-use Rattle.std.proofs.Common.{◌≡◌, ◌<◌, ◌+ℤ◌, ◌-ℤ◌, ◌==◌, ℕ, [], if◌then◌else◌, get_or, length, pos, refl, ap, ◌∙◌, rules}
+use Rattle.std.proofs.Common.{◌≡◌, ◌<◌, ◌+ℤ◌, ◌-ℤ◌, ◌==◌, ℕ, [], if◌then◌else◌, get_or, length, pos, refl, ap, ◌∙◌}
+use Rattle.std.proofs.Common.{rules}
 use Rattle.certs.proofs.RowLemmas.{bounded_set}
 use Rattle.certs.proofs.Transfers.{rows_after}
 use Rattle.certs.specs.Rows.{index_of}
@@ -6,31 +7,31 @@ use Rattle.certs.proofs.holdings.Holdings.transfer.Goals as goal
 
 pub invariant_of-self : goal.invariant_of-self
 invariant_of-self c =
-    let within : c.place-place.result < length c.args.self.now.tenths = search rules in
+    let within : c.place-place.result < length c.args.self.now.shares = search rules in
     record {
-      bounded = bounded_set c.args.self.now.tenths c.place-place.result c.moved.result within
+      bounded = bounded_set c.args.self.now.shares c.place-place.result c.moved.result within
           c.moved.ensures.bounded c.args.self.now.bounded;
     }
 
 pub returns : goal.returns
 returns c =
-    let within : c.place-place.result < length c.args.self.now.tenths = search rules in
+    let within : c.place-place.result < length c.args.self.now.shares = search rules in
     let transfer = c.args.transfer in
     let moved : (k : ℕ) → get_or c.moved.result k (pos 0)
-    ≡ (get_or (get_or c.args.self.now.tenths c.place-place.result []) k (pos 0) +ℤ
-    (if index_of transfer.to == k then pos transfer.tenths else pos 0)) -ℤ
-    (if index_of transfer.from == k then pos transfer.tenths else pos 0) =
+    ≡ (get_or (get_or c.args.self.now.shares c.place-place.result []) k (pos 0) +ℤ
+    (if index_of transfer.to == k then pos transfer.shares else pos 0)) -ℤ
+    (if index_of transfer.from == k then pos transfer.shares else pos 0) =
     λ k.
     c.moved.ensures.moved k
-    ∙ ap (λ (n : ℕ). (get_or (get_or c.args.self.now.tenths c.place-place.result []) k (pos 0) +ℤ
-    (if n == k then pos transfer.tenths else pos 0)) -ℤ
-    (if c.index_of.result == k then pos transfer.tenths else pos 0)) c.index_of-2.ensures
-    ∙ ap (λ (n : ℕ). (get_or (get_or c.args.self.now.tenths c.place-place.result []) k (pos 0) +ℤ
-    (if index_of transfer.to == k then pos transfer.tenths else pos 0)) -ℤ
-    (if n == k then pos transfer.tenths else pos 0)) c.index_of.ensures
+    ∙ ap (λ (n : ℕ). (get_or (get_or c.args.self.now.shares c.place-place.result []) k (pos 0) +ℤ
+    (if n == k then pos transfer.shares else pos 0)) -ℤ
+    (if c.index_of.result == k then pos transfer.shares else pos 0)) c.index_of-2.ensures
+    ∙ ap (λ (n : ℕ). (get_or (get_or c.args.self.now.shares c.place-place.result []) k (pos 0) +ℤ
+    (if index_of transfer.to == k then pos transfer.shares else pos 0)) -ℤ
+    (if n == k then pos transfer.shares else pos 0)) c.index_of.ensures
     in
     record {
-      tenths = λ company place. rows_after c.args.self.now.tenths c.moved.result transfer c.place-place.result
+      shares = λ company place. rows_after c.args.self.now.shares c.moved.result transfer c.place-place.result
           c.place-place.ensures.place within company place (moved (index_of place));
       seats = refl;
       presidents = refl;

@@ -1,6 +1,5 @@
 use Rattle.std.proofs.Common.{subst, sym}
-use Rattle.history.proofs.Settled.{broken_quiet}
-use Rattle.history.proofs.Soundness.{quiet_sound}
+use Rattle.history.proofs.NearlySound.{broken_quiet, quiet_sound}
 use Rattle.history.specs.Sound.{IsSound}
 use Rattle.history.proofs.list.History.record_broken.Goals as goal
 

@@ -1,5 +1,5 @@
 use Rattle.std.proofs.Common.{subst, sym}
-use Rattle.history.proofs.Soundness.{quiet_sound}
+use Rattle.history.proofs.NearlySound.{quiet_sound}
 use Rattle.history.specs.Sound.{IsSound}
 use Rattle.history.proofs.list.History.record_event.Goals as goal
 

@@ -1,7 +1,7 @@
 use Rattle.std.proofs.Common.{ap, slice_get, ◌∙◌}
-use Rattle.history.proofs.InOrder.{lent_at}
-use Rattle.history.specs.LookBack.{Game}
-use Rattle.history.specs.Operating.{tokens_of}
+use Rattle.totals.proofs.InOrder.{lent_at}
+use Rattle.totals.specs.LookBack.{Game}
+use Rattle.totals.specs.Operating.{tokens_of}
 use Rattle.history.proofs.list.History.token.Goals as goal
 
 pub returns : goal.returns

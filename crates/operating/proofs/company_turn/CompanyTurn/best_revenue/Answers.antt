@@ -1,6 +1,6 @@
 use Rattle.std.proofs.Common.{Ok, Err, sym, ap, ◌∙◌}
 use Rattle.std.proofs.lemmas.Result.{err_from_is_err_and}
-use Rattle.board.specs.MapState.{position_of}
+use Rattle.board_state.specs.MapState.{position_of}
 use Rattle.operating.proofs.BestCalls.{told_fault, told_revenue}
 use Rattle.operating.proofs.BestLemmas.{same_sum, small_sum, told_greatest}
 use Rattle.operating.specs.Best.{trains_now}

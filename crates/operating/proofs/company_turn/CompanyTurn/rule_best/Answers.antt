@@ -1,7 +1,7 @@
 -- Where memory is refused, or the runner does not answer, its calls are those of the order up to there.
 use Rattle.std.proofs.Common.{◌≡◌, Err, ap, ◌∙◌}
 use Rattle.std.proofs.lemmas.Result.{err_from_is_err_and}
-use Rattle.certificate.specs.declared.runner.RunnerFault.TheVariants.{Memory}
+use Rattle.legal_runs.specs.declared.runner.RunnerFault.TheVariants.{Memory}
 use Rattle.operating.proofs.BestCalls.{best_untold, best_unanswered, broken_unasked}
 use Rattle.operating.specs.CompanyTurn.{state}
 use Rattle.operating.specs.TurnCalls.{led_to}

@@ -1,6 +1,6 @@
 use Rattle.std.proofs.Common.{◌≡◌, List, Ok, Err, Result, ap, sym, subst, ◌∙◌}
 use Rattle.std.proofs.lemmas.Result.{err_from_is_err_and}
-use Rattle.certificate.specs.declared.runner.RunnerFault.{RunnerFault}
+use Rattle.legal_runs.specs.declared.runner.RunnerFault.{RunnerFault}
 use Rattle.operating.proofs.Going.{after_line}
 use Rattle.operating.proofs.TurnCalled.{line_calls_end, line_calls_on, no_line_calls}
 use Rattle.operating.proofs.TurnLaws.{line_seats}

@@ -1,5 +1,5 @@
 use Rattle.std.proofs.Common.{◌≡◌, length, Result}
-use Rattle.certificate.specs.declared.runner.RunnerFault.{RunnerFault}
+use Rattle.legal_runs.specs.declared.runner.RunnerFault.{RunnerFault}
 use Rattle.operating.specs.Calls.{Makes}
 use Rattle.operating.specs.CompanyTurn.{IsInOrder, state}
 use Rattle.operating.specs.InTurn.{InTurn}

@@ -1,10 +1,10 @@
 use Rattle.std.proofs.Common.{ap, subst, sym, ◌∙◌}
 use Rattle.std.specs.Global.{Global}
 use Rattle.std.specs.Prelude.{Box}
-use Rattle.board.specs.MapState.{MapState}
+use Rattle.board_state.specs.MapState.{MapState}
 use Rattle.operating.proofs.Going.{after_settling, train_leads_on}
 use Rattle.operating.specs.CompanyTurn.{state}
-use Rattle.operating.specs.MapState.{IsFront}
+use Rattle.operating.specs.MapState.{IsPrefix}
 use Rattle.turns.specs.Small.{IsSmallOrder}
 use Rattle.sheets.specs.Part.{line_with}
 use Rattle.operating.proofs.company_turn.CompanyTurn.rule_other.Goals as goal
@@ -34,7 +34,7 @@ returns-in_ok-rule_train-in-BuyTrain-clause-order c =
       by = bought.order.by ∙ settled.order.by;
       round = bought.order.round ∙ settled.order.round;
       sound = bought.order.sound;
-      front = subst (λ (laid : MapState). IsFront laid c.args.self.now.history.events)
+      front = subst (λ (laid : MapState). IsPrefix laid c.args.self.now.history.events)
           (sym (ap (λ (board : Box MapState Global). board.value) (bought.board ∙ settled.board)))
           c.requires.order.front;
     }

@@ -10,6 +10,6 @@ returns-in_default c =
     let none = none_left c.loop-class.rest c.next.new.self c.next.result c.next.ensures.steps c.in_default.is in
     sym
     (values_reading-none c.loop-class.values.items c.loop-class.too_large c.args.self.now.classes.now
-    c.args.self.now.repeated c.loop-class.class-index Number (texts_of c.loop-class.rest) c.loop-class-test.true
+    c.args.self.now.trailing_class c.loop-class.class-index Number (texts_of c.loop-class.rest) c.loop-class-test.true
     none)
     ∙ c.loop-class.invariant.0

@@ -1,4 +1,5 @@
-use Rattle.std.proofs.Common.{◌≡◌, ◌∙◌, ◌<◌, ◌+◌, ◌-◌, ◌∷◌, ◌++◌, [], List, ℕ, sym, ap, take, drop, length, set, replicate, arith}
+use Rattle.std.proofs.Common.{◌≡◌, ◌∙◌, ◌<◌, ◌+◌, ◌-◌, ◌∷◌, ◌++◌, [], List, ℕ, sym, ap, take, drop, length, set}
+use Rattle.std.proofs.Common.{replicate, arith}
 use Rattle.std.proofs.lemmas.List.{length-set, take_more_set, drop-set-lt, map_more, drop-replicate, drop-drop}
 use Rattle.std.specs.Char.{to_ascii_uppercase}
 use Rattle.order_grammar.specs.Words.{raised}
@@ -12,7 +13,7 @@ loop-i-preserved c =
     let word = c.args.word.now in
     let short = c.if-not-spells_name.ensures.short in
     let lt : i < length letters = omega (arith, short) in
-    let front : take (i + 1) (set letters i byte) ≡ raised (take (i + 1) word) =
+    let prefix : take (i + 1) (set letters i byte) ≡ raised (take (i + 1) word) =
     take_more_set letters i byte lt ∙ ap (λ (x : List ℕ). x ++ byte ∷ []) c.loop-i.invariant.1
     ∙ ap (λ (x : ℕ). raised (take i word) ++ x ∷ []) c.to_ascii_uppercase.ensures.value
     ∙ sym (map_more to_ascii_uppercase word i 0 c.loop-i-test.true) in
@@ -20,4 +21,4 @@ loop-i-preserved c =
     drop-set-lt (i + 1) letters i byte (omega arith) ∙ sym (drop-drop 1 i letters)
     ∙ ap (λ (x : List ℕ). drop 1 x) c.loop-i.invariant.2
     ∙ drop-replicate 1 (8 - i) 0 ∙ ap (λ n. replicate n 0) (omega arith) in
-    (length-set letters i byte ∙ c.loop-i.invariant.0, front, rest)
+    (length-set letters i byte ∙ c.loop-i.invariant.0, prefix, rest)

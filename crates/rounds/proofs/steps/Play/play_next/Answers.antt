@@ -1,8 +1,9 @@
 use Rattle.std.proofs.Common.{◌≡◌, Some, Ok, Err, Option, rules, sym, subst}
-use Rattle.history.specs.LookBack.{Game}
+use Rattle.totals.specs.LookBack.{Game}
 use Rattle.operating.specs.Calls.{Makes}
 use Rattle.rounds.proofs.Called.{after_round, round_broken, round_on}
-use Rattle.rounds.proofs.StepByStep.{IsItsRound, calls_seen, come_on, comes_nearer, is_in_set, is_numbered, one_round, plays_next, upcoming}
+use Rattle.rounds.proofs.StepByStep.{IsItsRound, calls_seen, come_on, comes_nearer, is_in_set, is_numbered, one_round}
+use Rattle.rounds.proofs.StepByStep.{plays_next, upcoming}
 use Rattle.rounds.specs.GameCalls.{PlayedCalls, RoundCalls}
 use Rattle.rounds.specs.Play.{Between}
 use Rattle.rounds.specs.Steps.{there_unless}

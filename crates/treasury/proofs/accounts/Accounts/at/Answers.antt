@@ -1,6 +1,6 @@
 use Rattle.std.proofs.Common.{ℤ, refl, subst, sym, ◌∙◌, rules}
 use Rattle.std.proofs.lemmas.Int.{to_z-of_z}
-use Rattle.history.specs.LookBack.{IsModerate}
+use Rattle.totals.specs.LookBack.{IsModerate}
 use Rattle.treasury.proofs.Parties.{accounts_of, moderate_of}
 use Rattle.treasury.proofs.accounts.Accounts.at.Goals as goal
 use mir.Syntax.{w128}

@@ -1,4 +1,4 @@
-use Rattle.history.specs.LookBack.{same_party}
+use Rattle.totals.specs.LookBack.{same_party}
 use Rattle.treasury.proofs.Sums.{paid_both, paid_fits}
 use Rattle.treasury.proofs.accounts.Accounts.pay.Goals as goal
 

@@ -1,0 +1,53 @@
+-- The ways from each listed stop from which a run may set out are opened.
+use Rattle.std.proofs.Common.{◌≡◌, ◌+◌, Bool, Some, List, length, slice_get, refl, sym, subst, ◌∙◌, arith}
+use Rattle.std.proofs.lemmas.Option.{slice_get_read}
+use Rattle.best_run.specs.Canonical.{IsShutBelow}
+use Rattle.search_task.specs.Legs.{IsStop}
+use Rattle.best_run.proofs.Likened.{shut_all, shut_more, shut_none, shut_same}
+use Rattle.best_run.proofs.canonical.shut.Goals as goal
+use Rattle.best_run.proofs.canonical.shut.Goals.{then-sets_out, else-sets_out}
+
+pub loop-place-init : goal.loop-place-init
+loop-place-init c =
+    rw c.all-shut.ensures (shut_none c.args.task.now c.args.assigned.now.used c.args.reach.now
+    c.marks_all_borders.ensures)
+
+pub sets_out-requires-clause-spot : goal.sets_out-requires-clause-spot
+sets_out-requires-clause-spot c =
+    let stops = c.args.task.now.stops.items in
+    (c.requires.ready.stops.only c.loop-place.place c.index-stop.result.now
+    (slice_get_read stops (length stops) c.loop-place.place c.index-stop.result.now refl (omega arith)
+    c.index-stop.ensures)).0
+
+pub open_from-requires-clause-stops : goal.open_from-requires-clause-stops
+open_from-requires-clause-stops c =
+    let stops = c.args.task.now.stops.items in
+    (c.requires.ready.stops.only c.loop-place.place c.index-stop.result.now
+    (slice_get_read stops (length stops) c.loop-place.place c.index-stop.result.now refl (omega arith)
+    c.index-stop.ensures)).1
+
+pub loop-place-preserved : goal.loop-place-preserved
+loop-place-preserved c =
+    let task = c.args.task.now in
+    let used = c.args.assigned.now.used in
+    let reach = c.args.reach.now in
+    let place = c.loop-place.place in
+    let stop = c.index-stop.result.now in
+    let stops = task.stops.items in
+    let at : slice_get stops place ≡ Some stop = slice_get_read stops (length stops) place stop refl (omega arith)
+    c.index-stop.ensures in
+    let is : IsStop task stop = c.requires.ready.stops.only place stop at in
+    let Shut : List Bool → Type 0 = λ s. IsShutBelow task used reach (place + 1) s in
+    elim c.if-sets_out.branch [
+      | then-sets_out w ↦
+          subst Shut (sym w.shut-is) (shut_more task used reach place stop c.loop-place.shut _ at
+          c.loop-place.invariant w.open_from.ensures.opens w.open_from.ensures.open)
+      | else-sets_out w ↦
+          subst Shut (sym w.shut-is) (shut_same task used reach place stop c.loop-place.shut is at
+          (sym c.sets_out.ensures ∙ w.if-sets_out.false) c.loop-place.invariant)
+    ]
+
+pub returns : goal.returns
+returns c =
+    shut_all c.args.task.now c.requires.ready c.args.assigned.now.used c.args.reach.now c.loop-place.place
+    c.loop-place.shut (omega arith) c.loop-place.invariant

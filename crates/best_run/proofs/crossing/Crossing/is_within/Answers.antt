@@ -1,8 +1,0 @@
--- The set lies within the other one.
-use Rattle.best_run.proofs.Crossings.{set_within}
-use Rattle.best_run.proofs.crossing.Crossing.is_within.Goals as goal
-
-pub returns : goal.returns
-returns c told =
-    rw (← c.self.view_is, ← c.other.view_is)
-    (set_within c.self.inside.set c.other.inside.set (c.is_within.ensures told))

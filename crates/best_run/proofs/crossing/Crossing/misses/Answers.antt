@@ -1,9 +1,0 @@
--- The sets are apart.
-use Rattle.best_run.proofs.Crossings.{set_misses}
-use Rattle.best_run.proofs.crossing.Crossing.misses.Goals as goal
-
-pub returns : goal.returns
-returns c =
-    rw (← c.self.view_is)
-    (set_misses c.args.used.now c.self.inside.set c.is_apart_from.result c.is_apart_from.ensures.apart
-    c.is_apart_from.ensures.meet)

@@ -1,6 +1,0 @@
--- The pieces of the steps in the hexes before the next one are there.
-use Rattle.best_run.specs.Described.{LaidBefore}
-use Rattle.best_run.proofs.spots.all_segments.Given as goal
-
-abbrev pub invariant-loop-index : goal.invariant-loop-index
-invariant-loop-index g l = LaidBefore (g.N.Network.position l.network) l.index l.segments

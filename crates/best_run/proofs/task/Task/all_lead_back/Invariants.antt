@@ -1,6 +1,0 @@
--- Ways lead back over the ways before the next one.
-use Rattle.best_run.proofs.Mirrored.{LeadBackBelow}
-use Rattle.best_run.proofs.task.Task.all_lead_back.Given as goal
-
-abbrev pub invariant-loop-index : goal.invariant-loop-index
-invariant-loop-index l = LeadBackBelow l.self l.spot l.index

@@ -1,9 +1,0 @@
--- The ways before the next one are gone over, as far as the run may turn back by them.
-use Rattle.best_run.specs.Ahead.{WidensBackBelow}
-use Rattle.best_run.specs.Last.{HasWorth}
-use Rattle.best_run.proofs.task.Task.look_back.Given as goal
-
-abbrev pub invariant-loop-index : goal.invariant-loop-index
-invariant-loop-index l =
-    WidensBackBelow l.self l.settled l.run l.index l.initial.outlook.ahead l.outlook.ahead
-    × HasWorth l.self l.settled l.run l.outlook.ahead l.outlook.worth

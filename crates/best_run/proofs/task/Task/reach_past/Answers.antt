@@ -1,8 +1,0 @@
--- The stop is held, and what a run may come to from there lies in reach.
-use Rattle.best_run.proofs.Likened.{reach_past}
-use Rattle.best_run.proofs.task.Task.reach_past.Goals as goal
-
-pub returns-clause-reaches : goal.returns-clause-reaches
-returns-clause-reaches c =
-    reach_past c.args.self.now c.args.settled.now c.args.stop c.args.reach.now.ahead c.hold.new.reach.ahead
-    c.reach_from.new.reach.ahead c.hold.ensures.holds c.reach_from.ensures.reaches

@@ -1,5 +1,0 @@
-use Rattle.board.proofs.Fitting.{faultless_are_fit}
-use Rattle.board.proofs.laws.faultless_are_fit.Goals as goal
-
-pub returns : goal.returns
-returns c = faultless_are_fit

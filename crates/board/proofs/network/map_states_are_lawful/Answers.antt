@@ -1,8 +1,0 @@
--- The laws of the map's tables make each position lawful.
-use Rattle.board.proofs.Lawfulness.{lawful}
-use Rattle.board.proofs.network.map_states_are_lawful.Goals as goal
-
-pub returns : goal.returns
-returns c =
-    λ laid. lawful c.neighbours_pair.ensures c.printed_links_are_in_order.ensures c.laid_links_are_in_order.ensures
-    c.values_are_at_most_80.ensures laid

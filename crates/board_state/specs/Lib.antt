@@ -1,0 +1,2 @@
+pub mod MapState
+pub mod Fit

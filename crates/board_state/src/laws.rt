@@ -1,0 +1,18 @@
+//! Laws of the definitions, each the contract of a function that does nothing.
+ghost use Rattle.board_state.specs.Fit.{FaultlessAreFit};
+ghost use Rattle.board_state.specs.MapState.{MapStatesAreLawful};
+
+/// What lies is not refused as a board exactly where it is fit.
+pub fn faultless_are_fit()
+    ensures { FaultlessAreFit }
+{}
+
+/// The position of each map state keeps the laws of a network.
+pub fn map_states_are_lawful()
+    ensures { MapStatesAreLawful }
+{
+    map_tables::laws::neighbours_pair();
+    map_tables::laws::printed_links_are_in_order();
+    map_tables::laws::laid_links_are_in_order();
+    map_tables::laws::values_are_at_most_80();
+}

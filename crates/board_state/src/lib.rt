@@ -1,0 +1,31 @@
+//! The map state of 1830: the tiles and tokens that lie on the map, what follows from them, and which
+//! may lie at all.
+//!
+//! To a contract a map state is the tiles that were laid, oldest first, the tokens that were placed,
+//! and the phase. From these follows its position as a `reach::Network`: on each hex the
+//! last tile that was laid there, or its print.
+//!
+//! What gives the map state is `OnMap`: all that the position has follows from its five answers. A
+//! `PlainBoard` has the lists alone, and looks for what lies; `PlainBoard::of` refuses what may not
+//! lie on the map.
+//!
+//! The definitions, in `specs/`: `MapState` (what lies, and the position) and `Fit` (what may lie at
+//! all).
+//!
+//! Reading order: `fault`, `shown` (what shows at a hex or a stop), `fit` (what may lie at all),
+//! `on_map` (what follows from what lies), `plain`, `network` (the position that is kept), `laws`.
+#![tactic(auto)]
+
+mod fault;
+mod fit;
+pub mod laws;
+mod network;
+mod on_map;
+mod plain;
+mod shown;
+
+pub use fault::BoardFault;
+pub use fit::{fault_of, has_bad_side, is_open, is_wrong_kind};
+pub use on_map::{OnMap, full_on_map, links_on_map, red_on_map, slots, token_on_map, value_on_map};
+pub use plain::PlainBoard;
+pub use shown::{same_company, same_hex, same_stop};

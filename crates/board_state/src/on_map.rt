@@ -1,0 +1,156 @@
+//! What lies, and what follows from it: the track, values, slots and tokens of the position.
+ghost use Rattle.std.specs.Prelude.{◌≡◌, ◌↔◌, IsTrue, length};
+ghost use Rattle.std.specs.List.{count_by};
+ghost use Rattle.map_tables.specs.declared.place.Place.{Place};
+ghost use Rattle.tables.specs.declared.roster.Company.{Company};
+ghost use Rattle.tables.specs.declared.rolling_stock.Kind.{Kind};
+ghost use Rattle.board_state.specs.MapState.{MapState, position_of, track_in, value_on};
+ghost use Rattle.map_tables.specs.OnMap.{has_token, links_on, names, slots_at, slots_on, tile_on};
+ghost use Rattle.reach.specs.Position.{HasToken, IsFull, at_stop, is_red, links_of, value_of};
+
+use crate::shown::{is_red, is_stop, same_hex, value_in};
+use map_tables::{
+    Hex, Lay, Links, Stop, StopNumber, hex_kind, joined_stop, printed_links, printed_slots,
+    printed_value, tile,
+};
+use tables::{Amount, Company, Kind};
+
+/// What gives what lies on the map. All that a contract says of it, it says of what was laid.
+pub trait OnMap {
+    /// What lies.
+    ghost laid: { Self → MapState };
+
+    /// The tile that lies on a hex: the last that was laid there.
+    fn tile_on(&self, hex: Hex) -> Option<Lay>
+        ensures { result ≡ tile_on (laid self.now).lays hex };
+
+    /// The links of a hex: those of the tile that lies there, or its print.
+    fn links_on(&self, hex: Hex) -> Links
+        ensures { result.items ≡ links_on (laid self.now).lays hex };
+
+    /// How many tokens name a stop, by its own name.
+    fn count_at(&self, stop: Stop) -> usize
+        ensures { result ≡ count_by (λ (token : Place × Company). names stop token.0)
+            (laid self.now).tokens };
+
+    /// Whether a token of a company names a stop, by its own name.
+    fn holds(&self, stop: Stop, company: Company) -> bool
+        ensures { result ≡ has_token (laid self.now).tokens stop company };
+
+    /// The phase.
+    fn phase(&self) -> Kind
+        ensures { result ≡ (laid self.now).phase };
+}
+
+/// The track in a hex. One that is a part of another's stop keeps its print: no tile is laid there.
+fn track_in<L: OnMap>(board: &L, hex: Hex) -> Links
+    ensures { result.items ≡ track_in (L.laid board.now).lays hex }
+{
+    let named = joined_stop(Stop {
+        hex,
+        number: StopNumber::First,
+    });
+    if same_hex(named.hex, hex) {
+        board.links_on(hex)
+    } else {
+        printed_links(hex)
+    }
+}
+
+/// The links that the position has in a hex.
+pub fn links_on_map<L: OnMap>(board: &L, hex: Hex) -> Links
+    ensures { result.items ≡ links_of (position_of (L.laid board.now)) hex }
+{
+    track_in(board, hex)
+}
+
+/// What each stop of a hex is worth.
+fn value_on<L: OnMap>(board: &L, hex: Hex) -> Amount
+    ensures { result ≡ value_on (L.laid board.now).phase (L.laid board.now).lays hex }
+{
+    match board.tile_on(hex) {
+        Some(lay) => tile(lay.tile).value,
+        None => value_in(board.phase(), printed_value(hex)),
+    }
+}
+
+/// What a stop is worth in the position; 0 where there is no such stop.
+pub fn value_on_map<L: OnMap>(board: &L, stop: Stop) -> Amount
+    ensures { result ≡ value_of (position_of (L.laid board.now)) stop }
+{
+    let stop = joined_stop(stop);
+    if is_stop(stop) {
+        value_on(board, stop.hex)
+    } else {
+        0
+    }
+}
+
+/// How many tokens each stop of a hex takes.
+fn slots_on<L: OnMap>(board: &L, hex: Hex) -> u8
+    ensures { result ≡ slots_on (L.laid board.now).lays hex }
+{
+    match board.tile_on(hex) {
+        Some(lay) => tile(lay.tile).slots,
+        None => printed_slots(hex),
+    }
+}
+
+/// How many tokens a stop takes; 0 where there is no such stop.
+fn slots_there<L: OnMap>(board: &L, stop: Stop) -> usize
+    ensures { result ≡ slots_at (L.laid board.now).lays stop }
+{
+    let stop = joined_stop(stop);
+    if is_stop(stop) {
+        usize::from(slots_on(board, stop.hex))
+    } else {
+        0
+    }
+}
+
+/// How many tokens a stop takes, by what lies and in the position.
+pub fn slots<L: OnMap>(board: &L, stop: Stop) -> usize
+    ensures slots { result ≡ slots_at (L.laid board.now).lays stop }
+    ensures shown { result ≡ (at_stop (position_of (L.laid board.now)) stop).slots }
+{
+    slots_there(board, stop)
+}
+
+/// How many tokens lie at a stop; none where there is no such stop.
+fn taken<L: OnMap>(board: &L, stop: Stop) -> usize
+    ensures { result ≡ length (at_stop (position_of (L.laid board.now)) stop).tokens }
+{
+    let stop = joined_stop(stop);
+    if !is_stop(stop) {
+        return 0;
+    }
+    board.count_at(stop)
+}
+
+/// Whether a stop is red in the position.
+pub fn red_on_map<L: OnMap>(_board: &L, stop: Stop) -> bool
+    ensures { result ≡ is_red (position_of (L.laid _board.now)) stop }
+{
+    let stop = joined_stop(stop);
+    is_stop(stop) && is_red(hex_kind(stop.hex))
+}
+
+/// Whether a stop is a city that is full for a company in the position.
+pub fn full_on_map<L: OnMap>(board: &L, stop: Stop, company: Company) -> bool
+    ensures { IsTrue result ↔ IsFull (position_of (L.laid board.now)) stop company }
+{
+    let taken = taken(board, stop);
+    if taken == 0 {
+        return false;
+    }
+    let slots = slots(board, stop);
+    0 < slots && slots <= taken && !token_on_map(board, stop, company)
+}
+
+/// Whether a company has a token at a stop in the position.
+pub fn token_on_map<L: OnMap>(board: &L, stop: Stop, company: Company) -> bool
+    ensures { IsTrue result ↔ HasToken (position_of (L.laid board.now)) stop company }
+{
+    let stop = joined_stop(stop);
+    board.holds(stop, company) && is_stop(stop)
+}

@@ -1,0 +1,130 @@
+ghost use Rattle.std.specs.Prelude.{◌≡◌};
+ghost use Rattle.std.specs.List.{count_by};
+ghost use Rattle.map_tables.specs.declared.place.Place.{Place};
+ghost use Rattle.tables.specs.declared.roster.Company.{Company};
+ghost use Rattle.board_state.specs.MapState.{is_red_kind, value_in};
+ghost use Rattle.map_tables.specs.OnMap.{has_token, is_stop, names, same_stop, slots_at, slots_on, taken_at, tile_on};
+ghost use Rattle.map_tables.specs.Hex.{same_hex};
+ghost use Rattle.tables.specs.Roster.{same_company};
+
+use map_tables::{
+    Hex, HexKind, Lay, Place, PrintedValue, Stop, joined_stop, printed_slots, printed_stops, tile,
+};
+use tables::{Amount, Company, Kind};
+
+// These three compare by number where `==` would do: the prover knows numbers, and of a derived `==` only its law.
+
+/// Whether two hexes are one.
+pub fn same_hex(a: Hex, b: Hex) -> bool
+    ensures { result ≡ same_hex a b }
+{
+    a.index() == b.index()
+}
+
+/// Whether two stops are one.
+pub fn same_stop(a: Stop, b: Stop) -> bool
+    ensures { result ≡ same_stop a b }
+{
+    same_hex(a.hex, b.hex) && a.number.index() == b.number.index()
+}
+
+/// Whether two companies are one.
+pub fn same_company(a: Company, b: Company) -> bool
+    ensures { result ≡ same_company a b }
+{
+    a.place() == b.place()
+}
+
+/// Whether a place names a stop, or a part of it.
+pub(crate) fn names(stop: Stop, place: Place) -> bool
+    ensures { result ≡ names stop place }
+{
+    match place.stop() {
+        Some(part) => same_stop(joined_stop(part), stop),
+        None => false,
+    }
+}
+
+/// A printed value in a phase.
+pub(crate) fn value_in(phase: Kind, value: PrintedValue) -> Amount
+    ensures { result ≡ value_in phase value }
+{
+    if phase.place() < Kind::Five.place() {
+        value.before_phase_five
+    } else {
+        value.from_phase_five
+    }
+}
+
+/// Whether a hex is red.
+pub(crate) fn is_red(kind: HexKind) -> bool
+    ensures { result ≡ is_red_kind kind }
+{
+    match kind {
+        HexKind::Red => true,
+        HexKind::Open(_) | HexKind::Grey => false,
+    }
+}
+
+/// Whether a hex has a stop of this number.
+pub(crate) fn is_stop(stop: Stop) -> bool
+    ensures { result ≡ is_stop stop }
+{
+    stop.number.index() < printed_stops(stop.hex)
+}
+
+/// The last of some lays on a hex.
+#[tactic(auto, unfolding(map_tables::specs::OnMap::tile_on))]
+pub(crate) fn last_on(lays: &[Lay], hex: Hex) -> Option<Lay>
+    ensures { result ≡ tile_on lays.now hex }
+{
+    for lay in lays.iter().rev() {
+        if same_hex(lay.hex, hex) {
+            return Some(*lay);
+        }
+    }
+    None
+}
+
+/// How many of some tokens name a stop.
+pub(crate) fn count_naming(tokens: &[(Place, Company)], stop: Stop) -> usize
+    ensures { result ≡ count_by (λ (token : Place × Company). names stop token.0) tokens.now }
+{
+    tokens.iter().filter(|token| names(stop, token.0)).count()
+}
+
+/// How many tokens each stop of a hex takes.
+fn slots_on(lays: &[Lay], hex: Hex) -> u8
+    ensures { result ≡ slots_on lays.now hex }
+{
+    match last_on(lays, hex) {
+        Some(lay) => tile(lay.tile).slots,
+        None => printed_slots(hex),
+    }
+}
+
+/// How many tokens a stop takes; 0 where there is no such stop.
+pub(crate) fn slots_at(lays: &[Lay], stop: Stop) -> usize
+    ensures { result ≡ slots_at lays.now stop }
+{
+    let stop = joined_stop(stop);
+    if is_stop(stop) {
+        usize::from(slots_on(lays, stop.hex))
+    } else {
+        0
+    }
+}
+
+/// How many tokens name a stop.
+pub(crate) fn taken_at(tokens: &[(Place, Company)], stop: Stop) -> usize
+    ensures { result ≡ taken_at tokens.now stop }
+{
+    count_naming(tokens, joined_stop(stop))
+}
+
+/// Whether one of some tokens is a company's and names a stop.
+pub(crate) fn has_token(tokens: &[(Place, Company)], stop: Stop, company: Company) -> bool
+    ensures { result ≡ has_token tokens.now stop company }
+{
+    tokens.iter().any(|token| names(stop, token.0) && same_company(token.1, company))
+}

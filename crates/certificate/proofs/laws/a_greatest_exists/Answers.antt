@@ -1,5 +1,0 @@
-use Rattle.certificate.proofs.Greatest.{a_greatest_exists}
-use Rattle.certificate.proofs.laws.a_greatest_exists.Goals as goal
-
-pub returns : goal.returns
-returns c = a_greatest_exists

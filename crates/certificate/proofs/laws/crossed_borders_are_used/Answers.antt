@@ -1,5 +1,0 @@
-use Rattle.certificate.proofs.Kept.{crossed_used}
-use Rattle.certificate.proofs.laws.crossed_borders_are_used.Goals as goal
-
-pub returns : goal.returns
-returns c = crossed_used

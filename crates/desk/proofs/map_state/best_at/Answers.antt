@@ -1,0 +1,17 @@
+use Rattle.std.proofs.Common.{◌∙◌}
+use Rattle.desk.proofs.BestRuns.{greatest_in_game, holds_in_game}
+use Rattle.operating.specs.Best.{trains_now}
+use Rattle.operating.specs.MapState.{map_state_now}
+use Rattle.desk.proofs.map_state.best_at.Goals as goal
+
+pub returns-clause-holds : goal.returns-clause-holds
+returns-clause-holds c =
+    let events = c.args.view.now.events.now in
+    holds_in_game _ (map_state_now events) c.args.company _ (trains_now events c.args.company) _
+    c.in_ok-board.ensures (c.as_slice.ensures.value ∙ c.in_ok-trains.ensures) c.in_ok-found.ensures.accepted.claim_holds
+
+pub returns-clause-greatest : goal.returns-clause-greatest
+returns-clause-greatest c =
+    let events = c.args.view.now.events.now in
+    greatest_in_game _ (map_state_now events) c.args.company _ (trains_now events c.args.company) _
+    c.in_ok-board.ensures (c.as_slice.ensures.value ∙ c.in_ok-trains.ensures) c.in_ok-found.ensures.greatest

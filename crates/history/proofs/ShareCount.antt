@@ -1,0 +1,198 @@
+-- What becomes of the shares of the companies where an event moves some: they leave one place and come to another, and
+-- ten stay ten.
+use Rattle.std.proofs.Common.{◌≡◌, ◌≢◌, ℕ, zero, suc, ◌+◌, ◌≤◌, ◌<◌, inl, inr, Bool, true, if◌then◌else◌, List, [], ◌∷◌}
+use Rattle.std.proofs.Common.{◌++◌, Some, map, pos, ◌≤ℤ◌, ◌-ℤ◌, ◌+ℤ◌, refl, subst, ap, arith}
+use Rattle.std.proofs.lemmas.Bool.{cases_eq}
+use Rattle.std.proofs.lemmas.Bool.Decides.{Decides-eqb}
+use Rattle.std.proofs.lemmas.Int.{ints}
+use Rattle.std.specs.List.{range_with_len}
+use Rattle.events.specs.Event.{transfer_of}
+use Rattle.events.specs.declared.event.Event.{Event}
+use Rattle.events.specs.declared.event.Shareholder.{Shareholder}
+use Rattle.events.specs.declared.event.Shareholder.TheVariants.{InitialOffering, BankPool, Seat as OfSeat}
+use Rattle.events.specs.declared.event.Transfer.{Transfer}
+use Rattle.totals.proofs.Choices.{chosen, either_order, nothing_there, passed_over, same_company_is, truth}
+use Rattle.totals.proofs.EventAtEnd.{shares_of_at_end}
+use Rattle.totals.specs.LookBack.{Game, with_event}
+use Rattle.totals.specs.Shares.{brought_to, held_by, same_shareholder, shares_of, taken_from}
+use Rattle.history.specs.Sound.{AreTenInAll, SharesAreHeld}
+use Rattle.tables.specs.Roster.{same_company}
+use Rattle.tables.specs.Seat.{all_seats, seat_at}
+use Rattle.tables.specs.declared.roster.Company.{Company}
+use Rattle.tables.specs.declared.seat.Seat.{Seat}
+
+-- places that are the same
+same_shareholder_is : (a b : Shareholder) → same_shareholder a b ≡ true → a ≡ b
+same_shareholder_is InitialOffering InitialOffering same = refl
+same_shareholder_is InitialOffering BankPool same = absurd cc
+same_shareholder_is InitialOffering (OfSeat b) same = absurd cc
+same_shareholder_is BankPool InitialOffering same = absurd cc
+same_shareholder_is BankPool BankPool same = refl
+same_shareholder_is BankPool (OfSeat b) same = absurd cc
+same_shareholder_is (OfSeat a) InitialOffering same = absurd cc
+same_shareholder_is (OfSeat a) BankPool same = absurd cc
+same_shareholder_is (OfSeat a) (OfSeat b) same = ap (λ number. OfSeat (seat_at number)) ((Decides-eqb a.0 b.0).0 same)
+
+-- what of this many shares, all at one place, lies at a place
+abbrev pub part : Shareholder → Shareholder → ℕ → ℕ
+part at place shares = if same_shareholder at place then shares else 0
+
+-- and with some seats
+abbrev parts : Shareholder → ℕ → List Seat → ℕ
+parts at shares [] = 0
+parts at shares (seat ∷ others) = part at (OfSeat seat) shares + parts at shares others
+
+-- how many shares of a company a transfer moves
+abbrev pub moved : Company → Transfer → ℕ
+moved company transfer = if same_company transfer.company company then transfer.shares else 0
+
+-- the shares at a place: what comes to it is added, and what leaves it is taken off
+pub shares_after : (events : List Event) (event : Event) (transfer : Transfer) (company : Company)
+    (place : Shareholder) → transfer_of event ≡ Some transfer
+    → shares_of (events ++ event ∷ []) company place
+    ≡ (shares_of events company place +ℤ pos (part transfer.to place (moved company transfer))) -ℤ pos
+    (part transfer.from place (moved company transfer))
+shares_after events event transfer company place is =
+    omega (
+      arith,
+      ints,
+      shares_of_at_end events event company place,
+      ap (brought_to company place) is,
+      ap
+          (taken_from company place) is,
+      either_order (same_company transfer.company company)
+          (same_shareholder transfer.to place) transfer.shares,
+      either_order (same_company transfer.company company)
+          (same_shareholder transfer.from place) transfer.shares,
+    )
+
+-- seats together
+held_by_after : (events : List Event) (event : Event) (transfer : Transfer) (company : Company) (seats : List Seat)
+    → transfer_of event ≡ Some transfer → held_by (events ++ event ∷ []) company seats
+    ≡ (held_by events company seats +ℤ pos (parts transfer.to (moved company transfer) seats)) -ℤ pos
+    (parts transfer.from (moved company transfer) seats)
+held_by_after events event transfer company [] is = omega (arith, ints)
+held_by_after events event transfer company (seat ∷ others) is =
+    omega (
+      arith,
+      ints,
+      shares_after events event transfer company (OfSeat seat) is,
+      held_by_after events event
+          transfer company others is,
+    )
+
+-- the place is one of a table
+abbrev pub IsAtTable : ℕ → Shareholder → Type 0
+IsAtTable seats InitialOffering = Unit {0}
+IsAtTable seats BankPool = Unit {0}
+IsAtTable seats (OfSeat seat) = seat.0 < seats
+
+-- what the initial offering has is with no seat
+none_offered : (shares : ℕ) (seats : List Seat) → parts InitialOffering shares seats ≡ 0
+none_offered shares [] = refl
+none_offered shares (seat ∷ others) = omega (arith, none_offered shares others)
+
+-- nor what the pool has
+none_pooled : (shares : ℕ) (seats : List Seat) → parts BankPool shares seats ≡ 0
+none_pooled shares [] = refl
+none_pooled shares (seat ∷ others) = omega (arith, none_pooled shares others)
+
+-- what a seat has is with no later one
+none_later : (seat : Seat) (shares from count : ℕ) → seat.0 < from
+    → parts (OfSeat seat) shares (map seat_at (range_with_len from count)) ≡ 0
+none_later seat shares from zero before = refl
+none_later seat shares from (suc count) before =
+    let apart : seat.0 ≢ from = omega arith in
+    omega (arith, passed_over seat.0 from shares 0 apart, none_later seat shares (from + 1) count (omega arith))
+
+-- it is with the seats among whom the one is
+with_seats : (seat : Seat) (shares from count : ℕ) → from ≤ seat.0 → seat.0 < from + count
+    → parts (OfSeat seat) shares (map seat_at (range_with_len from count)) ≡ shares
+with_seats seat shares from zero low high = absurd (omega arith)
+with_seats seat shares from (suc count) low high =
+    elim (cases_eq seat.0 from) [
+      | inl same ↦ omega (
+        arith,
+        chosen seat.0 from shares 0 same,
+        none_later seat shares (from + 1) count
+            (omega arith),
+      )
+      | inr apart ↦ omega (
+        arith,
+        passed_over seat.0 from shares 0 apart,
+        with_seats seat shares (from + 1) count
+            (omega arith) (omega arith),
+      )
+    ]
+
+-- shares at one place of a table are somewhere
+all_there : (seats : ℕ) (at : Shareholder) (shares : ℕ) → IsAtTable seats at
+    → (part at InitialOffering shares + part at BankPool shares) + parts at shares (all_seats seats) ≡ shares
+all_there seats InitialOffering shares there = omega (arith, none_offered shares (all_seats seats))
+all_there seats BankPool shares there = omega (arith, none_pooled shares (all_seats seats))
+all_there seats (OfSeat seat) shares there = omega (arith, with_seats seat shares 0 seats (omega arith) (omega arith))
+
+-- ten shares stay ten
+pub ten_after : (game : Game) (event : Event) (transfer : Transfer) → transfer_of event ≡ Some transfer
+    → IsAtTable game.seats transfer.from → IsAtTable game.seats transfer.to → AreTenInAll game
+    → AreTenInAll (with_event game event)
+ten_after game event transfer is from to ten company =
+    omega (
+      arith,
+      ints,
+      ten company,
+      shares_after game.events event transfer company InitialOffering is,
+      shares_after
+          game.events event transfer company BankPool is,
+      held_by_after game.events event transfer company
+          (all_seats game.seats) is,
+      all_there game.seats transfer.from (moved company transfer) from,
+      all_there
+          game.seats transfer.to (moved company transfer) to,
+    )
+
+-- no more leave a place than it has
+taken_low : (events : List Event) (transfer : Transfer) (company : Company) (place : Shareholder)
+    → pos transfer.shares ≤ℤ shares_of events transfer.company transfer.from → pos 0 ≤ℤ shares_of events company place
+    → pos (part transfer.from place (moved company transfer)) ≤ℤ shares_of events company place
+taken_low events transfer company place enough held =
+    elim (truth (same_company transfer.company company)) [
+      | inl same ↦
+          elim (truth (same_shareholder transfer.from place)) [
+            | inl here ↦
+                let its : moved company transfer ≡ transfer.shares =
+                ap (λ (is : Bool). if is then transfer.shares else 0) same in
+                let taken : part transfer.from place (moved company transfer) ≡ moved company transfer =
+                ap (λ (is : Bool). if is then moved company transfer else 0) here in
+                let at_company : pos transfer.shares ≤ℤ shares_of events company transfer.from =
+                subst (λ (one : Company). pos transfer.shares ≤ℤ shares_of events one transfer.from)
+                (same_company_is transfer.company company same) enough in
+                let at_place : pos transfer.shares ≤ℤ shares_of events company place =
+                subst (λ (one : Shareholder). pos transfer.shares ≤ℤ shares_of events company one)
+                (same_shareholder_is transfer.from place here) at_company in
+                omega (arith, ints)
+            | inr elsewhere ↦
+                let taken : part transfer.from place (moved company transfer) ≡ 0 =
+                ap (λ (is : Bool). if is then moved company transfer else 0) elsewhere in
+                omega (arith, ints)
+          ]
+      | inr apart ↦
+          let its : moved company transfer ≡ 0 = ap (λ (is : Bool). if is then transfer.shares else 0) apart in
+          let taken : part transfer.from place (moved company transfer) ≡ part transfer.from place 0 =
+          ap (part transfer.from place) its in
+          let nothing : part transfer.from place 0 ≡ 0 = nothing_there (same_shareholder transfer.from place) in
+          omega (arith, ints)
+    ]
+
+-- shares are held as before, where there were this many
+pub held_after : (events : List Event) (event : Event) (transfer : Transfer) → transfer_of event ≡ Some transfer
+    → pos transfer.shares ≤ℤ shares_of events transfer.company transfer.from → SharesAreHeld events
+    → SharesAreHeld (events ++ event ∷ [])
+held_after events event transfer is enough held company place =
+    omega (
+      arith,
+      ints,
+      shares_after events event transfer company place is,
+      taken_low events transfer company place
+          enough (held company place),
+    )

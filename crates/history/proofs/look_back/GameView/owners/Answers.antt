@@ -1,6 +1,0 @@
-use Rattle.std.proofs.Common.{ap, sym, ◌∙◌}
-use Rattle.history.specs.LookBack.{cheapest_of}
-use Rattle.history.proofs.look_back.GameView.owners.Goals as goal
-
-pub returns-in-None-clause-cheapest : goal.returns-in-None-clause-cheapest
-returns-in-None-clause-cheapest c = c.unsold.ensures.cheapest ∙ sym (ap cheapest_of c.in-None.ensures)

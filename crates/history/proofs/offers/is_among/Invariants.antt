@@ -1,7 +1,0 @@
-use Rattle.std.proofs.Common.{◌≡◌, false, take}
-use Rattle.history.specs.Offers.{is_among}
-use Rattle.history.proofs.offers.is_among.Given as goal
-
--- the offer is not among those that were looked at
-abbrev pub invariant-loop-offer : goal.invariant-loop-offer
-invariant-loop-offer l = is_among l.seat l.sale (take l.offer-index l.offers) ≡ false

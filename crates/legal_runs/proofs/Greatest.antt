@@ -1,0 +1,153 @@
+-- The greatest revenue: it is that of the best of finitely many legal sets, and at most 160 dollars for each border.
+use Rattle.std.proofs.Common.{ℕ, ◌*◌, ◌<◌, ◌≤◌, inl, inr, List, [], ◌∷◌, ◌++◌, length, refl, subst, arith}
+use Rattle.std.specs.List.{AllByRecursion}
+use Rattle.std.proofs.lemmas.List.{length-append}
+use Rattle.reach.specs.Lawful.{IsLawful}
+use Rattle.reach.specs.Position.{Position, IsAmong}
+use Rattle.tables.specs.declared.rolling_stock.Kind.{Kind}
+use Rattle.tables.specs.declared.roster.Company.{Company}
+use Rattle.legal_runs.specs.Greatest.{AGreatestExists, MoreTrainsEarnNoLess, OneGreatest, OrderOfTrainsChangesNothing}
+use Rattle.legal_runs.specs.Legal.{AreDistinct, crossed, earned, visited}
+use Rattle.legal_runs.specs.Set.{AreApart, AreTakenFrom, IsGreatest, IsLegalSet, RunsLegally, ShareNoBorder, TrainRun}
+use Rattle.legal_runs.specs.Set.{revenue_of}
+use Rattle.legal_runs.proofs.Choosing.{choices, set_decided, set_there}
+use Rattle.legal_runs.proofs.Counting.{no_more}
+use Rattle.legal_runs.proofs.Earning.{few_visited, worth_low}
+use Rattle.legal_runs.proofs.Finite.{IsTop, top_of}
+use Rattle.legal_runs.proofs.Kept.{crossed_low}
+use Rattle.legal_runs.proofs.Marks.{among_both}
+
+-- the borders that the walks of some runs cross
+abbrev borders_of_runs : List TrainRun → List ℕ
+borders_of_runs [] = []
+borders_of_runs (run ∷ runs) = crossed run.steps ++ borders_of_runs runs
+
+all_both : (P : ℕ → Type 0) (first second : List ℕ) → AllByRecursion P first → AllByRecursion P second
+    → AllByRecursion P (first ++ second)
+all_both P [] second one two = two
+all_both P (border ∷ first) second one two = (one.0, all_both P first second one.1 two)
+
+distinct_both :
+    (first second : List ℕ) → AreDistinct first → AreDistinct second
+    → ((border : ℕ) → IsAmong border first → ¬ IsAmong border second) →
+    AreDistinct (first ++ second)
+distinct_both [] second one two apart = two
+distinct_both (border ∷ first) second one two apart = (
+  λ among. elim ((among_both border first second).0 among)
+      [ inl before ↦ one.0 before | inr after ↦ apart border (inl refl) after ],
+  distinct_both first second one.1 two (λ other among. apart other (inr among)),
+)
+
+runs_low : (runs : List TrainRun) → AllByRecursion (λ border. border < 279) (borders_of_runs runs)
+runs_low [] = tt
+runs_low (run ∷ runs) = all_both (λ border. border < 279) (crossed run.steps) (borders_of_runs runs)
+    (crossed_low 279 run.steps (omega arith)) (runs_low runs)
+
+apart_from :
+    (run : TrainRun) (runs : List TrainRun) → AllByRecursion
+    (λ (other : TrainRun). ShareNoBorder run.steps other.steps) runs → (border : ℕ) →
+    IsAmong border (crossed run.steps) → ¬ IsAmong border (borders_of_runs runs)
+apart_from run [] apart border among there = there
+apart_from run (other ∷ runs) apart border among there =
+    elim ((among_both border (crossed other.steps) (borders_of_runs runs)).0 there) [
+      | inl here ↦ apart.0 border among here
+      | inr later ↦ apart_from run runs apart.1 border among later
+    ]
+
+module _ (position : Position) (company : Company) where
+  runs_distinct : (runs : List TrainRun) → AllByRecursion (RunsLegally position company) runs → AreApart runs
+      → AreDistinct (borders_of_runs runs)
+  runs_distinct [] legal apart = tt
+  runs_distinct (run ∷ runs) legal apart =
+      let one : RunsLegally position company run = legal.0 in
+      distinct_both (crossed run.steps) (borders_of_runs runs) one.no_border_twice
+      (runs_distinct runs legal.1 apart.1) (apart_from run runs apart.0)
+
+  -- a legal run earns at most 160 dollars for each border that it crosses
+  run_earns : IsLawful position → (run : TrainRun) → RunsLegally position company run
+      → earned position run.steps ≤ 160 * length (crossed run.steps)
+  run_earns lawful run legal =
+      omega (
+        arith,
+        worth_low position lawful (visited run.steps),
+        few_visited position lawful run.steps legal.walk,
+        legal.two,
+      )
+
+  runs_earn :
+      IsLawful position → (runs : List TrainRun) → AllByRecursion (RunsLegally position company) runs →
+      revenue_of position runs ≤ 160 * length (borders_of_runs runs)
+  runs_earn lawful [] legal = omega arith
+  runs_earn lawful (run ∷ runs) legal =
+      omega (
+        arith,
+        run_earns lawful run legal.0,
+        runs_earn lawful runs legal.1,
+        length-append (crossed run.steps)
+            (borders_of_runs runs),
+      )
+
+  pub set_earns : IsLawful position → (trains : List Kind) (runs : List TrainRun)
+      → IsLegalSet position company trains runs → revenue_of position runs ≤ 44640
+  set_earns lawful trains runs set =
+      omega (
+        arith,
+        runs_earn lawful runs set.legal,
+        no_more 279 (borders_of_runs runs)
+            (runs_distinct runs set.legal set.apart) (runs_low runs),
+      )
+
+  -- the empty set is legal
+  none_runs : (trains : List Kind) → IsLegalSet position company trains []
+  none_runs trains = record { legal = tt; each_once = λ kind. omega arith; apart = tt }
+
+pub a_greatest_exists : AGreatestExists
+a_greatest_exists position company trains lawful =
+    let best : IsTop (IsLegalSet position company trains) (revenue_of position) (choices position company trains) =
+    top_of (IsLegalSet position company trains) (revenue_of position) (choices position company trains)
+    (set_decided position company trains) [] (none_runs position company trains) in (
+      revenue_of position best.top,
+      record {
+        earned = (best.top, best.such, refl);
+        most = λ runs set. best.most runs (set_there position company lawful trains runs set) set;
+      },
+      omega (arith, set_earns position company lawful trains best.top best.such),
+    )
+
+-- what some legal set earns is no more than the greatest
+pub no_more_earned :
+    (position : Position) (company : Company) (trains more : List Kind) (revenue greater : ℕ) →
+    ((runs : List TrainRun) → IsLegalSet position company trains runs → IsLegalSet position company more runs) →
+    IsGreatest position company trains revenue → IsGreatest position company more greater → revenue ≤ greater
+no_more_earned position company trains more revenue greater also first second =
+    subst (λ (n : ℕ). n ≤ greater) first.earned.2 (second.most first.earned.0 (also first.earned.0 first.earned.1))
+
+pub one_greatest : OneGreatest
+one_greatest position company trains revenue other first second =
+    let up : revenue ≤ other = no_more_earned position company trains trains revenue other (λ runs set. set) first
+    second in
+    let down : other ≤ revenue = no_more_earned position company trains trains other revenue (λ runs set. set) second
+    first in
+    omega arith
+
+-- a legal set for some trains is one for more
+with_more :
+    (position : Position) (company : Company) (trains more : List Kind) → AreTakenFrom more trains
+    → (runs : List TrainRun) →
+    IsLegalSet position company trains runs → IsLegalSet position company more runs
+with_more position company trains more taken runs set =
+    record { legal = set.legal; each_once = λ kind. omega (arith, set.each_once kind, taken kind); apart = set.apart }
+
+pub more_trains : MoreTrainsEarnNoLess
+more_trains position company trains more revenue greater taken first second =
+    no_more_earned position company trains more revenue greater (with_more position company trains more taken) first
+    second
+
+pub order_of_trains : OrderOfTrainsChangesNothing
+order_of_trains position company trains others revenue same greatest =
+    let there = with_more position company trains others (λ kind. omega (arith, same kind)) in
+    let back = with_more position company others trains (λ kind. omega (arith, same kind)) in
+    record {
+      earned = (greatest.earned.0, there greatest.earned.0 greatest.earned.1, greatest.earned.2);
+      most = λ runs set. greatest.most runs (back runs set);
+    }

@@ -1,0 +1,143 @@
+-- What places name is a legal run exactly where they break no rule.
+use Rattle.std.proofs.Common.{◌≡◌, ◌↔◌, ℕ, Bool, true, false, not, Option, Some, None, is_none, List, [], ◌∷◌, length}
+use Rattle.std.proofs.Common.{refl, ap, ◌∙◌}
+use Rattle.std.specs.List.{list_any}
+use Rattle.map_tables.specs.declared.place.Place.{Place}
+use Rattle.map_tables.specs.declared.place.Stop.{Stop}
+use Rattle.reach.specs.Position.{Position, HasToken, IsFull, is_red}
+use Rattle.reach.specs.declared.walk.Step.{Step}
+use Rattle.tables.specs.Rules.{Rule, first_broken}
+use Rattle.tables.specs.declared.rolling_stock.Kind.{Kind}
+use Rattle.tables.specs.declared.roster.Company.{Company}
+use Rattle.legal_runs.specs.Fault.{has_border_twice, has_stop_twice, has_token, is_full, is_wrong_number, passes}
+use Rattle.legal_runs.specs.Fault.{rules_of_walk, run_fault, steps_of}
+use Rattle.legal_runs.specs.Law.{LegalWhereNoRuleIsBroken, NameLegalRun}
+use Rattle.legal_runs.specs.Legal.{IsLegalRun, crossed, visited}
+use Rattle.legal_runs.specs.Named.{walk_named}
+use Rattle.map_tables.specs.declared.rules.RunRule.{RunRule}
+use Rattle.map_tables.specs.declared.rules.RunRule.TheVariants.{NoTrack, WrongNumber, StopTwice, BorderTwice}
+use Rattle.map_tables.specs.declared.rules.RunRule.TheVariants.{PassesFull, NoToken, RedInside}
+use Rattle.legal_runs.proofs.Joined.{stops_distinct, distinct_stops, borders_distinct, distinct_borders, passes_none}
+use Rattle.legal_runs.proofs.Joined.{none_passes, has_such, such_has, number_is, is_number}
+use Rattle.legal_runs.proofs.Named.{IsWhole, named_is_whole}
+use Rattle.legal_runs.proofs.Tests.{has_token_is, is_full_is}
+
+abbrev ruling : RunRule → Bool → Rule RunRule
+ruling code broken = record { code = code; broken = broken }
+
+abbrev table : Bool → Bool → Bool → Bool → Bool → Bool → Option RunRule
+table number twice border full own red =
+    first_broken (ruling WrongNumber number ∷ ruling StopTwice twice ∷ ruling BorderTwice border
+    ∷ ruling PassesFull full ∷ ruling NoToken (not own) ∷ ruling RedInside red ∷ [])
+
+record Kept (number twice border full own red : Bool) : Type 0 where
+  number_is : number ≡ false
+  twice_is : twice ≡ false
+  border_is : border ≡ false
+  full_is : full ≡ false
+  own_is : own ≡ true
+  red_is : red ≡ false
+
+-- a table that finds no rule has all of them kept
+all_kept : (number twice border full own red : Bool) → table number twice border full own red ≡ None
+    → Kept number twice border full own red
+all_kept true twice border full own red h = cc
+all_kept false true border full own red h = cc
+all_kept false false true full own red h = cc
+all_kept false false false true own red h = cc
+all_kept false false false false false red h = cc
+all_kept false false false false true true h = cc
+all_kept false false false false true false h =
+    record { number_is = refl; twice_is = refl; border_is = refl; full_is = refl; own_is = refl; red_is = refl }
+
+-- and a table of rules that are kept finds none
+none_found : (number twice border full own red : Bool) → number ≡ false → twice ≡ false → border ≡ false
+    → full ≡ false → own ≡ true → red ≡ false → table number twice border full own red ≡ None
+none_found number twice border full own red a b c d e f =
+    ap (λ k. table k twice border full own red) a ∙ ap (λ k. table false k border full own red) b
+    ∙ ap (λ k. table false false k full own red) c
+    ∙ ap (λ k. table false false false k own red) d ∙ ap (λ k. table false false false false k red) e
+    ∙ ap (λ k. table false false false false true k) f
+
+red_is_red : (position : Position) (stop : Stop) → (is_red position stop ≡ true) ↔ (is_red position stop ≡ true)
+red_is_red position stop = (λ h. h, λ h. h)
+
+module _ (position : Position) (company : Company) (kind : Kind) (used : List ℕ) where
+  -- a walk from a stop to a stop that breaks no rule is a legal run
+  legal : (steps : List Step) → IsWhole position steps
+      → first_broken (rules_of_walk position company kind used steps) ≡ None
+      → IsLegalRun position company kind used steps
+  legal [] whole h = cc
+  legal (step ∷ before) whole h =
+      let steps : List Step = step ∷ before in
+      let kept : Kept (is_wrong_number kind (length (visited steps))) (has_stop_twice (visited steps))
+      (has_border_twice used (crossed steps)) (passes (is_full position company) steps)
+      (list_any (has_token position company) (visited steps)) (passes (is_red position) steps) =
+      all_kept (is_wrong_number kind (length (visited steps))) (has_stop_twice (visited steps))
+      (has_border_twice used (crossed steps)) (passes (is_full position company) steps)
+      (list_any (has_token position company) (visited steps)) (passes (is_red position) steps) h
+      in
+      let number = number_is kind (length (visited steps)) kept.number_is in
+      let borders = borders_distinct used (crossed steps) kept.border_is in
+      record {
+        walk = whole.walk;
+        begins = whole.begins;
+        ends = whole.ends;
+        two = number.0;
+        most = number.1;
+        no_stop_twice = stops_distinct (visited steps) kept.twice_is;
+        own_token = has_such (λ stop. HasToken position stop company) (has_token position company)
+            (has_token_is position company) (visited steps) kept.own_is;
+        no_border_twice = borders.0;
+        no_used_border = borders.1;
+        no_red_inside = passes_none (λ stop. is_red position stop ≡ true) (is_red position) (red_is_red position)
+            steps kept.red_is;
+        no_full_inside = passes_none (λ stop. IsFull position stop company) (is_full position company)
+            (is_full_is position company) steps kept.full_is;
+      }
+
+  -- a legal run breaks no rule
+  unbroken : (steps : List Step) → IsLegalRun position company kind used steps
+      → first_broken (rules_of_walk position company kind used steps) ≡ None
+  unbroken steps run =
+      none_found (is_wrong_number kind (length (visited steps))) (has_stop_twice (visited steps))
+      (has_border_twice used (crossed steps)) (passes (is_full position company) steps)
+      (list_any (has_token position company) (visited steps)) (passes (is_red position) steps)
+      (is_number kind (length (visited steps)) run.two run.most)
+      (distinct_stops (visited steps) run.no_stop_twice)
+      (distinct_borders used (crossed steps) run.no_border_twice run.no_used_border)
+      (none_passes (λ stop. IsFull position stop company) (is_full position company) (is_full_is position company)
+      steps run.no_full_inside)
+      (such_has (λ stop. HasToken position stop company) (has_token position company) (has_token_is position company)
+      (visited steps) run.own_token)
+      (none_passes (λ stop. is_red position stop ≡ true) (is_red position) (red_is_red position) steps
+      run.no_red_inside)
+
+  by_walk : (places : List Place) (walk : Option (List Step)) → walk_named position places ≡ walk
+      → first_broken (ruling NoTrack (is_none walk) ∷ rules_of_walk position company kind used (steps_of walk)) ≡ None
+      → NameLegalRun position company kind used places
+  by_walk places None is h = cc
+  by_walk places (Some steps) is h = (steps, is, legal steps (named_is_whole position places steps is) h)
+
+  by_run : (walk : Option (List Step)) (steps : List Step) → walk ≡ Some steps
+      → IsLegalRun position company kind used steps → first_broken
+      (ruling NoTrack (is_none walk) ∷ rules_of_walk position company kind used (steps_of walk)) ≡ None
+  by_run walk steps is run =
+      ap (λ w. first_broken (ruling NoTrack (is_none w) ∷ rules_of_walk position company kind used (steps_of w))) is
+      ∙ unbroken steps run
+
+-- what places name is a legal run exactly where they break no rule
+pub legal_where_unbroken : LegalWhereNoRuleIsBroken
+legal_where_unbroken position company kind used places = (
+  λ h. by_walk position company kind used places (walk_named position places) refl h,
+  λ run. by_run position company kind used (walk_named position places) run.0 run.1 run.2,
+)
+
+-- what breaks a rule is no legal run
+pub none_where_broken : (position : Position) (company : Company) (kind : Kind) (used : List ℕ) (places : List Place)
+    (fault : RunRule) → run_fault position company kind used places ≡ Some fault
+    → NameLegalRun position company kind used places → false ≡ true
+none_where_broken position company kind used places fault broken run =
+    let kept : run_fault position company kind used places ≡ None =
+    (legal_where_unbroken position company kind used places).1 run in
+    cc

@@ -1,0 +1,24 @@
+pub mod Tests
+pub mod Marks
+pub mod Along
+pub mod Kept
+pub mod Ruled
+pub mod Named
+pub mod Joined
+pub mod Lawful
+pub mod Borders
+pub mod Sharing
+pub mod Counting
+pub mod Written
+pub mod Writing
+pub mod Earning
+pub mod Finite
+pub mod Choosing
+pub mod Greatest
+pub mod Relabelled
+pub mod RunReached
+pub mod Fewer
+pub mod TwoTrain
+pub mod RunDecided
+pub mod InTurn
+mod ClaimedPlaces

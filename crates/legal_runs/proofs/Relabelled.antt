@@ -1,0 +1,189 @@
+-- A legal set for some trains is one where a train may visit more stops: the run of the train that is replaced, if it
+-- has one, is then the run of the other.
+use Rattle.std.proofs.Common.{◌≡◌, ℕ, ◌+◌, ◌≤◌, ◌⊎◌, inl, inr, Bool, true, false, eqb, if◌then◌else◌, List, [], ◌∷◌}
+use Rattle.std.proofs.Common.{length, get_or, refl, ap, sym, ◌∙◌, subst, arith}
+use Rattle.std.specs.List.{AllByRecursion}
+use Rattle.std.proofs.lemmas.Bool.{eqb-true}
+use Rattle.reach.specs.Position.{Position}
+use Rattle.reach.specs.declared.walk.Step.{Step}
+use Rattle.tables.specs.Train.{kinds, place_of_kind, same_kind, stops_of}
+use Rattle.tables.specs.declared.rolling_stock.Kind.{Kind}
+use Rattle.tables.specs.declared.rolling_stock.Kind.TheVariants.{Two, Three, Four, Five, Six, Diesel}
+use Rattle.tables.specs.declared.roster.Company.{Company}
+use Rattle.legal_runs.specs.Greatest.{GreaterTrainsEarnNoLess, VisitsAsMany}
+use Rattle.legal_runs.specs.Legal.{AreAtMost, earned, visited}
+use Rattle.legal_runs.specs.Set.{AreApart, AreTakenFrom, IsLegalSet, RunsLegally, ShareNoBorder, TrainRun, in_number}
+use Rattle.legal_runs.specs.Set.{revenue_of, trains_that_run}
+
+-- how many trains of a kind one train is
+abbrev pub of_kind : Kind → Kind → ℕ
+of_kind kind train = if same_kind train kind then 1 else 0
+
+abbrev run_of : Kind → List Step → TrainRun
+run_of kind steps = record { kind = kind; steps = steps }
+
+-- a run is that of another train where a test says so; else one of the later ones
+abbrev replaced : Bool → Kind → TrainRun → List TrainRun → List TrainRun → List TrainRun
+replaced true other run runs later = run_of other run.steps ∷ runs
+replaced false other run runs later = run ∷ later
+
+-- the first run of a train of a kind becomes that of another
+abbrev relabelled : Kind → Kind → List TrainRun → List TrainRun
+relabelled kind other [] = []
+relabelled kind other (run ∷ runs) = replaced (same_kind run.kind kind) other run runs (relabelled kind other runs)
+
+earns_same : (position : Position) (kind other : Kind) (runs : List TrainRun)
+    → revenue_of position (relabelled kind other runs) ≡ revenue_of position runs
+earns_same position kind other [] = refl
+earns_same position kind other (run ∷ runs) = by_test (same_kind run.kind kind) (earns_same position kind other runs)
+  where
+    by_test :
+        (b : Bool) → revenue_of position (relabelled kind other runs) ≡ revenue_of position runs →
+        revenue_of position (replaced b other run runs (relabelled kind other runs))
+        ≡ earned position run.steps + revenue_of position runs
+    by_test true same = refl
+    by_test false same = ap (λ n. earned position run.steps + n) same
+
+-- what holds of the walks of runs holds of them then
+all_steps :
+    (P : List Step → Type 0) (kind other : Kind) (runs : List TrainRun)
+    → AllByRecursion (λ (run : TrainRun). P run.steps) runs →
+    AllByRecursion (λ (run : TrainRun). P run.steps) (relabelled kind other runs)
+all_steps P kind other [] holds = tt
+all_steps P kind other (run ∷ runs) holds = by_test (same_kind run.kind kind) (all_steps P kind other runs holds.1)
+  where
+    by_test :
+        (b : Bool) → AllByRecursion (λ (r : TrainRun). P r.steps) (relabelled kind other runs) →
+        AllByRecursion (λ (r : TrainRun). P r.steps) (replaced b other run runs (relabelled kind other runs))
+    by_test true later = (holds.0, holds.1)
+    by_test false later = (holds.0, later)
+
+still_apart : (kind other : Kind) (runs : List TrainRun) → AreApart runs → AreApart (relabelled kind other runs)
+still_apart kind other [] apart = tt
+still_apart kind other (run ∷ runs) apart =
+    by_test (same_kind run.kind kind) (all_steps (ShareNoBorder run.steps) kind other runs apart.0)
+    (still_apart kind other runs apart.1)
+  where
+    by_test :
+        (b : Bool) → AllByRecursion (λ (r : TrainRun). ShareNoBorder run.steps r.steps) (relabelled kind other runs) →
+        AreApart (relabelled kind other runs) → AreApart (replaced b other run runs (relabelled kind other runs))
+    by_test true first later = (apart.0, apart.1)
+    by_test false first later = (first, later)
+
+-- the kind at a place
+kind_at : (kind : Kind) → get_or kinds (place_of_kind kind) Two ≡ kind
+kind_at Two = refl
+kind_at Three = refl
+kind_at Four = refl
+kind_at Five = refl
+kind_at Six = refl
+kind_at Diesel = refl
+
+pub kind_is : (a b : Kind) → same_kind a b ≡ true → a ≡ b
+kind_is a b same =
+    sym (kind_at a) ∙ ap (λ n. get_or kinds n Two) (eqb-true (place_of_kind a) (place_of_kind b) same) ∙ kind_at b
+
+-- trains of one kind may visit as many stops
+most_of : (a b : Kind) → same_kind a b ≡ true → (count : ℕ) → AreAtMost (stops_of a) count
+    → AreAtMost (stops_of b) count
+most_of a b same count few = subst (λ (k : Kind). AreAtMost (stops_of k) count) (kind_is a b same) few
+
+module _ (position : Position) (company : Company) (kind other : Kind) (as_many : VisitsAsMany kind other) where
+  run_still : (run : TrainRun) → same_kind run.kind kind ≡ true → RunsLegally position company run
+      → RunsLegally position company (run_of other run.steps)
+  run_still run same legal = record {
+    walk = legal.walk;
+    begins = legal.begins;
+    ends = legal.ends;
+    two = legal.two;
+    most = as_many (length (visited run.steps)) (most_of run.kind kind same (length (visited run.steps)) legal.most);
+    no_stop_twice = legal.no_stop_twice;
+    own_token = legal.own_token;
+    no_border_twice = legal.no_border_twice;
+    no_used_border = legal.no_used_border;
+    no_red_inside = legal.no_red_inside;
+    no_full_inside = legal.no_full_inside;
+  }
+
+  legal_still :
+      (runs : List TrainRun) → AllByRecursion (RunsLegally position company) runs →
+      AllByRecursion (RunsLegally position company) (relabelled kind other runs)
+  legal_still [] legal = tt
+  legal_still (run ∷ runs) legal = by_test (same_kind run.kind kind) refl (legal_still runs legal.1)
+    where
+      by_test :
+          (b : Bool) → same_kind run.kind kind ≡ b → AllByRecursion (RunsLegally position company)
+          (relabelled kind other runs) →
+          AllByRecursion (RunsLegally position company) (replaced b other run runs (relabelled kind other runs))
+      by_test true is later = (run_still run is legal.0, legal.1)
+      by_test false is later = (legal.0, later)
+
+-- of the kind none ran, and all is as before; or one ran, and is of the other kind now
+abbrev Counted : Kind → Kind → List TrainRun → Type 0
+Counted kind other runs =
+    ((k : Kind) → (same_kind kind k ≡ true → in_number k (trains_that_run runs) ≡ 0)
+    × (in_number k (trains_that_run (relabelled kind other runs)) ≡ in_number k (trains_that_run runs)))
+    ⊎ ((k : Kind) → in_number k (trains_that_run (relabelled kind other runs)) + of_kind k kind
+    ≡ in_number k (trains_that_run runs) + of_kind k other)
+
+-- trains of one kind are as many of each
+alike : (a b k : Kind) → same_kind a b ≡ true → of_kind k a ≡ of_kind k b
+alike a b k same = ap (λ (n : ℕ). if eqb n (place_of_kind k) then 1 else 0)
+    (eqb-true (place_of_kind a) (place_of_kind b) same)
+
+not_alike : (a b k : Kind) → same_kind a b ≡ false → same_kind b k ≡ true → of_kind k a ≡ 0
+not_alike a b k apart same =
+    let differ : eqb (place_of_kind a) (place_of_kind k) ≡ false =
+    subst (λ (n : ℕ). eqb (place_of_kind a) n ≡ false) (eqb-true (place_of_kind b) (place_of_kind k) same) apart in
+    ap (λ (b : Bool). if b then 1 else 0) differ
+
+-- so once a test says whether a run is that of the train
+abbrev CountedBy : Kind → Kind → TrainRun → List TrainRun → Bool → Type 0
+CountedBy kind other run runs b =
+    ((k : Kind) → (same_kind kind k ≡ true → of_kind k run.kind + in_number k (trains_that_run runs) ≡ 0)
+    × (in_number k (trains_that_run (replaced b other run runs (relabelled kind other runs)))
+    ≡ of_kind k run.kind + in_number k (trains_that_run runs)))
+    ⊎ ((k : Kind) → in_number k (trains_that_run (replaced b other run runs (relabelled kind other runs)))
+    + of_kind k kind ≡ (of_kind k run.kind + in_number k (trains_that_run runs)) + of_kind k other)
+
+counted_still : (kind other : Kind) (runs : List TrainRun) → Counted kind other runs
+counted_still kind other [] = inl (λ k. (λ same. refl, refl))
+counted_still kind other (run ∷ runs) = by_test (same_kind run.kind kind) refl (counted_still kind other runs)
+  where
+    by_test : (b : Bool) → same_kind run.kind kind ≡ b → Counted kind other runs → CountedBy kind other run runs b
+    by_test true is rest = inr (λ k. let same : of_kind k run.kind ≡ of_kind k kind =
+        alike run.kind kind k is in omega arith)
+    by_test false is (inl none) =
+        inl (λ k. (
+          λ same. let not_it : of_kind k run.kind ≡ 0 = not_alike run.kind kind k is same in let rest : in_number k
+              (trains_that_run runs) ≡ 0 = (none k).0 same in omega arith,
+          ap (λ n. of_kind k run.kind + n) (none k).1,
+        ))
+    by_test false is (inr one) = inr (λ k. let rest = one k in omega arith)
+
+taken_still :
+    (kind other : Kind) (trains : List Kind) (runs : List TrainRun)
+    → AreTakenFrom (kind ∷ trains) (trains_that_run runs) →
+    AreTakenFrom (other ∷ trains) (trains_that_run (relabelled kind other runs))
+taken_still kind other trains runs taken k = by_count (counted_still kind other runs) (same_kind kind k) refl
+  where
+    by_count :
+        Counted kind other runs → (b : Bool) → same_kind kind k ≡ b →
+        in_number k (trains_that_run (relabelled kind other runs)) ≤ of_kind k other + in_number k trains
+    by_count (inl none) true is = let zero : in_number k (trains_that_run runs) ≡ 0 = (none k).0 is in let same =
+        (none k).1 in omega arith
+    by_count (inl none) false is =
+        let not_it : of_kind k kind ≡ 0 = ap (λ (b : Bool). if b then 1 else 0) is in
+        let same = (none k).1 in omega (arith, taken k)
+    by_count (inr one) b is = omega (arith, one k, taken k)
+
+pub greater_trains : GreaterTrainsEarnNoLess
+greater_trains position company kind other trains revenue greater as_many first second =
+    subst (λ (n : ℕ). n ≤ greater) (earns_same position kind other first.earned.0 ∙ first.earned.2)
+    (let set : IsLegalSet position company (kind ∷ trains) first.earned.0 = first.earned.1 in
+    second.most (relabelled kind other first.earned.0)
+    (record {
+      legal = legal_still position company kind other as_many first.earned.0 set.legal;
+      each_once = taken_still kind other trains first.earned.0 set.each_once;
+      apart = still_apart kind other first.earned.0 set.apart;
+    }))

@@ -1,0 +1,62 @@
+-- Each step in hand is the first of those that are left.
+use Rattle.std.proofs.Common.{◌≡◌, Some, None, List, [], ◌∷◌, ◌++◌, Iter, ap, sym, ◌∙◌, arith}
+use Rattle.std.proofs.lemmas.List.{append-nil}
+use Rattle.std.specs.Iterator.Adapters.{rev_source}
+use Rattle.std.specs.Slice.Iter.{iter_rest}
+use Rattle.std.specs.declared.iter.Rev.{Rev}
+use Rattle.map_tables.specs.declared.place.Place.{Place}
+use Rattle.reach.specs.declared.walk.Step.{Step}
+use Rattle.legal_runs.specs.Written.{place_at, places_of, places_over}
+use Rattle.legal_runs.proofs.Writing.{begun_with, room_for, step_further}
+use Rattle.legal_runs.proofs.write.write_run.Goals as goal
+
+pub loop-step-init : goal.loop-step-init
+loop-step-init c =
+    let all : List Step = c.args.steps.now in
+    let left : iter_rest (rev_source c.into_iter-step-iterator.result) ≡ all =
+    ap (λ (steps : Rev (Iter Step)). iter_rest (rev_source steps)) c.into_iter-step-iterator.ensures.into_iter_gives
+    ∙ ap iter_rest c.rev-step-items.ensures.source ∙ c.iter.ensures.rest in
+    let first : c.push.new.self.items ≡ c.place_at.result ∷ [] =
+    c.push.ensures.items ∙ ap (λ (places : List Place). places ++ c.place_at.result ∷ []) c.new-places.ensures in (
+      tt,
+      tt,
+      ap (λ (places : List Place). places ++ places_over (iter_rest (rev_source c.into_iter-step-iterator.result)))
+          first
+          ∙ ap (λ (steps : List Step). c.place_at.result ∷ places_over steps) left
+          ∙ ap (λ (place : Place). place ∷ places_over all) (c.place_at.ensures ∙ ap place_at c.entered.ensures)
+          ∙ begun_with all _ c.requires.least,
+    )
+
+pub push-requires-in-Some-place_over : goal.push-requires-in-Some-place_over
+push-requires-in-Some-place_over c =
+    let all : List Place = places_of c.args.steps.now in
+    let place : Place = c.in-Some-place_over.place in (
+      omega arith,
+      room_for c.loop-step.places.items all _ place
+          (step_further c.loop-step.places.items all (Some place) _ _ _
+          c.in-Some.ensures.steps (sym c.in-Some-place_over.is ∙ c.place_over.ensures) c.loop-step.invariant.2)
+          c.requires.most,
+    )
+
+pub loop-step-preserved-in-Some-place_over : goal.loop-step-preserved-in-Some-place_over
+loop-step-preserved-in-Some-place_over c =
+    let all : List Place = places_of c.args.steps.now in
+    let place : Place = c.in-Some-place_over.place in (
+      tt,
+      tt,
+      ap (λ (places : List Place). places ++ places_over (iter_rest (rev_source c.next.new.self)))
+          c.push-in-Some-place_over.ensures.items
+          ∙ step_further c.loop-step.places.items all (Some place) _ _ _
+          c.in-Some.ensures.steps (sym c.in-Some-place_over.is ∙ c.place_over.ensures) c.loop-step.invariant.2,
+    )
+
+pub loop-step-preserved : goal.loop-step-preserved
+loop-step-preserved c =
+    let all : List Place = places_of c.args.steps.now in (
+      tt,
+      tt,
+      ap (λ (places : List Place). places ++ places_over (iter_rest (rev_source c.next.new.self)))
+          (sym (append-nil c.loop-step.places.items))
+          ∙ step_further c.loop-step.places.items all None _ _ _ c.in-Some.ensures.steps
+          (sym c.in_default.is ∙ c.place_over.ensures) c.loop-step.invariant.2,
+    )

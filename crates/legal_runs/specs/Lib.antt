@@ -1,0 +1,13 @@
+pub mod Legal
+pub mod Marks
+pub mod Named
+pub mod Written
+pub mod Fault
+pub mod Set
+pub mod Greatest
+pub mod Claim
+pub mod Tally
+pub mod Law
+pub mod TwoTrain
+pub mod InTurn
+pub mod Places

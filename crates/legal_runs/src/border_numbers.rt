@@ -1,0 +1,37 @@
+//! The numbers of the borders of the map.
+ghost use Rattle.std.specs.Prelude.{◌≡◌, ◌<◌};
+ghost use Rattle.legal_runs.specs.Legal.{border_of};
+ghost use Rattle.map_tables.specs.Border.{neighbour_of};
+
+use map_tables::{HEXES, Hex, Side, neighbour};
+
+/// How many of its borders a hex numbers: those at its sides 0, 1 and 2.
+const NUMBERED: usize = 3;
+
+/// How many borders the hexes of the map have.
+pub(crate) const BORDERS: usize = NUMBERED * HEXES;
+
+/// The number of the border at a side of a hex.
+pub(crate) fn border(hex: Hex, side: Side) -> usize
+    ensures value { result ≡ border_of hex side }
+    ensures bound { result < 279 }
+{
+    border_to(hex, side, neighbour(hex, side))
+}
+
+/// The number of the border at a side of a hex, where it is known which neighbour the hex has there.
+#[tactic(auto, unfolding(crate::specs::Legal::border_of))]
+pub fn border_to(hex: Hex, side: Side, beyond: Option<Hex>) -> usize
+    requires { beyond ≡ neighbour_of hex side }
+    ensures value { result ≡ border_of hex side }
+    ensures bound { result < 279 }
+{
+    let number = side.number();
+    if number < NUMBERED {
+        return NUMBERED * hex.index() + number;
+    }
+    match beyond {
+        Some(other) => NUMBERED * other.index() + (number - NUMBERED),
+        None => number - NUMBERED,
+    }
+}

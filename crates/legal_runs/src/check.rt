@@ -1,0 +1,76 @@
+ghost use Rattle.std.specs.Prelude.{◌≡◌, ◌↔◌, IfOk, IfErr, IsOk, None, Some, pos};
+ghost use Rattle.legal_runs.specs.Fault.{named_steps, run_fault};
+ghost use Rattle.legal_runs.specs.Law.{NameLegalRun};
+ghost use Rattle.legal_runs.specs.Legal.{crossed, earned};
+ghost use Rattle.legal_runs.specs.Marks.{AreAdded, borders_used, marked};
+ghost use Rattle.legal_runs.specs.Named.{made_along};
+ghost use Rattle.legal_runs.specs.Tally.{counted, no_steps};
+
+use crate::leg::leg_to;
+use crate::tally::Tally;
+use crate::used::Used;
+use map_tables::{End, Run, RunRule};
+use reach::{Network, Spot};
+use tables::{Company, Kind, Money};
+
+/// The first rule that a run breaks: one of those that ask what lies, R3 to R9.
+pub type RunFault = RunRule;
+
+/// Rules a run of a company's train of a kind, as it is written out place by place. It is `Ok`
+/// exactly where the run is legal over the borders that are used: the answer is what it earns, in
+/// dollars, and the borders that it crosses are used from then on, and no others. Else it is the
+/// first rule that the run breaks, and `used` is as it was.
+pub fn check_run<N: Network>(
+    network: &N,
+    company: Company,
+    kind: Kind,
+    run: &Run,
+    used: &mut Used,
+) -> Result<Money, RunFault>
+    ensures exact { let name_legal = NameLegalRun (N.position network.now) company kind in
+        IsOk result ↔ name_legal (borders_used used.old) run.now }
+    ensures first_fault { let found = run_fault (N.position network.now) company kind in
+        IfErr result (λ fault. found (borders_used used.old) run.now ≡ Some fault) }
+    ensures kept { IfErr result (λ fault. used.new ≡ used.old) }
+    ensures no_fault { let found = run_fault (N.position network.now) company kind in
+        IfOk result (λ earns. found (borders_used used.old) run.now ≡ None) }
+    ensures earns { let steps = named_steps (N.position network.now) run.now in
+        IfOk result (λ earns. earns ≡ pos (earned (N.position network.now) steps)) }
+    ensures crosses { let steps = named_steps (N.position network.now) run.now in
+        IfOk result (λ earns. used.new ≡ marked used.old (crossed steps)) }
+    ensures added { let steps = named_steps (N.position network.now) run.now in
+        let old = borders_used used.old in
+        IfOk result (λ earns. AreAdded (crossed steps) old (borders_used used.new)) }
+{
+    let Some(tally) = tally_of(network, company, run, used) else {
+        return Err(RunFault::NoTrack);
+    };
+    if let Some(fault) = tally.fault(kind) {
+        return Err(fault);
+    }
+    used.crossed = tally.crossed;
+    Ok(Money::from(tally.value))
+}
+
+/// Goes over the walk that the places of a run name; `None` where there is none.
+fn tally_of<N: Network>(network: &N, company: Company, run: &Run, used: &Used) -> Option<Tally>
+    ensures { let position = N.position network.now in
+        result ≡ made_along (counted position company) position (no_steps used.now) run.now }
+{
+    let places = run.as_slice();
+    let start = places[0];
+    let mut at = Spot {
+        hex: start.hex,
+        end: End::Stop(start.stop?),
+    };
+    let mut tally = Tally::none(used);
+    for place in &places[1..] {
+        let leg = leg_to(network, at, *place)?;
+        tally.count_leg(network, company, leg);
+        at = leg.at;
+    }
+    match at.end {
+        End::Stop(_) => Some(tally),
+        End::Side(_) => None,
+    }
+}

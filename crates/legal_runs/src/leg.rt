@@ -1,0 +1,144 @@
+ghost use Rattle.std.specs.List.{list_any};
+ghost use Rattle.std.specs.Prelude.{◌≡◌, ◌<◌, find};
+ghost use Rattle.map_tables.specs.Border.{neighbour_of};
+ghost use Rattle.map_tables.specs.Track.{end_order};
+ghost use Rattle.legal_runs.specs.Named.{is_hex, leg_to, same_link, side_towards, step_between, step_over};
+
+use map_tables::{End, Hex, Link, Place, Side, neighbour};
+use reach::{Network, Spot, Step};
+
+/// What leads from where a train is to its next place: a step to the border between their
+/// hexes, and where the place has a stop, a step on to it.
+#[derive(Clone, Copy)]
+pub(crate) struct Leg {
+    pub(crate) first: Step,
+    pub(crate) second: Option<Step>,
+    /// Where the train is then: at the stop, or at the side of the hex at that border.
+    pub(crate) at: Spot,
+}
+
+/// The leg that leads a train to a place, if there is such track.
+#[tactic(auto, unfolding(crate::specs::Named::leg_to))]
+pub(crate) fn leg_to<N: Network>(network: &N, at: Spot, place: Place) -> Option<Leg>
+    ensures { result ≡ leg_to (N.position network.now) at place }
+{
+    let side = side_towards(at.hex, place.hex)?;
+    let first = step_between(network, at.hex, at.end, End::Side(side))?;
+    let border = End::Side(side.facing());
+    match place.stop {
+        None => Some(Leg {
+            first,
+            second: None,
+            at: Spot {
+                hex: place.hex,
+                end: border,
+            },
+        }),
+        Some(number) => {
+            let stop = End::Stop(number);
+            let second = step_between(network, place.hex, border, stop)?;
+            Some(Leg {
+                first,
+                second: Some(second),
+                at: Spot {
+                    hex: place.hex,
+                    end: stop,
+                },
+            })
+        }
+    }
+}
+
+/// The side of a hex at which another lies; `None` where they are no neighbours.
+fn side_towards(hex: Hex, other: Hex) -> Option<Side>
+    ensures { result ≡ side_towards hex other }
+{
+    map_tables::laws::sides_and_rotations_are_all();
+    first_towards(&Side::ALL, hex, other)
+}
+
+/// The first of some sides of a hex at which another lies.
+fn first_towards(sides: &[Side], hex: Hex, other: Hex) -> Option<Side>
+    ensures { result ≡ find (λ side. is_hex other (neighbour_of hex side)) sides.now }
+{
+    sides
+        .iter()
+        .copied()
+        .find(|side| is_hex(other, neighbour(hex, *side)))
+}
+
+/// Whether a hex is the one that is looked for.
+fn is_hex(hex: Hex, found: Option<Hex>) -> bool
+    ensures { result ≡ is_hex hex found }
+{
+    match found {
+        Some(other) => other.index() == hex.index(),
+        None => false,
+    }
+}
+
+/// The step from one end of a hex to another, if they are joined.
+#[tactic(auto, unfolding(crate::specs::Named::step_between))]
+fn step_between<N: Network>(network: &N, hex: Hex, from: End, to: End) -> Option<Step>
+    ensures { result ≡ step_between (N.position network.now) hex from to }
+{
+    let step = step_over(hex, from, to);
+    let links = network.links(hex);
+    if has_link(links.as_slice(), step.link) {
+        Some(step)
+    } else {
+        None
+    }
+}
+
+/// Whether a link is among some.
+fn has_link(links: &[Link], link: Link) -> bool
+    ensures { result ≡ list_any (λ other. same_link other link) links.now }
+{
+    links.iter().any(|other| same_link(*other, link))
+}
+
+/// Whether two links are one. (By their numbers, which the prover knows at once.)
+fn same_link(link: Link, other: Link) -> bool
+    ensures { result ≡ same_link link other }
+{
+    link.hex.index() == other.hex.index()
+        && order(link.a) == order(other.a)
+        && order(link.b) == order(other.b)
+}
+
+/// The step from one end of a hex to another by the link that would join them.
+fn step_over(hex: Hex, from: End, to: End) -> Step
+    ensures { result ≡ step_over hex from to }
+{
+    if order(to) < order(from) {
+        Step {
+            link: Link {
+                hex,
+                a: to,
+                b: from,
+            },
+            turned: true,
+        }
+    } else {
+        Step {
+            link: Link {
+                hex,
+                a: from,
+                b: to,
+            },
+            turned: false,
+        }
+    }
+}
+
+/// The place of an end among the ends of a hex.
+pub(crate) fn order(end: End) -> usize
+    ensures value { result ≡ end_order end }
+    ensures bound { result < 8 }
+{
+    match end {
+        End::Side(side) => side.number(),
+        End::Stop(number) => 6 + number.index(),
+    }
+}

@@ -1,0 +1,146 @@
+//! Whether a company can run a 2-train.
+ghost use Rattle.std.specs.Prelude.{◌≡◌, ◌<◌, ◌↔◌, IsTrue};
+ghost use Rattle.map_tables.specs.Hex.{index_of};
+ghost use Rattle.reach.specs.Lawful.{IsLawful};
+ghost use Rattle.reach.specs.Position.{HasToken, IsAmong, links_of};
+ghost use Rattle.reach.specs.Walk.{entered_at};
+ghost use Rattle.reach.specs.declared.walk.Step.{Step};
+ghost use Rattle.legal_runs.specs.TwoTrain.{CanRun, LeadsFrom, LeadsOn, LeavesToken, none_used};
+
+use crate::leg::order;
+use crate::used::Used;
+use map_tables::{HEXES, Hex, Link, Stop};
+use reach::{Network, Spot, Step, stop_order};
+use tables::Company;
+
+/// Whether some run of a company is legal for a 2-train, no border being used: track leads from a
+/// stop with its token to another, and no stop lies between. It takes no memory.
+pub fn can_run<N: Network>(network: &N, company: Company) -> bool
+    ensures { IsTrue result ↔ CanRun (N.position network.now) company }
+{
+    network.keeps_laws();
+    for index in 0..HEXES {
+        if leaves_in(network, company, Hex::at_index(index)) {
+            return true;
+        }
+    }
+    false
+}
+
+/// Whether such a run leaves its first stop by a link of a hex.
+fn leaves_in<N: Network>(network: &N, company: Company, hex: Hex) -> bool
+    requires { IsLawful (N.position network.now) }
+    ensures { let position = N.position network.now in
+        IsTrue result ↔ ((step : Step) × IsAmong step.link (links_of position hex)
+        × LeavesToken position company step) }
+{
+    let links = network.links(hex);
+    for link in links.as_slice() {
+        if leaves_by(network, company, *link) {
+            return true;
+        }
+    }
+    false
+}
+
+/// Whether such a run leaves its first stop by a link, in either direction.
+fn leaves_by<N: Network>(network: &N, company: Company, link: Link) -> bool
+    requires { IsLawful (N.position network.now) }
+    ensures { let position = N.position network.now in
+        IsTrue result ↔ ((step : Step) × (step.link ≡ link) × LeavesToken position company step) }
+{
+    let forward = Step {
+        link,
+        turned: false,
+    };
+    let back = Step { link, turned: true };
+    leaves(network, company, forward) || leaves(network, company, back)
+}
+
+/// Whether such a run begins with a step.
+fn leaves<N: Network>(network: &N, company: Company, step: Step) -> bool
+    requires { IsLawful (N.position network.now) }
+    ensures { IsTrue result ↔ LeavesToken (N.position network.now) company step }
+{
+    match step.entered().stop() {
+        Some(start) => leaves_stop(network, company, start, step),
+        None => false,
+    }
+}
+
+/// Whether a stop has a token of the company, and a step leads on from it.
+fn leaves_stop<N: Network>(network: &N, company: Company, start: Stop, step: Step) -> bool
+    requires { IsLawful (N.position network.now) }
+    ensures { let position = N.position network.now in
+        IsTrue result
+        ↔ (HasToken position start company × LeadsOn position start none_used step) }
+{
+    network.token(start, company) && leads_on(network, start, step, &Used::new())
+}
+
+/// Whether a step, and others after it, lead to a stop that is not the first one, over borders
+/// that are not used.
+#[cycle(track)]
+fn leads_on<N: Network>(network: &N, start: Stop, step: Step, used: &Used) -> bool
+    requires { IsLawful (N.position network.now) }
+    ensures { let position = N.position network.now in
+        IsTrue result ↔ LeadsOn position start used.now step }
+{
+    let left = step.left();
+    if let Some(stop) = left.stop() {
+        return is_other(stop, start);
+    }
+    let Some(next) = left.across() else {
+        return false;
+    };
+    let Some(crossing) = used.over(next) else {
+        return false;
+    };
+    let links = network.links(next.hex);
+    for link in links.as_slice() {
+        if leads_by_link(network, start, *link, next, &crossing) {
+            return true;
+        }
+    }
+    false
+}
+
+/// Whether a step by a link, in either direction, is entered at a spot and leads on.
+#[cycle(track)]
+fn leads_by_link<N: Network>(network: &N, start: Stop, link: Link, spot: Spot, used: &Used) -> bool
+    requires { IsLawful (N.position network.now) }
+    ensures { let leads = LeadsFrom (N.position network.now) start used.now spot in
+        IsTrue result ↔ ((step : Step) × (step.link ≡ link) × leads step) }
+{
+    let forward = Step {
+        link,
+        turned: false,
+    };
+    let back = Step { link, turned: true };
+    leads_from(network, start, forward, spot, used) || leads_from(network, start, back, spot, used)
+}
+
+/// Whether a step is entered at a spot and leads on.
+#[cycle(track)]
+fn leads_from<N: Network>(network: &N, start: Stop, step: Step, spot: Spot, used: &Used) -> bool
+    requires { IsLawful (N.position network.now) }
+    ensures { let position = N.position network.now in
+        IsTrue result ↔ LeadsFrom position start used.now spot step }
+{
+    is_entered(step, spot) && leads_on(network, start, step, used)
+}
+
+/// Whether a stop is not the first one.
+fn is_other(stop: Stop, start: Stop) -> bool
+    ensures { IsTrue result ↔ (¬ (stop ≡ start)) }
+{
+    stop_order(stop) != stop_order(start)
+}
+
+/// Whether a step is entered at a spot.
+fn is_entered(step: Step, spot: Spot) -> bool
+    ensures { IsTrue result ↔ (entered_at step ≡ spot) }
+{
+    let entered = step.entered();
+    entered.hex.index() == spot.hex.index() && order(entered.end) == order(spot.end)
+}

@@ -1,0 +1,83 @@
+ghost use Rattle.std.specs.Prelude.{◌≡◌, ◌<◌, true, false, get_or, replicate, set, IfSome, count_by, not};
+ghost use Rattle.legal_runs.specs.TwoTrain.{crossing};
+
+use crate::border_numbers::{BORDERS, border};
+use map_tables::End;
+use reach::Spot;
+use std::marker::Model;
+
+/// The borders that the trains of a company have crossed in its turn, by their numbers.
+#[derive(Clone, Copy, Debug)]
+pub struct Used {
+    pub(crate) crossed: [bool; BORDERS],
+}
+
+/// To a contract it is the list of marks, one for each border.
+impl Model for Used {
+    ghost use Rattle.std.specs.Prelude.{◌≡◌, Bool, List, length};
+
+    ghost Value = { List Bool };
+
+    ghost view = { λ used. used.crossed };
+
+    ghost invariant = { λ used. length used.crossed ≡ 279 };
+
+    ghost inverse = { λ marks. record { crossed = marks } };
+}
+
+impl Used {
+    /// No border has been crossed yet.
+    pub fn new() -> Used
+        ensures { result ≡ replicate 279 false }
+    {
+        Used {
+            crossed: [false; BORDERS],
+        }
+    }
+
+    /// The borders that are used once the one at a spot is too; `None` where it is used already,
+    /// and at a stop.
+    #[tactic(auto, using(crate::proofs::Fewer::fewer_free))]
+    pub(crate) fn over(&self, spot: Spot) -> Option<Used>
+        ensures crossing { result ≡ crossing self.now spot }
+        ensures fewer { IfSome result (λ over. count_by not over < count_by not self.now) }
+    {
+        let End::Side(side) = spot.end else {
+            return None;
+        };
+        let number = border(spot.hex, side);
+        if self.crossed[number] {
+            return None;
+        }
+        let mut over = *self;
+        over.crossed[number] = true;
+        Some(over)
+    }
+
+    /// Whether a border is used, by its number.
+    pub fn has(&self, border: usize) -> bool
+        requires { border < 279 }
+        ensures { result ≡ get_or self.now border false }
+    {
+        self.crossed[border]
+    }
+
+    /// A border is used from now on.
+    #[tactic(auto, using(crate::proofs::Fewer::fewer_free))]
+    pub fn add(&mut self, border: usize)
+        requires { border < 279 }
+        ensures marked { self.new ≡ set self.old border true }
+        ensures fewer { get_or self.old border false ≡ false →
+            count_by not self.new < count_by not self.old }
+    {
+        self.crossed[border] = true;
+    }
+
+    /// A border is not used any more.
+    pub fn remove(&mut self, border: usize)
+        requires { border < 279 }
+        ensures { self.new ≡ set self.old border false }
+    {
+        self.crossed[border] = false;
+    }
+}

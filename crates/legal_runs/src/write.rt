@@ -1,0 +1,55 @@
+ghost use Rattle.std.specs.Prelude.{◌≡◌, ◌≤◌, length};
+ghost use Rattle.reach.specs.Walk.{entered_at, left_at};
+ghost use Rattle.legal_runs.specs.Written.{number_at, place_at, place_over, places_of};
+
+use arrayvec::ArrayVec;
+use map_tables::{End, Place, Run, StopNumber};
+use reach::{Spot, Step};
+
+/// Writes out a run by its places, from the steps of its walk. The latest step is in front, as
+/// in the definitions. The places of each legal run are from 2 to 280, and name its walk.
+pub fn write_run(steps: &[Step]) -> Run
+    requires least { 2 ≤ length (places_of steps.now) }
+    requires most { length (places_of steps.now) ≤ 280 }
+    ensures { result ≡ places_of steps.now }
+{
+    let first = steps[steps.len() - 1];
+    let mut places = ArrayVec::new();
+    places.push(place_at(first.entered()));
+    for step in steps.iter().rev() {
+        if let Some(place) = place_over(*step) {
+            places.push(place);
+        }
+    }
+    Run::from_places(places).unwrap()
+}
+
+/// The place to which a step comes over a border; `None` where it is entered at a stop.
+fn place_over(step: Step) -> Option<Place>
+    ensures { result ≡ place_over (entered_at step).end (left_at step) }
+{
+    match step.entered().end {
+        End::Side(_) => Some(place_at(step.left())),
+        End::Stop(_) => None,
+    }
+}
+
+/// How a spot is written: by its hex, with the number of the stop where it is one.
+fn place_at(spot: Spot) -> Place
+    ensures { result ≡ place_at spot }
+{
+    Place {
+        hex: spot.hex,
+        stop: number_at(spot.end),
+    }
+}
+
+/// The number of the stop at an end, if it is one.
+fn number_at(end: End) -> Option<StopNumber>
+    ensures { result ≡ number_at end }
+{
+    match end {
+        End::Side(_) => None,
+        End::Stop(number) => Some(number),
+    }
+}

@@ -1,5 +1,0 @@
-use Rattle.privates.proofs.Acted.{opening_turns_tell}
-use Rattle.privates.proofs.laws.opening_turns_tell_who_acted.Goals as goal
-
-pub returns : goal.returns
-returns c = opening_turns_tell

@@ -1,7 +1,0 @@
-use Rattle.rounds.proofs.OneCalled.{a_front}
-use Rattle.rounds.proofs.laws.refused_calls_are_a_front.Goals as goal
-
-pub returns : goal.returns
-returns c =
-    a_front c.one_list_of_turn_calls.ensures.one c.one_list_of_turn_calls.ensures.front c.one_opening_round.ensures
-    c.one_stock_round.ensures

@@ -1,0 +1,31 @@
+-- What a test of two tests says of each.
+use Rattle.std.proofs.Common.{◌≡◌, Bool, true, false, ◌&&◌, ◌||◌, refl, sym}
+
+pub same_bool : (a b : Bool) → (a ≡ true → b ≡ true) → (b ≡ true → a ≡ true) → a ≡ b
+same_bool true b there back = sym (there refl)
+same_bool false true there back = back refl
+same_bool false false there back = refl
+
+pub not_both : (b : Bool) → b ≡ true → b ≡ false → ⊥
+not_both true is none = let wrong : true ≡ false = none in cc
+not_both false is none = let wrong : false ≡ true = is in cc
+
+pub left_true : (a b : Bool) → a ≡ true → (a || b) ≡ true
+left_true true b is = refl
+left_true false b is = absurd cc
+
+pub right_true : (a b : Bool) → b ≡ true → (a || b) ≡ true
+right_true true b is = refl
+right_true false b is = is
+
+pub both_first : (a b : Bool) → (a && b) ≡ true → a ≡ true
+both_first true b is = refl
+both_first false b is = absurd cc
+
+pub both_second : (a b : Bool) → (a && b) ≡ true → b ≡ true
+both_second true b is = is
+both_second false b is = absurd cc
+
+pub both_are : (a b : Bool) → a ≡ true → b ≡ true → (a && b) ≡ true
+both_are true b first second = second
+both_are false b first second = absurd cc

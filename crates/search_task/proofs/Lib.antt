@@ -1,0 +1,14 @@
+pub mod Booleans
+pub mod Marks
+pub mod Places
+pub mod Words
+pub mod Crossings
+pub mod Numbers
+pub mod Departing
+pub mod Copied
+pub mod Chained
+pub mod Laid
+pub mod Described
+pub mod Homes
+pub mod Mirrored
+pub mod Marked

@@ -1,0 +1,194 @@
+//! Marks of numbers, a bit each: of the borders and of the spots of the map.
+ghost use Rattle.std.specs.Prelude.{◌≡◌, ℕ, ◌-◌, ◌<◌, ◌||◌, IsTrue, Some, true, false, get_or, length, set, replicate};
+ghost use Rattle.std.specs.Int.{bit_at};
+ghost use Rattle.search_task.specs.Marks.{AreApart, AreBarred, AreBoth, AreOnly, FillWords, Freer, IsOneOf};
+
+use reach::SPOTS;
+use std::marker::Model;
+
+/// How many borders the hexes of the map have.
+pub const BORDERS: usize = 279;
+
+/// How many words have a bit for each border.
+const BORDER_WORDS: usize = 5;
+
+/// How many words have a bit for each spot.
+const SPOT_WORDS: usize = 12;
+
+/// How many bits a word has.
+const BITS: usize = 64;
+
+/// Some borders are marked.
+pub type Borders = BitSet<BORDERS, BORDER_WORDS>;
+
+/// Some spots are marked.
+pub type Spots = BitSet<SPOTS, SPOT_WORDS>;
+
+/// Some of the numbers below a count are marked, by the bits of this many words.
+#[derive(Drop)]
+pub struct BitSet<const COUNT: usize, const WORDS: usize> {
+    words: [u64; WORDS],
+}
+
+impl<const COUNT: usize, const WORDS: usize> Model for BitSet<COUNT, WORDS> {
+    ghost use Rattle.std.specs.Prelude.{Bool, List};
+    ghost use Rattle.search_task.specs.Marks.{FillWords, HasNoneFrom, marks_in};
+
+    ghost Value = { List Bool };
+
+    ghost view = { λ marks. marks_in COUNT marks.words };
+
+    ghost invariant = { λ marks. FillWords COUNT WORDS × HasNoneFrom COUNT marks.words };
+}
+
+/// The bits of a word that another has not.
+fn without(word: u64, other: u64) -> u64
+    ensures { (bit : ℕ) → bit < 64 → bit_at result bit ≡ bit_at word bit - bit_at other bit }
+{
+    word & !other
+}
+
+/// A number that hangs on another and on a word. Any number would do.
+pub fn mixed_with(sum: u64, word: u64) -> u64 {
+    let mixed = (sum ^ word).wrapping_mul(0x9E37_79B9_7F4A_7C15);
+    mixed ^ (mixed >> 29)
+}
+
+impl<const COUNT: usize, const WORDS: usize> BitSet<COUNT, WORDS> {
+    /// No number is marked.
+    pub fn none() -> Self
+        requires { FillWords COUNT WORDS }
+        ensures { result ≡ replicate COUNT false }
+    {
+        BitSet { words: [0; WORDS] }
+    }
+
+    /// All numbers are marked.
+    pub fn all() -> Self
+        requires { FillWords COUNT WORDS }
+        ensures { result ≡ replicate COUNT true }
+    {
+        let mut words = [u64::MAX; WORDS];
+        let before = BITS * (WORDS - 1);
+        words[WORDS - 1] = u64::MAX >> (BITS - (COUNT - before));
+        BitSet { words }
+    }
+
+    /// The same marks.
+    pub fn copy(&self) -> Self
+        ensures { result ≡ self.now }
+    {
+        BitSet { words: self.words }
+    }
+
+    /// A law, which does nothing when it runs: each number has its mark.
+    pub fn is_whole(&self)
+        ensures { length self.now ≡ COUNT }
+    {
+        let _ = self.words[0];
+    }
+
+    /// Marks a number.
+    pub fn mark(&mut self, number: usize)
+        requires { number < COUNT }
+        ensures { self.new ≡ set self.old number true }
+    {
+        self.words[number / BITS] |= 1 << (number % BITS);
+    }
+
+    /// Whether a number is marked.
+    pub fn has(&self, number: usize) -> bool
+        requires { number < COUNT }
+        ensures { result ≡ get_or self.now number false }
+    {
+        self.words[number / BITS] >> (number % BITS) & 1 == 1
+    }
+
+    /// Whether a number is marked here or in another.
+    pub fn either_has(&self, other: &Self, number: usize) -> bool
+        requires { number < COUNT }
+        ensures { result ≡ get_or self.now number false || get_or other.now number false }
+    {
+        let word = self.words[number / BITS] | other.words[number / BITS];
+        word >> (number % BITS) & 1 == 1
+    }
+
+    /// Whether no number is marked in both.
+    pub fn is_apart_from(&self, other: &Self) -> bool
+        ensures apart { IsTrue result → AreApart self.now other.now }
+        ensures meet { result ≡ false → AreApart self.now other.now → ⊥ }
+    {
+        for word in 0..WORDS {
+            if self.words[word] & other.words[word] != 0 {
+                return false;
+            }
+        }
+        true
+    }
+
+    /// Whether all numbers that are marked here are marked in another.
+    pub fn is_within(&self, other: &Self) -> bool
+        ensures { IsTrue result → Freer other.now self.now }
+    {
+        for word in 0..WORDS {
+            if without(self.words[word], other.words[word]) != 0 {
+                return false;
+            }
+        }
+        true
+    }
+
+    /// The numbers that are marked here or in another.
+    pub fn with(&self, other: &Self) -> Self
+        ensures { AreBoth self.now other.now result }
+    {
+        let mut words = self.words;
+        for word in 0..WORDS {
+            words[word] |= other.words[word];
+        }
+        BitSet { words }
+    }
+
+    /// Takes away the marks of another.
+    pub fn clear(&mut self, other: &Self)
+        ensures { AreOnly self.old other.now self.new }
+    {
+        for word in 0..WORDS {
+            self.words[word] = without(self.words[word], other.words[word]);
+        }
+    }
+
+    /// The numbers that are marked here, and all that are not in reach.
+    pub fn or_out_of(&self, reach: &Self) -> Self
+        ensures { AreBarred self.now reach.now result }
+    {
+        self.is_whole();
+        let mut open = reach.copy();
+        open.clear(self);
+        let mut barred = Self::all();
+        barred.clear(&open);
+        barred
+    }
+
+    /// A number that is marked; `None` where none is.
+    pub fn first(&self) -> Option<usize>
+        ensures marked { IsOneOf self.now result }
+        ensures low { (number : ℕ) → result ≡ Some number → number < COUNT }
+    {
+        for word in 0..WORDS {
+            if self.words[word] != 0 {
+                return Some(BITS * word + self.words[word].trailing_zeros() as usize);
+            }
+        }
+        None
+    }
+
+    /// A number that hangs on another, and that is shared where the same numbers are marked. Any number would do.
+    pub fn mixed(&self, other: u64) -> u64 {
+        let mut sum = other;
+        for word in 0..WORDS {
+            sum = mixed_with(sum, self.words[word]);
+        }
+        sum
+    }
+}

@@ -1,0 +1,91 @@
+//! Borders that a leg crosses: the set of them.
+ghost use Rattle.std.specs.Prelude.{◌≡◌, ℕ, ◌<◌, IsTrue, Some, length};
+ghost use Rattle.search_task.specs.Crossed.{cleared_all};
+ghost use Rattle.search_task.specs.Crossed.{IsShared, numbers_in};
+ghost use Rattle.search_task.specs.Crossed.{marked_all, misses};
+ghost use Rattle.reach.specs.Position.{IsAmong};
+
+use crate::bit_set::Borders;
+use std::marker::Model;
+
+/// Some borders. The contracts see them by their numbers, in order.
+#[derive(Drop)]
+pub struct Crossing {
+    set: Borders,
+}
+
+impl Model for Crossing {
+    ghost use Rattle.std.specs.Prelude.{◌≡◌, length};
+    ghost use Rattle.search_task.specs.Crossed.{Crossed};
+
+    ghost Value = { Crossed };
+
+    ghost use Rattle.search_task.specs.Crossed.{numbers_in};
+
+    ghost view = { λ crossing. record { items = numbers_in crossing.set } };
+
+    ghost invariant = { λ crossing. length crossing.set ≡ 279 };
+}
+
+impl Crossing {
+    /// Of the borders that are marked.
+    pub(crate) fn of(set: Borders) -> Crossing
+        ensures { result.items ≡ numbers_in set }
+    {
+        set.is_whole();
+        Crossing { set }
+    }
+
+    /// Whether none of them is used.
+    pub fn misses(&self, used: &Borders) -> bool
+        ensures { result ≡ misses used.now self.now.items }
+    {
+        used.is_apart_from(&self.set)
+    }
+
+    /// The used borders, with these.
+    pub fn marked_in(&self, used: &Borders) -> Borders
+        ensures { result ≡ marked_all used.now self.now.items }
+    {
+        used.is_whole();
+        used.with(&self.set)
+    }
+
+    /// Takes away the marks of these borders.
+    pub fn clear_in(&self, marks: &mut Borders)
+        ensures { marks.new ≡ cleared_all marks.old self.now.items }
+    {
+        marks.clear(&self.set)
+    }
+
+    /// A border that is one of these and of others. `None` where there is none.
+    pub fn shared(&self, other: &Crossing) -> Option<usize>
+        ensures shared { IsShared self.now.items other.now.items result }
+        ensures low { (border : ℕ) → result ≡ Some border → border < 279 }
+    {
+        if self.set.is_apart_from(&other.set) {
+            return None;
+        }
+        let mut rest = self.set.copy();
+        rest.clear(&other.set);
+        let mut shared = self.set.copy();
+        shared.clear(&rest);
+        shared.first()
+    }
+
+    /// Whether a border is one of these.
+    pub fn crosses(&self, border: usize) -> bool
+        requires { border < 279 }
+        ensures { IsTrue result → IsAmong border self.now.items }
+    {
+        self.set.has(border)
+    }
+
+    /// Whether all of these are among others.
+    pub(crate) fn is_within(&self, other: &Crossing) -> bool
+        ensures { IsTrue result
+            → (border : ℕ) → IsAmong border self.now.items → IsAmong border other.now.items }
+    {
+        self.set.is_within(&other.set)
+    }
+}

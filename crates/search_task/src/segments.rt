@@ -1,0 +1,109 @@
+//! The segments of track that lead from the spots, all in one table: the segments from a spot are told one
+//! after another, each with the place of the one before it.
+ghost use Rattle.std.specs.Prelude.{◌≡◌, ◌<◌, [], IfOk, OnOk, Some, length, slice_get};
+ghost use Rattle.search_task.specs.Segments.{AddsSegment, segments_from};
+
+use crate::stretch::Stretch;
+use reach::SPOTS;
+use std::alloc::{AllocError, Global};
+use std::marker::Model;
+
+/// How many segments there is room for at first.
+const ROOM: usize = 256;
+
+/// A segment that leads from a spot.
+#[derive(Drop)]
+pub(crate) struct Entry {
+    /// The spot, by its number.
+    pub(crate) from: usize,
+    /// How many segments lead from there before it.
+    pub(crate) place: usize,
+    /// The place in the table of the one before it, if there is one.
+    pub(crate) before: usize,
+    /// The segment.
+    pub(crate) segment: Stretch,
+}
+
+/// What leads from a spot.
+#[derive(Clone, Copy)]
+pub(crate) struct Chain {
+    /// How many segments.
+    pub(crate) count: usize,
+    /// The place in the table of the last of them, if there is one.
+    pub(crate) last: usize,
+}
+
+/// The segments from all spots. The contracts see the table, in order.
+#[derive(Drop)]
+pub struct Segments {
+    entries: Vec<Entry>,
+    /// For each spot, by its number, what leads from there.
+    chains: Vec<Chain>,
+}
+
+impl Model for Segments {
+    ghost use Rattle.std.specs.Prelude.{List};
+    ghost use Rattle.search_task.specs.declared.segments.Entry.{Entry};
+
+    ghost Value = { List Entry };
+
+    ghost use Rattle.search_task.specs.Segments.{AreChained};
+
+    ghost view = { λ segments. segments.entries.items };
+
+    ghost invariant = { λ segments. AreChained segments.entries.items segments.chains.items };
+}
+
+impl Segments {
+    /// None yet. It fails only if memory is refused.
+    pub(crate) fn new(alloc: Global) -> Result<Segments, AllocError>
+        ensures { IfOk result (λ segments. segments ≡ []) }
+    {
+        let entries = Vec::with_capacity(alloc, ROOM)?;
+        let mut chains = Vec::new(alloc);
+        chains.resize(SPOTS, Chain { count: 0, last: 0 })?;
+        Ok(Segments { entries, chains })
+    }
+
+    /// Adds a segment behind those that lead from a spot. It fails only if memory is refused.
+    pub(crate) fn add(&mut self, from: usize, segment: Stretch) -> Result<(), AllocError>
+        requires { from < 744 }
+        ensures { OnOk result (AddsSegment from segment self.old self.new) }
+    {
+        let chain = self.chains[from];
+        let last = self.entries.len();
+        self.entries.push(Entry {
+            from,
+            place: chain.count,
+            before: chain.last,
+            segment,
+        })?;
+        self.chains[from] = Chain {
+            count: chain.count + 1,
+            last,
+        };
+        Ok(())
+    }
+
+    /// How many segments lead from a spot.
+    pub(crate) fn count(&self, spot: usize) -> usize
+        requires { spot < 744 }
+        ensures { result ≡ length (segments_from spot self.now) }
+    {
+        self.chains[spot].count
+    }
+
+    /// The segment that leads from a spot at a place among those from there.
+    pub(crate) fn at(&self, spot: usize, place: usize) -> &Stretch
+        requires spot { spot < 744 }
+        requires place { place < length (segments_from spot self.now) }
+        ensures { slice_get (segments_from spot self.now) place ≡ Some result.now }
+    {
+        let chain = self.chains[spot];
+        let mut entry = chain.last;
+        for next in place + 1..chain.count {
+            entry = self.entries[entry].before;
+        }
+        &self.entries[entry].segment
+    }
+}

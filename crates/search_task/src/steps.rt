@@ -1,0 +1,64 @@
+//! The steps of a leg: a few need no memory of their own.
+ghost use Rattle.std.specs.Prelude.{◌≡◌, ◌∷◌, ◌++◌, [], IfOk};
+
+use reach::Step;
+use std::alloc::{AllocError, Global};
+use std::marker::Model;
+
+/// How many steps are few.
+const FEW: usize = 4;
+
+/// Some steps, in order. They are the first ones of the few, or, where these are none, the others.
+#[derive(Drop)]
+pub struct Steps {
+    few: [Step; FEW],
+    count: usize,
+    others: Vec<Step>,
+}
+
+impl Model for Steps {
+    ghost use Rattle.search_task.specs.Walked.{Walked};
+
+    ghost Value = { Walked };
+
+    ghost use Rattle.std.specs.Prelude.{◌≡◌, ◌++◌, ◌<◌, ◌≤◌, [], take};
+
+    ghost view = { λ steps. record { items = take steps.count steps.few ++ steps.others.items } };
+
+    ghost invariant = { λ steps. (steps.count ≤ 4) × (0 < steps.count → steps.others.items ≡ []) };
+}
+
+impl Steps {
+    /// Some steps, and one more behind them. It fails only if memory is refused.
+    pub(crate) fn of(alloc: Global, first: &[Step], last: Step) -> Result<Steps, AllocError>
+        ensures { IfOk result (λ steps. steps.items ≡ first.now ++ last ∷ []) }
+    {
+        let mut few = [last; FEW];
+        let mut others = Vec::new(alloc);
+        if first.len() < FEW {
+            for place in 0..first.len() {
+                few[place] = first[place];
+            }
+            let count = first.len() + 1;
+            return Ok(Steps { few, count, others });
+        }
+        others.extend_from_slice(first)?;
+        others.push(last)?;
+        Ok(Steps {
+            few,
+            count: 0,
+            others,
+        })
+    }
+
+    /// The steps, in order.
+    pub fn as_slice(&self) -> &[Step]
+        ensures { result.now ≡ self.now.items }
+    {
+        if self.count == 0 {
+            &self.others
+        } else {
+            &self.few[..self.count]
+        }
+    }
+}

@@ -1,0 +1,80 @@
+//! A segment of track, as the spot keeps it from which it leads.
+ghost use Rattle.std.specs.Prelude.{◌≡◌, option_to_list};
+ghost use Rattle.search_task.specs.Fit.{BordersFit};
+ghost use Rattle.search_task.specs.Crossed.{marked_all, misses};
+
+use crate::bit_set::Borders;
+use reach::Step;
+use std::marker::Model;
+
+/// A segment of track that is one step: it crosses one border at most.
+#[derive(Drop)]
+pub(crate) struct Stretch {
+    to: usize,
+    step: Step,
+    border: Option<usize>,
+}
+
+impl Model for Stretch {
+    ghost use Rattle.std.specs.Prelude.{option_to_list};
+    ghost use Rattle.search_task.specs.declared.task.Segment.{Segment};
+
+    ghost Value = { Segment };
+
+    ghost use Rattle.search_task.specs.Fit.{BordersFit};
+
+    ghost view = { λ segment. record {
+      to = segment.to;
+      step = segment.step;
+      borders = record { items = option_to_list segment.border };
+    } };
+
+    ghost invariant = { λ segment. BordersFit (option_to_list segment.border) };
+}
+
+impl Stretch {
+    /// To a spot, by a step, over a border.
+    pub(crate) fn of(to: usize, step: Step, border: Option<usize>) -> Stretch
+        requires { BordersFit (option_to_list border) }
+        ensures to { result.to ≡ to }
+        ensures step { result.step ≡ step }
+        ensures borders { result.borders.items ≡ option_to_list border }
+    {
+        Stretch { to, step, border }
+    }
+
+    /// The spot to which it leads, by its number.
+    pub(crate) fn to(&self) -> usize
+        ensures { result ≡ self.now.to }
+    {
+        self.to
+    }
+
+    /// The step that it is.
+    pub(crate) fn step(&self) -> Step
+        ensures { result ≡ self.now.step }
+    {
+        self.step
+    }
+
+    /// Whether its border is not used.
+    pub(crate) fn misses(&self, used: &Borders) -> bool
+        ensures { result ≡ misses used.now self.now.borders.items }
+    {
+        match self.border {
+            Some(border) => !used.has(border),
+            None => true,
+        }
+    }
+
+    /// The used borders, with this.
+    pub(crate) fn marked_in(&self, used: &Borders) -> Borders
+        ensures { result ≡ marked_all used.now self.now.borders.items }
+    {
+        let mut marks = used.copy();
+        if let Some(border) = self.border {
+            marks.mark(border);
+        }
+        marks
+    }
+}

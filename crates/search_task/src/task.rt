@@ -1,0 +1,68 @@
+ghost use Rattle.std.specs.Prelude.{◌≡◌};
+
+use crate::crossing::Crossing;
+use crate::segments::Segments;
+use crate::steps::Steps;
+use reach::Step;
+use tables::Amount;
+
+/// Track that leads from a spot to another: what a leg comes to, and what each `Stretch` is to the contracts.
+#[derive(Drop)]
+pub struct Segment {
+    /// The spot to which it leads, by its number.
+    pub to: usize,
+    /// The step that it is; the last one of a leg.
+    pub step: Step,
+    /// The borders that it crosses, by their numbers.
+    pub borders: Crossing,
+}
+
+/// A spot, to a company: an end of a hex.
+#[derive(Clone, Copy)]
+pub struct Node {
+    /// What it is worth, in dollars.
+    pub value: Amount,
+    /// It is a stop.
+    pub stop: bool,
+    /// The company has a token there.
+    pub own: bool,
+    /// No run passes it: it is red, or full for the company.
+    pub ends: bool,
+}
+
+/// A leg of plain track from a stop to the next one.
+#[derive(Drop)]
+pub struct Leg {
+    /// The place of its first segment among those that lead from the stop.
+    pub first: usize,
+    /// The steps of its segments, in order.
+    pub steps: Steps,
+    /// The stop to which it leads, and the borders that it crosses.
+    pub segment: Segment,
+}
+
+/// The legs from a stop.
+#[derive(Drop)]
+pub struct Departures {
+    /// The legs, in the order of their first segments.
+    pub legs: Vec<Leg>,
+}
+
+/// What is searched: the spots of the map, and how many stops each train may visit.
+#[derive(Drop)]
+pub struct Task {
+    /// The spots, by their numbers.
+    pub spots: Vec<Node>,
+    /// The segments of track that lead from them.
+    pub segments: Segments,
+    /// For each spot that is a stop, by its number, the legs from there.
+    pub departures: Vec<Departures>,
+    /// The stops from which legs lead, by their numbers.
+    pub stops: Vec<usize>,
+    /// The spots where the company has tokens, by their numbers, in order.
+    pub homes: Vec<usize>,
+    /// For each train, the most stops of a run.
+    pub trains: Vec<usize>,
+    /// Over each leg another one leads back, as is asked once.
+    pub mirrored: bool,
+}

@@ -1,0 +1,8 @@
+use Rattle.stock_round.proofs.Acts.{purchase_sound}
+use Rattle.stock_round.proofs.payments.pay_for_share.Goals as goal
+
+pub returns-clause-sound : goal.returns-clause-sound
+returns-clause-sound c =
+    purchase_sound c.args.history.now c.append.new.self c.args.seat c.args.company c.args.from
+    c.share_cost-price.result c.requires.may c.requires.at_table c.share_cost-price.ensures.price
+    c.in_ok-append.ensures.ok c.requires.sound

@@ -1,8 +1,0 @@
-use Rattle.stock_round.proofs.Acts.{purchase_sound}
-use Rattle.stock_round.proofs.payments.pay_for_tenth.Goals as goal
-
-pub returns-clause-sound : goal.returns-clause-sound
-returns-clause-sound c =
-    purchase_sound c.args.history.now c.append.new.self c.args.seat c.args.company c.args.from
-    c.tenth_cost-price.result c.requires.may c.requires.at_table c.tenth_cost-price.ensures.price
-    c.in_ok-append.ensures.ok c.requires.sound

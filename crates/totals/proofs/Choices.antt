@@ -1,0 +1,82 @@
+-- Choices by tests, and what they come to where the test is known.
+use Rattle.std.proofs.Common.{◌≡◌, ◌≢◌, ℕ, ◌==◌, ◌⊎◌, inl, inr, Bool, true, false, ◌&&◌, if◌then◌else◌, Option, Some}
+use Rattle.std.proofs.Common.{None, is_some, refl, sym, ap, ◌∙◌, arith}
+use Rattle.std.proofs.lemmas.Bool.Decides.{Decides-eqb, nat_tests}
+use Rattle.std.specs.Option.{option_or}
+use Rattle.tables.specs.Roster.{place_of_company, same_company}
+use Rattle.tables.specs.declared.roster.Company.{Company}
+use Rattle.tables.specs.declared.roster.Company.TheVariants.{Pennsylvania, NewYorkCentral, CanadianPacific}
+use Rattle.tables.specs.declared.roster.Company.TheVariants.{BaltimoreOhio, ChesapeakeOhio, Erie, NewHaven, BostonMaine}
+
+-- a choice by two numbers that are the same
+pub chosen : (i k a b : ℕ) → i ≡ k → (if i == k then a else b) ≡ a
+chosen i k a b same = grind (arith, nat_tests)
+
+-- a choice by two numbers that are not
+pub passed_over : (i k a b : ℕ) → i ≢ k → (if i == k then a else b) ≡ b
+passed_over i k a b apart = grind (arith, nat_tests)
+
+-- true or false
+pub truth : (test : Bool) → (test ≡ true) ⊎ (test ≡ false)
+truth true = inl refl
+truth false = inr refl
+
+-- an option that has something has it
+pub something : {A : Type 0} (option : Option A) → is_some option ≡ true → (value : A) × (option ≡ Some value)
+something None some = absurd (cc)
+something (Some value) some = (value, refl)
+
+-- the last word on a company, where the event at the end names one
+pub new_word : {A : Type 0} (same : Bool) (word : A) (earlier : Option A) → same ≡ true
+    → option_or (if same then Some word else None) earlier ≡ Some word
+new_word true word earlier is = refl
+new_word false word earlier is = absurd (cc)
+
+-- or where it names another
+pub old_word : {A : Type 0} (same : Bool) (word : A) (earlier : Option A) → same ≡ false
+    → option_or (if same then Some word else None) earlier ≡ earlier
+old_word true word earlier is = absurd (cc)
+old_word false word earlier is = refl
+
+-- nothing either way
+pub nothing_there : (test : Bool) → ◌≡◌ {A = ℕ} (if test then 0 else 0) 0
+nothing_there true = refl
+nothing_there false = refl
+
+-- two tests in either order
+pub either_order : (a b : Bool) (n : ℕ) → (if a then (if b then n else 0) else 0)
+    ≡ (if b then (if a then n else 0) else 0)
+either_order true true n = refl
+either_order true false n = refl
+either_order false true n = refl
+either_order false false n = refl
+
+-- both of two tests
+pub both : (a b : Bool) → (a && b) ≡ true → (a ≡ true) × (b ≡ true)
+both true true hold = (refl, refl)
+both true false hold = absurd cc
+both false b hold = absurd cc
+
+-- the company at a place of the roster
+abbrev company_at : ℕ → Company
+company_at place =
+    if place == 0 then Pennsylvania else if place == 1 then NewYorkCentral else if place ==
+    2 then CanadianPacific else if place == 3 then BaltimoreOhio else if place ==
+    4 then ChesapeakeOhio else if place == 5 then Erie else if place == 6 then NewHaven else BostonMaine
+
+-- is the company
+company_at_place : (company : Company) → company_at (place_of_company company) ≡ company
+company_at_place Pennsylvania = refl
+company_at_place NewYorkCentral = refl
+company_at_place CanadianPacific = refl
+company_at_place BaltimoreOhio = refl
+company_at_place ChesapeakeOhio = refl
+company_at_place Erie = refl
+company_at_place NewHaven = refl
+company_at_place BostonMaine = refl
+
+-- companies of one place are the same
+pub same_company_is : (a b : Company) → same_company a b ≡ true → a ≡ b
+same_company_is a b same =
+    sym (company_at_place a) ∙ ap company_at ((Decides-eqb (place_of_company a) (place_of_company b)).0 same)
+    ∙ company_at_place b

@@ -1,0 +1,14 @@
+pub mod Choices
+pub mod EventAtEnd
+pub mod Places
+pub mod Noted
+pub mod NetTables
+pub mod Empty
+pub mod Lent
+pub mod Standing
+pub mod Tied
+pub mod AllTrains
+pub mod TrainCounts
+pub mod InOrder
+pub mod Silent
+pub mod Privates

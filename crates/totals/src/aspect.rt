@@ -1,0 +1,81 @@
+//! The ways of looking back over a list of events, each generic over the aspect of an event that it
+//! looks at.
+ghost use Rattle.std.specs.Prelude.{◌≡◌, ℕ, Option};
+ghost use Rattle.events.specs.declared.event.Event.{Event};
+ghost use Rattle.totals.specs.LookBack.{IsModerate, balance, in_round, last_said};
+
+use events::Event;
+use tables::{Amount, Money};
+
+/// A thing of which some events speak.
+pub(crate) trait Topic {
+    /// What an event says of it.
+    type Word;
+
+    ghost word: { Self → Event → Option Self.Word };
+
+    /// What an event says of it; `None` where the event does not speak of it.
+    fn word(&self, event: &Event) -> Option<Self::Word>
+        ensures { result ≡ word self.now event.now };
+}
+
+/// A thing that holds within a round only: an event that begins a round says that nothing does.
+#[derive(Clone, Copy)]
+pub(crate) struct InRound<T>(pub T);
+
+impl<T: Topic> Topic for InRound<T> {
+    type Word = Option<T::Word>;
+
+    ghost word = { λ a event. in_round (T.word a.0) event };
+
+    fn word(&self, event: &Event) -> Option<Option<T::Word>> {
+        if event.round().is_some() {
+            return Some(None);
+        }
+        match self.0.word(event) {
+            Some(word) => Some(Some(word)),
+            None => None,
+        }
+    }
+}
+
+/// What the last event that speaks of a thing says.
+pub(crate) fn last_said<T: Topic>(topic: &T, events: &[Event]) -> Option<T::Word>
+    ensures { result ≡ last_said (T.word topic.now) events.now }
+{
+    for event in events.iter().rev() {
+        if let Some(word) = topic.word(event) {
+            return Some(word);
+        }
+    }
+    None
+}
+
+/// An account to which some events bring and from which some take.
+pub(crate) trait Account {
+    ghost brings: { Self → Event → ℕ };
+
+    ghost takes: { Self → Event → ℕ };
+
+    /// What an event brings in.
+    fn brings(&self, event: &Event) -> Amount
+        ensures { result ≡ brings self.now event.now };
+
+    /// What an event takes out.
+    fn takes(&self, event: &Event) -> Amount
+        ensures { result ≡ takes self.now event.now };
+}
+
+/// What an account begins with, plus all that came in, less all that went out.
+pub(crate) fn balance<A: Account>(account: &A, start: Amount, events: &[Event]) -> Money
+    ensures sum { result ≡ balance start (A.brings account.now) (A.takes account.now) events.now }
+    ensures within { IsModerate result }
+{
+    let mut came_in = Money::from(start);
+    let mut went_out = 0;
+    for event in events {
+        came_in += Money::from(account.brings(event));
+        went_out += Money::from(account.takes(event));
+    }
+    came_in - went_out
+}

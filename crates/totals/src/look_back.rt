@@ -1,0 +1,213 @@
+ghost use Rattle.std.specs.Prelude.{◌≡◌, MatchOption, None, Some, [], length};
+ghost use Rattle.std.specs.Borrow.{Bor};
+ghost use Rattle.std.specs.Option.{ForSome};
+ghost use Rattle.events.specs.Event.{actor_of};
+ghost use Rattle.totals.specs.Totals.{AreTotalsOf};
+ghost use Rattle.totals.specs.Offers.{AreOffersOf};
+ghost use Rattle.totals.specs.declared.totals.Totals.{Totals as TheTotals};
+ghost use Rattle.totals.specs.LookBack.{FitsMemory, IsModerate, bankrupt_in, broken_in, cash_of, cheapest_in};
+ghost use Rattle.totals.specs.LookBack.{cheapest_of, is_sold, is_sold_in, last_said, owner_in, owner_of, priority_of};
+ghost use Rattle.totals.specs.LookBack.{round_of, start_of, sv_price_of};
+
+use crate::aspect::balance;
+use crate::nets::entry_of_party;
+use crate::owners::Owners;
+use crate::topics::Cash;
+use crate::totals::Totals;
+use events::{Event, Holder, Party};
+use order_grammar::Offer;
+use tables::{Amount, Money, Private, Round, Seat, bank_start, face, start_money};
+
+/// A list of events with the number of seats: a game as it stood after them.
+#[derive(Clone, Copy, Debug)]
+pub struct GameView<'a> {
+    /// How many seats there are.
+    pub seats: usize,
+    /// What had happened, oldest first.
+    pub events: &'a [Event],
+    /// What they say; `None` only where nothing has happened.
+    totals: Option<&'a Totals>,
+    /// The sales that were offered in the round that began last; `None` where they are not kept.
+    offers: Option<&'a [(Seat, Offer)]>,
+    ghost short: { FitsMemory events.now },
+    ghost empty: { totals ≡ None → length events.now ≡ 0 },
+    ghost kept: { (all : Bor TheTotals) → totals ≡ Some all → AreTotalsOf all.now events.now },
+    ghost offered: { ForSome offers (λ all. AreOffersOf all.now events.now) },
+}
+
+impl<'a> GameView<'a> {
+    /// A game as it stood after these events, of which these are the totals.
+    pub fn of(seats: usize, events: &'a [Event], totals: &'a Totals) -> GameView<'a>
+        requires short { FitsMemory events.now }
+        requires kept { AreTotalsOf totals.now events.now }
+        ensures seats { result.seats ≡ seats }
+        ensures events { result.events.now ≡ events.now }
+    {
+        GameView {
+            seats,
+            events,
+            totals: Some(totals),
+            offers: None,
+        }
+    }
+
+    /// A game as it stood after these events, of which these are the totals, if there are any:
+    /// where nothing has happened there may be none; and these are the sales offered in the round.
+    pub fn with_totals(
+        seats: usize,
+        events: &'a [Event],
+        totals: Option<&'a Totals>,
+        offers: &'a [(Seat, Offer)],
+    ) -> GameView<'a>
+        requires short { FitsMemory events.now }
+        requires kept { MatchOption totals (events.now ≡ []) (λ all. AreTotalsOf all.now events.now) }
+        requires offered { AreOffersOf offers.now events.now }
+        ensures seats { result.seats ≡ seats }
+        ensures events { result.events.now ≡ events.now }
+    {
+        GameView {
+            seats,
+            events,
+            totals,
+            offers: Some(offers),
+        }
+    }
+
+    /// The totals; there may be none where nothing has happened.
+    pub(crate) fn totals(&self) -> Option<&'a Totals>
+        ensures { MatchOption result (self.now.events.now ≡ [])
+            (λ totals. AreTotalsOf totals.now self.now.events.now) }
+    {
+        self.totals
+    }
+
+    /// The sales that were offered in the round that began last, where they are kept.
+    pub(crate) fn offers(&self) -> Option<&'a [(Seat, Offer)]>
+        ensures { ForSome result (λ offers. AreOffersOf offers.now self.now.events.now) }
+    {
+        self.offers
+    }
+}
+
+impl GameView<'_> {
+    /// What a party has, in dollars: its start money, plus all that came in, less all that went
+    /// out.
+    pub fn cash(&self, party: Party) -> Money
+        ensures sum { result ≡ cash_of self.now.seats self.now.events.now party }
+        ensures within { IsModerate result }
+    {
+        let start = start_of(self.seats, party);
+        let entry = entry_of_party(party);
+        match self.totals() {
+            Some(totals) if entry < totals.cash.len() => Money::from(start) + totals.cash[entry],
+            _ => balance(&Cash(party), start, self.events),
+        }
+    }
+
+    /// Who owns a private; `None` while it is unsold, and once it is closed.
+    pub fn owner(&self, private: Private) -> Option<Holder>
+        ensures { result ≡ owner_of self.now.events.now private }
+    {
+        self.owners().owner(private)
+    }
+
+    /// Whether a private has been sold.
+    pub fn is_sold(&self, private: Private) -> bool
+        ensures { result ≡ is_sold self.now.events.now private }
+    {
+        self.owners().is_sold(private)
+    }
+
+    /// The owners of all privates, as the totals have them.
+    pub fn owners(&self) -> Owners
+        ensures owner { (private : Private) →
+            owner_in result private ≡ owner_of self.now.events.now private }
+        ensures sold { (private : Private) →
+            is_sold_in result private ≡ is_sold self.now.events.now private }
+        ensures cheapest { cheapest_in result ≡ cheapest_of self.now.events.now }
+    {
+        match self.totals() {
+            Some(totals) => totals.owners,
+            None => Owners::unsold(),
+        }
+    }
+
+    /// The first private in roster order that is unsold.
+    pub fn cheapest_unsold(&self) -> Option<Private>
+        ensures { result ≡ cheapest_of self.now.events.now }
+    {
+        self.owners().cheapest_unsold()
+    }
+
+    /// The price of SV in dollars, at first its face.
+    pub fn sv_price(&self) -> Amount
+        ensures { result ≡ sv_price_of self.now.events.now }
+    {
+        match self.totals() {
+            Some(totals) => totals.sv_price.unwrap_or(face(Private::SchuylkillValley)),
+            None => face(Private::SchuylkillValley),
+        }
+    }
+
+    /// Whether the bank is broken.
+    pub fn broken(&self) -> bool
+        ensures { result ≡ broken_in self.now.events.now }
+    {
+        match self.totals() {
+            Some(totals) => totals.broken,
+            None => false,
+        }
+    }
+
+    /// Whether a president is bankrupt, so that the game is over.
+    pub fn bankrupt(&self) -> bool
+        ensures { result ≡ bankrupt_in self.now.events.now }
+    {
+        match self.totals() {
+            Some(totals) => totals.bankrupt,
+            None => false,
+        }
+    }
+
+    /// The round that began last; `None` before the first.
+    pub fn round(&self) -> Option<Round>
+        ensures { result ≡ round_of self.now.events.now }
+    {
+        match self.totals() {
+            Some(totals) => totals.round,
+            None => None,
+        }
+    }
+
+    /// The holder of priority: the seat at the left of the last seat that bought a private, bid on
+    /// one, or bought or sold shares in its own turn; at first seat 0.
+    pub fn priority(&self) -> Seat
+        ensures { result ≡ priority_of self.now.seats self.now.events.now }
+    {
+        match self.actor() {
+            Some(actor) => actor.left(self.seats),
+            None => Seat(0),
+        }
+    }
+
+    /// The last seat that bought a private, bid on one, or bought or sold shares in its own turn.
+    fn actor(&self) -> Option<Seat>
+        ensures { result ≡ last_said actor_of self.now.events.now }
+    {
+        match self.totals() {
+            Some(totals) => totals.actor,
+            None => None,
+        }
+    }
+}
+
+/// What a party begins with.
+fn start_of(seats: usize, party: Party) -> Amount
+    ensures { result ≡ start_of seats party }
+{
+    match party {
+        Party::Bank => bank_start(seats),
+        Party::Holder(Holder::Seat(_)) => start_money(seats),
+        Party::Holder(Holder::Company(_)) => 0,
+    }
+}

@@ -1,0 +1,118 @@
+//! The totals of a list of events: what its readers answer, kept while the events come, so that an
+//! answer costs no more for a long list than for a short one.
+ghost use Rattle.std.specs.Prelude.{◌++◌, ◌∷◌, ◌<◌, ◌^◌, [], List, length};
+ghost use Rattle.events.specs.declared.event.Event.{Event as TheEvent};
+ghost use Rattle.totals.specs.Totals.{AreTotalsOf};
+
+use crate::applying::{
+    apply, apply_arrival, apply_bankrupt, apply_bids, apply_broken, apply_float, apply_limit,
+    apply_par, apply_par_order, apply_president, apply_ruling, apply_sale, apply_square,
+    apply_token, apply_turn, no_limits,
+};
+use crate::nets::{apply_payment, apply_train, apply_train_owner, apply_transfer};
+use crate::owners::Owners;
+use crate::shares::ShareCount;
+use events::Event;
+use tables::{Amount, Company, Kind, Money, PLAYERS_MOST, Round, Seat, Square};
+
+/// What a list of events says: what was said last of each thing, `None` where nothing was. Tables
+/// are by the places of the privates and the companies in the roster, and by the numbers of seats.
+/// Of cash, shares and trains it is what came to each party or place, minus what went from it. Of
+/// companies' turns, seats' sales, rulings and limits it is what the round has had that began last.
+#[derive(Clone, Copy, Debug)]
+pub struct Totals {
+    /// How many events there are.
+    told: usize,
+    pub(crate) owners: Owners,
+    pub(crate) bids: [[Option<Amount>; PLAYERS_MOST]; 6],
+    pub(crate) sv_price: Option<Amount>,
+    pub(crate) actor: Option<Seat>,
+    pub(crate) round: Option<Round>,
+    pub(crate) phase: Option<Kind>,
+    pub(crate) broken: bool,
+    pub(crate) bankrupt: bool,
+    pub(crate) pars: [Option<Amount>; 8],
+    pub(crate) squares: [Option<Square>; 8],
+    pub(crate) presidents: [Option<Seat>; 8],
+    pub(crate) arrivals: [Option<usize>; 8],
+    pub(crate) floats: [Option<Company>; 8],
+    pub(crate) cash: [Money; 15],
+    pub(crate) shares: [ShareCount; 64],
+    pub(crate) trains: [Money; 88],
+    pub(crate) train_owners: [Money; 11],
+    pub(crate) tokens: [usize; 8],
+    pub(crate) operated: [bool; 8],
+    pub(crate) sales: [[bool; PLAYERS_MOST]; 8],
+    pub(crate) rulings: [usize; PLAYERS_MOST],
+    pub(crate) limits: [[Option<Amount>; PLAYERS_MOST]; 6],
+    pub(crate) par_orders: [Option<Amount>; PLAYERS_MOST],
+}
+
+// A walk holds them by value.
+const _: () = prove!(size_of::<Totals>() < 4096);
+
+impl Totals {
+    /// The totals of no events.
+    pub fn start() -> Totals
+        ensures { AreTotalsOf result [] }
+    {
+        Totals {
+            told: 0,
+            owners: Owners::unsold(),
+            bids: [[None; PLAYERS_MOST]; 6],
+            sv_price: None,
+            actor: None,
+            round: None,
+            phase: None,
+            broken: false,
+            bankrupt: false,
+            pars: [None; 8],
+            squares: [None; 8],
+            presidents: [None; 8],
+            arrivals: [None; 8],
+            floats: [None; 8],
+            cash: [0; 15],
+            shares: [0; 64],
+            trains: [0; 88],
+            train_owners: [0; 11],
+            tokens: [0; 8],
+            operated: [false; 8],
+            sales: [[false; PLAYERS_MOST]; 8],
+            rulings: [0; PLAYERS_MOST],
+            limits: no_limits(),
+            par_orders: [None; PLAYERS_MOST],
+        }
+    }
+
+    /// Notes one more event.
+    pub fn apply(&mut self, event: &Event)
+        ensures { (events : List TheEvent) →
+            length events < 2 ^ 63 → AreTotalsOf self.old events →
+            AreTotalsOf self.new (events ++ event.now ∷ []) }
+    {
+        self.owners.apply(event);
+        apply_bids(&mut self.bids, event.bidding());
+        apply(&mut self.sv_price, event.sv_price());
+        apply(&mut self.actor, event.actor());
+        apply(&mut self.round, event.round());
+        apply(&mut self.phase, event.phase());
+        apply_broken(&mut self.broken, event);
+        apply_bankrupt(&mut self.bankrupt, event);
+        apply_par(&mut self.pars, event);
+        apply_square(&mut self.squares, event);
+        apply_president(&mut self.presidents, event);
+        apply_arrival(&mut self.arrivals, self.told, event);
+        apply_float(&mut self.floats, event);
+        apply_payment(&mut self.cash, event);
+        apply_transfer(&mut self.shares, event);
+        apply_train(&mut self.trains, event);
+        apply_train_owner(&mut self.train_owners, event);
+        apply_token(&mut self.tokens, event);
+        apply_turn(&mut self.operated, event);
+        apply_sale(&mut self.sales, event);
+        apply_ruling(&mut self.rulings, event);
+        apply_limit(&mut self.limits, event);
+        apply_par_order(&mut self.par_orders, event);
+        self.told = self.told.saturating_add(1);
+    }
+}
