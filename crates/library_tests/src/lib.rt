@@ -6,7 +6,7 @@
 //! revenue), `best_agrees` (the same beside a slow search, on small boards and on four stops), `four_stops` (a
 //! network that is no board), `slow_search` (that search), `claims` (the runs of a claim, checked one after
 //! the other), `marks` (bits kept, read and printed), `marks_agree` (those that are written, beside those of
-//! `choice_tree`, the same tree made once more from its definition), `totals` (money, shares, events).
+//! `choice_tree`, the same tree made once more from its definition), `money` (cash, shares, events).
 #![tactic(auto)]
 
 #[cfg(test)]
@@ -27,6 +27,6 @@ mod marks;
 #[cfg(test)]
 mod marks_agree;
 #[cfg(test)]
-mod slow_search;
+mod money;
 #[cfg(test)]
-mod totals;
+mod slow_search;
