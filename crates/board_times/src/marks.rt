@@ -1,9 +1,11 @@
 use crate::fault::Fault;
 use crate::game::Game;
 use best_run::best;
-use certificate::{Bits, accepts_bits, write_marks};
+use board::Board;
+use certificate::{Bits, Claim, accepts_bits, write_marks};
 use std::rt::Runtime;
 use std::time::{Duration, Instant};
+use tables::Company;
 
 /// What the marks of a board cost.
 #[derive(Clone, Copy, Debug)]
@@ -22,21 +24,45 @@ pub struct Cost {
 /// errors are `Company`, `Board`, `Memory`, and `Io` where the clock fails.
 pub fn measure(rt: &HostRuntime, game: &Game) -> Result<Cost, Fault> {
     let company = game.company()?;
-    let trains = game.trains();
     let board = game.board(rt.alloc())?;
-    let found = best(rt.alloc(), &board, company, trains)?;
-    let begun = Instant::now(rt)?;
-    let marks = write_marks(rt.alloc(), &board, company, trains, found.claim.revenue)?;
-    let write = begun.elapsed(rt)?;
-    let begun = Instant::now(rt)?;
-    let accepted = accepts_bits(&board, company, trains, &found.claim, &marks);
-    let check = begun.elapsed(rt)?;
+    let found = best(rt.alloc(), &board, company, game.trains())?;
+    let (marks, write) = write(rt, game, &board, company, found.claim.revenue)?;
+    let (accepted, check) = check(rt, game, &board, company, &found.claim, &marks)?;
     Ok(Cost {
         marks: number_of(&marks),
         write,
         check,
         accepted,
     })
+}
+
+/// The marks for a revenue of the company's trains on a board, and how long it took to write them. The
+/// errors are `Memory`, and `Io` where the clock fails.
+fn write(
+    rt: &HostRuntime,
+    game: &Game,
+    board: &Board,
+    company: Company,
+    revenue: u32,
+) -> Result<(Bits, Duration), Fault> {
+    let begun = Instant::now(rt)?;
+    let marks = write_marks(rt.alloc(), board, company, game.trains(), revenue)?;
+    Ok((marks, begun.elapsed(rt)?))
+}
+
+/// Whether a claim is accepted by these marks, and how long it took to see. The error is `Io`, where the
+/// clock fails.
+fn check(
+    rt: &HostRuntime,
+    game: &Game,
+    board: &Board,
+    company: Company,
+    claim: &Claim,
+    marks: &Bits,
+) -> Result<(bool, Duration), Fault> {
+    let begun = Instant::now(rt)?;
+    let accepted = accepts_bits(board, company, game.trains(), claim, marks);
+    Ok((accepted, begun.elapsed(rt)?))
 }
 
 /// How many bits there are.
