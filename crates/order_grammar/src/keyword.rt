@@ -6,7 +6,7 @@ use crate::words::is_word;
 
 /// A literal word of a form or a condition: the first word of a line, or one after it that stands for
 /// itself.
-#[derive(Clone, Copy, Debug, PartialEq, Eq)]
+#[derive(Clone, Copy, PartialEq, Eq)]
 pub(crate) enum Keyword {
     Game,
     Players,
