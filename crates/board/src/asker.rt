@@ -4,7 +4,7 @@ ghost use Rattle.board.specs.Turn.{place_of_step};
 use tables::{Company, Money};
 
 /// A step of a company's turn, in order.
-#[derive(Clone, Copy, Debug, PartialEq, Eq, Hash)]
+#[derive(Clone, Copy, Debug, PartialEq, Eq)]
 pub enum TurnStep {
     Lay,
     Token,

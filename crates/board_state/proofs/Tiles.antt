@@ -1,25 +1,17 @@
 -- The tile that lies on a hex.
-use Rattle.std.proofs.Common.{◌≡◌, ◌∙◌, ap, refl, Bool, true, false, cond, List, [], ◌∷◌, ◌++◌, reverse, Some}
+use Rattle.std.proofs.Common.{◌≡◌, ◌∙◌, ap, true, false, cond, List, [], ◌∷◌, ◌++◌, reverse, Some}
 use Rattle.std.proofs.lemmas.List.{reverse-append}
 use Rattle.std.specs.List.{find}
 use Rattle.map_tables.specs.OnMap.{tile_on}
 use Rattle.map_tables.specs.Hex.{same_hex}
 use Rattle.map_tables.specs.declared.hex.Hex.{Hex}
 use Rattle.map_tables.specs.declared.lay.Lay.{Lay}
-
--- what a search finds passes the test
-find_passes : (test : Lay → Bool) (lays : List Lay) (lay : Lay) → find test lays ≡ Some lay → test lay ≡ true
-find_passes test [] lay e = absurd cc
-find_passes test (x ∷ xs) lay e =
-    (elim (test x) as (λ b. test x ≡ b → cond b (Some x) (find test xs) ≡ Some lay → test lay ≡ true) [
-      | true ↦ λ t found. let same : x ≡ lay = cc in rw (← same) t
-      | false ↦ λ t found. find_passes test xs lay found
-    ]) refl e
+use Rattle.map_tables.proofs.Searches.{found_passes}
 
 -- the tile that lies on a hex was laid on it
 pub lies_there : (lays : List Lay) (hex : Hex) (lay : Lay) → tile_on lays hex ≡ Some lay → same_hex lay.hex hex ≡ true
 unfolding tile_on
-lies_there lays hex lay e = find_passes (λ l. same_hex l.hex hex) (reverse lays) lay e
+lies_there lays hex lay e = found_passes (λ l. same_hex l.hex hex) (reverse lays) lay e
 
 -- the last lay lies on its hex, and changes no other
 pub last_lies : (lays : List Lay) (lay : Lay) (hex : Hex)

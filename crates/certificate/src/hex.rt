@@ -7,7 +7,7 @@ ghost use Rattle.certificate.specs.declared.hex.HexFault.TheVariants.{Digit, Mem
 use std::alloc::{AllocError, Global};
 
 /// Why a text of marks is not read.
-#[derive(Clone, Copy, Debug, PartialEq, Eq, Hash)]
+#[derive(Clone, Copy, Debug, PartialEq, Eq)]
 pub enum HexFault {
     /// A byte is no hexadecimal digit.
     Digit,

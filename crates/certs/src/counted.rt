@@ -6,6 +6,7 @@ ghost use Rattle.certs.specs.Rows.{IsFew, IsSmall};
 ghost use Rattle.totals.specs.LookBack.{owner_in};
 ghost use Rattle.tables.specs.Roster.{companies};
 ghost use Rattle.tables.specs.declared.roster.Company.{Company};
+ghost use Rattle.tables.specs.declared.seat.Seat.{Seat};
 
 use crate::holdings::Holdings;
 use history::{GameView, Holder, Owners, ShareCount, Shareholder};
@@ -13,49 +14,31 @@ use tables::{Company, Private, Seat, Square, Zone, zone};
 
 /// What gives how many certificates of each company a seat has that count.
 trait Certificates {
-    ghost certificates: { Self → Company → ℤ };
+    ghost certificates: { Self → Seat → Company → ℤ };
 
     /// Those of a company.
-    fn certificates_of(&self, company: Company) -> ShareCount
-        ensures certificates { result ≡ certificates self.now company }
+    fn certificates_of(&self, seat: Seat, company: Company) -> ShareCount
+        ensures certificates { result ≡ certificates self.now seat company }
         ensures small { IsFew result };
 }
 
-/// The certificates of a seat by the holdings.
-#[derive(Drop)]
-struct InHoldings<'a> {
-    holdings: &'a Holdings,
-    seat: Seat,
-}
+impl Certificates for Holdings {
+    ghost certificates = { certificates_by };
 
-impl Certificates for InHoldings<'_> {
-    ghost certificates = { λ its. certificates_by its.holdings.now its.seat };
-
-    fn certificates_of(&self, company: Company) -> ShareCount {
+    fn certificates_of(&self, seat: Seat, company: Company) -> ShareCount {
         let place = company.place();
-        let shares = self.holdings.shares(company, Shareholder::Seat(self.seat));
-        let (square, president) = (
-            self.holdings.squares[place],
-            self.holdings.presidents[place],
-        );
-        certificates_of(self.seat, square, president, shares)
+        let shares = self.shares(company, Shareholder::Seat(seat));
+        certificates_of(seat, self.squares[place], self.presidents[place], shares)
     }
 }
 
-/// The certificates of a seat by the events.
-#[derive(Drop)]
-struct InEvents<'a> {
-    past: &'a GameView<'a>,
-    seat: Seat,
-}
+/// By the events.
+impl Certificates for GameView<'_> {
+    ghost certificates = { λ past. certificates_now past.events.now };
 
-impl Certificates for InEvents<'_> {
-    ghost certificates = { λ its. certificates_now its.past.now.events.now its.seat };
-
-    fn certificates_of(&self, company: Company) -> ShareCount {
-        let shares = self.past.shares(company, Shareholder::Seat(self.seat));
-        let (square, president) = (self.past.square(company), self.past.president(company));
-        certificates_of(self.seat, square, president, shares)
+    fn certificates_of(&self, seat: Seat, company: Company) -> ShareCount {
+        let shares = self.shares(company, Shareholder::Seat(seat));
+        certificates_of(seat, self.square(company), self.president(company), shares)
     }
 }
 
@@ -66,11 +49,7 @@ impl Holdings {
     pub fn counted(&self, seat: Seat) -> ShareCount
         ensures { result ≡ counted_in self.now seat }
     {
-        let held = InHoldings {
-            holdings: self,
-            seat,
-        };
-        counted(&self.owners, &held, seat)
+        counted(&self.owners, self, seat)
     }
 }
 
@@ -78,17 +57,17 @@ impl Holdings {
 pub(crate) fn counted_now(past: &GameView, seat: Seat) -> ShareCount
     ensures { result ≡ counted_of past.now.events.now seat }
 {
-    counted(&past.owners(), &InEvents { past, seat }, seat)
+    counted(&past.owners(), past, seat)
 }
 
 /// How many certificates of a seat count: its privates, and those of each company.
 fn counted<C: Certificates>(owners: &Owners, held: &C, seat: Seat) -> ShareCount
     ensures { result ≡ pos (privates_owned (owner_in owners.now) seat)
-        +ℤ certificates_in (C.certificates held.now) companies }
+        +ℤ certificates_in (C.certificates held.now seat) companies }
 {
     let mut count = ShareCount::from(privates_owned(owners, seat));
     for company in Company::ALL {
-        count += held.certificates_of(company);
+        count += held.certificates_of(seat, company);
     }
     count
 }

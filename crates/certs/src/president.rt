@@ -1,5 +1,6 @@
 ghost use Rattle.std.specs.Prelude.{◌≡◌, ℤ};
 ghost use Rattle.certs.specs.President.{better_of, presiding_in, seat_shares, seat_shares_of, successor, successor_of};
+ghost use Rattle.tables.specs.declared.roster.Company.{Company};
 ghost use Rattle.tables.specs.declared.seat.Seat.{Seat};
 
 use crate::holdings::Holdings;
@@ -8,40 +9,27 @@ use tables::{Company, Seat};
 
 /// What gives how many shares of a company each seat has.
 trait SharesOfSeats {
-    ghost shares: { Self → Seat → ℤ };
+    ghost shares: { Self → Company → Seat → ℤ };
 
     /// The shares that a seat has.
-    fn shares_of_seat(&self, seat: Seat) -> ShareCount
-        ensures { result ≡ shares self.now seat };
+    fn shares_of_seat(&self, company: Company, seat: Seat) -> ShareCount
+        ensures { result ≡ shares self.now company seat };
 }
 
-/// The shares of a company by the holdings.
-#[derive(Drop)]
-struct InHoldings<'a> {
-    holdings: &'a Holdings,
-    company: Company,
-}
+impl SharesOfSeats for Holdings {
+    ghost shares = { seat_shares };
 
-impl SharesOfSeats for InHoldings<'_> {
-    ghost shares = { λ its. seat_shares its.holdings.now its.company };
-
-    fn shares_of_seat(&self, seat: Seat) -> ShareCount {
-        self.holdings.shares(self.company, Shareholder::Seat(seat))
+    fn shares_of_seat(&self, company: Company, seat: Seat) -> ShareCount {
+        self.shares(company, Shareholder::Seat(seat))
     }
 }
 
-/// The shares of a company by the events.
-#[derive(Drop)]
-struct InEvents<'a> {
-    past: &'a GameView<'a>,
-    company: Company,
-}
+/// By the events.
+impl SharesOfSeats for GameView<'_> {
+    ghost shares = { λ past. seat_shares_of past.events.now };
 
-impl SharesOfSeats for InEvents<'_> {
-    ghost shares = { λ its. seat_shares_of its.past.now.events.now its.company };
-
-    fn shares_of_seat(&self, seat: Seat) -> ShareCount {
-        self.past.shares(self.company, Shareholder::Seat(seat))
+    fn shares_of_seat(&self, company: Company, seat: Seat) -> ShareCount {
+        self.shares(company, Shareholder::Seat(seat))
     }
 }
 
@@ -53,11 +41,7 @@ impl Holdings {
         ensures { result ≡ presiding_in self.now company }
     {
         let old = self.presidents[company.place()]?;
-        let shares = InHoldings {
-            holdings: self,
-            company,
-        };
-        Some(with_most(&shares, self.seats, old))
+        Some(with_most(self, company, self.seats, old))
     }
 }
 
@@ -67,28 +51,28 @@ impl Holdings {
 pub fn successor(past: &GameView, company: Company, old: Seat) -> Seat
     ensures { result ≡ successor_of past.now.seats past.now.events.now company old }
 {
-    with_most(&InEvents { past, company }, past.seats, old)
+    with_most(past, company, past.seats, old)
 }
 
-/// The seat with most shares at a table of this many seats, among equals the first from this one
-/// on.
-fn with_most<T: SharesOfSeats>(shares: &T, seats: usize, old: Seat) -> Seat
-    ensures { result ≡ successor (T.shares shares.now) seats old }
+/// The seat with most shares of a company at a table of this many seats, among equals the first from
+/// this one on.
+fn with_most<T: SharesOfSeats>(shares: &T, company: Company, seats: usize, old: Seat) -> Seat
+    ensures { result ≡ successor (T.shares shares.now company) seats old }
 {
     let mut best = old;
     let mut seat = old;
     for _ in 1..seats {
         seat = seat.left(seats);
-        best = better(shares, best, seat);
+        best = better(shares, company, best, seat);
     }
     best
 }
 
 /// The better of two seats: the second where it has strictly more shares.
-fn better<T: SharesOfSeats>(shares: &T, best: Seat, seat: Seat) -> Seat
-    ensures { result ≡ better_of (T.shares shares.now) best seat }
+fn better<T: SharesOfSeats>(shares: &T, company: Company, best: Seat, seat: Seat) -> Seat
+    ensures { result ≡ better_of (T.shares shares.now company) best seat }
 {
-    if shares.shares_of_seat(seat) > shares.shares_of_seat(best) {
+    if shares.shares_of_seat(company, seat) > shares.shares_of_seat(company, best) {
         seat
     } else {
         best

@@ -1,10 +1,11 @@
 -- A list that is sound but perhaps for who leads the companies; and the word that the bank is broken, which
 -- changes nothing else.
-use Rattle.std.proofs.Common.{◌≡◌, true, false, if◌then◌else◌, List, [], ◌∷◌, ◌++◌, None, refl}
+use Rattle.std.proofs.Common.{◌≡◌, ℕ, true, false, if◌then◌else◌, List, [], ◌∷◌, ◌++◌, None, refl}
 use Rattle.events.specs.Event.{IsQuiet, bidding_of, ownership_of, payment_of, square_set, sv_price_set, tile_laid}
 use Rattle.events.specs.Event.{token_placed, train_moved, transfer_of}
 use Rattle.events.specs.declared.event.Event.{Event}
-use Rattle.events.specs.declared.event.Event.TheVariants.{Broken}
+use Rattle.events.specs.declared.event.Event.TheVariants.{Broken, Ruled}
+use Rattle.events.specs.declared.ruling.Ruling.{Ruling}
 use Rattle.history.proofs.Rolling.{trains_kept}
 use Rattle.totals.proofs.EventAtEnd.{quiet_same}
 use Rattle.history.proofs.Soundness.{companies_kept, differ_kept, fit_kept, floated_kept, given_kept, held_kept}
@@ -19,6 +20,7 @@ use Rattle.history.specs.Sound.{CompaniesAreSolvent, FloatedAreLed, IsGivenAway,
 use Rattle.history.specs.Sound.{SeatsAreSolvent, SharesAreHeld}
 use Rattle.history.specs.Record.{breaks, broken_recorded}
 use Rattle.totals.specs.Trains.{TrainsAreHeld}
+use Rattle.tables.specs.declared.seat.Seat.{Seat}
 
 -- sound but perhaps for who leads the companies
 pub record IsNearlySound (game : Game) : Type 0 where
@@ -114,6 +116,11 @@ quiet_sound game event quiet sound =
 -- BROKEN is quiet
 pub broken_quiet : IsQuiet Broken
 broken_quiet =
+    no_word _ refl refl refl refl refl refl refl refl refl refl refl refl
+
+-- and so is a ruling
+pub ruling_quiet : (seat : Seat) (number : ℕ) (ruling : Ruling) → IsQuiet (Ruled seat number ruling)
+ruling_quiet seat number ruling =
     no_word _ refl refl refl refl refl refl refl refl refl refl refl refl
 
 -- a list says the same as itself

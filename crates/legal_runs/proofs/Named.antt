@@ -1,6 +1,6 @@
 -- The walk that places name is a walk, from a stop to a stop.
 use Rattle.std.proofs.Common.{◌≡◌, ◌==◌, Bool, true, false, ltb, inl, inr, if◌then◌else◌, Option, Some, None}
-use Rattle.std.proofs.Common.{option_map, option_and_then, List, [], ◌∷◌, refl, ap, sym, ◌∙◌, subst, arith, find}
+use Rattle.std.proofs.Common.{option_map, option_and_then, List, [], ◌∷◌, refl, ap, sym, ◌∙◌, subst, arith}
 use Rattle.std.specs.List.{list_any}
 use Rattle.std.proofs.lemmas.Bool.{eqb-true}
 use Rattle.map_tables.specs.Border.{neighbour_of}
@@ -16,6 +16,7 @@ use Rattle.map_tables.specs.declared.side.Side.{Side}
 use Rattle.map_tables.specs.declared.track.End.{End}
 use Rattle.map_tables.specs.declared.track.End.TheVariants.{Side as AtSide, Stop as AtStop}
 use Rattle.map_tables.specs.declared.track.Link.{Link}
+pub use Rattle.map_tables.proofs.Searches.{found_passes}
 use Rattle.reach.specs.Position.{Position, links_of}
 use Rattle.reach.specs.Walk.{AreJoined, BeginsAt, GoesOn, IsTrack, IsWalk, across, entered_at, left_at, spot_at}
 use Rattle.reach.specs.Walk.{stop_of}
@@ -28,19 +29,6 @@ use Rattle.legal_runs.specs.Named.{arrived, is_hex, leg_by_stop, leg_from, leg_o
 use Rattle.legal_runs.specs.Named.{step_between, step_over, taken, travelled, walk_named, with_leg}
 use Rattle.legal_runs.specs.declared.leg.Leg.{Leg}
 use Rattle.legal_runs.proofs.Tests.{three}
-
--- what a search finds passes its test
-by_first : {A : Type 0} (test : A → Bool) (first thing : A) (rest : Option A) (b : Bool) → test first ≡ b
-    → (rest ≡ Some thing → test thing ≡ true) → (if b then Some first else rest) ≡ Some thing → test thing ≡ true
-by_first {A = A} test first thing rest true passes later is =
-    let same : first ≡ thing = cc in subst (λ (x : A). test x ≡ true) same passes
-by_first test first thing rest false passes later is = later is
-
-pub found_passes : {A : Type 0} (test : A → Bool) (things : List A) (thing : A) → find test things ≡ Some thing
-    → test thing ≡ true
-found_passes test [] thing is = cc
-found_passes test (first ∷ rest) thing is =
-    by_first test first thing (find test rest) (test first) refl (found_passes test rest thing) is
 
 pub hex_found : (hex : Hex) (found : Option Hex) → is_hex hex found ≡ true → found ≡ Some hex
 hex_found hex None is = cc

@@ -23,6 +23,7 @@ use Rattle.map_tables.specs.declared.side.Side.TheVariants.{SouthWest, West, Nor
 use Rattle.map_tables.specs.declared.track.End.{End}
 use Rattle.map_tables.specs.declared.track.End.TheVariants.{Side as AtSide, Stop as AtStop}
 use Rattle.map_tables.specs.declared.track.Link.{Link}
+use Rattle.map_tables.proofs.Searches.{found_passes}
 use Rattle.reach.specs.Lawful.{IsLawful}
 use Rattle.reach.specs.Position.{Position, IsAmong, links_of, is_red}
 use Rattle.reach.specs.Walk.{AreJoined, BeginsAt, IsTrack, IsWalk, PassesOnly, entered_at, left_at, spot_at, stop_of}
@@ -40,7 +41,7 @@ use Rattle.legal_runs.specs.declared.leg.Leg.{Leg}
 use Rattle.legal_runs.proofs.Counting.{no_more}
 use Rattle.legal_runs.proofs.Joined.{not_less}
 use Rattle.legal_runs.proofs.Kept.{crossed_low}
-use Rattle.legal_runs.proofs.Named.{found_passes, hex_found}
+use Rattle.legal_runs.proofs.Named.{hex_found}
 use Rattle.legal_runs.proofs.Tests.{all_three}
 
 -- what is found in a row and a column is there

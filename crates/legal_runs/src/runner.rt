@@ -12,7 +12,7 @@ use std::alloc::AllocError;
 use tables::{Company, Kind, Money, Round};
 
 /// Why a runner gives no answer.
-#[derive(Clone, Copy, Debug, PartialEq, Eq, Hash)]
+#[derive(Clone, Copy, Debug, PartialEq, Eq)]
 pub enum RunnerFault {
     /// A request for memory was refused.
     Memory,

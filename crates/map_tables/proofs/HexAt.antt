@@ -1,11 +1,11 @@
 -- The hex in a row and a column.
-use Rattle.std.proofs.Common.{◌≡◌, ℕ, ◌==◌, ◌&&◌, Bool, true, false, cond, List, [], ◌∷◌, Some, None, refl}
+use Rattle.std.proofs.Common.{◌≡◌, ℕ, ◌==◌, ◌&&◌, Some, None, refl}
 use Rattle.std.proofs.lemmas.Bool.{and_parts, eqb-true}
-use Rattle.std.specs.List.{find}
 use Rattle.map_tables.specs.declared.hex.Hex.{Hex}
 use Rattle.map_tables.specs.declared.hex.Hex.TheVariants.{A9}
 use Rattle.map_tables.specs.Hex.{hexes, index_of, site_of, row_of, column_of, hex_at}
 use Rattle.map_tables.specs.Guess.{guess_at}
+use Rattle.map_tables.proofs.Searches.{found_passes}
 
 -- each hex is the one at its row and column
 pub hex_at-site : (hex : Hex) → hex_at (row_of hex) (column_of hex) ≡ Some hex
@@ -19,22 +19,13 @@ unfolding hexes index_of site_of
 guess_at-site A9 = refl
 guess_at-site _ = refl
 
--- what a search finds passes the test
-pub find_passes : {X : Type 0} (test : X → Bool) (list : List X) (one : X) → find test list ≡ Some one → test one ≡ true
-find_passes test [] one e = absurd cc
-find_passes test (x ∷ xs) one e =
-    (elim (test x) as (λ b. test x ≡ b → cond b (Some x) (find test xs) ≡ Some one → test one ≡ true) [
-      | true ↦ λ t found. let same : x ≡ one = cc in rw (← same) t
-      | false ↦ λ t found. find_passes test xs one found
-    ]) refl e
-
 -- the hex that is found lies in the row and the column
 pub hex_at-is : (row column : ℕ) (hex : Hex) → hex_at row column ≡ Some hex
     → (row_of hex ≡ row) × (column_of hex ≡ column)
 unfolding hex_at
 hex_at-is row column hex e =
     let parts = and_parts (row_of hex == row) (column_of hex == column)
-    (find_passes (λ h. row_of h == row && column_of h == column) hexes hex e) in
+    (found_passes (λ h. row_of h == row && column_of h == column) hexes hex e) in
     (eqb-true (row_of hex) row parts.0, eqb-true (column_of hex) column parts.1)
 
 -- a row and a column have no hex where no guess is right

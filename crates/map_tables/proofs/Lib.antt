@@ -1,6 +1,7 @@
 mod BordersPair
 mod FewPieces
 mod HexAt
+pub mod Searches
 pub mod HexTables
 mod LinksInOrder
 mod Ordering

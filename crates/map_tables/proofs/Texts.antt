@@ -24,8 +24,9 @@ use Rattle.map_tables.specs.Text.{text_of_hex, stop_text, text_of_place, text_of
 use Rattle.map_tables.specs.Text.{short_number, hex_of_text, stop_of_text, place_from, place_of_text, tile_of_text}
 use Rattle.map_tables.specs.Text.{rotation_of_text, TextsAreRead}
 use Rattle.map_tables.specs.Tile.{tiles, number_of_tile, tile_numbered}
-use Rattle.map_tables.proofs.HexAt.{find_passes, hex_at-is, hex_at-site}
+use Rattle.map_tables.proofs.HexAt.{hex_at-is, hex_at-site}
 use Rattle.map_tables.proofs.ListedOnce.{tile_stands}
+use Rattle.map_tables.proofs.Searches.{found_passes}
 
 -- the digit of a number under 10
 digit_is : (d : ℕ) → d < 10 → is_digit (48 + d) ≡ true
@@ -280,7 +281,7 @@ number_short tile = ltb-true (number_of_tile tile) 100 (number_test tile)
 tile_is : (number : ℕ) (tile : TileNo) → tile_numbered number ≡ Some tile → number_of_tile tile ≡ number
 unfolding tile_numbered
 tile_is number tile e = eqb-true (number_of_tile tile) number
-    (find_passes (λ t. number_of_tile t == number) tiles tile e)
+    (found_passes (λ t. number_of_tile t == number) tiles tile e)
 
 tile_text : (tile : TileNo) → tile_of_text (text_of_tile tile) ≡ Some tile
 tile_text tile =

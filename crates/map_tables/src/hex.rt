@@ -4,7 +4,7 @@ ghost use Rattle.map_tables.specs.Hex.{column_of, hex_at, index_of, row_of, same
 
 /// A hex of the map, named by the letter of its row and the number of its column. Hexes are ordered
 /// by row, then by column.
-#[derive(Clone, Copy, Debug, PartialEq, Eq, Hash)]
+#[derive(Clone, Copy, Debug, PartialEq, Eq)]
 pub enum Hex {
     A9,
     A11,

@@ -7,7 +7,7 @@ use crate::tiles::{TileNo, tile_track};
 use crate::track::{Links, Track, links_in, swapped, turned};
 
 /// A tile as it lies, or is to be laid, on a hex.
-#[derive(Clone, Copy, Debug, PartialEq, Eq, Hash)]
+#[derive(Clone, Copy, Debug, PartialEq, Eq)]
 pub struct Lay {
     pub hex: Hex,
     pub tile: TileNo,

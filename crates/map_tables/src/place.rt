@@ -5,7 +5,7 @@ ghost use Rattle.map_tables.specs.Place.{joined_stop_of, other_stop, place_of, s
 use crate::hex::Hex;
 
 /// The number of a stop in its hex, 0 or 1, in the order in which the map or the tile prints them.
-#[derive(Clone, Copy, Debug, PartialEq, Eq, Hash)]
+#[derive(Clone, Copy, Debug, PartialEq, Eq)]
 pub enum StopNumber {
     /// 0, the only stop of most hexes.
     First,
@@ -34,7 +34,7 @@ impl StopNumber {
 }
 
 /// A stop: a town, a city or a red area, by its number in a hex.
-#[derive(Clone, Copy, Debug, PartialEq, Eq, Hash)]
+#[derive(Clone, Copy, Debug, PartialEq, Eq)]
 pub struct Stop {
     pub hex: Hex,
     pub number: StopNumber,
@@ -53,7 +53,7 @@ impl Stop {
 }
 
 /// A place as an order names it: a hex, `H12`, or a stop of one, `H12.0`.
-#[derive(Clone, Copy, Debug, PartialEq, Eq, Hash)]
+#[derive(Clone, Copy, Debug, PartialEq, Eq)]
 pub struct Place {
     pub hex: Hex,
     pub stop: Option<StopNumber>,

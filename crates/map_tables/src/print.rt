@@ -9,7 +9,7 @@ use crate::track::{Links, Segment, links_in};
 use tables::Amount;
 
 /// What a hex is for those who lay tiles.
-#[derive(Clone, Copy, Debug, PartialEq, Eq, Hash)]
+#[derive(Clone, Copy, Debug, PartialEq, Eq)]
 pub enum HexKind {
     /// Tiles of this kind may be laid on it.
     Open(TileKind),
@@ -20,7 +20,7 @@ pub enum HexKind {
 }
 
 /// What a printed stop is worth, in dollars. The two differ at red stops alone.
-#[derive(Clone, Copy, Debug, PartialEq, Eq, Hash)]
+#[derive(Clone, Copy, Debug, PartialEq, Eq)]
 pub struct PrintedValue {
     pub before_phase_five: Amount,
     pub from_phase_five: Amount,

@@ -2,7 +2,7 @@ ghost use Rattle.std.specs.Prelude.{◌≡◌, ◌<◌};
 ghost use Rattle.map_tables.specs.Side.{facing_of, number_of, rotation_of, turned_side, turns_of};
 
 /// A side of a hex, in order round the hex from 0 to 5.
-#[derive(Clone, Copy, Debug, PartialEq, Eq, Hash)]
+#[derive(Clone, Copy, Debug, PartialEq, Eq)]
 pub enum Side {
     SouthWest,
     West,
@@ -54,7 +54,7 @@ impl Side {
 }
 
 /// How far a tile is turned: by this many sixths of a full turn, clockwise.
-#[derive(Clone, Copy, Debug, PartialEq, Eq, Hash)]
+#[derive(Clone, Copy, Debug, PartialEq, Eq)]
 pub enum Rotation {
     Zero,
     One,

@@ -11,7 +11,7 @@ use tables::Amount;
 
 /// The colour of a hex. It begins white, or yellow where the map prints it so, and takes the colour
 /// of the tile that lies on it.
-#[derive(Clone, Copy, Debug, PartialEq, Eq, Hash)]
+#[derive(Clone, Copy, Debug, PartialEq, Eq)]
 pub enum Colour {
     White,
     Yellow,
@@ -20,7 +20,7 @@ pub enum Colour {
 }
 
 /// What a tile shows, and what a hex must be for the tile to be laid on it.
-#[derive(Clone, Copy, Debug, PartialEq, Eq, Hash)]
+#[derive(Clone, Copy, Debug, PartialEq, Eq)]
 pub enum TileKind {
     /// Track alone.
     Plain,
@@ -52,7 +52,7 @@ impl TileKind {
 }
 
 /// A tile by its number.
-#[derive(Clone, Copy, Debug, PartialEq, Eq, Hash)]
+#[derive(Clone, Copy, Debug, PartialEq, Eq)]
 pub enum TileNo {
     T1,
     T2,
@@ -189,7 +189,7 @@ impl TileNo {
 }
 
 /// A tile's entry in the manifest.
-#[derive(Clone, Copy, Debug, PartialEq, Eq, Hash)]
+#[derive(Clone, Copy, Debug, PartialEq, Eq)]
 pub struct TileEntry {
     /// How many there are of it.
     pub count: u8,

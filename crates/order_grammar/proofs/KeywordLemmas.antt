@@ -5,7 +5,9 @@ use denote.Enum.Bare.{sameb, same_true, true_same}
 use Rattle.std.proofs.lemmas.Bool.{and_parts, eqb-true, eq-eqb, false≢true, false_from_ne_true, not-false}
 use Rattle.std.proofs.lemmas.List.{drop_more}
 use Rattle.std.specs.Char.{to_ascii_uppercase}
-use Rattle.order_grammar.specs.Keyword.{beginning_with, keyword_of, spelt_of, text_of_keyword}
+use Rattle.std.specs.List.{filter}
+use Rattle.order_grammar.specs.Keyword.{all_keywords, beginning_with, begins_with, keyword_of}
+use Rattle.order_grammar.specs.Keyword.{spelt_of, text_of_keyword}
 use Rattle.order_grammar.specs.Words.{raised, same_word}
 use Rattle.order_grammar.specs.contracts.keyword.Keyword.{the_type as keyword_type}
 use Rattle.order_grammar.specs.declared.keyword.Keyword.{Keyword}
@@ -129,15 +131,38 @@ found_same word k (other ∷ ks) is =
 -- a word is the text of the keyword that it spells
 pub same-keyword_of : (word : List ℕ) (k : Keyword) → keyword_of word ≡ Some k
     → same_word word (text_of_keyword k) ≡ true
-same-keyword_of [] k is = absurd cc
-same-keyword_of (byte ∷ bytes) k is = found_same (byte ∷ bytes) k (beginning_with byte) is
+same-keyword_of word k is = found_same word k all_keywords is
+
+-- a word that is the same as a text begins as it does
+begins_alike : (byte : ℕ) (bytes text : List ℕ) → begins_with byte text ≡ false
+    → same_word (byte ∷ bytes) text ≡ false
+begins_alike byte bytes [] other = refl
+begins_alike byte bytes (first ∷ text) other =
+    false_from_ne_true _ (λ same.
+    let one : byte ≡ first = eqb-true byte first (and_parts (byte == first) (same_word bytes text) same).0 in
+    let wrong : true ≡ false = sym (eq-eqb first byte (sym one)) ∙ other in absurd cc)
+
+-- of some keywords only those whose text begins as a word does can be spelt by it
+pub spelt-beginning : (byte : ℕ) (bytes : List ℕ) (ks : List Keyword)
+    → spelt_of (byte ∷ bytes) (filter (λ k. begins_with byte (text_of_keyword k)) ks) ≡ spelt_of (byte ∷ bytes) ks
+spelt-beginning byte bytes [] = refl
+spelt-beginning byte bytes (k ∷ ks) =
+    (elim (begins_with byte (text_of_keyword k)) as (λ b. begins_with byte (text_of_keyword k) ≡ b
+    → spelt_of (byte ∷ bytes) (cond b (k ∷ filter (λ k. begins_with byte (text_of_keyword k)) ks)
+    (filter (λ k. begins_with byte (text_of_keyword k)) ks)) ≡ spelt_of (byte ∷ bytes) (k ∷ ks)) [
+      | true ↦ λ _. ap (cond (same_word (byte ∷ bytes) (text_of_keyword k)) (Some k)) (spelt-beginning byte bytes ks)
+      | false ↦ λ other. spelt-beginning byte bytes ks ∙ ap (λ b. cond b (Some k) (spelt_of (byte ∷ bytes) ks))
+          (sym (begins_alike byte bytes (text_of_keyword k) other))
+    ]) refl
 
 -- the keywords are looked for among those that begin with the word's first byte
 pub spelt_is : (word : List ℕ) (byte : ℕ) (ks : List Keyword) (found : Option Keyword) → 1 ≤ length word
     → byte ≡ to_ascii_uppercase (get_or word 0 0) → ks ≡ beginning_with byte → found ≡ spelt_of (raised word) ks
     → found ≡ keyword_of (raised word)
 spelt_is [] byte ks found some is among spelt = absurd (omega (arith, some))
-spelt_is (first ∷ word) byte ks found some is among spelt = spelt ∙ rw (among, is) refl
+spelt_is (first ∷ word) byte ks found some is among spelt =
+    spelt ∙ (ap (spelt_of (raised (first ∷ word))) (among ∙ ap beginning_with is)
+    ∙ spelt-beginning (to_ascii_uppercase first) (raised word) all_keywords)
 
 -- one of them is not it
 pub spelt-next : (word : List ℕ) (ks : List Keyword) (i : ℕ) (d : Keyword) → i < length ks

@@ -1,5 +1,5 @@
 -- The literal words of forms and of conditions.
-use Rattle.std.specs.Prelude.{ℕ, ◌==◌, if◌then◌else◌, List, [], ◌∷◌, Option, Some, None, codes}
+use Rattle.std.specs.Prelude.{ℕ, ◌==◌, Bool, false, if◌then◌else◌, List, [], ◌∷◌, filter, Option, Some, None, codes}
 use Rattle.order_grammar.specs.Words.{same_word}
 use Rattle.order_grammar.specs.declared.keyword.Keyword.{Keyword}
 use Rattle.order_grammar.specs.declared.keyword.Keyword.TheVariants as keyword
@@ -45,28 +45,16 @@ text_of_keyword keyword.AtLeast = codes ">="
 text_of_keyword keyword.Phase = codes "PHASE"
 text_of_keyword keyword.Floated = codes "FLOATED"
 
--- the keywords that begin with a byte
-abbrev pub beginning_with : ℕ → List Keyword
-beginning_with byte =
-    if byte == 66 then keyword.Buy ∷ keyword.Bid ∷ keyword.Bank ∷ keyword.Best ∷ []
-    else if byte == 67 then keyword.Company ∷ keyword.Claim ∷ keyword.Cert ∷ keyword.Certs ∷ []
-    else if byte == 68 then keyword.Discard ∷ []
-    else if byte == 69 then keyword.Exchange ∷ []
-    else if byte == 70 then keyword.Floated ∷ []
-    else if byte == 71 then keyword.Game ∷ []
-    else if byte == 73 then keyword.If ∷ keyword.InitialOffering ∷ []
-    else if byte == 76 then keyword.Lay ∷ keyword.Limit ∷ []
-    else if byte == 77 then keyword.Marks ∷ keyword.Mohawk ∷ []
-    else if byte == 79 then keyword.Offer ∷ []
-    else if byte == 80 then keyword.Pay ∷ keyword.Par ∷ keyword.Private ∷ keyword.Players ∷ keyword.Pool ∷
-    keyword.Price ∷ keyword.Phase ∷ []
-    else if byte == 82 then keyword.Run ∷ keyword.Raise ∷ []
-    else if byte == 83 then keyword.Sell ∷ keyword.Sheet ∷ keyword.Swap ∷ []
-    else if byte == 84 then keyword.Turn ∷ keyword.Token ∷ keyword.Train ∷ keyword.Trade ∷ []
-    else if byte == 87 then keyword.Withhold ∷ []
-    else if byte == 49 then keyword.One ∷ []
-    else if byte == 62 then keyword.AtLeast ∷ []
-    else []
+-- each keyword, in the order of their declaration
+abbrev pub all_keywords : List Keyword
+all_keywords =
+    keyword.Game ∷ keyword.Players ∷ keyword.Sheet ∷ keyword.Turn ∷ keyword.Buy ∷ keyword.Bid ∷
+    keyword.Limit ∷ keyword.Par ∷ keyword.Sell ∷ keyword.Exchange ∷ keyword.Company ∷
+    keyword.Lay ∷ keyword.Token ∷ keyword.Run ∷ keyword.Pay ∷ keyword.Withhold ∷ keyword.Train ∷
+    keyword.Discard ∷ keyword.Private ∷ keyword.Raise ∷ keyword.Offer ∷ keyword.Certs ∷
+    keyword.Cert ∷ keyword.Claim ∷ keyword.Marks ∷ keyword.InitialOffering ∷ keyword.Pool ∷
+    keyword.Mohawk ∷ keyword.Swap ∷ keyword.Bank ∷ keyword.Trade ∷ keyword.Best ∷ keyword.One ∷
+    keyword.If ∷ keyword.Price ∷ keyword.AtLeast ∷ keyword.Phase ∷ keyword.Floated ∷ []
 
 -- the first of some keywords that a word in upper case spells
 abbrev pub spelt_of : List ℕ → List Keyword → Option Keyword
@@ -76,5 +64,13 @@ spelt_of word (keyword ∷ keywords) =
 
 -- the keyword that a word in upper case spells, if it spells one
 abbrev pub keyword_of : List ℕ → Option Keyword
-keyword_of [] = None
-keyword_of (byte ∷ bytes) = spelt_of (byte ∷ bytes) (beginning_with byte)
+keyword_of word = spelt_of word all_keywords
+
+-- a text begins with a byte
+abbrev pub begins_with : ℕ → List ℕ → Bool
+begins_with byte [] = false
+begins_with byte (first ∷ bytes) = first == byte
+
+-- the keywords whose text begins with a byte, in the order of their declaration
+abbrev pub beginning_with : ℕ → List Keyword
+beginning_with byte = filter (λ keyword. begins_with byte (text_of_keyword keyword)) all_keywords

@@ -28,7 +28,7 @@ use tables::{Company, Kind, NUMBER_MOST, OPERATING_MOST, Private, Round};
 pub const MARKS_DIGITS_MOST: usize = 1000;
 
 /// A class of words: the texts that may be at one place of a form.
-#[derive(Clone, Copy, Debug, PartialEq, Eq)]
+#[derive(Clone, Copy)]
 pub(crate) enum Class {
     /// Digits, with leading zeros allowed, of a value up to 99,999.
     Number,
@@ -58,7 +58,7 @@ pub(crate) enum Class {
 }
 
 /// The rounds that are numbered one after another.
-#[derive(Clone, Copy, Debug, PartialEq, Eq)]
+#[derive(Clone, Copy)]
 pub(crate) enum Series {
     Opening,
     Stock,
@@ -82,7 +82,7 @@ impl Series {
 }
 
 /// What a word is as a text of a class.
-#[derive(Clone, Copy, Debug, PartialEq, Eq)]
+#[derive(Clone, Copy)]
 pub(crate) enum Reading {
     /// A text of the class.
     Value(Value),

@@ -36,7 +36,7 @@ pub(crate) struct Form {
 }
 
 /// A class that is repeated at the end of a form, at least and at most this many times.
-#[derive(Clone, Copy, Debug, PartialEq, Eq)]
+#[derive(Clone, Copy)]
 pub(crate) enum TrailingClass {
     Nothing,
     Names { least: usize, most: usize },
@@ -315,7 +315,7 @@ fn nearer(first: Fault, second: Fault) -> Fault
 }
 
 /// What a line has after its first word and before what is repeated.
-#[derive(Debug, Drop)]
+#[derive(Drop)]
 pub(crate) struct Prefix {
     /// The values of its words.
     pub(crate) values: Values,

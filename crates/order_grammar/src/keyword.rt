@@ -6,7 +6,7 @@ use crate::words::is_word;
 
 /// A literal word of a form or a condition: the first word of a line, or one after it that stands for
 /// itself.
-#[derive(Clone, Copy, Debug, PartialEq, Eq)]
+#[derive(Clone, Copy, PartialEq, Eq)]
 pub(crate) enum Keyword {
     Game,
     Players,
@@ -67,29 +67,29 @@ impl Keyword {
             b'B' => &[Keyword::Buy, Keyword::Bid, Keyword::Bank, Keyword::Best],
             b'C' => &[
                 Keyword::Company,
-                Keyword::Claim,
-                Keyword::Cert,
                 Keyword::Certs,
+                Keyword::Cert,
+                Keyword::Claim,
             ],
             b'D' => &[Keyword::Discard],
             b'E' => &[Keyword::Exchange],
             b'F' => &[Keyword::Floated],
             b'G' => &[Keyword::Game],
-            b'I' => &[Keyword::If, Keyword::InitialOffering],
-            b'L' => &[Keyword::Lay, Keyword::Limit],
+            b'I' => &[Keyword::InitialOffering, Keyword::If],
+            b'L' => &[Keyword::Limit, Keyword::Lay],
             b'M' => &[Keyword::Marks, Keyword::Mohawk],
             b'O' => &[Keyword::Offer],
             b'P' => &[
-                Keyword::Pay,
-                Keyword::Par,
-                Keyword::Private,
                 Keyword::Players,
+                Keyword::Par,
+                Keyword::Pay,
+                Keyword::Private,
                 Keyword::Pool,
                 Keyword::Price,
                 Keyword::Phase,
             ],
             b'R' => &[Keyword::Run, Keyword::Raise],
-            b'S' => &[Keyword::Sell, Keyword::Sheet, Keyword::Swap],
+            b'S' => &[Keyword::Sheet, Keyword::Sell, Keyword::Swap],
             b'T' => &[
                 Keyword::Turn,
                 Keyword::Token,

@@ -183,7 +183,7 @@ impl ShareSource {
 }
 
 /// The value of a word of some class.
-#[derive(Clone, Copy, Debug, PartialEq, Eq)]
+#[derive(Clone, Copy)]
 pub(crate) enum Value {
     Number(u32),
     Name(Name),
@@ -216,7 +216,7 @@ pub(crate) const VALUES_MOST: usize = 5;
 pub(crate) type Values = ArrayVec<Value, VALUES_MOST>;
 
 /// What a class has that is repeated at the end of a line.
-#[derive(Debug, Drop, PartialEq, Eq)]
+#[derive(Drop)]
 pub(crate) enum Trailing {
     /// No class is repeated.
     Nothing,

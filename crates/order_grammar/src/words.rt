@@ -14,14 +14,14 @@ ghost use Rattle.order_grammar.specs.Words.{
 use std::marker::Model;
 
 /// Where a word is in its line: from `start`, up to and without `end`.
-#[derive(Clone, Copy, Debug, Default, PartialEq, Eq)]
+#[derive(Clone, Copy, Debug, PartialEq, Eq)]
 pub struct Span {
     pub start: usize,
     pub end: usize,
 }
 
 /// A word of a line, as it is written there, with its place.
-#[derive(Clone, Copy, Debug, Default)]
+#[derive(Clone, Copy, Debug)]
 pub struct Token<'a> {
     pub text: &'a [u8],
     pub span: Span,

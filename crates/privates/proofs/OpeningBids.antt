@@ -15,6 +15,7 @@ use Rattle.events.specs.declared.ruling.Refusal.TheVariants.{Opening}
 use Rattle.events.specs.declared.ruling.Ruling.{Ruling}
 use Rattle.events.specs.declared.ruling.Ruling.TheVariants.{Obeyed}
 use Rattle.history.proofs.BidWords.{seated_after_bid}
+use Rattle.history.proofs.NearlySound.{ruling_quiet}
 use Rattle.totals.proofs.EventAtEnd.{bid_of_at_end}
 use Rattle.totals.specs.Bids.{bid_of, bid_said, bids_on}
 use Rattle.totals.specs.LookBack.{Game, cheapest_of, is_sold, owner_of, priority_of, sv_price_of}
@@ -241,21 +242,7 @@ order_rise seats seat turn number under before condition (order.Bid private amou
     bid_rise seats ruled seat private amount
     (may_act_after (record { seats = seats; events = turn.events }) (record { seats = seats; events = ruled }) told
     seat turn.actions (order.Bid private amount) refl
-    (record {
-      payment = refl;
-      ownership = refl;
-      bidding = refl;
-      transfer = refl;
-      par = refl;
-      square =
-          refl;
-      office = refl;
-      float = refl;
-      sv_price = refl;
-      train = refl;
-      tile = refl;
-      token = refl;
-    }) none)
+    (ruling_quiet seat number (Obeyed condition (order.Bid private amount))) none)
     under (with_other seats turn.events told refl before)
 order_rise seats seat turn number under before condition other kept = absurd (cc)
 

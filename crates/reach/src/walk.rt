@@ -7,7 +7,7 @@ ghost use Rattle.reach.specs.Walk.{across, entered_at, left_at, stop_of};
 use map_tables::{End, Hex, Link, Side, Stop, joined_stop, neighbour};
 
 /// An end in a hex: one of its sides, or one of its stops.
-#[derive(Clone, Copy, Debug, PartialEq, Eq, Hash)]
+#[derive(Clone, Copy, Debug, PartialEq, Eq)]
 pub struct Spot {
     pub hex: Hex,
     pub end: End,
@@ -59,7 +59,7 @@ impl Spot {
 
 /// A link as a walk takes it: from its first end to its second, or turned, from its second to its
 /// first.
-#[derive(Clone, Copy, Debug, PartialEq, Eq, Hash)]
+#[derive(Clone, Copy, Debug, PartialEq, Eq)]
 pub struct Step {
     pub link: Link,
     pub turned: bool,

@@ -7,7 +7,7 @@ use std::alloc::AllocError;
 use tables::{Company, Round};
 
 /// Why a game was not played.
-#[derive(Clone, Copy, Debug, PartialEq, Eq, Hash)]
+#[derive(Clone, Copy, Debug, PartialEq, Eq)]
 pub enum PlayFault {
     /// A request for memory was refused.
     Memory,

@@ -6,7 +6,7 @@ use crate::seat::Amount;
 
 /// A kind of train, also the phase that the first train of the kind begins. A game begins in the
 /// phase of the first kind.
-#[derive(Clone, Copy, Debug, PartialEq, Eq, Hash, Default)]
+#[derive(Clone, Copy, Debug, PartialEq, Eq, Default)]
 pub enum Kind {
     #[default]
     Two,

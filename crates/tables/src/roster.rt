@@ -5,7 +5,7 @@ ghost use Rattle.tables.specs.Roster.{revenue_of, token_price_of, token_supply_o
 use crate::seat::Amount;
 
 /// A share company, in roster order. The default is the first of them.
-#[derive(Clone, Copy, Debug, PartialEq, Eq, Hash, Default)]
+#[derive(Clone, Copy, Debug, PartialEq, Eq, Default)]
 pub enum Company {
     /// PRR, the Pennsylvania.
     #[default]
@@ -74,7 +74,7 @@ impl Company {
 }
 
 /// A private company, in roster order, which is also the order of their faces.
-#[derive(Clone, Copy, Debug, PartialEq, Eq, Hash)]
+#[derive(Clone, Copy, Debug, PartialEq, Eq)]
 pub enum Private {
     /// SV, the Schuylkill Valley.
     SchuylkillValley,

@@ -1,12 +1,12 @@
 /// A square of the stock market, by its row from 0 (the printed A) downwards and its column from 1.
-#[derive(Clone, Copy, Debug, PartialEq, Eq, Hash)]
+#[derive(Clone, Copy, Debug, PartialEq, Eq)]
 pub struct Square {
     pub row: u8,
     pub column: u8,
 }
 
 /// A zone of the stock market, by which some limits do not hold for a company.
-#[derive(Clone, Copy, Debug, PartialEq, Eq, Hash)]
+#[derive(Clone, Copy, Debug, PartialEq, Eq)]
 pub enum Zone {
     /// No zone.
     White,

@@ -19,7 +19,7 @@ pub loop-company-preserved : goal.loop-company-preserved
 loop-company-preserved g c =
     let before = c.loop-company.invariant in
     let within : c.loop-company.company-index < 8 = search rules in
-    let of : Company → ℤ = g.C.Certificates.certificates c.args.held.now in
+    let of : Company → ℤ = g.C.Certificates.certificates c.args.held.now c.args.seat in
     let whole : ℤ = pos (privates_owned (owner_in c.args.owners.now) c.args.seat) +ℤ certificates_in of companies in
     record {
       items = before.items;
@@ -34,7 +34,7 @@ loop-company-preserved g c =
 
 pub returns : goal.returns
 returns g c =
-    let of : Company → ℤ = g.C.Certificates.certificates c.args.held.now in
+    let of : Company → ℤ = g.C.Certificates.certificates c.args.held.now c.args.seat in
     let whole : ℤ = pos (privates_owned (owner_in c.args.owners.now) c.args.seat) +ℤ certificates_in of companies in
     let all : c.loop-company.company-index ≡ 8 = search rules in
     counted_all of (to_z w128 c.loop-company.count-bits) whole c.loop-company.company-index all

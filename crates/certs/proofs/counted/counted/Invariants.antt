@@ -9,7 +9,7 @@ use Rattle.certs.proofs.counted.counted.Given as goal
 -- the companies so far are counted, and those that are still to come make the whole
 abbrev pub invariant-loop-company : goal.invariant-loop-company
 invariant-loop-company g l =
-    let of : Company → ℤ = g.C.Certificates.certificates l.held in
+    let of : Company → ℤ = g.C.Certificates.certificates l.held l.fn.seat in
     record {
       items : l.company-items ≡ companies;
       low : IsLow l.count l.company-index;

@@ -1,5 +1,6 @@
-use Rattle.std.proofs.Common.{refl, subst}
+use Rattle.std.proofs.Common.{subst}
 use Rattle.events.specs.declared.ruling.Refusal.TheVariants.{Opening}
+use Rattle.history.proofs.NearlySound.{ruling_quiet}
 use Rattle.privates.proofs.Judged.{may_act_after}
 use Rattle.privates.specs.Judgement.{judgement_of, refusal_of}
 use Rattle.privates.specs.UnderwayKept.{ruling_underway}
@@ -27,22 +28,7 @@ act-requires-clause-may c =
     c.in_ok-rule_line.ensures.order
     in
     may_act_after c.args.history.now c.rule_line.new.history _ c.args.seat c.args.turn_used order
-    c.in_ok-rule_line.ensures.ruling (record {
-      payment = refl;
-      ownership = refl;
-      bidding = refl;
-      transfer =
-          refl;
-      par = refl;
-      square = refl;
-      office = refl;
-      float = refl;
-      sv_price = refl;
-      train = refl;
-      tile =
-          refl;
-      token = refl;
-    })
+    c.in_ok-rule_line.ensures.ruling (ruling_quiet _ _ _)
     (none_as_refusal Opening (judgement_of c.args.history.now.seats c.args.history.now.events c.args.seat
     c.args.turn_used order) to_do.kept)
 
