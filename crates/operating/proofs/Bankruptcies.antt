@@ -12,17 +12,19 @@ use Rattle.totals.specs.LookBack.{Game, bankrupt_in, with_event}
 use Rattle.totals.specs.Shares.{president_of}
 use Rattle.operating.proofs.ForcedGames.{OfSales, gained_none, gained_of, of_bought, of_gained, of_raises, of_sale}
 use Rattle.operating.proofs.ForcedGames.{operator}
-use Rattle.operating.proofs.ForcedLemmas.{size_before}
+use Rattle.forced_purchase.proofs.ForcedLemmas.{size_before}
 use Rattle.operating.proofs.Operated.{or_false}
 use Rattle.operating.proofs.Presidency.{president_stays}
-use Rattle.operating.proofs.TrainSteps.{IsPassedOn}
+use Rattle.purchases.proofs.TrainSteps.{IsPassedOn}
 use Rattle.operating.proofs.TurnEvents.{IsOfTurn}
 use Rattle.operating.proofs.TurnGames.{OfEvents, by_each, of_paid_turn}
-use Rattle.operating.specs.Forced.{EndLeads, after_forced, cheapest, concluded, falls_short, has_trains, with_aid}
+use Rattle.operating.specs.Ending.{EndLeads}
+use Rattle.forced_purchase.specs.Forced.{after_forced, cheapest, concluded, falls_short, with_aid}
+use Rattle.purchases.specs.Trains.{has_trains}
 use Rattle.operating.specs.ForcedLaws.{BankruptcyEndsTurns, EndsBankrupt}
-use Rattle.operating.specs.Phases.{after_train}
+use Rattle.purchases.specs.Phases.{after_train}
 use Rattle.operating.specs.Turn.{BlockEnds, settled}
-use Rattle.operating.specs.declared.operator.Operator.{Operator}
+use Rattle.forced_purchase.specs.declared.operator.Operator.{Operator}
 use Rattle.sheets.specs.Block.{block_for}
 use Rattle.sheets.specs.Part.{Numbered}
 use Rattle.tables.specs.declared.roster.Company.{Company}

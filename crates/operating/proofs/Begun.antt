@@ -4,12 +4,12 @@ use Rattle.legal_runs.specs.declared.runner.RunnerFault.{RunnerFault}
 use Rattle.totals.specs.LookBack.{Game}
 use Rattle.operating.specs.Calls.{Earns, Makes}
 use Rattle.operating.specs.CompanyTurn.{state}
-use Rattle.operating.specs.Forced.{EndLeads}
+use Rattle.operating.specs.Ending.{EndLeads}
 use Rattle.operating.specs.InTurn.{InTurn, at_start, in_turn}
 use Rattle.operating.specs.Turn.{BlockEnds, BlockLeads, LinesLead, settled}
 use Rattle.operating.specs.TurnCalls.{BlockCalls, LinesCall}
 use Rattle.operating.specs.declared.company_turn.CompanyTurn.{CompanyTurn}
-use Rattle.operating.specs.declared.operator.Operator.{Operator}
+use Rattle.forced_purchase.specs.declared.operator.Operator.{Operator}
 use Rattle.operating.specs.declared.progress.Progress.{Progress}
 use Rattle.sheets.specs.Block.{block_for}
 use Rattle.sheets.specs.Part.{Numbered}

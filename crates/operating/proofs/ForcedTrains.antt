@@ -23,27 +23,28 @@ use Rattle.totals.specs.Trains.{TrainsAreHeld, one_if, phase_of, same_train_plac
 use Rattle.totals.specs.Trains.{trains_at, trains_held}
 use Rattle.operating.proofs.Bankruptcies.{now_bankrupt}
 use Rattle.operating.proofs.Fitting.{same_map_state}
-use Rattle.operating.proofs.ForcedBuying.{cheapest_plain, company_itself, limit_low}
+use Rattle.forced_purchase.proofs.ForcedBuying.{cheapest_plain, company_itself, limit_low}
 use Rattle.operating.proofs.ForcedGames.{gained_none, gained_of, of_gained, of_sale, operator}
-use Rattle.operating.proofs.ForcedLemmas.{size_before}
-use Rattle.operating.proofs.Rust.{all_go, by_train_owner, has}
-use Rattle.operating.proofs.TrainSteps.{IsPassedOn, of_bop, of_fold, of_iterate, of_kind, of_privates}
+use Rattle.forced_purchase.proofs.ForcedLemmas.{size_before}
+use Rattle.purchases.proofs.Rust.{all_go, by_train_owner, has}
+use Rattle.purchases.proofs.TrainSteps.{IsPassedOn, of_bop, of_fold, of_iterate, of_kind, of_privates}
 use Rattle.operating.proofs.TurnGames.{of_paid_turn}
 use Rattle.operating.proofs.TurnLaws.{StillStand, more_stand, stands_by}
-use Rattle.operating.specs.Discards.{next_discard}
-use Rattle.operating.specs.Forced.{EndLeads, IsDue, after_forced, after_raise_line, after_raises, cheapest, concluded}
-use Rattle.operating.specs.Forced.{falls_short, has_trains, lack_of, plain, raise_rule, with_aid, with_ruling}
+use Rattle.purchases.specs.Discards.{next_discard}
+use Rattle.operating.specs.Ending.{EndLeads, IsDue}
+use Rattle.forced_purchase.specs.Forced.{after_forced, after_raise_line, after_raises, cheapest, concluded, falls_short}
+use Rattle.forced_purchase.specs.Forced.{lack_of, plain, raise_rule, with_aid, with_ruling}
+use Rattle.purchases.specs.Trains.{cost_of, has_trains}
 use Rattle.operating.specs.ForcedLaws.{TurnsEndWithTrains}
 use Rattle.operating.specs.MapState.{map_state_now}
-use Rattle.operating.specs.Phases.{after_train, begins_phase, bought, excess_of, rusts_at, with_discarded}
-use Rattle.operating.specs.Phases.{with_kind_rusted, with_kind_rusted_at, with_limit_kept, with_limits_kept}
-use Rattle.operating.specs.Phases.{with_next_discarded, with_one_rusted, with_phase, with_privates_closed, with_rusted}
-use Rattle.operating.specs.Phases.{with_trains_rusted}
-use Rattle.operating.specs.TrainLaws.{AllTrainsAreThere}
-use Rattle.operating.specs.Trains.{cost_of}
+use Rattle.purchases.specs.Phases.{after_train, begins_phase, bought, excess_of, rusts_at, with_discarded}
+use Rattle.purchases.specs.Phases.{with_kind_rusted, with_kind_rusted_at, with_limit_kept, with_limits_kept}
+use Rattle.purchases.specs.Phases.{with_next_discarded, with_one_rusted, with_phase, with_privates_closed, with_rusted}
+use Rattle.purchases.specs.Phases.{with_trains_rusted}
+use Rattle.purchases.specs.TrainLaws.{AllTrainsAreThere}
 use Rattle.operating.specs.Turn.{BlockEnds, settled}
-use Rattle.operating.specs.declared.operator.Operator.{Operator}
-use Rattle.operating.specs.declared.purchase.Purchase.{Purchase}
+use Rattle.forced_purchase.specs.declared.operator.Operator.{Operator}
+use Rattle.purchases.specs.declared.purchase.Purchase.{Purchase}
 use Rattle.order_grammar.specs.declared.fault.Fault.{Fault}
 use Rattle.order_grammar.specs.declared.order.Order.{Order}
 use Rattle.order_grammar.specs.declared.order.Order.TheVariants as order

@@ -15,7 +15,7 @@ use Rattle.operating.specs.MapState.{BeginsWith, IsPrefix, map_state_now}
 use Rattle.operating.specs.InTurn.{InTurn, in_turn}
 use Rattle.operating.specs.Laws.{OnlyAdds}
 use Rattle.operating.specs.Turn.{ReadingLeads, settled}
-use Rattle.operating.specs.declared.operator.Operator.{Operator}
+use Rattle.forced_purchase.specs.declared.operator.Operator.{Operator}
 use Rattle.operating.specs.declared.progress.Progress.{Progress}
 use Rattle.order_grammar.specs.declared.fault.Fault.{Fault}
 use Rattle.order_grammar.specs.declared.order.Order.{Order}

@@ -6,7 +6,7 @@ use Rattle.operating.proofs.Played.{train_leads}
 use Rattle.operating.specs.InTurn.{InTurn}
 use Rattle.operating.specs.Turn.{OrderLeads, ReadingLeads, after_buying, settled}
 use Rattle.operating.specs.declared.company_turn.CompanyTurn.{CompanyTurn}
-use Rattle.operating.specs.declared.operator.Operator.{Operator}
+use Rattle.forced_purchase.specs.declared.operator.Operator.{Operator}
 use Rattle.order_grammar.specs.declared.fault.Fault.{Fault}
 use Rattle.order_grammar.specs.declared.order.Order.{Order}
 use Rattle.order_grammar.specs.declared.order.Order.TheVariants as order

@@ -17,7 +17,7 @@ use Rattle.operating.specs.Turn.{AskedLeads, BlockEnds, OrderLeads, begun, is_he
 use Rattle.operating.specs.TurnCalls.{AskedCalls, Asks, BegunCalls, BestCalls, BlockCalls, EndCalls, IsCredited}
 use Rattle.operating.specs.TurnCalls.{LineCalls, LinesCall, OneListOfTurnCalls, OrderCalls, ReadingCalls}
 use Rattle.operating.specs.TurnCalls.{RefusedTurnCallsAreAPrefix, TurnCalls, asked}
-use Rattle.operating.specs.declared.operator.Operator.{Operator}
+use Rattle.forced_purchase.specs.declared.operator.Operator.{Operator}
 use Rattle.order_grammar.specs.declared.fault.Fault.{Fault}
 use Rattle.order_grammar.specs.declared.order.Order.{Order}
 use Rattle.sheets.specs.Block.{block_for}

@@ -12,11 +12,11 @@ use Rattle.map_tables.specs.declared.place.Place.{Place}
 use Rattle.operating.specs.Act.{withheld}
 use Rattle.operating.specs.Dividend.{paid_out, pay_judgement, pay_ruled, withhold_judgement}
 use Rattle.operating.specs.InTurn.{InTurn, in_turn, is_unpaid, pay_done}
-use Rattle.operating.specs.Privates.{private_judgement, private_ruled}
-use Rattle.operating.specs.Trains.{train_judgement}
-use Rattle.operating.specs.Turn.{OrderLeads, lay_answered, purchase_of, settled, token_answered, train_ruled}
-use Rattle.operating.specs.declared.operator.Operator.{Operator}
-use Rattle.operating.specs.declared.purchase.Purchase.{Purchase}
+use Rattle.purchases.specs.Privates.{private_judgement}
+use Rattle.operating.specs.Turn.{OrderLeads, lay_answered, private_ruled, settled, token_answered, train_ruled}
+use Rattle.purchases.specs.Trains.{purchase_of, train_judgement}
+use Rattle.forced_purchase.specs.declared.operator.Operator.{Operator}
+use Rattle.purchases.specs.declared.purchase.Purchase.{Purchase}
 use Rattle.operating.specs.declared.runs.Runs.{Runs}
 use Rattle.order_grammar.specs.declared.order.Order.{Order}
 use Rattle.order_grammar.specs.declared.order.Order.TheVariants as order

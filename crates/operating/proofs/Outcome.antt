@@ -23,11 +23,12 @@ use Rattle.operating.specs.InTurn.{InTurn}
 use Rattle.operating.specs.Judgement.{asker_of}
 use Rattle.operating.specs.Runs.{position_now}
 use Rattle.operating.specs.Laws.{CompanyTurnEnds, OneCompanyTurn}
-use Rattle.operating.specs.Forced.{EndLeads, IsDue, after_forced, after_raises, has_trains}
+use Rattle.operating.specs.Ending.{EndLeads, IsDue}
+use Rattle.forced_purchase.specs.Forced.{after_forced, after_raises}
+use Rattle.purchases.specs.Trains.{has_trains}
 use Rattle.operating.specs.Turn.{AskedLeads, BlockEnds, BlockLeads, IsCompanyTurn, LinesLead, OrderLeads, ReadingLeads}
-use Rattle.operating.specs.Turn.{begun, is_held, lay_answered, settled}
-use Rattle.operating.specs.Turn.{token_answered}
-use Rattle.operating.specs.declared.operator.Operator.{Operator}
+use Rattle.operating.specs.Turn.{begun, is_held, lay_answered, settled, token_answered}
+use Rattle.forced_purchase.specs.declared.operator.Operator.{Operator}
 use Rattle.order_grammar.specs.declared.fault.Fault.{Fault}
 use Rattle.order_grammar.specs.declared.order.Order.{Order}
 use Rattle.order_grammar.specs.declared.order.Order.TheVariants as order

@@ -11,7 +11,7 @@ use Rattle.operating.specs.Act.{with_home}
 use Rattle.operating.specs.InTurn.{InTurn, at_start, in_turn}
 use Rattle.operating.specs.Laws.{OnlyAdds}
 use Rattle.operating.specs.Turn.{BlockEnds, BlockLeads, IsCompanyTurn, OrderLeads, after_buying, settled}
-use Rattle.operating.specs.declared.operator.Operator.{Operator}
+use Rattle.forced_purchase.specs.declared.operator.Operator.{Operator}
 use Rattle.operating.specs.declared.progress.Progress.{Progress}
 use Rattle.order_grammar.specs.declared.order.Order.{Order}
 use Rattle.order_grammar.specs.declared.order.Order.TheVariants as order

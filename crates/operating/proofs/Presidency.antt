@@ -21,14 +21,14 @@ use Rattle.totals.specs.Shares.{president_of, president_said, shares_of, square_
 use Rattle.history.specs.Record.{breaks}
 use Rattle.market.specs.Moves.{fallen}
 use Rattle.market.specs.Token.{moved_from, same_square}
-use Rattle.operating.proofs.ForcedBuying.{company_itself, not_less_is}
+use Rattle.forced_purchase.proofs.ForcedBuying.{company_itself, not_less_is}
 use Rattle.operating.proofs.ForcedGames.{OfBankruptcies, OfSales, of_presided_turn, operator}
-use Rattle.operating.proofs.TrainSteps.{IsPassedOn}
+use Rattle.purchases.proofs.TrainSteps.{IsPassedOn}
 use Rattle.operating.proofs.TurnEvents.{IsOfTurn}
 use Rattle.operating.proofs.TurnGames.{OfEvents, by_each}
-use Rattle.operating.specs.Forced.{sale_rule, with_sale}
+use Rattle.forced_purchase.specs.Forced.{sale_rule, with_sale}
 use Rattle.operating.specs.ForcedLaws.{PresidentStays}
-use Rattle.operating.specs.declared.operator.Operator.{Operator}
+use Rattle.forced_purchase.specs.declared.operator.Operator.{Operator}
 use Rattle.tables.proofs.Rules.{none_broken}
 use Rattle.tables.specs.Roster.{same_company}
 use Rattle.tables.specs.declared.roster.Company.{Company}

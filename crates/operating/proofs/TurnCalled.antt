@@ -16,7 +16,7 @@ use Rattle.operating.specs.Turn.{AskedLeads, BlockEnds, BlockLeads, IsCompanyTur
 use Rattle.operating.specs.Turn.{begun, is_held, settled}
 use Rattle.operating.specs.TurnCalls.{AskedCalls, BegunCalls, BestCalls, BlockCalls, EndCalls, LineCalls, LinesCall}
 use Rattle.operating.specs.TurnCalls.{OrderCalls, ReadingCalls, SomeTurnCalls, TurnCalls, asked}
-use Rattle.operating.specs.declared.operator.Operator.{Operator}
+use Rattle.forced_purchase.specs.declared.operator.Operator.{Operator}
 use Rattle.operating.specs.declared.progress.Progress.{Progress}
 use Rattle.order_grammar.specs.declared.fault.Fault.{Fault}
 use Rattle.order_grammar.specs.declared.order.Order.{Order}

@@ -26,10 +26,10 @@ use Rattle.map_tables.specs.declared.rules.TokenRule.{TokenRule}
 use Rattle.map_tables.specs.declared.lay.Lay.{Lay}
 use Rattle.map_tables.specs.declared.place.Place.{Place}
 use Rattle.operating.proofs.Allowed.{lay_allowed, token_allowed}
-use Rattle.operating.proofs.AgreedSales.{private_agreed}
+use Rattle.purchases.proofs.AgreedSales.{private_agreed}
 use Rattle.operating.proofs.Answered.{same_after_ruling}
-use Rattle.operating.proofs.PrivateSales.{same_after_line}
-use Rattle.operating.proofs.Still.{same_judgement}
+use Rattle.purchases.proofs.PrivateSales.{same_after_line}
+use Rattle.purchases.proofs.Still.{same_judgement}
 use Rattle.operating.proofs.TurnEvents.{IsOfTurn}
 use Rattle.operating.specs.Act.{after_lay, after_token, withheld}
 use Rattle.operating.specs.Best.{BestRuled, best_done, best_earned, best_judgement}
@@ -37,14 +37,13 @@ use Rattle.operating.specs.Dividend.{paid_out, pay_judgement, pay_ruled, withhol
 use Rattle.operating.specs.MapState.{map_state_now}
 use Rattle.operating.specs.InTurn.{InTurn, in_turn, is_unpaid, lay_done, pay_done, token_done, told}
 use Rattle.operating.specs.Judgement.{asker_of}
-use Rattle.operating.specs.Phases.{after_train}
-use Rattle.operating.specs.Privates.{private_judgement, private_ruled, sold_by}
-use Rattle.operating.specs.Runs.{judged_run, run_done, run_ruled}
-use Rattle.operating.specs.Trains.{train_judgement}
+use Rattle.purchases.specs.Phases.{after_train}
+use Rattle.purchases.specs.Privates.{private_judgement, sold_by}
 use Rattle.operating.specs.Turn.{AskedLeads, BlockLeads, IsCompanyTurn, LinesLead, OrderLeads, ReadingLeads, begun}
-use Rattle.operating.specs.Turn.{is_held, lay_answered, purchase_of}
-use Rattle.operating.specs.Turn.{settled, token_answered, train_ruled}
-use Rattle.operating.specs.declared.operator.Operator.{Operator}
+use Rattle.operating.specs.Turn.{is_held, lay_answered, private_ruled, settled, token_answered, train_ruled}
+use Rattle.operating.specs.Runs.{judged_run, run_done, run_ruled}
+use Rattle.purchases.specs.Trains.{purchase_of, train_judgement}
+use Rattle.forced_purchase.specs.declared.operator.Operator.{Operator}
 use Rattle.operating.specs.declared.progress.Progress.{Progress}
 use Rattle.operating.specs.declared.runs.CompletedRun.{CompletedRun}
 use Rattle.order_grammar.specs.declared.fault.Fault.{Fault}

@@ -2,7 +2,7 @@
 ghost use Rattle.std.specs.Prelude.{◌≡◌};
 ghost use Rattle.operating.specs.InTurn.{at_start};
 
-use crate::operator::Operator;
+use forced_purchase::Operator;
 use crate::progress::Progress;
 use board::Board;
 use history::History;

@@ -10,7 +10,7 @@ ghost use Rattle.sheets.specs.File.{players_of};
 
 use crate::company_turn::CompanyTurn;
 use crate::home::place_home;
-use crate::operator::Operator;
+use forced_purchase::Operator;
 use crate::table::Table;
 use crate::withholding::withhold;
 use history::History;

@@ -24,25 +24,25 @@ use Rattle.map_tables.specs.declared.lay.Lay.{Lay}
 use Rattle.map_tables.specs.declared.place.Place.{Place}
 use Rattle.market.specs.Moves.{square_left_of, right_of}
 use Rattle.market.specs.Token.{with_move}
-use Rattle.operating.proofs.ForcedBuying.{cheapest_plain}
+use Rattle.forced_purchase.proofs.ForcedBuying.{cheapest_plain}
 use Rattle.operating.proofs.ForcedGames.{operator}
-use Rattle.operating.proofs.TrainSteps.{IsPassedOn, OfClosings, of_bop, of_choice, of_iterate, of_next, of_phase}
-use Rattle.operating.proofs.TrainSteps.{of_train_owner, of_trade}
+use Rattle.purchases.proofs.TrainSteps.{IsPassedOn, OfClosings, of_bop, of_choice, of_iterate, of_next, of_phase}
+use Rattle.purchases.proofs.TrainSteps.{of_trade, of_train_owner}
 use Rattle.operating.specs.Act.{has_home_token, with_home, withheld}
 use Rattle.operating.specs.Best.{BestRuled, best_earned, best_judgement}
 use Rattle.operating.specs.Dividend.{all_paid, paid_for, paid_out, paid_to, paid_to_seats, pay_judgement}
 use Rattle.operating.specs.Dividend.{withhold_judgement}
-use Rattle.operating.specs.Forced.{EndLeads, after_forced, after_raise_line, after_raises, cheapest, concluded}
-use Rattle.operating.specs.Forced.{falls_short, lack_of, next_to_sell, one_share, raise_rule, raise_ruled, sold_further}
-use Rattle.operating.specs.Forced.{sold_singly, with_aid, with_one_sold, with_ruling, with_sale}
+use Rattle.operating.specs.Ending.{EndLeads}
+use Rattle.forced_purchase.specs.Forced.{after_forced, after_raise_line, after_raises, cheapest, concluded, falls_short}
+use Rattle.forced_purchase.specs.Forced.{lack_of, next_to_sell, one_share, raise_rule, raise_ruled, sold_further}
+use Rattle.forced_purchase.specs.Forced.{sold_singly, with_aid, with_one_sold, with_ruling, with_sale}
 use Rattle.operating.specs.InTurn.{InTurn, in_turn, is_unpaid, pay_done, ruled, told}
-use Rattle.operating.specs.Phases.{after_train, begins_phase, bought, with_phase, with_trade}
-use Rattle.operating.specs.Privates.{private_bought, private_judgement, sold_by}
+use Rattle.purchases.specs.Phases.{after_train, begins_phase, bought, with_phase, with_trade}
+use Rattle.purchases.specs.Privates.{private_bought, private_judgement, sold_by}
 use Rattle.operating.specs.Runs.{after_run, judged_run, run_ruled}
-use Rattle.operating.specs.Trains.{cost_of, train_judgement}
+use Rattle.purchases.specs.Trains.{cost_of, purchase_of, train_judgement}
 use Rattle.operating.specs.Turn.{AskedLeads, BlockEnds, BlockLeads, IsCompanyTurn, LayLeads, LinesLead, OrderLeads}
-use Rattle.operating.specs.Turn.{ReadingLeads, TokenLeads, begun, is_held, lay_answered, purchase_of, settled}
-use Rattle.operating.specs.Turn.{token_answered}
+use Rattle.operating.specs.Turn.{ReadingLeads, TokenLeads, begun, is_held, lay_answered, settled, token_answered}
 use Rattle.order_grammar.specs.declared.condition.Condition.{Condition}
 use Rattle.order_grammar.specs.declared.fault.Fault.{Fault}
 use Rattle.order_grammar.specs.declared.fault.Fault.TheVariants.{OutOfPlace}

@@ -10,8 +10,8 @@ use Rattle.totals.specs.Operating.{rulings_in_round}
 use Rattle.totals.specs.Shares.{president_of}
 use Rattle.history.specs.Record.{revenues_recorded, with_left}
 use Rattle.operating.specs.InTurn.{InTurn}
-use Rattle.operating.specs.Standing as rules
-use Rattle.operating.specs.Forced.{EndLeads}
+use Rattle.purchases.specs.Standing as rules
+use Rattle.operating.specs.Ending.{EndLeads}
 use Rattle.operating.specs.Turn.{BlockEnds, BlockLeads, IsCompanyTurn, LinesLead, begun, settled}
 use Rattle.privates.specs.Opening.{IsOpeningRound, written_turns_for, in_play, opened}
 use Rattle.privates.specs.Standing as opening

@@ -20,7 +20,7 @@ use Rattle.operating.specs.MapState.{IsPrefix}
 use Rattle.operating.specs.Table.{game_on}
 use Rattle.operating.specs.Turn.{LinesLead}
 use Rattle.operating.specs.TurnCalls.{LinesCall, TurnCalls}
-use Rattle.operating.specs.declared.operator.Operator.{Operator}
+use Rattle.forced_purchase.specs.declared.operator.Operator.{Operator}
 use Rattle.operating.specs.declared.table.Table.{Table}
 use Rattle.sheets.specs.Part.{Numbered, Parts}
 use Rattle.turns.specs.Small.{AreSmall}

@@ -1,0 +1,5 @@
+pub mod ForcedBuying
+pub mod ForcedLemmas
+pub mod ForcedSteps
+pub mod ForcedAid
+pub mod Raises
