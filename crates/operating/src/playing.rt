@@ -10,9 +10,9 @@ ghost use Rattle.sheets.specs.File.{players_of};
 
 use crate::company_turn::CompanyTurn;
 use crate::home::place_home;
-use forced_purchase::Operator;
 use crate::table::Table;
 use crate::withholding::withhold;
+use forced_purchase::Operator;
 use history::History;
 use legal_runs::{Runner, RunnerFault};
 use sheets::Sheets;
