@@ -1,7 +1,7 @@
-pub mod ForcedBuying
-pub mod ForcedLemmas
-pub mod ForcedSteps
-pub mod ForcedAid
-pub mod Raises
+pub mod Cheapest
+pub mod TrainCounts
+pub mod Steps
+pub mod Aid
+pub mod RaiseLemmas
 pub mod SalesKeepPresidency
 pub mod HasBought

@@ -322,7 +322,7 @@ fn aid(history: &mut History, by: Operator) -> Result<(), AllocError>
 }
 
 /// What a company lacks for the cheapest train that is for sale, in dollars; 0 where it has enough.
-#[tactic(auto, using(crate::proofs::ForcedAid::lack_small))]
+#[tactic(auto, using(crate::proofs::Aid::lack_small))]
 fn lacking(history: &History, company: Company) -> Amount
     requires { IsSound history.now }
     ensures amount { result ≡ as_many (lack_of history.now company) }

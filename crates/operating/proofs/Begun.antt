@@ -6,7 +6,7 @@ use Rattle.operating.specs.Calls.{Earns, Makes}
 use Rattle.operating.specs.CompanyTurn.{state}
 use Rattle.operating.specs.Ending.{EndLeads}
 use Rattle.operating.specs.InTurn.{InTurn, at_start, in_turn}
-use Rattle.operating.specs.Turn.{BlockEnds, BlockLeads, LinesLead, settled}
+use Rattle.operating.specs.Turn.{BlockEnds, BlockLeads, LinesLead, withheld_if_unpaid}
 use Rattle.operating.specs.TurnCalls.{BlockCalls, LinesCall}
 use Rattle.operating.specs.declared.company_turn.CompanyTurn.{CompanyTurn}
 use Rattle.forced_purchase.specs.declared.operator.Operator.{Operator}
@@ -69,8 +69,8 @@ module _
 
     -- what the company withholds by itself
     pub settled_led : (ruled paid : CompanyTurn) → ruled.by ≡ turn.by
-        → state paid ≡ settled ruled.by.company (state ruled) → state paid ≡ settled company (state ruled)
-    settled_led ruled paid same is = is ∙ ap (λ (by : Operator). settled by.company (state ruled)) (same ∙ begun.is_by)
+        → state paid ≡ withheld_if_unpaid ruled.by.company (state ruled) → state paid ≡ withheld_if_unpaid company (state ruled)
+    settled_led ruled paid same is = is ∙ ap (λ (by : Operator). withheld_if_unpaid by.company (state ruled)) (same ∙ begun.is_by)
 
     -- and what ends the turn
     pub end_led :

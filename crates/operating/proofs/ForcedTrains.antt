@@ -15,7 +15,7 @@ use Rattle.totals.specs.Trains.{TrainsAreHeld, train_count}
 use Rattle.operating.proofs.Bankruptcies.{now_bankrupt}
 use Rattle.operating.proofs.Fitting.{same_map_state}
 use Rattle.operating.proofs.ForcedGames.{gained_none, gained_of, of_gained, of_sale, operator}
-use Rattle.forced_purchase.proofs.ForcedLemmas.{size_before}
+use Rattle.forced_purchase.proofs.TrainCounts.{size_before}
 use Rattle.operating.proofs.TurnGames.{of_paid_turn}
 use Rattle.operating.proofs.TurnLaws.{StillStand, more_stand, stands_by}
 use Rattle.operating.specs.Ending.{EndLeads, IsDue}
@@ -26,7 +26,7 @@ use Rattle.operating.specs.ForcedLaws.{TurnsEndWithTrains}
 use Rattle.operating.specs.MapState.{map_state_now}
 use Rattle.purchases.specs.Phases.{after_train}
 use Rattle.purchases.specs.TrainLaws.{AllTrainsAreThere}
-use Rattle.operating.specs.Turn.{BlockEnds, settled}
+use Rattle.operating.specs.Turn.{BlockEnds, withheld_if_unpaid}
 use Rattle.forced_purchase.specs.declared.operator.Operator.{Operator}
 use Rattle.order_grammar.specs.declared.fault.Fault.{Fault}
 use Rattle.order_grammar.specs.declared.order.Order.{Order}
@@ -133,6 +133,6 @@ of_block file round company game new (Some its) seat is ends stand =
 
 pub turns_end_with_trains : TurnsEndWithTrains
 turns_end_with_trains file round company old new president stand presides turn =
-    let paid : Game = (settled company turn.last).game in
+    let paid : Game = (withheld_if_unpaid company turn.last).game in
     of_block file round company paid new (president_of old.events company) president presides turn.after
     (of_paid_turn company StillStand (stands_by company) file round old new turn stand)

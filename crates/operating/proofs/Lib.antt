@@ -22,7 +22,7 @@ pub mod TurnEvents
 pub mod TurnSteps
 pub mod TurnGames
 pub mod TurnLaws
-pub mod Fronts
+pub mod Prefixes
 pub mod HomeToken
 pub mod Tiles
 pub mod Operated

@@ -10,7 +10,7 @@ use Rattle.std.specs.List.{list_any}
 use Rattle.totals.specs.LookBack.{Game}
 use Rattle.map_tables.specs.declared.rules.RunRule.{RunRule}
 use Rattle.map_tables.specs.declared.rules.RunRule.TheVariants as run_rule
-use Rattle.forced_purchase.proofs.ForcedBuying.{less_is}
+use Rattle.forced_purchase.proofs.Cheapest.{less_is}
 use Rattle.operating.proofs.OtherOrders.{after_other}
 use Rattle.operating.specs.Best.{BestRuled, best_judgement}
 use Rattle.purchases.specs.Trains.{has_trains}

@@ -10,7 +10,7 @@ use Rattle.operating.proofs.TurnSteps.{of_block, of_settled}
 use Rattle.operating.specs.Act.{with_home}
 use Rattle.operating.specs.InTurn.{InTurn, at_start, in_turn}
 use Rattle.operating.specs.Laws.{OnlyAdds}
-use Rattle.operating.specs.Turn.{BlockEnds, BlockLeads, IsCompanyTurn, OrderLeads, after_buying, settled}
+use Rattle.operating.specs.Turn.{BlockEnds, BlockLeads, IsCompanyTurn, OrderLeads, after_buying, withheld_if_unpaid}
 use Rattle.forced_purchase.specs.declared.operator.Operator.{Operator}
 use Rattle.operating.specs.declared.progress.Progress.{Progress}
 use Rattle.order_grammar.specs.declared.order.Order.{Order}
@@ -26,11 +26,11 @@ use Rattle.tables.specs.declared.seat.Seat.{Seat}
 pub turn_of_parts : (file : List ℕ) (round : Round) (company : Company) (old first ruled paid new : Game)
     (progress last : Progress) (president : Option Seat) → president ≡ president_of old.events company
     → first ≡ with_home old company → BlockLeads file round company (in_turn first at_start) president
-    (in_turn ruled progress) → in_turn paid last ≡ settled company (in_turn ruled progress)
+    (in_turn ruled progress) → in_turn paid last ≡ withheld_if_unpaid company (in_turn ruled progress)
     → BlockEnds file round company paid president new → IsCompanyTurn file round company old new
 turn_of_parts file round company old first ruled paid new progress last president is_president is_first block
     is_settled ends =
-    let is_paid : paid ≡ (settled company (in_turn ruled progress)).game =
+    let is_paid : paid ≡ (withheld_if_unpaid company (in_turn ruled progress)).game =
     ap (λ (turn : InTurn). turn.game) is_settled in
     record {
       last = in_turn ruled progress;
@@ -46,14 +46,14 @@ turn_of_parts file round company old first ruled paid new progress last presiden
 pub paid_seats : (file : List ℕ) (round : Round) (company : Company) (old first ruled paid : Game)
     (progress last : Progress) (president : Option Seat) → first ≡ with_home old company
     → BlockLeads file round company (in_turn first at_start) president (in_turn ruled progress)
-    → in_turn paid last ≡ settled company (in_turn ruled progress) → paid.seats ≡ old.seats
+    → in_turn paid last ≡ withheld_if_unpaid company (in_turn ruled progress) → paid.seats ≡ old.seats
 paid_seats file round company old first ruled paid progress last president is_first block is_settled =
     let adds = adds_by company in
     let steps = of_steps company OnlyAdds adds in
     let home : OnlyAdds old (with_home old company) = of_home company OnlyAdds adds old in
     let lines : OnlyAdds first ruled = of_block company _ steps file round (in_turn first at_start) president
     (in_turn ruled progress) block in
-    let end : OnlyAdds ruled (settled company (in_turn ruled progress)).game =
+    let end : OnlyAdds ruled (withheld_if_unpaid company (in_turn ruled progress)).game =
     of_settled company _ steps (in_turn ruled progress) in
     ap (λ (turn : InTurn). turn.game.seats) is_settled
     ∙ ap (λ (game : Game). game.seats) end.added
@@ -71,7 +71,7 @@ president_there old paid company (Some seat) sound floated is same =
 
 -- a TRAIN line, from what the company withholds by itself and what then becomes of the line
 pub train_leads : (by : Operator) (turn paid : InTurn) (line : Numbered) (its : Order) (kind : Kind)
-    (from : TrainSource) (new : InTurn) → its ≡ order.BuyTrain kind from → paid ≡ settled by.company turn
+    (from : TrainSource) (new : InTurn) → its ≡ order.BuyTrain kind from → paid ≡ withheld_if_unpaid by.company turn
     → new ≡ after_buying by paid line kind from → OrderLeads by turn line its new
 train_leads by turn paid line its kind from new is is_paid ruled =
     subst (λ (o : Order). OrderLeads by turn line o new) (sym is)

@@ -3,7 +3,7 @@ use Rattle.std.proofs.Common.{◌≡◌, ℕ, List, Option, sym, subst}
 use Rattle.board_state.specs.MapState.{MapState}
 use Rattle.totals.specs.LookBack.{Game}
 use Rattle.operating.proofs.ForcedGames.{of_block_end}
-use Rattle.operating.proofs.Fronts.{front_on}
+use Rattle.operating.proofs.Prefixes.{prefix_on}
 use Rattle.operating.proofs.TurnGames.{of_home, of_withheld}
 use Rattle.operating.proofs.TurnLaws.{adds_by, more_adds}
 use Rattle.operating.specs.Act.{with_home, withheld}
@@ -18,23 +18,23 @@ home_adds : (old first : Game) (company : Company) → first ≡ with_home old c
 home_adds old first company is = subst (OnlyAdds old) (sym is) (of_home company OnlyAdds (adds_by company) old)
 
 -- once the home token lies
-pub home_front : (laid : MapState) (old first : Game) (company : Company) → first ≡ with_home old company
+pub home_prefix : (laid : MapState) (old first : Game) (company : Company) → first ≡ with_home old company
     → IsPrefix laid old.events → IsPrefix laid first.events
-home_front laid old first company is front = front_on laid old first (home_adds old first company is) front
+home_prefix laid old first company is prefix = prefix_on laid old first (home_adds old first company is) prefix
 
 -- and once a company without a president has withheld
-pub idle_front : (laid : MapState) (old first new : Game) (company : Company) (amount : ℕ)
+pub idle_prefix : (laid : MapState) (old first new : Game) (company : Company) (amount : ℕ)
     → first ≡ with_home old company → new ≡ withheld first company amount → IsPrefix laid old.events
     → IsPrefix laid new.events
-idle_front laid old first new company amount is_first is_new front =
-    front_on laid first new (subst (OnlyAdds first) (sym is_new)
+idle_prefix laid old first new company amount is_first is_new prefix =
+    prefix_on laid first new (subst (OnlyAdds first) (sym is_new)
     (of_withheld company OnlyAdds (adds_by company) first amount))
-    (home_front laid old first company is_first front)
+    (home_prefix laid old first company is_first prefix)
 
 -- and after what a block brings at the end of the turn
-pub end_front : (file : List ℕ) (round : Round) (company : Company) (laid : MapState) (paid new : Game)
+pub end_prefix : (file : List ℕ) (round : Round) (company : Company) (laid : MapState) (paid new : Game)
     (president : Option Seat) → BlockEnds file round company paid president new → IsPrefix laid paid.events
     → IsPrefix laid new.events
-end_front file round company laid paid new president ends front =
-    front_on laid paid new (of_block_end company OnlyAdds (adds_by company) more_adds file round paid president new
-    ends) front
+end_prefix file round company laid paid new president ends prefix =
+    prefix_on laid paid new (of_block_end company OnlyAdds (adds_by company) more_adds file round paid president new
+    ends) prefix

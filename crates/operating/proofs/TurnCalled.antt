@@ -13,7 +13,7 @@ use Rattle.operating.specs.Best.{BestRuled, best_judgement}
 use Rattle.operating.specs.Calls.{Call, Earns, Makes, Unasked}
 use Rattle.operating.specs.InTurn.{InTurn, at_start, in_turn}
 use Rattle.operating.specs.Turn.{AskedLeads, BlockEnds, BlockLeads, IsCompanyTurn, LinesLead, OrderLeads, ReadingLeads}
-use Rattle.operating.specs.Turn.{begun, is_held, settled}
+use Rattle.operating.specs.Turn.{begun, is_held, withheld_if_unpaid}
 use Rattle.operating.specs.TurnCalls.{AskedCalls, BegunCalls, BestCalls, BlockCalls, EndCalls, LineCalls, LinesCall}
 use Rattle.operating.specs.TurnCalls.{OrderCalls, ReadingCalls, SomeTurnCalls, TurnCalls, asked}
 use Rattle.forced_purchase.specs.declared.operator.Operator.{Operator}
@@ -109,10 +109,10 @@ module _ {Runner : Type 0} (earns : Earns Runner) where
   pub end_calls :
       (file : List ℕ) (round : Round) (company : Company) (ruled paid new : Game) (progress last : Progress)
       (president : Option Seat) (runner : Runner) →
-      in_turn paid last ≡ settled company (in_turn ruled progress) → BlockEnds file round company paid president new →
+      in_turn paid last ≡ withheld_if_unpaid company (in_turn ruled progress) → BlockEnds file round company paid president new →
       Makes earns runner (EndCalls file round company president (in_turn ruled progress) (Ok new)) runner
   end_calls file round company ruled paid new progress last president runner is_settled ends =
-      silent earns Memory (λ (from : InTurn) (to : Game). BlockEnds file round company (settled company from).game
+      silent earns Memory (λ (from : InTurn) (to : Game). BlockEnds file round company (withheld_if_unpaid company from).game
       president to) (in_turn ruled progress) new runner runner
       (subst (λ (turn : InTurn). BlockEnds file round company turn.game president new) is_settled ends) refl
 

@@ -28,7 +28,7 @@ use Rattle.operating.specs.InTurn.{InTurn}
 use Rattle.purchases.specs.Phases.{after_train, begins_phase, bought, with_phase, with_trade}
 use Rattle.purchases.specs.SaleLaws.{IsAgreed}
 use Rattle.purchases.specs.Trains.{cost_of, purchase_of, train_judgement}
-use Rattle.operating.specs.Turn.{IsCompanyTurn, begun, settled}
+use Rattle.operating.specs.Turn.{IsCompanyTurn, begun, withheld_if_unpaid}
 use Rattle.purchases.specs.declared.purchase.Purchase.{Purchase}
 use Rattle.std.proofs.Common.{◌≡◌, ℕ, ◌==◌, Bool, true, false, if◌then◌else◌, List, [], ◌∷◌, ◌++◌, Option, Some, None}
 use Rattle.std.proofs.Common.{refl}
@@ -186,7 +186,7 @@ module _ (company : Company) (R : Game → Game → Type 0) (of : OfEvents compa
   -- and of the turn up to where the company has paid or withheld
   pub of_paid_turn : (file : List ℕ) (round : Round) (old new : Game)
       (turn : IsCompanyTurn file round company old new) →
-      R old (settled company turn.last).game
+      R old (withheld_if_unpaid company turn.last).game
   of_paid_turn file round old new turn =
-      of.on.both old (begun old company).game (settled company turn.last).game (of_home old)
+      of.on.both old (begun old company).game (withheld_if_unpaid company turn.last).game (of_home old)
       (of_turn company _ of_steps file round old new turn)

@@ -84,8 +84,8 @@ pub record TokenLeads (by : Operator) (turn : InTurn) (line : Numbered) (place :
   pub after : new ≡ token_answered by turn line place answer
 
 -- with what the company withholds by itself, where the turn is not past its pay
-abbrev pub settled : Company → InTurn → InTurn
-settled company turn =
+abbrev pub withheld_if_unpaid : Company → InTurn → InTurn
+withheld_if_unpaid company turn =
     if is_unpaid turn.progress then in_turn (withheld turn.game company turn.progress.runs.revenue)
     (pay_done turn.progress) else turn
 
@@ -120,7 +120,7 @@ OrderLeads by turn line (order.Run kind run) new = new ≡ after_run by turn lin
 OrderLeads by turn line order.RunBest new = BestLeads by turn line new
 OrderLeads by turn line order.Pay new = new ≡ after_pay by turn line order.Pay
 OrderLeads by turn line order.Withhold new = new ≡ after_withhold by turn line order.Withhold
-OrderLeads by turn line (order.BuyTrain kind from) new = new ≡ after_buying by (settled by.company turn) line kind from
+OrderLeads by turn line (order.BuyTrain kind from) new = new ≡ after_buying by (withheld_if_unpaid by.company turn) line kind from
 OrderLeads by turn line (order.BuyOwnedPrivate private price) new = new ≡ after_private by turn line private price
 OrderLeads by turn line (order.Raise company shares) new = new ≡ turn
 OrderLeads by turn line other new = new ≡ told by turn line (Faulty OutOfPlace)
@@ -180,4 +180,4 @@ begun game company = in_turn (with_home game company) at_start
 pub record IsCompanyTurn (file : List ℕ) (round : Round) (company : Company) (old new : Game) : Type 0 where
   pub last : InTurn
   pub block : BlockLeads file round company (begun old company) (president_of old.events company) last
-  pub after : BlockEnds file round company (settled company last).game (president_of old.events company) new
+  pub after : BlockEnds file round company (withheld_if_unpaid company last).game (president_of old.events company) new

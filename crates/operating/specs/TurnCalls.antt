@@ -15,7 +15,7 @@ use Rattle.operating.specs.Best.{BestRuled, best_earned, best_judgement, trains_
 use Rattle.operating.specs.Calls.{Call, Course, IsPrefix, Then, Unasked}
 use Rattle.operating.specs.InTurn.{InTurn, told}
 use Rattle.operating.specs.Runs.{position_now}
-use Rattle.operating.specs.Turn.{AskedLeads, BlockEnds, IsCompanyTurn, OrderLeads, begun, is_held, settled}
+use Rattle.operating.specs.Turn.{AskedLeads, BlockEnds, IsCompanyTurn, OrderLeads, begun, is_held, withheld_if_unpaid}
 use Rattle.forced_purchase.specs.declared.operator.Operator.{Operator}
 use Rattle.order_grammar.specs.declared.fault.Fault.{Fault}
 use Rattle.order_grammar.specs.declared.order.Order.{Order}
@@ -92,7 +92,7 @@ BlockCalls file round company (Some seat) =
 -- that of what follows the block in the turn of a company
 abbrev pub EndCalls : List ℕ → Round → Company → Option Seat → Course InTurn Game RunnerFault
 EndCalls file round company president =
-    Unasked Memory (λ last new. BlockEnds file round company (settled company last).game president new)
+    Unasked Memory (λ last new. BlockEnds file round company (withheld_if_unpaid company last).game president new)
 
 -- that of a turn once its home token lies
 abbrev pub BegunCalls : List ℕ → Round → Company → Option Seat → Course InTurn Game RunnerFault
@@ -112,8 +112,8 @@ led_to turn (Err fault) = Err fault
 
 -- the calls of a turn that was broken off are a prefix of all its calls: one that was not answered is for this company
 -- in this round
-abbrev pub IsTurnFront : Round → Company → RunnerFault → List Call → List Call → Type 0
-IsTurnFront round company =
+abbrev pub IsTurnPrefix : Round → Company → RunnerFault → List Call → List Call → Type 0
+IsTurnPrefix round company =
     IsPrefix Memory (λ fault why call. (fault ≡ why) × (call.round ≡ round) × (call.company ≡ company))
 
 -- a turn makes one list of calls, and leads to one game
@@ -135,4 +135,4 @@ RefusedTurnCallsAreAPrefix =
     (file : List ℕ) (round : Round) (company : Company) (old new : Game) (fault : RunnerFault)
     (refused whole : List Call) →
     TurnCalls file round company old (Err fault) refused → TurnCalls file round company old (Ok new) whole →
-    IsTurnFront round company fault refused whole
+    IsTurnPrefix round company fault refused whole

@@ -26,7 +26,7 @@ impl CompanyTurn {
         ensures turn { OnOk result (EndLeads self.old.by orders.old.before self.old.history
             self.new.history) }
         ensures sound { OnOk result (IsSound self.new.history) }
-        ensures front { OnOk result (IsPrefix self.new.board.value self.old.history.events) }
+        ensures prefix { OnOk result (IsPrefix self.new.board.value self.old.history.events) }
     {
         let due = is_due(&mut *self.board, &self.history, self.by.company)?;
         if due {
@@ -42,7 +42,7 @@ impl CompanyTurn {
 fn is_due(board: &mut Board, history: &History, company: Company) -> Result<bool, AllocError>
     requires { IsPrefix board.old history.now.events }
     ensures due { IfOk result (λ due. IsTrue due ↔ IsDue history.now company) }
-    ensures front { OnOk result (IsPrefix board.new history.now.events) }
+    ensures prefix { OnOk result (IsPrefix board.new history.now.events) }
 {
     if has_trains(&history.now(), company) {
         return Ok(false);

@@ -52,7 +52,7 @@ pub fn company_turn_ends()
 pub fn one_list_of_turn_calls()
     ensures one { OneListOfTurnCalls }
     ensures some { SomeTurnCalls }
-    ensures front { RefusedTurnCallsAreAPrefix }
+    ensures prefix { RefusedTurnCallsAreAPrefix }
 {
     map_tables::laws::neighbours_pair();
     map_tables::laws::printed_links_are_in_order();

@@ -82,7 +82,7 @@ pub fn play_on<R: Runner>(
     let mut orders = sheets.block(president, &round, company);
     let mut raises = orders.duplicate();
     turn.rule_lines(&mut orders, runner)?;
-    turn.settle()?;
+    turn.withhold_if_unpaid()?;
     turn.end(&mut raises)?;
     Ok(Table {
         history: turn.history,

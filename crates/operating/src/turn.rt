@@ -161,7 +161,7 @@ impl CompanyTurn {
             Order::Pay => self.rule_pay(line, order),
             Order::Withhold => self.rule_withhold(line, order),
             Order::BuyTrain { kind, from } => {
-                self.settle()?;
+                self.withhold_if_unpaid()?;
                 self.rule_train(line, *kind, *from)?;
                 Ok(())
             }

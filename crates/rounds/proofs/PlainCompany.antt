@@ -24,7 +24,7 @@ use Rattle.map_tables.specs.declared.lay.Lay.{Lay}
 use Rattle.map_tables.specs.declared.place.Place.{Place}
 use Rattle.market.specs.Moves.{square_left_of, right_of}
 use Rattle.market.specs.Token.{with_move}
-use Rattle.forced_purchase.proofs.ForcedBuying.{cheapest_plain}
+use Rattle.forced_purchase.proofs.Cheapest.{cheapest_plain}
 use Rattle.operating.proofs.ForcedGames.{operator}
 use Rattle.purchases.proofs.TrainSteps.{IsPassedOn, OfClosings, of_bop, of_choice, of_iterate, of_next, of_phase}
 use Rattle.purchases.proofs.TrainSteps.{of_trade, of_train_owner}
@@ -42,7 +42,7 @@ use Rattle.purchases.specs.Privates.{private_bought, private_judgement, sold_by}
 use Rattle.operating.specs.Runs.{after_run, judged_run, run_ruled}
 use Rattle.purchases.specs.Trains.{cost_of, purchase_of, train_judgement}
 use Rattle.operating.specs.Turn.{AskedLeads, BlockEnds, BlockLeads, IsCompanyTurn, LayLeads, LinesLead, OrderLeads}
-use Rattle.operating.specs.Turn.{ReadingLeads, TokenLeads, begun, is_held, lay_answered, settled, token_answered}
+use Rattle.operating.specs.Turn.{ReadingLeads, TokenLeads, begun, is_held, lay_answered, withheld_if_unpaid, token_answered}
 use Rattle.order_grammar.specs.declared.condition.Condition.{Condition}
 use Rattle.order_grammar.specs.declared.fault.Fault.{Fault}
 use Rattle.order_grammar.specs.declared.fault.Fault.TheVariants.{OutOfPlace}
@@ -117,7 +117,7 @@ module _ (company : Company) where
       let paid : Game = broken_recorded (with_event game its) in
       on.both game paid (withheld game company amount) (by_payment game its refl) (by_move square_left_of paid company)
 
-  by_settled : (turn : InTurn) → TurnAdds turn (settled company turn)
+  by_settled : (turn : InTurn) → TurnAdds turn (withheld_if_unpaid company turn)
   by_settled turn =
       let kept : Game = withheld turn.game company turn.progress.runs.revenue in
       elim (is_unpaid turn.progress) as (λ (b : Bool). TurnAdds turn
@@ -290,7 +290,7 @@ module _ (company : Company) (seat : Seat) (line : Numbered) (plain : IsPlain li
       (by_ruled turn order.Withhold (option_map refusal.Pay (withhold_judgement turn.progress)) act
       (λ after. by_withheld company after.game revenue))
   by_order turn (order.BuyTrain kind from) new leads =
-      let paid : InTurn = settled company turn in
+      let paid : InTurn = withheld_if_unpaid company turn in
       let purchase = purchase_of kind from in
       let rule : Option Refusal = option_map refusal.Train (train_judgement paid.game company purchase) in
       let act : InTurn → InTurn = λ after. in_turn (after_train after.game company purchase) after.progress in
@@ -458,7 +458,7 @@ module _ (file : List ℕ) (round : Round) (sheets : SheetsArePlain file round) 
   pub by_company_turn : (old new : Game) → IsCompanyTurn file round company old new → AddsPlainly old new
   by_company_turn old new turn =
       let home : Game = (begun old company).game in
-      let paid : Game = (settled company turn.last).game in
+      let paid : Game = (withheld_if_unpaid company turn.last).game in
       let president : Option Seat = president_of old.events company in
       on.both old home new (by_home company old)
       (on.both home turn.last.game new (by_block (begun old company) president turn.last turn.block)

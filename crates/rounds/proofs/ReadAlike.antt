@@ -12,7 +12,7 @@ use Rattle.history.specs.Record.{revenues_recorded, with_left}
 use Rattle.operating.specs.InTurn.{InTurn}
 use Rattle.purchases.specs.Standing as rules
 use Rattle.operating.specs.Ending.{EndLeads}
-use Rattle.operating.specs.Turn.{BlockEnds, BlockLeads, IsCompanyTurn, LinesLead, begun, settled}
+use Rattle.operating.specs.Turn.{BlockEnds, BlockLeads, IsCompanyTurn, LinesLead, begun, withheld_if_unpaid}
 use Rattle.privates.specs.Opening.{IsOpeningRound, written_turns_for, in_play, opened}
 use Rattle.privates.specs.Standing as opening
 use Rattle.privates.specs.Turn.{opening_turns}
@@ -127,7 +127,7 @@ module _ (first second : List ℕ) where
         last = turn.last;
         block = same_block round company (begun old company) turn.last (president_of old.events company) same
             turn.block;
-        after = same_end round company (settled company turn.last).game new (president_of old.events company) same
+        after = same_end round company (withheld_if_unpaid company turn.last).game new (president_of old.events company) same
             turn.after;
       }
 

@@ -1,6 +1,6 @@
 -- The president pays what the company lacks, which he has.
 use Rattle.std.proofs.Common.{sym, ◌∙◌, arith}
-use Rattle.forced_purchase.proofs.ForcedAid.{aid_keeps_sound, aid_recorded, no_aid}
+use Rattle.forced_purchase.proofs.Aid.{aid_keeps_sound, aid_recorded, no_aid}
 use Rattle.forced_purchase.proofs.forced.aid.Goals as goal
 
 pub append-requires : goal.append-requires

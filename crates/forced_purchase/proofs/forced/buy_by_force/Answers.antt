@@ -1,8 +1,8 @@
 -- Money is raised while the company still has no train.
 use Rattle.std.proofs.Common.{◌≤◌, ◌<◌, ◌∙◌, ap, sym, subst}
 use Rattle.totals.specs.LookBack.{Game}
-use Rattle.forced_purchase.proofs.ForcedLemmas.{still_none}
-use Rattle.forced_purchase.proofs.ForcedSteps.{forced_then}
+use Rattle.forced_purchase.proofs.TrainCounts.{still_none}
+use Rattle.forced_purchase.proofs.Steps.{forced_then}
 use Rattle.forced_purchase.proofs.forced.buy_by_force.Goals as goal
 
 pub rule_raises-requires-clause-few : goal.rule_raises-requires-clause-few

@@ -1,8 +1,8 @@
 -- The company buys, once its president has paid what it lacks, or he is bankrupt.
 use Rattle.std.proofs.Common.{◌≡◌, None, ap, sym, subst, ◌∙◌}
 use Rattle.totals.specs.LookBack.{Game}
-use Rattle.forced_purchase.proofs.ForcedBuying.{forced_allowed}
-use Rattle.forced_purchase.proofs.ForcedSteps.{bankrupt_then, bought_then}
+use Rattle.forced_purchase.proofs.Cheapest.{forced_allowed}
+use Rattle.forced_purchase.proofs.Steps.{bankrupt_then, bought_then}
 use Rattle.forced_purchase.specs.Forced.{cheapest}
 use Rattle.purchases.specs.Trains.{train_judgement}
 use Rattle.purchases.specs.declared.purchase.Purchase.{Purchase}

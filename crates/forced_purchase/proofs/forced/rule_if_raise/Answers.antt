@@ -1,5 +1,5 @@
 use Rattle.std.proofs.Common.{◌≡◌, false, sym, ◌∙◌}
-use Rattle.forced_purchase.proofs.Raises.{no_raise}
+use Rattle.forced_purchase.proofs.RaiseLemmas.{no_raise}
 use Rattle.forced_purchase.specs.Forced.{may_spell_raise}
 use Rattle.sheets.specs.Part.{line_unread}
 use Rattle.forced_purchase.proofs.forced.rule_if_raise.Goals as goal

@@ -5,7 +5,7 @@ use Rattle.events.specs.declared.event.Event.TheVariants as event
 use Rattle.totals.specs.LookBack.{Game}
 use Rattle.order_grammar.specs.declared.condition.Condition.{Condition}
 use Rattle.order_grammar.specs.declared.order.Order.TheVariants.{Raise}
-use Rattle.forced_purchase.proofs.ForcedSteps.{nothing, raise_obeyed, raised}
+use Rattle.forced_purchase.proofs.Steps.{nothing, raise_obeyed, raised}
 use Rattle.purchases.proofs.Told.{told_obeyed}
 use Rattle.forced_purchase.specs.Forced.{raise_rule}
 use Rattle.sheets.specs.Part.{line_with}

@@ -1,6 +1,6 @@
 -- The president sells one share more where he falls short.
 use Rattle.std.proofs.Common.{sym, ◌∙◌}
-use Rattle.forced_purchase.proofs.ForcedSteps.{not_sold, sold_then}
+use Rattle.forced_purchase.proofs.Steps.{not_sold, sold_then}
 use Rattle.forced_purchase.proofs.forced.sell_further.Goals as goal
 
 pub returns-then-falls_short-clause-after : goal.returns-then-falls_short-clause-after

@@ -1,6 +1,6 @@
 -- The president sells a share of the first company of which he may.
 use Rattle.std.proofs.Common.{◌≡◌, None, sym, ◌∙◌}
-use Rattle.forced_purchase.proofs.ForcedSteps.{may_sell_share, none_sold, one_sold}
+use Rattle.forced_purchase.proofs.Steps.{may_sell_share, none_sold, one_sold}
 use Rattle.forced_purchase.proofs.forced.sell_next.Goals as goal
 
 pub sell_block-requires-clause-may : goal.sell_block-requires-clause-may

@@ -12,7 +12,7 @@ use Rattle.operating.proofs.Begun.{HasBegun, block_called, block_led, end_led, s
 use Rattle.operating.proofs.Blocks.{block_small}
 use Rattle.operating.proofs.Going.{after_settling}
 use Rattle.operating.proofs.Played.{paid_seats, president_there, seats_stay, turn_of_parts}
-use Rattle.operating.proofs.Tables.{end_front, home_front}
+use Rattle.operating.proofs.Tables.{end_prefix, home_prefix}
 use Rattle.operating.proofs.TurnCalled.{end_calls, turn_broken_off, turn_calls}
 use Rattle.operating.specs.Calls.{Makes}
 use Rattle.operating.specs.CompanyTurn.{state}
@@ -35,11 +35,11 @@ pub rule_lines-requires-clause-order : goal.rule_lines-requires-clause-order
 rule_lines-requires-clause-order g c =
     record {
       sound = subst IsSound (sym c.begin-turn.ensures.history) c.in_ok-place_home.ensures.sound;
-      front = subst (λ (board : Box MapState Global). IsPrefix board.value c.begin-turn.result.history.events)
+      prefix = subst (λ (board : Box MapState Global). IsPrefix board.value c.begin-turn.result.history.events)
           (sym c.begin-turn.ensures.board)
           (subst (λ (game : Game). IsPrefix c.args.table.board.value game.events) (sym c.begin-turn.ensures.history)
-          (home_front c.args.table.board.value c.args.table.history c.place_home.new.history c.args.company
-          c.in_ok-place_home.ensures.event c.requires.laid.front));
+          (home_prefix c.args.table.board.value c.args.table.history c.place_home.new.history c.args.company
+          c.in_ok-place_home.ensures.event c.requires.laid.prefix));
     }
 
 pub end-requires-clause-few : goal.end-requires-clause-few
@@ -66,9 +66,9 @@ end-requires-clause-few g c =
     (subst (λ (lines : List Numbered). LinesLead turn.by (state turn) lines (state c.rule_lines.new.self)) (sym same)
     c.in_ok-rule_lines.ensures.turn) in
     let settled = settled_led file c.args.round c.args.company c.in-Some.president first turn raises begun
-    c.rule_lines.new.self c.settle.new.self c.in_ok-rule_lines.ensures.by c.in_ok-settle.ensures.turn in
+    c.rule_lines.new.self c.withhold_if_unpaid.new.self c.in_ok-rule_lines.ensures.by c.in_ok-withhold_if_unpaid.ensures.turn in
     let seats = paid_seats file c.args.round c.args.company c.args.table.history first c.rule_lines.new.self.history
-    c.settle.new.self.history c.rule_lines.new.self.progress c.settle.new.self.progress (Some c.in-Some.president)
+    c.withhold_if_unpaid.new.self.history c.rule_lines.new.self.progress c.withhold_if_unpaid.new.self.progress (Some c.in-Some.president)
     c.in_ok-place_home.ensures.event block settled in
     let few : c.args.table.history.seats ≤ 6 = omega arith in
     subst (λ (n : ℕ). n ≤ 6) (sym seats) few
@@ -97,21 +97,21 @@ end-requires-clause-at_table g c =
     (subst (λ (lines : List Numbered). LinesLead turn.by (state turn) lines (state c.rule_lines.new.self)) (sym same)
     c.in_ok-rule_lines.ensures.turn) in
     let settled = settled_led file c.args.round c.args.company c.in-Some.president first turn raises begun
-    c.rule_lines.new.self c.settle.new.self c.in_ok-rule_lines.ensures.by c.in_ok-settle.ensures.turn in
+    c.rule_lines.new.self c.withhold_if_unpaid.new.self c.in_ok-rule_lines.ensures.by c.in_ok-withhold_if_unpaid.ensures.turn in
     let seats = paid_seats file c.args.round c.args.company c.args.table.history first c.rule_lines.new.self.history
-    c.settle.new.self.history c.rule_lines.new.self.progress c.settle.new.self.progress (Some c.in-Some.president)
+    c.withhold_if_unpaid.new.self.history c.rule_lines.new.self.progress c.withhold_if_unpaid.new.self.progress (Some c.in-Some.president)
     c.in_ok-place_home.ensures.event block settled in
     let president : Some c.in-Some.president ≡ president_of c.args.table.history.events c.args.company =
     sym c.in-Some.is ∙ c.president-president.ensures
     ∙ ap (λ events. president_of events c.args.company) c.now.ensures.events in
-    let there = president_there c.args.table.history c.settle.new.self.history c.args.company
+    let there = president_there c.args.table.history c.withhold_if_unpaid.new.self.history c.args.company
     (Some c.in-Some.president) c.requires.laid.sound c.requires.floated president seats in
-    subst (λ (by : Operator). by.president.0 < c.settle.new.self.history.seats)
-    (sym (c.in_ok-settle.ensures.order.by ∙ c.in_ok-rule_lines.ensures.by ∙ c.begin-turn.ensures.by)) there
+    subst (λ (by : Operator). by.president.0 < c.withhold_if_unpaid.new.self.history.seats)
+    (sym (c.in_ok-withhold_if_unpaid.ensures.order.by ∙ c.in_ok-rule_lines.ensures.by ∙ c.begin-turn.ensures.by)) there
 
 pub end-requires-clause-order : goal.end-requires-clause-order
 end-requires-clause-order g c =
-    after_settling c.rule_lines.new.self c.settle.new.self c.in_ok-settle.ensures.turn c.in_ok-settle.ensures.order
+    after_settling c.rule_lines.new.self c.withhold_if_unpaid.new.self c.in_ok-withhold_if_unpaid.ensures.turn c.in_ok-withhold_if_unpaid.ensures.order
 
 pub returns-clause-turn : goal.returns-clause-turn
 returns-clause-turn g c =
@@ -137,15 +137,15 @@ returns-clause-turn g c =
     (subst (λ (lines : List Numbered). LinesLead turn.by (state turn) lines (state c.rule_lines.new.self)) (sym same)
     c.in_ok-rule_lines.ensures.turn) in
     let settled = settled_led file c.args.round c.args.company c.in-Some.president first turn raises begun
-    c.rule_lines.new.self c.settle.new.self c.in_ok-rule_lines.ensures.by c.in_ok-settle.ensures.turn in
+    c.rule_lines.new.self c.withhold_if_unpaid.new.self c.in_ok-rule_lines.ensures.by c.in_ok-withhold_if_unpaid.ensures.turn in
     let president : Some c.in-Some.president ≡ president_of c.args.table.history.events c.args.company =
     sym c.in-Some.is ∙ c.president-president.ensures
     ∙ ap (λ events. president_of events c.args.company) c.now.ensures.events in
-    let ended = end_led file c.args.round c.args.company c.in-Some.president first turn raises begun c.settle.new.self
-    raises c.end.new.self.history (c.in_ok-settle.ensures.order.by ∙ c.in_ok-rule_lines.ensures.by) refl
+    let ended = end_led file c.args.round c.args.company c.in-Some.president first turn raises begun c.withhold_if_unpaid.new.self
+    raises c.end.new.self.history (c.in_ok-withhold_if_unpaid.ensures.order.by ∙ c.in_ok-rule_lines.ensures.by) refl
     c.in_ok-end.ensures.turn in
     turn_of_parts file c.args.round c.args.company c.args.table.history first c.rule_lines.new.self.history
-    c.settle.new.self.history c.end.new.self.history c.rule_lines.new.self.progress c.settle.new.self.progress
+    c.withhold_if_unpaid.new.self.history c.end.new.self.history c.rule_lines.new.self.progress c.withhold_if_unpaid.new.self.progress
     (Some c.in-Some.president) president c.in_ok-place_home.ensures.event block settled ended
 
 pub returns-clause-seats : goal.returns-clause-seats
@@ -182,24 +182,24 @@ returns-clause-calls g c =
     (LinesCall turn.by turn.round lines (state turn) (Ok (state c.rule_lines.new.self))) c.rule_lines.new.runner)
     (sym same) c.in_ok-rule_lines.ensures.calls) in
     let settled = settled_led file c.args.round c.args.company c.in-Some.president first turn raises begun
-    c.rule_lines.new.self c.settle.new.self c.in_ok-rule_lines.ensures.by c.in_ok-settle.ensures.turn in
+    c.rule_lines.new.self c.withhold_if_unpaid.new.self c.in_ok-rule_lines.ensures.by c.in_ok-withhold_if_unpaid.ensures.turn in
     let president : Some c.in-Some.president ≡ president_of c.args.table.history.events c.args.company =
     sym c.in-Some.is ∙ c.president-president.ensures
     ∙ ap (λ events. president_of events c.args.company) c.now.ensures.events in
-    let ended = end_led file c.args.round c.args.company c.in-Some.president first turn raises begun c.settle.new.self
-    raises c.end.new.self.history (c.in_ok-settle.ensures.order.by ∙ c.in_ok-rule_lines.ensures.by) refl
+    let ended = end_led file c.args.round c.args.company c.in-Some.president first turn raises begun c.withhold_if_unpaid.new.self
+    raises c.end.new.self.history (c.in_ok-withhold_if_unpaid.ensures.order.by ∙ c.in_ok-rule_lines.ensures.by) refl
     c.in_ok-end.ensures.turn in
     turn_calls g.R.Runner.earns file c.args.round c.args.company c.args.table.history first
     c.rule_lines.new.self.history c.rule_lines.new.self.progress (Some c.in-Some.president) _ c.args.runner.now
     c.rule_lines.new.runner president c.in_ok-place_home.ensures.event called
     (end_calls g.R.Runner.earns file c.args.round c.args.company c.rule_lines.new.self.history
-    c.settle.new.self.history c.end.new.self.history c.rule_lines.new.self.progress c.settle.new.self.progress
+    c.withhold_if_unpaid.new.self.history c.end.new.self.history c.rule_lines.new.self.progress c.withhold_if_unpaid.new.self.progress
     (Some c.in-Some.president) c.rule_lines.new.runner settled ended)
 
-pub returns-in_err-settle-clause-calls : goal.returns-in_err-settle-clause-calls
-returns-in_err-settle-clause-calls g c =
-    let told = err_from_is_err_and c.from_residual-in_err-settle.result c.from_residual-in_err-settle.ensures.1 in
-    let is : c.from_residual-in_err-settle.result ≡ Err Memory = told.1 ∙ ap Err told.2 in
+pub returns-in_err-withhold_if_unpaid-clause-calls : goal.returns-in_err-withhold_if_unpaid-clause-calls
+returns-in_err-withhold_if_unpaid-clause-calls g c =
+    let told = err_from_is_err_and c.from_residual-in_err-withhold_if_unpaid.result c.from_residual-in_err-withhold_if_unpaid.ensures.1 in
+    let is : c.from_residual-in_err-withhold_if_unpaid.result ≡ Err Memory = told.1 ∙ ap Err told.2 in
     let file = c.args.sheets.now in
     let first = c.place_home.new.history in
     let turn = c.begin-turn.result in
@@ -333,11 +333,11 @@ returns-clause-laid g c =
           ap (λ (parts : Parts). parts.before) c.duplicate-raises.ensures ∙ c.block-orders.ensures;
     }
     in
-    let ended = end_led file c.args.round c.args.company c.in-Some.president first turn raises begun c.settle.new.self
-    raises c.end.new.self.history (c.in_ok-settle.ensures.order.by ∙ c.in_ok-rule_lines.ensures.by) refl
+    let ended = end_led file c.args.round c.args.company c.in-Some.president first turn raises begun c.withhold_if_unpaid.new.self
+    raises c.end.new.self.history (c.in_ok-withhold_if_unpaid.ensures.order.by ∙ c.in_ok-rule_lines.ensures.by) refl
     c.in_ok-end.ensures.turn in
     record {
       sound = c.in_ok-end.ensures.sound;
-      front = end_front file c.args.round c.args.company c.end.new.self.board.value c.settle.new.self.history
-          c.end.new.self.history (Some c.in-Some.president) ended c.in_ok-end.ensures.front;
+      prefix = end_prefix file c.args.round c.args.company c.end.new.self.board.value c.withhold_if_unpaid.new.self.history
+          c.end.new.self.history (Some c.in-Some.president) ended c.in_ok-end.ensures.prefix;
     }

@@ -13,7 +13,7 @@ use Rattle.totals.specs.Bids.{free_cash_of}
 use Rattle.totals.specs.LookBack.{Game, cash_of, with_event}
 use Rattle.history.specs.Sound.{IsSound}
 use Rattle.totals.specs.Trains.{at_least_zero}
-use Rattle.forced_purchase.proofs.ForcedBuying.{cheapest_low, company_itself, less_is, not_less_is}
+use Rattle.forced_purchase.proofs.Cheapest.{cheapest_low, company_itself, less_is, not_less_is}
 use Rattle.forced_purchase.specs.Forced.{cheapest, falls_short, lack_of, with_aid}
 use Rattle.forced_purchase.specs.ForcedLaws.{AidIsWhatLacks, NoAidWithoutLack}
 use Rattle.purchases.specs.Trains.{cost_of}

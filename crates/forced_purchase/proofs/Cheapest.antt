@@ -27,7 +27,7 @@ use Rattle.purchases.specs.Trains.{is_left, is_on_sale, is_too_dear, numbered_ki
 use Rattle.purchases.specs.Trains.{train_judgement}
 use Rattle.forced_purchase.specs.declared.operator.Operator.{Operator}
 use Rattle.purchases.specs.declared.purchase.Purchase.{Purchase}
-use Rattle.forced_purchase.proofs.ForcedLemmas.{size_before}
+use Rattle.forced_purchase.proofs.TrainCounts.{size_before}
 use Rattle.tables.specs.Roster.{same_company}
 use Rattle.tables.specs.Rules.{first_broken}
 use Rattle.tables.specs.Train.{limit_of, same_kind, trains_of}
