@@ -1,5 +1,5 @@
--- A company that is made to buy has a train then: what rusts by its purchase is of another kind, and it has none too many
--- to be discarded.
+-- A company that is made to buy has a train then: what rusts by its purchase is of another kind, and it has none too
+-- many to be discarded.
 use Rattle.std.proofs.Common.{◌≡◌, inl, inr, ℕ, zero, suc, ◌≤◌, Bool, true, false, ◌&&◌, if◌then◌else◌}
 use Rattle.std.proofs.Common.{Option, Some, None, ℤ, pos, negsuc, ◌≤ℤ◌, ◌-ℤ◌, refl, sym, ap, subst}
 use Rattle.std.proofs.Common.{◌∙◌, arith}

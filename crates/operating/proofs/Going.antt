@@ -27,8 +27,8 @@ after_line old new line reading leads on =
     }
 
 -- and after what the company withholds by itself
-pub after_settling : (old new : CompanyTurn) → state new ≡ withheld_if_unpaid old.by.company (state old) → GoesOn old new
-    → IsInOrder new
+pub after_settling : (old new : CompanyTurn) → state new ≡ withheld_if_unpaid old.by.company (state old)
+    → GoesOn old new → IsInOrder new
 after_settling old new is on =
     record {
       sound = on.sound;

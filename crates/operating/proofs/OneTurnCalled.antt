@@ -165,8 +165,8 @@ module _ (all : AllLawful) (file : List ℕ) (round : Round) (company : Company)
       (block_called_once president)
       (unasked_agrees Memory (TellsOf round company)
       (λ last new. BlockEnds file round company (withheld_if_unpaid company last).game president new)
-      (λ from a b first second. block_end_once all file round company (withheld_if_unpaid company from).game president a b
-      first second))
+      (λ from a b first second. block_end_once all file round company (withheld_if_unpaid company from).game president
+      a b first second))
 
   -- and a whole turn
   turn_called_once : IsOne round company (TurnCalls file round company)

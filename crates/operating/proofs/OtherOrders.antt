@@ -13,7 +13,8 @@ use Rattle.operating.specs.Act.{withheld}
 use Rattle.operating.specs.Dividend.{paid_out, pay_judgement, pay_ruled, withhold_judgement}
 use Rattle.operating.specs.InTurn.{InTurn, in_turn, is_unpaid, pay_done}
 use Rattle.purchases.specs.Privates.{private_judgement}
-use Rattle.operating.specs.Turn.{OrderLeads, lay_answered, private_ruled, withheld_if_unpaid, token_answered, train_ruled}
+use Rattle.operating.specs.Turn.{OrderLeads, lay_answered, private_ruled, withheld_if_unpaid, token_answered}
+use Rattle.operating.specs.Turn.{train_ruled}
 use Rattle.purchases.specs.Trains.{purchase_of, train_judgement}
 use Rattle.forced_purchase.specs.declared.operator.Operator.{Operator}
 use Rattle.purchases.specs.declared.purchase.Purchase.{Purchase}

@@ -90,7 +90,8 @@ longer prefix all more begins =
     record { rest = begins.rest ++ more; is = ap (λ xs. xs ++ more) begins.is ∙ append_assoc prefix begins.rest more }
 
 -- a prefix stays one when events are added
-pub prefix_on : (laid : MapState) (old new : Game) → OnlyAdds old new → IsPrefix laid old.events → IsPrefix laid new.events
+pub prefix_on : (laid : MapState) (old new : Game) → OnlyAdds old new → IsPrefix laid old.events
+    → IsPrefix laid new.events
 prefix_on laid old new adds prefix =
     subst (λ (game : Game). IsPrefix laid game.events) (sym adds.added)
     (record {

@@ -120,7 +120,8 @@ OrderLeads by turn line (order.Run kind run) new = new ≡ after_run by turn lin
 OrderLeads by turn line order.RunBest new = BestLeads by turn line new
 OrderLeads by turn line order.Pay new = new ≡ after_pay by turn line order.Pay
 OrderLeads by turn line order.Withhold new = new ≡ after_withhold by turn line order.Withhold
-OrderLeads by turn line (order.BuyTrain kind from) new = new ≡ after_buying by (withheld_if_unpaid by.company turn) line kind from
+OrderLeads by turn line (order.BuyTrain kind from) new =
+    new ≡ after_buying by (withheld_if_unpaid by.company turn) line kind from
 OrderLeads by turn line (order.BuyOwnedPrivate private price) new = new ≡ after_private by turn line private price
 OrderLeads by turn line (order.Raise company shares) new = new ≡ turn
 OrderLeads by turn line other new = new ≡ told by turn line (Faulty OutOfPlace)
@@ -171,6 +172,12 @@ abbrev pub BlockEnds : List ℕ → Round → Company → Game → Option Seat �
 BlockEnds file round company game None new = new ≡ game
 BlockEnds file round company game (Some seat) new =
     EndLeads (record { company = company; president = seat }) (block_for file round seat.0 company) game new
+
+-- the orders of a company, these lines of its block, lead to new: line by line, then by what it withholds by itself,
+-- and by the end of its turn
+abbrev pub OrdersLead : Operator → List Numbered → InTurn → Game → Type 0
+OrdersLead by lines turn new =
+    (last : InTurn) × LinesLead by turn lines last × EndLeads by lines (withheld_if_unpaid by.company last).game new
 
 -- the turn once its home token lies
 abbrev pub begun : Game → Company → InTurn

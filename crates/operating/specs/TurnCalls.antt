@@ -13,6 +13,7 @@ use Rattle.totals.specs.Shares.{president_of}
 use Rattle.map_tables.specs.declared.rules.RunRule.{RunRule}
 use Rattle.operating.specs.Best.{BestRuled, best_earned, best_judgement, trains_now}
 use Rattle.operating.specs.Calls.{Call, Course, IsPrefix, Then, Unasked}
+use Rattle.operating.specs.Ending.{EndLeads}
 use Rattle.operating.specs.InTurn.{InTurn, told}
 use Rattle.operating.specs.Runs.{position_now}
 use Rattle.operating.specs.Turn.{AskedLeads, BlockEnds, IsCompanyTurn, OrderLeads, begun, is_held, withheld_if_unpaid}
@@ -105,10 +106,16 @@ TurnCalls file round company old =
     Then (Unasked Memory (λ game turn. turn ≡ begun game company))
     (BegunCalls file round company (president_of old.events company)) old
 
+-- that of the orders of a company, these lines of its block
+abbrev pub OrdersCall : Operator → Round → List Numbered → Course InTurn Game RunnerFault
+OrdersCall by round lines =
+    Then (LinesCall by round lines)
+    (Unasked Memory (λ last new. EndLeads by lines (withheld_if_unpaid by.company last).game new))
+
 -- where a turn has led that has come so far, if it was not broken off
-abbrev pub led_to : InTurn → Result (Unit {0}) RunnerFault → Result InTurn RunnerFault
-led_to turn (Ok done) = Ok turn
-led_to turn (Err fault) = Err fault
+abbrev pub led_to : {A : Type 0} → A → Result (Unit {0}) RunnerFault → Result A RunnerFault
+led_to to (Ok done) = Ok to
+led_to to (Err fault) = Err fault
 
 -- the calls of a turn that was broken off are a prefix of all its calls: one that was not answered is for this company
 -- in this round

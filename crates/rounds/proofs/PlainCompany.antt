@@ -42,7 +42,8 @@ use Rattle.purchases.specs.Privates.{private_bought, private_judgement, sold_by}
 use Rattle.operating.specs.Runs.{after_run, judged_run, run_ruled}
 use Rattle.purchases.specs.Trains.{cost_of, purchase_of, train_judgement}
 use Rattle.operating.specs.Turn.{AskedLeads, BlockEnds, BlockLeads, IsCompanyTurn, LayLeads, LinesLead, OrderLeads}
-use Rattle.operating.specs.Turn.{ReadingLeads, TokenLeads, begun, is_held, lay_answered, withheld_if_unpaid, token_answered}
+use Rattle.operating.specs.Turn.{ReadingLeads, TokenLeads, begun, is_held, lay_answered, withheld_if_unpaid}
+use Rattle.operating.specs.Turn.{token_answered}
 use Rattle.order_grammar.specs.declared.condition.Condition.{Condition}
 use Rattle.order_grammar.specs.declared.fault.Fault.{Fault}
 use Rattle.order_grammar.specs.declared.fault.Fault.TheVariants.{OutOfPlace}

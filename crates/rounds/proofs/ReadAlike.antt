@@ -127,8 +127,8 @@ module _ (first second : List ℕ) where
         last = turn.last;
         block = same_block round company (begun old company) turn.last (president_of old.events company) same
             turn.block;
-        after = same_end round company (withheld_if_unpaid company turn.last).game new (president_of old.events company) same
-            turn.after;
+        after = same_end round company (withheld_if_unpaid company turn.last).game new (president_of old.events company)
+            same turn.after;
       }
 
   -- so do companies one after another
