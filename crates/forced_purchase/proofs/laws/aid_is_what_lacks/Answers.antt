@@ -1,5 +1,5 @@
 use Rattle.forced_purchase.proofs.Aid.{aid_is_what_lacks, no_aid_without_lack}
-use Rattle.forced_purchase.proofs.forced_laws.aid_is_what_lacks.Goals as goal
+use Rattle.forced_purchase.proofs.laws.aid_is_what_lacks.Goals as goal
 
 pub returns-clause-lack : goal.returns-clause-lack
 returns-clause-lack c = aid_is_what_lacks

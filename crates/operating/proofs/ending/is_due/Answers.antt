@@ -4,7 +4,7 @@ use Rattle.board_state.specs.MapState.{MapState, position_of}
 use Rattle.legal_runs.specs.TwoTrain.{CanRun}
 use Rattle.events.specs.declared.event.Event.{Event}
 use Rattle.purchases.specs.Trains.{has_trains}
-use Rattle.operating.proofs.forced.is_due.Goals as goal
+use Rattle.operating.proofs.ending.is_due.Goals as goal
 
 pub returns-then-has_trains-clause-due : goal.returns-then-has_trains-clause-due
 returns-then-has_trains-clause-due c = (
