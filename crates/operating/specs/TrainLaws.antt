@@ -1,5 +1,5 @@
 -- Laws of trains in a company's turn: phases never go back, and the trains that are there stay as many until they rust.
-use Rattle.std.specs.Prelude.{ℕ, ◌≤◌}
+use Rattle.std.specs.Prelude.{ℕ, ◌≤◌, List}
 use Rattle.totals.specs.LookBack.{Game}
 use Rattle.totals.specs.Trains.{phase_of}
 use Rattle.operating.specs.Turn.{IsCompanyTurn}

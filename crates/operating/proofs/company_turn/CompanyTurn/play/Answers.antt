@@ -56,6 +56,7 @@ returns-clause-turn g c =
     )
 
 pub returns-clause-calls : goal.returns-clause-calls
+unfolding returns-clause-turn
 returns-clause-calls g c =
     let old = c.args.self.now in
     orders_called g.R.Runner.earns old.by old.round c.duplicate-lines.result.before c.args.orders.now.before
@@ -95,10 +96,10 @@ returns-in_err-end-clause-calls g c =
 
 pub returns-in_err-rule_lines-clause-calls : goal.returns-in_err-rule_lines-clause-calls
 returns-in_err-rule_lines-clause-calls g c =
-    let told = err_from_is_err_and c.from_residual-in_err-rule_lines.result
-    c.from_residual-in_err-rule_lines.ensures.1 in
+    let told = err_from_is_err_and c.from_residual.result
+    c.from_residual.ensures.1 in
     let fault : RunnerFault = c.in_err-rule_lines.field-0.0 in
-    let is : c.from_residual-in_err-rule_lines.result ≡ Err fault = told.1 ∙ ap Err told.2 in
+    let is : c.from_residual.result ≡ Err fault = told.1 ∙ ap Err told.2 in
     let old = c.args.self.now in
     subst (λ (met : Result _ RunnerFault). Makes g.R.Runner.earns c.args.runner.now
     (OrdersCall old.by old.round c.args.orders.now.before (state old) (led_to c.rule_lines.new.self.history met))
