@@ -1,13 +1,13 @@
 -- A board that has the first of what was laid before a company's turn, or before its end, has it still after that.
-use Rattle.std.proofs.Common.{◌≡◌, ℕ, List, refl, sym, subst}
+use Rattle.std.proofs.Common.{◌≡◌, List, refl, sym, subst}
 use Rattle.board_state.specs.MapState.{MapState}
 use Rattle.events.specs.declared.event.Event.TheVariants as event
 use Rattle.totals.specs.LookBack.{Game}
 use Rattle.operating.proofs.ForcedGames.{OfSales, of_end, of_sale}
 use Rattle.operating.proofs.Prefixes.{prefix_on}
-use Rattle.operating.proofs.TurnGames.{of_home, of_withheld}
+use Rattle.operating.proofs.TurnGames.{of_home}
 use Rattle.operating.proofs.TurnLaws.{adds_by, more_adds}
-use Rattle.operating.specs.Act.{with_home, withheld}
+use Rattle.operating.specs.Act.{with_home}
 use Rattle.operating.specs.MapState.{IsPrefix}
 use Rattle.operating.specs.Laws.{OnlyAdds}
 use Rattle.operating.specs.Ending.{EndLeads}
@@ -22,15 +22,6 @@ home_adds old first company is = subst (OnlyAdds old) (sym is) (of_home company 
 pub home_prefix : (laid : MapState) (old first : Game) (company : Company) → first ≡ with_home old company
     → IsPrefix laid old.events → IsPrefix laid first.events
 home_prefix laid old first company is prefix = prefix_on laid old first (home_adds old first company is) prefix
-
--- and once a company without a president has withheld
-pub idle_prefix : (laid : MapState) (old first new : Game) (company : Company) (amount : ℕ)
-    → first ≡ with_home old company → new ≡ withheld first company amount → IsPrefix laid old.events
-    → IsPrefix laid new.events
-idle_prefix laid old first new company amount is_first is_new prefix =
-    prefix_on laid first new (subst (OnlyAdds first) (sym is_new)
-    (of_withheld company OnlyAdds (adds_by company) first amount))
-    (home_prefix laid old first company is_first prefix)
 
 -- and after what a block brings at the end of the turn
 pub end_prefix : (by : Operator) (lines : List Numbered) (laid : MapState) (paid new : Game)

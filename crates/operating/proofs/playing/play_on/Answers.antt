@@ -1,5 +1,5 @@
 -- The home token and the orders of a company make its turn.
-use Rattle.std.proofs.Common.{◌≡◌, ℕ, ◌<◌, Some, Result, Ok, Err, refl, sym, ap, subst, ◌∙◌}
+use Rattle.std.proofs.Common.{◌≡◌, ◌<◌, Some, Result, Ok, Err, sym, ap, subst, ◌∙◌}
 use Rattle.std.specs.Prelude.{Box}
 use Rattle.std.specs.Global.{Global}
 use Rattle.std.proofs.lemmas.Result.{err_from_is_err_and}
@@ -12,7 +12,7 @@ use Rattle.forced_purchase.specs.declared.operator.Operator.{Operator}
 use Rattle.operating.proofs.Begun.{HasBegun, called, played}
 use Rattle.operating.proofs.Blocks.{block_small}
 use Rattle.operating.proofs.Played.{president_there, seats_stay}
-use Rattle.operating.proofs.Tables.{home_prefix, idle_prefix}
+use Rattle.operating.proofs.Tables.{home_prefix}
 use Rattle.operating.specs.Calls.{Makes}
 use Rattle.operating.specs.MapState.{IsPrefix}
 use Rattle.operating.specs.Table.{game_on}

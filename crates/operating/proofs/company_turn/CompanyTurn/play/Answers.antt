@@ -1,5 +1,5 @@
 -- The orders of a company lead where their lines do, then what it withholds by itself, and the end of its turn.
-use Rattle.std.proofs.Common.{◌≡◌, ℕ, ◌≤◌, ◌<◌, List, Ok, Err, Result, refl, ap, sym, subst, ◌∙◌}
+use Rattle.std.proofs.Common.{◌≡◌, ℕ, ◌≤◌, ◌<◌, Ok, Err, Result, refl, ap, sym, subst, ◌∙◌}
 use Rattle.std.proofs.lemmas.Result.{err_from_is_err_and}
 use Rattle.legal_runs.specs.declared.runner.RunnerFault.{RunnerFault}
 use Rattle.legal_runs.specs.declared.runner.RunnerFault.TheVariants.{Memory}
@@ -14,7 +14,7 @@ use Rattle.operating.specs.CompanyTurn.{state}
 use Rattle.operating.specs.InTurn.{InTurn}
 use Rattle.operating.specs.Turn.{LinesLead}
 use Rattle.operating.specs.TurnCalls.{OrdersCall, led_to}
-use Rattle.sheets.specs.Part.{Numbered, Parts}
+use Rattle.sheets.specs.Part.{Parts}
 use Rattle.turns.specs.Small.{AreSmall}
 use Rattle.operating.proofs.company_turn.CompanyTurn.play.Goals as goal
 
