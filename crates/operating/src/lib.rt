@@ -10,13 +10,12 @@
 //!
 //! What it buys is ruled by `purchases`, and the train that it must buy by `forced_purchase`.
 //!
-//! Reading order: `runs` (what its trains have done), `progress`
-//! (how far the turn has come), `company_turn` (all that lasts for the turn: the functions that rule
-//! a line are its methods), `table` (the game and its board between turns), `map_state` (what lies on the map), `asker` (the company as the rules of
-//! the board see it), `home`, `lay` and `token` (what orders do) with `cost`,
-//! `running`, `best`, `withholding`, `dividend`, `train`, `private` (that it buys), `turn`
-//! (the lines of a block), `ending`, `playing`, `laws` (what holds of every turn), `train_laws`, `tile_laws`,
-//! `private_laws`, `sale_laws`, `forced_laws`, `best_laws`.
+//! Reading order: `runs` (what its trains have done), `progress` (how far the turn has come), `company_turn` (all that
+//! lasts for the turn: the functions that rule a line are its methods), `table` (the game and its board between turns),
+//! `map_state` (what lies on the map), `asker` (the company as the rules of the board see it), `home`, `lay` and
+//! `token` (what orders do) with `cost`, `running`, `best`, `withholding`, `dividend`, `train`, `private` (that it
+//! buys), `turn` (the lines of a block), `ending` (what it must buy), `playing`, `laws` (what holds of every turn),
+//! `train_laws`, `tile_laws`, `private_laws`, `sale_laws`, `forced_laws`, `best_laws`.
 #![tactic(auto)]
 
 mod asker;
