@@ -13,7 +13,7 @@ use Rattle.events.specs.declared.event.Event.{Event}
 use Rattle.events.specs.declared.event.Event.TheVariants as event
 use Rattle.totals.specs.LookBack.{Game, broken_in}
 use Rattle.totals.specs.Trains.{phase_of}
-use Rattle.operating.proofs.Complete.{phase_kept}
+use Rattle.purchases.proofs.Complete.{phase_kept}
 use Rattle.privates.specs.Turn.{all_sold}
 use Rattle.rounds.proofs.Coming.{OfNext, after_operating, comes_once, follows, in_set_then, no_round, of_coming}
 use Rattle.rounds.proofs.Forward.{played_forward}

@@ -3,7 +3,7 @@
 use Rattle.std.specs.Prelude.{Bool, true, false, if◌then◌else◌, Result, Ok, Err}
 use Rattle.desk_check.specs.declared.check_early.Look.{Look}
 use Rattle.desk_check.specs.declared.check_early.Look.TheVariants.{Head, Good, Bad}
-use Rattle.operating.specs.Standing.{has_place_before as is_before_blocks}
+use Rattle.purchases.specs.Standing.{has_place_before as is_before_blocks}
 use Rattle.order_grammar.specs.declared.fault.Fault.{Fault}
 use Rattle.order_grammar.specs.declared.fault.Fault.TheVariants.{OutOfPlace}
 use Rattle.order_grammar.specs.declared.order.Order.{Order}

@@ -25,7 +25,7 @@ use Rattle.operating.specs.MapState.{map_state_now}
 use Rattle.operating.specs.Judgement.{asker_of}
 use Rattle.operating.specs.InTurn.{InTurn, in_turn, lay_done, token_done}
 use Rattle.operating.specs.Turn.{lay_answered, token_answered}
-use Rattle.operating.specs.declared.operator.Operator.{Operator}
+use Rattle.forced_purchase.specs.declared.operator.Operator.{Operator}
 use Rattle.operating.specs.declared.progress.Progress.{Progress}
 use Rattle.order_grammar.specs.declared.order.Order.{Order}
 use Rattle.order_grammar.specs.declared.order.Order.TheVariants as order

@@ -12,17 +12,19 @@ use Rattle.totals.specs.LookBack.{Game, bankrupt_in, with_event}
 use Rattle.totals.specs.Shares.{president_of}
 use Rattle.operating.proofs.ForcedGames.{OfSales, gained_none, gained_of, of_bought, of_gained, of_raises, of_sale}
 use Rattle.operating.proofs.ForcedGames.{operator}
-use Rattle.operating.proofs.ForcedLemmas.{size_before}
+use Rattle.forced_purchase.proofs.TrainCounts.{size_before}
 use Rattle.operating.proofs.Operated.{or_false}
 use Rattle.operating.proofs.Presidency.{president_stays}
-use Rattle.operating.proofs.TrainSteps.{IsPassedOn}
+use Rattle.purchases.proofs.TrainSteps.{IsPassedOn}
 use Rattle.operating.proofs.TurnEvents.{IsOfTurn}
 use Rattle.operating.proofs.TurnGames.{OfEvents, by_each, of_paid_turn}
-use Rattle.operating.specs.Forced.{EndLeads, after_forced, cheapest, concluded, falls_short, has_trains, with_aid}
+use Rattle.operating.specs.Ending.{EndLeads}
+use Rattle.forced_purchase.specs.Forced.{after_forced, cheapest, concluded, falls_short, with_aid}
+use Rattle.purchases.specs.Trains.{has_trains}
 use Rattle.operating.specs.ForcedLaws.{BankruptcyEndsTurns, EndsBankrupt}
-use Rattle.operating.specs.Phases.{after_train}
-use Rattle.operating.specs.Turn.{BlockEnds, settled}
-use Rattle.operating.specs.declared.operator.Operator.{Operator}
+use Rattle.purchases.specs.Phases.{after_train}
+use Rattle.operating.specs.Turn.{BlockEnds, withheld_if_unpaid}
+use Rattle.forced_purchase.specs.declared.operator.Operator.{Operator}
 use Rattle.sheets.specs.Block.{block_for}
 use Rattle.sheets.specs.Part.{Numbered}
 use Rattle.tables.specs.declared.roster.Company.{Company}
@@ -118,7 +120,7 @@ of_block file round company game new (Some seat) presides ends solvent bankrupt 
 -- and in each company's turn
 pub bankruptcy_ends : BankruptcyEndsTurns
 bankruptcy_ends file round company old new turn solvent bankrupt =
-    let paid : Game = (settled company turn.last).game in
+    let paid : Game = (withheld_if_unpaid company turn.last).game in
     of_block file round company paid new (president_of old.events company)
     (president_stays file round company old new turn) turn.after
     (of_paid_turn company Same (of_turn_events company) file round old new turn ∙ solvent) bankrupt

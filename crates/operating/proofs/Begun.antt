@@ -1,15 +1,18 @@
 -- A company's turn that has begun, as its own record says it and as the game does.
-use Rattle.std.proofs.Common.{◌≡◌, ℕ, List, Some, Result, subst, ap, ◌∙◌}
+use Rattle.std.proofs.Common.{◌≡◌, ℕ, List, Option, Some, Result, subst, ap, ◌∙◌}
 use Rattle.legal_runs.specs.declared.runner.RunnerFault.{RunnerFault}
 use Rattle.totals.specs.LookBack.{Game}
+use Rattle.totals.specs.Shares.{president_of}
+use Rattle.forced_purchase.specs.declared.operator.Operator.{Operator}
+use Rattle.operating.proofs.TurnCalled.{of_begun}
+use Rattle.operating.specs.Act.{with_home}
 use Rattle.operating.specs.Calls.{Earns, Makes}
 use Rattle.operating.specs.CompanyTurn.{state}
-use Rattle.operating.specs.Forced.{EndLeads}
+use Rattle.operating.specs.Ending.{EndLeads}
 use Rattle.operating.specs.InTurn.{InTurn, at_start, in_turn}
-use Rattle.operating.specs.Turn.{BlockEnds, BlockLeads, LinesLead, settled}
-use Rattle.operating.specs.TurnCalls.{BlockCalls, LinesCall}
+use Rattle.operating.specs.Turn.{BlockEnds, BlockLeads, IsCompanyTurn, OrdersLead, withheld_if_unpaid}
+use Rattle.operating.specs.TurnCalls.{OrdersCall, TurnCalls}
 use Rattle.operating.specs.declared.company_turn.CompanyTurn.{CompanyTurn}
-use Rattle.operating.specs.declared.operator.Operator.{Operator}
 use Rattle.operating.specs.declared.progress.Progress.{Progress}
 use Rattle.sheets.specs.Block.{block_for}
 use Rattle.sheets.specs.Part.{Numbered}
@@ -37,47 +40,58 @@ module _
         ap (λ (game : Game). in_turn game turn.progress) begun.is_game
         ∙ ap (λ (progress : Progress). in_turn first progress) begun.is_start
 
-    -- what its lines lead to is what the block does
-    pub block_led : (new : InTurn) → LinesLead turn.by (state turn) lines new
-        → BlockLeads file round company (in_turn first at_start) (Some seat) new
-    block_led new leads =
-        subst (λ (l : List Numbered). LinesLead (record { company = company; president = seat })
-        (in_turn first at_start) l new) begun.are_lines
-        (subst (λ (t : InTurn). LinesLead (record { company = company; president = seat }) t lines new) stands
-        (subst (λ (by : Operator). LinesLead by (state turn) lines new) begun.is_by leads))
+    -- what its orders lead to is what those of the block do
+    led : (new : Game) → OrdersLead turn.by lines (state turn) new
+        → OrdersLead (record { company = company; president = seat }) (block_for file round seat.0 company)
+        (in_turn first at_start) new
+    led new leads =
+        subst (λ (l : List Numbered). OrdersLead (record { company = company; president = seat }) l
+        (in_turn first at_start) new) begun.are_lines
+        (subst (λ (t : InTurn). OrdersLead (record { company = company; president = seat }) lines t new) stands
+        (subst (λ (by : Operator). OrdersLead by lines (state turn) new) begun.is_by leads))
 
-    -- and the calls of its lines are those of the block
-    pub block_called :
-        {Runner : Type 0} (earns : Earns Runner) (outcome : Result InTurn RunnerFault) (before after : Runner) →
-        Makes earns before (LinesCall turn.by turn.round lines (state turn) outcome) after →
-        Makes earns before (BlockCalls file round company (Some seat) (in_turn first at_start) outcome) after
-    block_called earns outcome before after made =
-        subst (λ (l : List Numbered). Makes earns before
-        (LinesCall (record { company = company; president = seat }) round l (in_turn first at_start) outcome)
+    -- so they make the turn
+    pub played : (old new : Game) → Some seat ≡ president_of old.events company → first ≡ with_home old company
+        → OrdersLead turn.by lines (state turn) new → IsCompanyTurn file round company old new
+    played old new presides is_first leads =
+        let all = led new leads in
+        record {
+          last = all.0;
+          block = subst (λ (game : Game). BlockLeads file round company (in_turn game at_start)
+              (president_of old.events company) all.0) is_first
+              (subst (λ (president : Option Seat). BlockLeads file round company (in_turn first at_start) president
+              all.0) presides all.1);
+          after = subst (λ (president : Option Seat). BlockEnds file round company
+              (withheld_if_unpaid company all.0).game president new) presides all.2;
+        }
+
+    -- and their calls are those of the turn
+    pub called :
+        {Runner : Type 0} (earns : Earns Runner) (old : Game) (outcome : Result Game RunnerFault)
+        (before after : Runner) →
+        Some seat ≡ president_of old.events company → first ≡ with_home old company →
+        Makes earns before (OrdersCall turn.by turn.round lines (state turn) outcome) after →
+        Makes earns before (TurnCalls file round company old outcome) after
+    called earns old outcome before after presides is_first made =
+        of_begun earns file round company old first (Some seat) outcome before after presides is_first
+        (subst (λ (l : List Numbered). Makes earns before
+        (OrdersCall (record { company = company; president = seat }) round l (in_turn first at_start) outcome)
         after) begun.are_lines
-        (subst (λ (t : InTurn). Makes earns before (LinesCall (record { company = company; president = seat }) round
+        (subst (λ (t : InTurn). Makes earns before (OrdersCall (record { company = company; president = seat }) round
         lines t outcome) after) stands
-        (subst (λ (r : Round). Makes earns before (LinesCall (record { company = company; president = seat }) r lines
-        (state turn) outcome) after) begun.is_round
-        (subst (λ (by : Operator). Makes earns before (LinesCall by turn.round lines (state turn) outcome) after)
-        begun.is_by made)))
+        (subst (λ (r : Round). Makes earns before (OrdersCall (record { company = company; president = seat }) r
+        lines (state turn) outcome) after) begun.is_round
+        (subst (λ (by : Operator). Makes earns before (OrdersCall by turn.round lines (state turn) outcome) after)
+        begun.is_by made))))
 
-    -- whose turn it is once its lines are ruled, and once the company has paid or withheld
-    pub still_by : (later : CompanyTurn) → later.by ≡ turn.by
-        → later.by ≡ record { company = company; president = seat }
-    still_by later same = same ∙ begun.is_by
-
-    -- what the company withholds by itself
-    pub settled_led : (ruled paid : CompanyTurn) → ruled.by ≡ turn.by
-        → state paid ≡ settled ruled.by.company (state ruled) → state paid ≡ settled company (state ruled)
-    settled_led ruled paid same is = is ∙ ap (λ (by : Operator). settled by.company (state ruled)) (same ∙ begun.is_by)
-
-    -- and what ends the turn
-    pub end_led :
-        (paid : CompanyTurn) (raises : List Numbered) (new : Game) → paid.by ≡ turn.by → raises ≡ lines
-        → EndLeads paid.by raises paid.history new →
-        BlockEnds file round company paid.history (Some seat) new
-    end_led paid raises new same are leads =
-        subst (λ (l : List Numbered). EndLeads (record { company = company; president = seat }) l paid.history new)
-        (are ∙ begun.are_lines)
-        (subst (λ (by : Operator). EndLeads by raises paid.history new) (same ∙ begun.is_by) leads)
+-- what ends a turn is what ends it once the company has paid or withheld
+pub ended :
+    (by : Operator) (ruled paid : CompanyTurn) (raises lines : List Numbered) (new : Game) → ruled.by ≡ by
+    → paid.by ≡ ruled.by → raises ≡ lines → state paid ≡ withheld_if_unpaid ruled.by.company (state ruled)
+    → EndLeads paid.by raises paid.history new
+    → EndLeads by lines (withheld_if_unpaid by.company (state ruled)).game new
+ended by ruled paid raises lines new same stays are is leads =
+    subst (λ (o : Operator). EndLeads by lines (withheld_if_unpaid o.company (state ruled)).game new) same
+    (subst (λ (game : Game). EndLeads by lines game new) (ap (λ (turn : InTurn). turn.game) is)
+    (subst (λ (l : List Numbered). EndLeads by l paid.history new) are
+    (subst (λ (o : Operator). EndLeads o raises paid.history new) (stays ∙ same) leads)))

@@ -12,7 +12,7 @@ use Rattle.operating.specs.Calls.{Earns, Makes, Unasked}
 use Rattle.operating.specs.InTurn.{InTurn}
 use Rattle.operating.specs.Runs.{position_now}
 use Rattle.operating.specs.TurnCalls.{Asks, BestCalls, IsCredited, asked}
-use Rattle.operating.specs.declared.operator.Operator.{Operator}
+use Rattle.forced_purchase.specs.declared.operator.Operator.{Operator}
 use Rattle.reach.specs.Position.{Position}
 use Rattle.sheets.specs.Part.{Numbered}
 use Rattle.tables.specs.declared.rolling_stock.Kind.{Kind}

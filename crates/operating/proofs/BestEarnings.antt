@@ -36,7 +36,7 @@ use Rattle.operating.specs.BestLaws.{BestEarnsNoLess, OrdersRun}
 use Rattle.operating.specs.InTurn.{InTurn, no_runs, told}
 use Rattle.operating.specs.Runs.{has_run, judged_run, position_now, run_ruled, steps_now}
 use Rattle.operating.specs.Turn.{AskedLeads, LineLeads, LinesLead, ReadingLeads, is_held}
-use Rattle.operating.specs.declared.operator.Operator.{Operator}
+use Rattle.forced_purchase.specs.declared.operator.Operator.{Operator}
 use Rattle.operating.specs.declared.runs.CompletedRun.{CompletedRun}
 use Rattle.operating.specs.declared.runs.Runs.{Runs}
 use Rattle.order_grammar.specs.declared.fault.Fault.{Fault}

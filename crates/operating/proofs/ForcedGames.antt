@@ -20,22 +20,22 @@ use Rattle.history.specs.Record.{breaks}
 use Rattle.totals.specs.Trains.{at_least_zero}
 use Rattle.market.specs.Moves.{fallen}
 use Rattle.market.specs.Token.{moved_from, same_square}
-use Rattle.operating.proofs.ForcedBuying.{IsPlain, cheapest_plain, forced_allowed}
-use Rattle.operating.proofs.ForcedLemmas.{still_none}
-use Rattle.operating.proofs.ForcedSteps.{next_allowed, raise_obeyed, still_allowed}
-use Rattle.operating.proofs.TrainSteps.{of_choice}
+use Rattle.forced_purchase.proofs.Cheapest.{IsPlain, cheapest_plain, forced_allowed}
+use Rattle.forced_purchase.proofs.TrainCounts.{still_none}
+use Rattle.forced_purchase.proofs.Steps.{next_allowed, raise_obeyed, still_allowed}
+use Rattle.purchases.proofs.TrainSteps.{of_choice}
 use Rattle.operating.proofs.TurnGames.{OfEvents, of_paid_turn}
-use Rattle.operating.specs.Forced.{EndLeads, after_forced, after_raise_line, after_raises, cheapest, concluded}
-use Rattle.operating.specs.Forced.{falls_short, has_trains, lack_of, next_to_sell, one_share, raise_rule, raise_ruled}
-use Rattle.operating.specs.Forced.{sale_rule, sold_further, sold_singly, with_aid, with_one_sold, with_ruling}
-use Rattle.operating.specs.Forced.{with_sale}
-use Rattle.operating.specs.Phases.{after_train}
-use Rattle.operating.specs.Trains.{train_judgement}
-use Rattle.operating.specs.PrivateLaws.{names_owner}
-use Rattle.operating.specs.SaleLaws.{sells_to_company}
-use Rattle.operating.specs.Turn.{BlockEnds, IsCompanyTurn, settled}
-use Rattle.operating.specs.declared.operator.Operator.{Operator}
-use Rattle.operating.specs.declared.purchase.Purchase.{Purchase}
+use Rattle.operating.specs.Ending.{EndLeads}
+use Rattle.forced_purchase.specs.Forced.{after_forced, after_raise_line, after_raises, cheapest, concluded, falls_short}
+use Rattle.forced_purchase.specs.Forced.{lack_of, next_to_sell, one_share, raise_rule, raise_ruled, sale_rule}
+use Rattle.forced_purchase.specs.Forced.{sold_further, sold_singly, with_aid, with_one_sold, with_ruling, with_sale}
+use Rattle.purchases.specs.Trains.{has_trains, train_judgement}
+use Rattle.purchases.specs.Phases.{after_train}
+use Rattle.purchases.specs.PrivateLaws.{names_owner}
+use Rattle.purchases.specs.SaleLaws.{sells_to_company}
+use Rattle.operating.specs.Turn.{BlockEnds, IsCompanyTurn, withheld_if_unpaid}
+use Rattle.forced_purchase.specs.declared.operator.Operator.{Operator}
+use Rattle.purchases.specs.declared.purchase.Purchase.{Purchase}
 use Rattle.order_grammar.specs.declared.fault.Fault.{Fault}
 use Rattle.order_grammar.specs.declared.order.Order.{Order}
 use Rattle.order_grammar.specs.declared.order.Order.TheVariants as order
@@ -292,7 +292,7 @@ module _ (company : Company) (R : Game → Game → Type 0) (of : OfEvents compa
       → OfSales (operator company seat) R × OfBankruptcies (operator company seat) R) →
       IsCompanyTurn file round company old new → R old new
   of_presided_turn file round old new presided turn =
-      let paid : Game = (settled company turn.last).game in
+      let paid : Game = (withheld_if_unpaid company turn.last).game in
       of.on.both old paid new (of_paid_turn company R of file round old new turn)
       (of_presided_end file round paid (president_of old.events company) new presided turn.after)
 

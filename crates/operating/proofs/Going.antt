@@ -1,12 +1,12 @@
 -- A company's turn stays in order as it goes on.
 use Rattle.std.proofs.Common.{◌≡◌, Result, subst}
-use Rattle.operating.proofs.Fronts.{front_on, line_adds, settled_adds}
+use Rattle.operating.proofs.Prefixes.{prefix_on, line_adds, settled_adds}
 use Rattle.operating.specs.CompanyTurn.{GoesOn, IsInOrder, state}
 use Rattle.operating.proofs.Played.{train_leads}
 use Rattle.operating.specs.InTurn.{InTurn}
-use Rattle.operating.specs.Turn.{OrderLeads, ReadingLeads, after_buying, settled}
+use Rattle.operating.specs.Turn.{OrderLeads, ReadingLeads, after_buying, withheld_if_unpaid}
 use Rattle.operating.specs.declared.company_turn.CompanyTurn.{CompanyTurn}
-use Rattle.operating.specs.declared.operator.Operator.{Operator}
+use Rattle.forced_purchase.specs.declared.operator.Operator.{Operator}
 use Rattle.order_grammar.specs.declared.fault.Fault.{Fault}
 use Rattle.order_grammar.specs.declared.order.Order.{Order}
 use Rattle.order_grammar.specs.declared.order.Order.TheVariants as order
@@ -22,25 +22,25 @@ pub after_line :
 after_line old new line reading leads on =
     record {
       sound = on.sound;
-      front = front_on new.board.value old.history new.history
-          (line_adds old.by (state old) line reading (state new) leads) on.front;
+      prefix = prefix_on new.board.value old.history new.history
+          (line_adds old.by (state old) line reading (state new) leads) on.prefix;
     }
 
 -- and after what the company withholds by itself
-pub after_settling : (old new : CompanyTurn) → state new ≡ settled old.by.company (state old) → GoesOn old new
-    → IsInOrder new
+pub after_settling : (old new : CompanyTurn) → state new ≡ withheld_if_unpaid old.by.company (state old)
+    → GoesOn old new → IsInOrder new
 after_settling old new is on =
     record {
       sound = on.sound;
-      front = front_on new.board.value old.history new.history
-          (settled_adds old.by.company old.history new.history old.progress new.progress is) on.front;
+      prefix = prefix_on new.board.value old.history new.history
+          (settled_adds old.by.company old.history new.history old.progress new.progress is) on.prefix;
     }
 
 -- a TRAIN line, where what the company withholds by itself leaves whose turn it is
 pub train_leads_on :
     (by same : Operator) (turn paid : InTurn) (line : Numbered) (its : Order) (kind : Kind) (from : TrainSource)
     (new : InTurn) →
-    its ≡ order.BuyTrain kind from → same ≡ by → paid ≡ settled by.company turn
+    its ≡ order.BuyTrain kind from → same ≡ by → paid ≡ withheld_if_unpaid by.company turn
     → new ≡ after_buying same paid line kind from →
     OrderLeads by turn line its new
 train_leads_on by same turn paid line its kind from new is is_by is_paid ruled =

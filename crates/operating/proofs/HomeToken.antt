@@ -22,7 +22,7 @@ use Rattle.operating.proofs.ForcedGames.{of_block_end}
 use Rattle.operating.proofs.TurnSteps.{of_turn}
 use Rattle.operating.specs.Act.{has_home_token, with_home}
 use Rattle.operating.specs.Laws.{HomeTokenLies, OnlyAdds}
-use Rattle.operating.specs.Turn.{begun, settled}
+use Rattle.operating.specs.Turn.{begun, withheld_if_unpaid}
 use Rattle.tables.specs.Roster.{same_company}
 use Rattle.tables.specs.declared.roster.Company.{Company}
 use Rattle.tables.specs.declared.roster.Company.TheVariants.{Pennsylvania}
@@ -61,7 +61,7 @@ begun_lies game company =
 pub home_token_lies : HomeTokenLies
 home_token_lies file round company old new turn more =
     let first = (begun old company).game in
-    let paid = (settled company turn.last).game in
+    let paid = (withheld_if_unpaid company turn.last).game in
     let before : OnlyAdds first paid = of_turn company _ (of_steps company OnlyAdds (adds_by company)) file round old
     new turn in
     let ended : OnlyAdds paid new = of_block_end company OnlyAdds (adds_by company) more_adds file round paid

@@ -15,7 +15,7 @@ use Rattle.operating.specs.InTurn.{InTurn, no_runs}
 use Rattle.operating.specs.LegalRuns.{LinesRun, ObeyedRunsAreLegal, walk_asked, walk_if_ran, walk_obeyed, walk_ordered}
 use Rattle.operating.specs.Runs.{judged_run, run_ruled, steps_now}
 use Rattle.operating.specs.Turn.{AskedLeads, OrderLeads, ReadingLeads, begun, is_held}
-use Rattle.operating.specs.declared.operator.Operator.{Operator}
+use Rattle.forced_purchase.specs.declared.operator.Operator.{Operator}
 use Rattle.operating.specs.declared.runs.CompletedRun.{CompletedRun}
 use Rattle.operating.specs.declared.runs.Runs.{Runs}
 use Rattle.order_grammar.specs.declared.fault.Fault.{Fault}

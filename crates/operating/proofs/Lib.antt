@@ -1,4 +1,3 @@
-pub mod Told
 pub mod Fitting
 pub mod Allowed
 pub mod Found
@@ -11,9 +10,6 @@ pub mod PaidOut
 pub mod Judged
 pub mod OtherOrders
 pub mod LegalRuns
-pub mod Folding
-pub mod PhaseLemmas
-pub mod DiscardLemmas
 pub mod BestLemmas
 pub mod Calls
 pub mod BestCalls
@@ -21,31 +17,17 @@ pub mod TurnCalled
 pub mod OneCourse
 mod OneTurnCalled
 pub mod Blocks
-pub mod Buying
-pub mod TrainSteps
-pub mod Rust
-pub mod Complete
-pub mod PrivateSales
-pub mod Sales
-pub mod Held
-pub mod Fleet
-pub mod Still
+pub mod Bought
 pub mod TurnEvents
 pub mod TurnSteps
 pub mod TurnGames
 pub mod TurnLaws
-pub mod Fronts
+pub mod Prefixes
 pub mod HomeToken
 pub mod Tiles
 pub mod Operated
-pub mod Consents
 pub mod SaleLaws
-pub mod AgreedSales
-pub mod ForcedBuying
-pub mod ForcedLemmas
 pub mod Seated
-pub mod ForcedSteps
-pub mod ForcedAid
 pub mod ClosedPrivates
 pub mod ForcedGames
 pub mod Presidency
@@ -53,7 +35,6 @@ pub mod Bankruptcies
 pub mod ForcedTrains
 pub mod NoRuns
 pub mod BestEarnings
-pub mod Raises
 pub mod Going
 pub mod Begun
 pub mod CallsAnswered

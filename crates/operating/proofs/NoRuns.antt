@@ -10,14 +10,14 @@ use Rattle.std.specs.List.{list_any}
 use Rattle.totals.specs.LookBack.{Game}
 use Rattle.map_tables.specs.declared.rules.RunRule.{RunRule}
 use Rattle.map_tables.specs.declared.rules.RunRule.TheVariants as run_rule
-use Rattle.operating.proofs.ForcedBuying.{less_is}
+use Rattle.forced_purchase.proofs.Cheapest.{less_is}
 use Rattle.operating.proofs.OtherOrders.{after_other}
 use Rattle.operating.specs.Best.{BestRuled, best_judgement}
-use Rattle.operating.specs.Forced.{has_trains}
+use Rattle.purchases.specs.Trains.{has_trains}
 use Rattle.operating.specs.InTurn.{InTurn, no_runs}
 use Rattle.operating.specs.Runs.{has_any_run, has_run, is_past_runs, judged_run, rule, run_ruled, with_ran}
 use Rattle.operating.specs.Turn.{AskedLeads, LinesLead, OrderLeads, ReadingLeads, begun, is_held}
-use Rattle.operating.specs.declared.operator.Operator.{Operator}
+use Rattle.forced_purchase.specs.declared.operator.Operator.{Operator}
 use Rattle.operating.specs.declared.runs.CompletedRun.{CompletedRun}
 use Rattle.operating.specs.declared.runs.Runs.{Runs}
 use Rattle.order_grammar.specs.declared.fault.Fault.{Fault}

@@ -5,13 +5,13 @@ use Rattle.std.proofs.Common.{◌∙◌, inl, inr}
 use Rattle.legal_runs.specs.declared.runner.RunnerFault.{RunnerFault}
 use Rattle.operating.specs.Calls.{Call, Course, IsPrefix, SomeTimesThen, Then, TimesThen, Unasked, unanswered}
 
--- calls before those of a front
+-- calls before those of a prefix
 behind :
     {Fault : Type 0} (memory : Fault) (Tells : Fault → RunnerFault → Call → Type 0) (fault : Fault)
     (earlier some all : List Call) →
     IsPrefix memory Tells fault some all → IsPrefix memory Tells fault (earlier ++ some) (earlier ++ all)
-behind memory Tells fault earlier some all front =
-    elim front [
+behind memory Tells fault earlier some all prefix =
+    elim prefix [
       | inl first ↦ inl (
         first.0,
         record {
@@ -36,13 +36,13 @@ behind memory Tells fault earlier some all front =
       )
     ]
 
--- calls after those of which some are a front
+-- calls after those of which some are a prefix
 ahead :
     {Fault : Type 0} (memory : Fault) (Tells : Fault → RunnerFault → Call → Type 0) (fault : Fault)
     (some all more : List Call) →
     IsPrefix memory Tells fault some all → IsPrefix memory Tells fault some (all ++ more)
-ahead memory Tells fault some all more front =
-    elim front [
+ahead memory Tells fault some all more prefix =
+    elim prefix [
       | inl first ↦ inl (
         first.0,
         record {
@@ -79,7 +79,7 @@ pub record Agree {A B Fault : Type 0} (memory : Fault) (Tells : Fault → Runner
     (one other : Course A B Fault) : Type 0 where
   pub once : (from : A) (a b : B) (some others : List Call) → one from (Ok a) some → other from (Ok b) others
       → (a ≡ b) × (some ≡ others)
-  pub front : (from : A) (fault : Fault) (to : B) (some all : List Call) → one from (Err fault) some
+  pub prefix : (from : A) (fault : Fault) (to : B) (some all : List Call) → one from (Err fault) some
       → other from (Ok to) all → IsPrefix memory Tells fault some all
 
 module _ {Fault : Type 0} (memory : Fault) (Tells : Fault → RunnerFault → Call → Type 0) where
@@ -90,7 +90,7 @@ module _ {Fault : Type 0} (memory : Fault) (Tells : Fault → RunnerFault → Ca
   unasked_agrees leads only =
       record {
         once = λ from a b some others first second. (only from a b first.0 second.0, first.1 ∙ sym second.1);
-        front = λ from fault to some all broken led. none_first memory Tells fault some all broken.0 broken.1;
+        prefix = λ from fault to some all broken led. none_first memory Tells fault some all broken.0 broken.1;
       }
 
   -- so do two courses, each with another behind it
@@ -113,18 +113,18 @@ module _ {Fault : Type 0} (memory : Fault) (Tells : Fault → RunnerFault → Ca
                     (later.0, way.all ∙ (λ i. mid.1 i ++ later.1 i) ∙ sym way_too.all)
               ]
             ];
-        front = λ from fault to some all one other.
+        prefix = λ from fault to some all one other.
             elim other [
               | inl never ↦ absurd never
               | inr way_too ↦ elim one [
                 | inl breaks ↦
                     subst (λ (calls : List Call). IsPrefix memory Tells fault some calls) (sym way_too.all)
                     (ahead memory Tells fault some way_too.earlier way_too.later
-                    (firsts.front from fault way_too.between some way_too.earlier breaks way_too.leads))
+                    (firsts.prefix from fault way_too.between some way_too.earlier breaks way_too.leads))
                 | inr way ↦
                     let mid = firsts.once from way.between way_too.between way.earlier way_too.earlier way.leads
                     way_too.leads in
-                    let later = seconds.front way.between fault to way.later way_too.later way.goes_on
+                    let later = seconds.prefix way.between fault to way.later way_too.later way.goes_on
                     (subst (λ (at : B). second_too at (Ok to) way_too.later) (sym mid.0) way_too.goes_on) in
                     let whole : all ≡ way.earlier ++ way_too.later =
                     way_too.all ∙ ap (λ (calls : List Call). calls ++ way_too.later) (sym mid.1) in
@@ -153,7 +153,7 @@ module _ {Fault : Type 0} (memory : Fault) (Tells : Fault → RunnerFault → Ca
                   | inl never ↦ absurd never
                   | inr way ↦ absurd (apart from a (Ok way.between) way.earlier one.0 way.leads)
                 ];
-            front = λ from fault to some all one other. none_first memory Tells fault some all one.0 one.1;
+            prefix = λ from fault to some all one other. none_first memory Tells fault some all one.0 one.1;
           }
       times_agree (suc times) zero =
           record {
@@ -162,7 +162,7 @@ module _ {Fault : Type 0} (memory : Fault) (Tells : Fault → RunnerFault → Ca
                   | inl never ↦ absurd never
                   | inr way ↦ absurd (apart from b (Ok way.between) way.earlier other.0 way.leads)
                 ];
-            front = λ from fault to some all one other.
+            prefix = λ from fault to some all one other.
                 elim one [
                   | inl breaks ↦ absurd (apart from to (Err fault) some other.0 breaks)
                   | inr way ↦ absurd (apart from to (Ok way.between) way.earlier other.0 way.leads)
@@ -179,6 +179,6 @@ module _ {Fault : Type 0} (memory : Fault) (Tells : Fault → RunnerFault → Ca
           record {
             once = λ from a b some others one other.
                 let both = times_agree one.0 other.0 in both.once from a b some others one.1 other.1;
-            front = λ from fault to some all one other.
-                let both = times_agree one.0 other.0 in both.front from fault to some all one.1 other.1;
+            prefix = λ from fault to some all one other.
+                let both = times_agree one.0 other.0 in both.prefix from fault to some all one.1 other.1;
           }

@@ -13,11 +13,11 @@ use Rattle.operating.specs.Best.{BestRuled, best_judgement, trains_now}
 use Rattle.operating.specs.Calls.{Call, Course, Unasked}
 use Rattle.operating.specs.InTurn.{InTurn, told}
 use Rattle.operating.specs.Runs.{position_now}
-use Rattle.operating.specs.Turn.{AskedLeads, BlockEnds, OrderLeads, begun, is_held, settled}
+use Rattle.operating.specs.Turn.{AskedLeads, BlockEnds, OrderLeads, begun, is_held, withheld_if_unpaid}
 use Rattle.operating.specs.TurnCalls.{AskedCalls, Asks, BegunCalls, BestCalls, BlockCalls, EndCalls, IsCredited}
 use Rattle.operating.specs.TurnCalls.{LineCalls, LinesCall, OneListOfTurnCalls, OrderCalls, ReadingCalls}
 use Rattle.operating.specs.TurnCalls.{RefusedTurnCallsAreAPrefix, TurnCalls, asked}
-use Rattle.operating.specs.declared.operator.Operator.{Operator}
+use Rattle.forced_purchase.specs.declared.operator.Operator.{Operator}
 use Rattle.order_grammar.specs.declared.fault.Fault.{Fault}
 use Rattle.order_grammar.specs.declared.order.Order.{Order}
 use Rattle.sheets.specs.Block.{block_for}
@@ -45,7 +45,7 @@ asks_once round company =
             first.1 ∙ ap (λ (revenue : ℕ). asked company round events (Ok (pos revenue)) ∷ []) same
                 ∙ sym second.1,
           );
-      front = λ events fault to some all broken led.
+      prefix = λ events fault to some all broken led.
           elim broken [
             | inl cut ↦ inr (
               fault,
@@ -72,7 +72,7 @@ module _ (all : AllLawful) (by : Operator) (round : Round) where
       (λ from a b first second. first ∙ sym second) in
       record {
         once = λ from. ruled.once turn;
-        front = λ from. ruled.front turn;
+        prefix = λ from. ruled.prefix turn;
       }
   best_once line turn None =
       let credited = unasked_agrees Memory (TellsOf round by.company) (IsCredited by turn line)
@@ -82,7 +82,7 @@ module _ (all : AllLawful) (by : Operator) (round : Round) where
       (asks_once round by.company) credited in
       record {
         once = λ from. both.once turn.game.events;
-        front = λ from. both.front turn.game.events;
+        prefix = λ from. both.prefix turn.game.events;
       }
 
   -- an order
@@ -103,16 +103,16 @@ module _ (all : AllLawful) (by : Operator) (round : Round) where
                 | inr other ↦ led.once from a b some others one.1 other.1
               ]
             ];
-        front = λ from fault to some whole first second.
+        prefix = λ from fault to some whole first second.
             let best = best_once line from (best_judgement from by.company) in
             elim first [
               | inl one ↦ elim second [
-                | inl other ↦ best.front from fault to some whole one.1 other.1
+                | inl other ↦ best.prefix from fault to some whole one.1 other.1
                 | inr other ↦ absurd (other.0 one.0)
               ]
               | inr one ↦ elim second [
                 | inl other ↦ absurd (one.0 other.0)
-                | inr other ↦ led.front from fault to some whole one.1 other.1
+                | inr other ↦ led.prefix from fault to some whole one.1 other.1
               ]
             ];
       }
@@ -132,8 +132,8 @@ module _ (all : AllLawful) (by : Operator) (round : Round) where
       record {
         once = λ from.
             let one = asked_once line its (is_held from.game.events line.condition its) in one.once from;
-        front = λ from.
-            let one = asked_once line its (is_held from.game.events line.condition its) in one.front from;
+        prefix = λ from.
+            let one = asked_once line its (is_held from.game.events line.condition its) in one.prefix from;
       }
   reading_called_once line (Err fault) =
       unasked_agrees Memory (TellsOf round by.company) (λ turn new. new ≡ told by turn line (Faulty fault))
@@ -164,9 +164,9 @@ module _ (all : AllLawful) (file : List ℕ) (round : Round) (company : Company)
       (EndCalls file round company president)
       (block_called_once president)
       (unasked_agrees Memory (TellsOf round company)
-      (λ last new. BlockEnds file round company (settled company last).game president new)
-      (λ from a b first second. block_end_once all file round company (settled company from).game president a b
-      first second))
+      (λ last new. BlockEnds file round company (withheld_if_unpaid company last).game president new)
+      (λ from a b first second. block_end_once all file round company (withheld_if_unpaid company from).game president
+      a b first second))
 
   -- and a whole turn
   turn_called_once : IsOne round company (TurnCalls file round company)
@@ -181,13 +181,13 @@ module _ (all : AllLawful) (file : List ℕ) (round : Round) (company : Company)
             (Unasked Memory (λ game turn. turn ≡ begun game company)) (BegunCalls file round company president)
             (BegunCalls file round company president) start (begun_called_once president) in
             whole.once old;
-        front = λ old.
+        prefix = λ old.
             let president : Option Seat = president_of old.events company in
             let whole = then_agree Memory (TellsOf round company)
             (Unasked Memory (λ game turn. turn ≡ begun game company))
             (Unasked Memory (λ game turn. turn ≡ begun game company)) (BegunCalls file round company president)
             (BegunCalls file round company president) start (begun_called_once president) in
-            whole.front old;
+            whole.prefix old;
       }
 
 -- so a turn makes one list of calls
@@ -198,4 +198,4 @@ one_list all file round company old a b some others first second =
 -- and a prefix of them where it is broken off
 pub a_prefix : AllLawful → RefusedTurnCallsAreAPrefix
 a_prefix all file round company old new fault refused whole broken led =
-    let one = turn_called_once all file round company in one.front old fault new refused whole broken led
+    let one = turn_called_once all file round company in one.prefix old fault new refused whole broken led

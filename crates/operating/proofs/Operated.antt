@@ -20,7 +20,7 @@ use Rattle.operating.specs.Act.{withheld}
 use Rattle.operating.specs.Dividend.{is_past_pay}
 use Rattle.operating.specs.InTurn.{InTurn, in_turn, is_unpaid, pay_done}
 use Rattle.operating.specs.Laws.{CompanyOperates}
-use Rattle.operating.specs.Turn.{IsCompanyTurn, settled}
+use Rattle.operating.specs.Turn.{IsCompanyTurn, withheld_if_unpaid}
 use Rattle.operating.specs.declared.progress.Progress.{Progress}
 use Rattle.tables.proofs.Companies.{company_is, company_is_same}
 use Rattle.tables.specs.Roster.{same_company}
@@ -145,7 +145,7 @@ has_steps company =
     }
 
 -- what the company has withheld by itself, where it was unpaid, is past its pay
-settled_past : (company : Company) (turn : InTurn) → is_unpaid (settled company turn).progress ≡ false
+settled_past : (company : Company) (turn : InTurn) → is_unpaid (withheld_if_unpaid company turn).progress ≡ false
 settled_past company turn =
     elim (is_unpaid turn.progress) as (λ (b : Bool). is_unpaid turn.progress ≡ b →
     is_unpaid (if b then in_turn (withheld turn.game company turn.progress.runs.revenue)
@@ -160,7 +160,7 @@ has_at_end : (company : Company) (file : List ℕ) (round : Round) (old new : Ga
     → IsCompanyTurn file round company old new →
     has_operated new.events company ≡ true
 has_at_end company file round old new turn =
-    let last = settled company turn.last in
+    let last = withheld_if_unpaid company turn.last in
     (of_block_end company (Operates company) (by_events company) (more_events company) file round last.game
     (president_of old.events company) new turn.after).still company
     (of_turn company _ (has_steps company) file round old new turn (λ none. cc)

@@ -12,11 +12,12 @@ use Rattle.map_tables.specs.declared.place.Place.{Place}
 use Rattle.operating.specs.Act.{withheld}
 use Rattle.operating.specs.Dividend.{paid_out, pay_judgement, pay_ruled, withhold_judgement}
 use Rattle.operating.specs.InTurn.{InTurn, in_turn, is_unpaid, pay_done}
-use Rattle.operating.specs.Privates.{private_judgement, private_ruled}
-use Rattle.operating.specs.Trains.{train_judgement}
-use Rattle.operating.specs.Turn.{OrderLeads, lay_answered, purchase_of, settled, token_answered, train_ruled}
-use Rattle.operating.specs.declared.operator.Operator.{Operator}
-use Rattle.operating.specs.declared.purchase.Purchase.{Purchase}
+use Rattle.purchases.specs.Privates.{private_judgement}
+use Rattle.operating.specs.Turn.{OrderLeads, lay_answered, private_ruled, withheld_if_unpaid, token_answered}
+use Rattle.operating.specs.Turn.{train_ruled}
+use Rattle.purchases.specs.Trains.{purchase_of, train_judgement}
+use Rattle.forced_purchase.specs.declared.operator.Operator.{Operator}
+use Rattle.purchases.specs.declared.purchase.Purchase.{Purchase}
 use Rattle.operating.specs.declared.runs.Runs.{Runs}
 use Rattle.order_grammar.specs.declared.order.Order.{Order}
 use Rattle.order_grammar.specs.declared.order.Order.TheVariants as order
@@ -55,7 +56,7 @@ after_pay :
 after_pay by turn line its None after = refl
 after_pay by turn line its (Some rule) after = refl
 
-after_settling : (company : Company) (turn : InTurn) → did (settled company turn) ≡ did turn
+after_settling : (company : Company) (turn : InTurn) → did (withheld_if_unpaid company turn) ≡ did turn
 after_settling company turn =
     elim (is_unpaid turn.progress) as
     (λ (b : Bool). did (if b then in_turn (withheld turn.game company turn.progress.runs.revenue)
@@ -95,7 +96,7 @@ after_other by turn line order.Withhold new none leads =
     ap did leads ∙ after_pay by turn line order.Withhold (withhold_judgement turn.progress)
     (λ game. withheld game by.company turn.progress.runs.revenue)
 after_other by turn line (order.BuyTrain kind from) new none leads =
-    let paid = settled by.company turn in
+    let paid = withheld_if_unpaid by.company turn in
     let purchase = purchase_of kind from in
     ap did leads
     ∙ after_train by paid line (order.BuyTrain kind from) purchase (train_judgement paid.game by.company purchase)

@@ -23,11 +23,12 @@ use Rattle.operating.specs.InTurn.{InTurn}
 use Rattle.operating.specs.Judgement.{asker_of}
 use Rattle.operating.specs.Runs.{position_now}
 use Rattle.operating.specs.Laws.{CompanyTurnEnds, OneCompanyTurn}
-use Rattle.operating.specs.Forced.{EndLeads, IsDue, after_forced, after_raises, has_trains}
+use Rattle.operating.specs.Ending.{EndLeads, IsDue}
+use Rattle.forced_purchase.specs.Forced.{after_forced, after_raises}
+use Rattle.purchases.specs.Trains.{has_trains}
 use Rattle.operating.specs.Turn.{AskedLeads, BlockEnds, BlockLeads, IsCompanyTurn, LinesLead, OrderLeads, ReadingLeads}
-use Rattle.operating.specs.Turn.{begun, is_held, lay_answered, settled}
-use Rattle.operating.specs.Turn.{token_answered}
-use Rattle.operating.specs.declared.operator.Operator.{Operator}
+use Rattle.operating.specs.Turn.{begun, is_held, lay_answered, withheld_if_unpaid, token_answered}
+use Rattle.forced_purchase.specs.declared.operator.Operator.{Operator}
 use Rattle.order_grammar.specs.declared.fault.Fault.{Fault}
 use Rattle.order_grammar.specs.declared.order.Order.{Order}
 use Rattle.order_grammar.specs.declared.order.Order.TheVariants as order
@@ -227,13 +228,13 @@ module _ (all : AllLawful) where
   outcome file round company old =
       let president : Option Seat = president_of old.events company in
       let block = one_block file round company (begun old company) president in
-      let paid : Game = (settled company block.it).game in
+      let paid : Game = (withheld_if_unpaid company block.it).game in
       let end = one_block_end file round company paid president in
       record {
         it = end.it;
         so = record { last = block.it; block = block.so; after = end.so };
         only = λ new turn. end.only new (subst (λ (last : InTurn). BlockEnds file round company
-            (settled company last).game president new) (block.only turn.last turn.block) turn.after);
+            (withheld_if_unpaid company last).game president new) (block.only turn.last turn.block) turn.after);
       }
 
   -- it has at most one outcome

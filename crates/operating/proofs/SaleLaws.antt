@@ -1,44 +1,22 @@
--- Laws of bids and of sales to companies: each sale to a company is agreed by the list before it, and nobody bids in a
--- company's turn.
-use Rattle.std.proofs.Common.{◌≡◌, Bool, true, false, ◌&&◌, List, [], ◌∷◌, ◌++◌, is_none, refl, sym, ap, subst, ◌∙◌}
+-- Laws of bids and of sales to companies in a company's turn: each sale to a company is agreed by the list before it,
+-- and nobody bids.
+use Rattle.std.proofs.Common.{◌≡◌, Bool, true, ◌&&◌, List, [], ◌∷◌, ◌++◌, is_none, refl, sym, ap, ◌∙◌}
 use Rattle.std.proofs.lemmas.List.{append_assoc, append-nil}
 use Rattle.std.proofs.lemmas.List.Folds.{list_all-append}
 use Rattle.std.specs.List.{list_all}
 use Rattle.events.specs.Event.{bidding_of}
 use Rattle.events.specs.declared.event.Event.{Event}
 use Rattle.events.specs.declared.event.Event.TheVariants as event
-use Rattle.events.specs.declared.event.TrainSeller.TheVariants as seller
 use Rattle.totals.specs.LookBack.{Game}
-use Rattle.operating.proofs.TrainSteps.{IsPassedOn}
-use Rattle.operating.proofs.TurnEvents.{IsOfTurn, is_agreed}
 use Rattle.operating.proofs.ForcedGames.{forced_bids_none, forced_sells_none, of_game_turn}
+use Rattle.operating.proofs.TurnEvents.{IsOfTurn, is_agreed}
 use Rattle.operating.proofs.TurnGames.{by_each}
 use Rattle.operating.specs.BidLaws.{SaysNoBid, TurnsSayNoBid}
-use Rattle.operating.specs.SaleLaws.{AreAgreed, IsAgreed, OthersKeepAgreed, SellersAgree, TurnsKeepAgreed}
-use Rattle.operating.specs.SaleLaws.{sells_to_company}
+use Rattle.operating.specs.SaleLaws.{TurnsKeepAgreed}
+use Rattle.purchases.proofs.SaleLaws.{one_more, others_keep_agreed}
+use Rattle.purchases.proofs.TrainSteps.{IsPassedOn}
+use Rattle.purchases.specs.SaleLaws.{SellersAgree}
 use Rattle.tables.specs.declared.roster.Company.{Company}
-
--- one more event that is agreed
-one_more : (before events : List Event) (its : Event) → AreAgreed before events → IsAgreed (before ++ events) its →
-    AreAgreed before (events ++ its ∷ [])
-one_more before [] its agreed last =
-    (subst (λ (list : List Event). IsAgreed list its) (append-nil before) last, tt)
-one_more before (event ∷ events) its agreed last = (
-  agreed.0,
-  one_more (before ++ event ∷ []) events its agreed.1
-      (subst (λ (list : List Event). IsAgreed list its) (sym (append_assoc before (event ∷ []) events)) last),
-)
-
--- of an event that sells nothing to a company nothing is asked
-nothing_asked : (events : List Event) (its : Event) → sells_to_company its ≡ false → IsAgreed events its
-nothing_asked events (event.Train buyer kind (seller.Company from) price) none = absurd (cc)
-nothing_asked events (event.Train buyer kind seller.Bank price) none = tt
-nothing_asked events (event.Train buyer kind seller.BankPool price) none = tt
-nothing_asked events (event.PrivateBought private buyer giver price) none = absurd (cc)
-nothing_asked events other none = tt
-
-pub others_keep_agreed : OthersKeepAgreed
-others_keep_agreed events its none agreed = one_more [] events its agreed (nothing_asked events its none)
 
 -- sellers agree in a later game if they did before
 abbrev StillAgree : Game → Game → Type 0

@@ -1,40 +1,34 @@
 -- A board that has the first of what was laid before a company's turn, or before its end, has it still after that.
-use Rattle.std.proofs.Common.{◌≡◌, ℕ, List, Option, sym, subst}
+use Rattle.std.proofs.Common.{◌≡◌, List, refl, sym, subst}
 use Rattle.board_state.specs.MapState.{MapState}
+use Rattle.events.specs.declared.event.Event.TheVariants as event
 use Rattle.totals.specs.LookBack.{Game}
-use Rattle.operating.proofs.ForcedGames.{of_block_end}
-use Rattle.operating.proofs.Fronts.{front_on}
-use Rattle.operating.proofs.TurnGames.{of_home, of_withheld}
+use Rattle.operating.proofs.ForcedGames.{OfSales, of_end, of_sale}
+use Rattle.operating.proofs.Prefixes.{prefix_on}
+use Rattle.operating.proofs.TurnGames.{of_home}
 use Rattle.operating.proofs.TurnLaws.{adds_by, more_adds}
-use Rattle.operating.specs.Act.{with_home, withheld}
+use Rattle.operating.specs.Act.{with_home}
 use Rattle.operating.specs.MapState.{IsPrefix}
 use Rattle.operating.specs.Laws.{OnlyAdds}
-use Rattle.operating.specs.Turn.{BlockEnds}
+use Rattle.operating.specs.Ending.{EndLeads}
+use Rattle.forced_purchase.specs.declared.operator.Operator.{Operator}
+use Rattle.sheets.specs.Part.{Numbered}
 use Rattle.tables.specs.declared.roster.Company.{Company}
-use Rattle.tables.specs.declared.round.Round.{Round}
-use Rattle.tables.specs.declared.seat.Seat.{Seat}
 
 home_adds : (old first : Game) (company : Company) → first ≡ with_home old company → OnlyAdds old first
 home_adds old first company is = subst (OnlyAdds old) (sym is) (of_home company OnlyAdds (adds_by company) old)
 
 -- once the home token lies
-pub home_front : (laid : MapState) (old first : Game) (company : Company) → first ≡ with_home old company
+pub home_prefix : (laid : MapState) (old first : Game) (company : Company) → first ≡ with_home old company
     → IsPrefix laid old.events → IsPrefix laid first.events
-home_front laid old first company is front = front_on laid old first (home_adds old first company is) front
-
--- and once a company without a president has withheld
-pub idle_front : (laid : MapState) (old first new : Game) (company : Company) (amount : ℕ)
-    → first ≡ with_home old company → new ≡ withheld first company amount → IsPrefix laid old.events
-    → IsPrefix laid new.events
-idle_front laid old first new company amount is_first is_new front =
-    front_on laid first new (subst (OnlyAdds first) (sym is_new)
-    (of_withheld company OnlyAdds (adds_by company) first amount))
-    (home_front laid old first company is_first front)
+home_prefix laid old first company is prefix = prefix_on laid old first (home_adds old first company is) prefix
 
 -- and after what a block brings at the end of the turn
-pub end_front : (file : List ℕ) (round : Round) (company : Company) (laid : MapState) (paid new : Game)
-    (president : Option Seat) → BlockEnds file round company paid president new → IsPrefix laid paid.events
-    → IsPrefix laid new.events
-end_front file round company laid paid new president ends front =
-    front_on laid paid new (of_block_end company OnlyAdds (adds_by company) more_adds file round paid president new
-    ends) front
+pub end_prefix : (by : Operator) (lines : List Numbered) (laid : MapState) (paid new : Game)
+    → EndLeads by lines paid new → IsPrefix laid paid.events → IsPrefix laid new.events
+end_prefix by lines laid paid new ends prefix =
+    let sales : OfSales by OnlyAdds = of_sale by OnlyAdds (adds_by by.company)
+    (λ game its seat. more_adds game (event.President its seat) tt refl refl refl) in
+    prefix_on laid paid new
+    (of_end by OnlyAdds (adds_by by.company) sales
+    (λ game. more_adds game (event.Bankrupt by.president) tt refl refl refl) lines paid new ends) prefix

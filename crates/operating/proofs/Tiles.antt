@@ -22,15 +22,14 @@ use Rattle.map_tables.specs.declared.hex.Hex.{Hex}
 use Rattle.map_tables.specs.declared.hex.Hex.TheVariants.{A9}
 use Rattle.map_tables.specs.declared.lay.Lay.{Lay}
 use Rattle.map_tables.specs.declared.tiles.TileNo.{TileNo}
-use Rattle.operating.proofs.AgreedSales.{train_agreed}
-use Rattle.operating.proofs.TrainSteps.{IsPassedOn}
+use Rattle.purchases.proofs.AgreedSales.{train_agreed}
+use Rattle.purchases.proofs.TrainSteps.{IsPassedOn}
 use Rattle.operating.proofs.ForcedGames.{of_game_turn}
 use Rattle.operating.proofs.TurnGames.{of_purchase}
 use Rattle.operating.specs.MapState.{map_state_now}
-use Rattle.operating.specs.Turn.{purchase_of}
+use Rattle.purchases.specs.Trains.{purchase_of}
 use Rattle.operating.specs.TileLaws.{LaysKeepTiles, OthersKeepTiles, TilesAreAll, TilesAreAllAtFirst, TurnsKeepTiles}
-use Rattle.operating.specs.TileLaws.{returned_by, returned_of}
-use Rattle.operating.specs.TileLaws.{stock_of, taken_of}
+use Rattle.operating.specs.TileLaws.{returned_by, returned_of, stock_of, taken_of}
 use Rattle.reach.proofs.Hexes.{same_index}
 
 -- each hex is one of the map's once

@@ -11,13 +11,13 @@ use Rattle.operating.proofs.Calls.{broken_off, joined, silent}
 use Rattle.operating.specs.Act.{with_home}
 use Rattle.operating.specs.Best.{BestRuled, best_judgement}
 use Rattle.operating.specs.Calls.{Call, Earns, Makes, Unasked}
+use Rattle.operating.specs.Ending.{EndLeads}
 use Rattle.operating.specs.InTurn.{InTurn, at_start, in_turn}
-use Rattle.operating.specs.Turn.{AskedLeads, BlockEnds, BlockLeads, IsCompanyTurn, LinesLead, OrderLeads, ReadingLeads}
-use Rattle.operating.specs.Turn.{begun, is_held, settled}
-use Rattle.operating.specs.TurnCalls.{AskedCalls, BegunCalls, BestCalls, BlockCalls, EndCalls, LineCalls, LinesCall}
-use Rattle.operating.specs.TurnCalls.{OrderCalls, ReadingCalls, SomeTurnCalls, TurnCalls, asked}
-use Rattle.operating.specs.declared.operator.Operator.{Operator}
-use Rattle.operating.specs.declared.progress.Progress.{Progress}
+use Rattle.operating.specs.Turn.{AskedLeads, BlockLeads, IsCompanyTurn, LinesLead, OrderLeads, ReadingLeads}
+use Rattle.operating.specs.Turn.{begun, is_held, withheld_if_unpaid}
+use Rattle.operating.specs.TurnCalls.{AskedCalls, BegunCalls, BestCalls, BlockCalls, LineCalls, LinesCall}
+use Rattle.operating.specs.TurnCalls.{OrderCalls, OrdersCall, ReadingCalls, SomeTurnCalls, TurnCalls, asked}
+use Rattle.forced_purchase.specs.declared.operator.Operator.{Operator}
 use Rattle.order_grammar.specs.declared.fault.Fault.{Fault}
 use Rattle.order_grammar.specs.declared.order.Order.{Order}
 use Rattle.order_grammar.specs.declared.order.Order.TheVariants as order
@@ -61,7 +61,7 @@ module _ {Runner : Type 0} (earns : Earns Runner) where
       (broken_off earns (LineCalls by round line) (LinesCall by round lines) turn fault before after one)
 
   -- once the home token lies, the calls of the block and of the end are those of the turn
-  of_begun :
+  pub of_begun :
       (file : List ℕ) (round : Round) (company : Company) (old placed : Game) (president : Option Seat)
       (outcome : Result Game RunnerFault) (before after : Runner) →
       president ≡ president_of old.events company → placed ≡ with_home old company →
@@ -77,44 +77,32 @@ module _ {Runner : Type 0} (earns : Earns Runner) where
       (subst (λ (seat : Option Seat). Makes earns before
       (BegunCalls file round company seat (in_turn placed at_start) outcome) after) is_president rest)
 
-  -- the home token, the block and the end make the calls of the turn
-  pub turn_calls :
-      (file : List ℕ) (round : Round) (company : Company) (old placed ruled : Game) (progress : Progress)
-      (president : Option Seat)
-      (outcome : Result Game RunnerFault) (before after : Runner) →
-      president ≡ president_of old.events company → placed ≡ with_home old company →
-      Makes earns before (BlockCalls file round company president (in_turn placed at_start)
-      (Ok (in_turn ruled progress))) after →
-      Makes earns after (EndCalls file round company president (in_turn ruled progress) outcome) after →
-      Makes earns before (TurnCalls file round company old outcome) after
-  turn_calls file round company old placed ruled progress president outcome before after is_president is_placed block
-      end =
-      of_begun file round company old placed president outcome before after is_president is_placed
-      (joined earns (BlockCalls file round company president) (EndCalls file round company president)
-      (in_turn placed at_start) (in_turn ruled progress) outcome before after after block end)
+  -- the lines of a block, and the end, make the calls of its orders
+  pub orders_called :
+      (by : Operator) (round : Round) (taken lines : List Numbered) (old ruled : InTurn)
+      (outcome : Result Game RunnerFault) (before after : Runner) → taken ≡ lines →
+      Makes earns before (LinesCall by round taken old (Ok ruled)) after →
+      Unasked Memory (λ (last : InTurn) (new : Game). EndLeads by lines
+      (withheld_if_unpaid by.company last).game new) ruled outcome [] →
+      Makes earns before (OrdersCall by round lines old outcome) after
+  orders_called by round taken lines old ruled outcome before after are called ends =
+      joined earns (LinesCall by round lines)
+      (Unasked Memory (λ (last : InTurn) (new : Game). EndLeads by lines
+      (withheld_if_unpaid by.company last).game new)) old ruled outcome before after after
+      (subst (λ (l : List Numbered). Makes earns before (LinesCall by round l old (Ok ruled)) after) are called)
+      ([], ends, refl)
 
-  -- where the block is broken off, its calls are those of the turn
-  pub turn_broken_off :
-      (file : List ℕ) (round : Round) (company : Company) (old placed : Game) (president : Option Seat)
-      (fault : RunnerFault) (before after : Runner) →
-      president ≡ president_of old.events company → placed ≡ with_home old company →
-      Makes earns before (BlockCalls file round company president (in_turn placed at_start) (Err fault)) after →
-      Makes earns before (TurnCalls file round company old (Err fault)) after
-  turn_broken_off file round company old placed president fault before after is_president is_placed block =
-      of_begun file round company old placed president (Err fault) before after is_president is_placed
-      (broken_off earns (BlockCalls file round company president) (EndCalls file round company president)
-      (in_turn placed at_start) fault before after block)
-
-  -- what ends a turn makes no call
-  pub end_calls :
-      (file : List ℕ) (round : Round) (company : Company) (ruled paid new : Game) (progress last : Progress)
-      (president : Option Seat) (runner : Runner) →
-      in_turn paid last ≡ settled company (in_turn ruled progress) → BlockEnds file round company paid president new →
-      Makes earns runner (EndCalls file round company president (in_turn ruled progress) (Ok new)) runner
-  end_calls file round company ruled paid new progress last president runner is_settled ends =
-      silent earns Memory (λ (from : InTurn) (to : Game). BlockEnds file round company (settled company from).game
-      president to) (in_turn ruled progress) new runner runner
-      (subst (λ (turn : InTurn). BlockEnds file round company turn.game president new) is_settled ends) refl
+  -- so do the lines where they are broken off
+  pub orders_broken_off :
+      (by : Operator) (round : Round) (taken lines : List Numbered) (old : InTurn) (fault : RunnerFault)
+      (before after : Runner) → taken ≡ lines →
+      Makes earns before (LinesCall by round taken old (Err fault)) after →
+      Makes earns before (OrdersCall by round lines old (Err fault)) after
+  orders_broken_off by round taken lines old fault before after are called =
+      broken_off earns (LinesCall by round lines)
+      (Unasked Memory (λ (last : InTurn) (new : Game). EndLeads by lines
+      (withheld_if_unpaid by.company last).game new)) old fault before after
+      (subst (λ (l : List Numbered). Makes earns before (LinesCall by round l old (Err fault)) after) are called)
 
 -- an order to run the best that makes these calls leads on as it is ruled
 best_leads :

@@ -5,7 +5,7 @@ use Rattle.events.specs.declared.event.Event.{Event}
 use Rattle.events.specs.declared.event.Event.TheVariants as event
 use Rattle.totals.specs.LookBack.{Game}
 use Rattle.totals.specs.Operating.{turn_said}
-use Rattle.operating.specs.SaleLaws.{IsAgreed}
+use Rattle.purchases.specs.SaleLaws.{IsAgreed}
 use Rattle.tables.specs.Roster.{same_company}
 use Rattle.tables.specs.declared.roster.Company.{Company}
 

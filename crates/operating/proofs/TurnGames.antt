@@ -16,20 +16,20 @@ use Rattle.map_tables.specs.Place.{place_of}
 use Rattle.map_tables.specs.declared.lay.Lay.{Lay}
 use Rattle.market.specs.Moves.{square_left_of, right_of}
 use Rattle.market.specs.Token.{moved_from, same_square, with_move}
-use Rattle.operating.proofs.AgreedSales.{train_agreed}
-use Rattle.operating.proofs.TrainSteps.{IsPassedOn, OfClosings, of_bop, of_choice, of_next, of_phase, of_train_owner}
-use Rattle.operating.proofs.TrainSteps.{of_trade}
+use Rattle.purchases.proofs.AgreedSales.{train_agreed}
+use Rattle.purchases.proofs.TrainSteps.{IsPassedOn, OfClosings, of_bop, of_choice, of_next, of_phase, of_trade}
+use Rattle.purchases.proofs.TrainSteps.{of_train_owner}
 use Rattle.operating.proofs.TurnEvents.{IsOfTurn}
 use Rattle.operating.proofs.TurnSteps.{OfSteps, of_turn}
 use Rattle.operating.specs.Act.{has_home_token, with_home, withheld}
 use Rattle.operating.specs.Dividend.{all_paid, paid_for, paid_out, paid_to, paid_to_seats}
 use Rattle.operating.specs.MapState.{map_state_now}
 use Rattle.operating.specs.InTurn.{InTurn}
-use Rattle.operating.specs.Phases.{after_train, begins_phase, bought, with_phase, with_trade}
-use Rattle.operating.specs.SaleLaws.{IsAgreed}
-use Rattle.operating.specs.Trains.{cost_of, train_judgement}
-use Rattle.operating.specs.Turn.{IsCompanyTurn, begun, purchase_of, settled}
-use Rattle.operating.specs.declared.purchase.Purchase.{Purchase}
+use Rattle.purchases.specs.Phases.{after_train, begins_phase, bought, with_phase, with_trade}
+use Rattle.purchases.specs.SaleLaws.{IsAgreed}
+use Rattle.purchases.specs.Trains.{cost_of, purchase_of, train_judgement}
+use Rattle.operating.specs.Turn.{IsCompanyTurn, begun, withheld_if_unpaid}
+use Rattle.purchases.specs.declared.purchase.Purchase.{Purchase}
 use Rattle.std.proofs.Common.{◌≡◌, ℕ, ◌==◌, Bool, true, false, if◌then◌else◌, List, [], ◌∷◌, ◌++◌, Option, Some, None}
 use Rattle.std.proofs.Common.{refl}
 use Rattle.tables.specs.Rules.{first_broken}
@@ -186,7 +186,7 @@ module _ (company : Company) (R : Game → Game → Type 0) (of : OfEvents compa
   -- and of the turn up to where the company has paid or withheld
   pub of_paid_turn : (file : List ℕ) (round : Round) (old new : Game)
       (turn : IsCompanyTurn file round company old new) →
-      R old (settled company turn.last).game
+      R old (withheld_if_unpaid company turn.last).game
   of_paid_turn file round old new turn =
-      of.on.both old (begun old company).game (settled company turn.last).game (of_home old)
+      of.on.both old (begun old company).game (withheld_if_unpaid company turn.last).game (of_home old)
       (of_turn company _ of_steps file round old new turn)

@@ -9,18 +9,20 @@ use Rattle.events.specs.declared.event.Event.{Event}
 use Rattle.events.specs.declared.event.Event.TheVariants as event
 use Rattle.totals.specs.LookBack.{Game}
 use Rattle.totals.specs.Trains.{phase_of}
-use Rattle.operating.proofs.Complete.{others_keep_standing, phase_kept}
-use Rattle.operating.proofs.Fleet.{purchases_keep_all}
-use Rattle.operating.proofs.TrainSteps.{IsPassedOn, phases_go_on}
+use Rattle.purchases.proofs.Complete.{others_keep_standing, phase_kept}
+use Rattle.purchases.proofs.Fleet.{purchases_keep_all}
+use Rattle.purchases.proofs.TrainSteps.{IsPassedOn, phases_go_on}
 use Rattle.operating.proofs.TurnEvents.{begins_none}
 use Rattle.operating.proofs.ForcedGames.{OfForced, forced_begins_none, of_game_turn}
 use Rattle.operating.proofs.TurnGames.{OfEvents, by_each, of_steps}
 use Rattle.operating.proofs.TurnSteps.{of_line}
 use Rattle.operating.specs.InTurn.{InTurn}
 use Rattle.operating.specs.Laws.{OnlyAdds, TurnOnlyAdds}
-use Rattle.operating.specs.TrainLaws.{PhasesGoOnInTurns, AllTrainsAreThere, TurnsKeepAll}
-use Rattle.operating.specs.Turn.{ReadingLeads, purchase_of}
-use Rattle.operating.specs.declared.operator.Operator.{Operator}
+use Rattle.operating.specs.TrainLaws.{PhasesGoOnInTurns, TurnsKeepAll}
+use Rattle.purchases.specs.TrainLaws.{AllTrainsAreThere}
+use Rattle.operating.specs.Turn.{ReadingLeads}
+use Rattle.purchases.specs.Trains.{purchase_of}
+use Rattle.forced_purchase.specs.declared.operator.Operator.{Operator}
 use Rattle.order_grammar.specs.declared.fault.Fault.{Fault}
 use Rattle.order_grammar.specs.declared.order.Order.{Order}
 use Rattle.sheets.specs.Part.{Numbered}

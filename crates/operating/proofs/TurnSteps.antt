@@ -26,10 +26,10 @@ use Rattle.map_tables.specs.declared.rules.TokenRule.{TokenRule}
 use Rattle.map_tables.specs.declared.lay.Lay.{Lay}
 use Rattle.map_tables.specs.declared.place.Place.{Place}
 use Rattle.operating.proofs.Allowed.{lay_allowed, token_allowed}
-use Rattle.operating.proofs.AgreedSales.{private_agreed}
+use Rattle.purchases.proofs.AgreedSales.{private_agreed}
 use Rattle.operating.proofs.Answered.{same_after_ruling}
-use Rattle.operating.proofs.PrivateSales.{same_after_line}
-use Rattle.operating.proofs.Still.{same_judgement}
+use Rattle.purchases.proofs.PrivateSales.{same_after_line}
+use Rattle.purchases.proofs.Still.{same_judgement}
 use Rattle.operating.proofs.TurnEvents.{IsOfTurn}
 use Rattle.operating.specs.Act.{after_lay, after_token, withheld}
 use Rattle.operating.specs.Best.{BestRuled, best_done, best_earned, best_judgement}
@@ -37,14 +37,13 @@ use Rattle.operating.specs.Dividend.{paid_out, pay_judgement, pay_ruled, withhol
 use Rattle.operating.specs.MapState.{map_state_now}
 use Rattle.operating.specs.InTurn.{InTurn, in_turn, is_unpaid, lay_done, pay_done, token_done, told}
 use Rattle.operating.specs.Judgement.{asker_of}
-use Rattle.operating.specs.Phases.{after_train}
-use Rattle.operating.specs.Privates.{private_judgement, private_ruled, sold_by}
-use Rattle.operating.specs.Runs.{judged_run, run_done, run_ruled}
-use Rattle.operating.specs.Trains.{train_judgement}
+use Rattle.purchases.specs.Phases.{after_train}
+use Rattle.purchases.specs.Privates.{private_judgement, sold_by}
 use Rattle.operating.specs.Turn.{AskedLeads, BlockLeads, IsCompanyTurn, LinesLead, OrderLeads, ReadingLeads, begun}
-use Rattle.operating.specs.Turn.{is_held, lay_answered, purchase_of}
-use Rattle.operating.specs.Turn.{settled, token_answered, train_ruled}
-use Rattle.operating.specs.declared.operator.Operator.{Operator}
+use Rattle.operating.specs.Turn.{is_held, lay_answered, private_ruled, withheld_if_unpaid, token_answered, train_ruled}
+use Rattle.operating.specs.Runs.{judged_run, run_done, run_ruled}
+use Rattle.purchases.specs.Trains.{purchase_of, train_judgement}
+use Rattle.forced_purchase.specs.declared.operator.Operator.{Operator}
 use Rattle.operating.specs.declared.progress.Progress.{Progress}
 use Rattle.operating.specs.declared.runs.CompletedRun.{CompletedRun}
 use Rattle.order_grammar.specs.declared.fault.Fault.{Fault}
@@ -87,7 +86,7 @@ pub record OfSteps (company : Company) (R : InTurn → InTurn → Type 0) : Type
 
 module _ (company : Company) (R : InTurn → InTurn → Type 0) (steps : OfSteps company R) where
   -- of what the company withholds by itself
-  pub of_settled : (turn : InTurn) → R turn (settled company turn)
+  pub of_settled : (turn : InTurn) → R turn (withheld_if_unpaid company turn)
   of_settled turn =
       elim (is_unpaid turn.progress) as (λ (b : Bool). R turn
       (if b then in_turn (withheld turn.game company turn.progress.runs.revenue) (pay_done turn.progress) else turn)) [
@@ -218,7 +217,7 @@ module _ (by : Operator) (R : InTurn → InTurn → Type 0) (steps : OfSteps by.
       (λ game. withheld game by.company turn.progress.runs.revenue)
       (λ rules. steps.kept (told by turn line (Obeyed line.condition order.Withhold))))
   of_order turn line (order.BuyTrain kind from) new leads =
-      let paid = settled by.company turn in
+      let paid = withheld_if_unpaid by.company turn in
       let purchase = purchase_of kind from in
       let rule = train_judgement paid.game by.company purchase in
       subst (R turn) (sym leads)
@@ -260,8 +259,8 @@ module _ (company : Company) (R : InTurn → InTurn → Type 0) (steps : OfSteps
 
   -- of a whole turn, from its home token on
   pub of_turn : (file : List ℕ) (round : Round) (old new : Game) (turn : IsCompanyTurn file round company old new) →
-      R (begun old company) (settled company turn.last)
+      R (begun old company) (withheld_if_unpaid company turn.last)
   of_turn file round old new turn =
-      steps.both (begun old company) turn.last (settled company turn.last)
+      steps.both (begun old company) turn.last (withheld_if_unpaid company turn.last)
       (of_block file round (begun old company) (president_of old.events company) turn.last turn.block)
       (of_settled company R steps turn.last)

@@ -13,10 +13,10 @@ use Rattle.totals.specs.LookBack.{Game, with_event}
 use Rattle.totals.specs.Trains.{at_least_zero, trains_held}
 use Rattle.map_tables.specs.declared.rules.RunRule.{RunRule}
 use Rattle.map_tables.specs.declared.rules.RunRule.TheVariants as run_rule
-use Rattle.operating.specs.Forced.{has_trains}
+use Rattle.purchases.specs.Trains.{has_trains}
 use Rattle.operating.specs.InTurn.{InTurn, in_turn, told}
 use Rattle.operating.specs.Runs.{has_any_run, is_past_runs, position_now, rule}
-use Rattle.operating.specs.declared.operator.Operator.{Operator}
+use Rattle.forced_purchase.specs.declared.operator.Operator.{Operator}
 use Rattle.operating.specs.declared.progress.Progress.{Progress}
 use Rattle.order_grammar.specs.declared.order.Order.TheVariants as order
 use Rattle.sheets.specs.Part.{Numbered}

@@ -6,7 +6,7 @@ use Rattle.map_tables.specs.declared.place.Place.{Place}
 use Rattle.operating.specs.Best.{BestLeads, best_judgement}
 use Rattle.operating.specs.InTurn.{InTurn}
 use Rattle.operating.specs.Turn.{LinesLead, begun}
-use Rattle.operating.specs.declared.operator.Operator.{Operator}
+use Rattle.forced_purchase.specs.declared.operator.Operator.{Operator}
 use Rattle.order_grammar.specs.declared.order.Order.TheVariants as order
 use Rattle.sheets.specs.Part.{Numbered}
 use Rattle.tables.specs.declared.rolling_stock.Kind.{Kind}

@@ -13,7 +13,7 @@ state turn = in_turn turn.history turn.progress
 -- a turn is in order
 pub record IsInOrder (turn : CompanyTurn) : Type 0 where
   pub sound : IsSound turn.history
-  pub front : IsPrefix turn.board.value turn.history.events
+  pub prefix : IsPrefix turn.board.value turn.history.events
 
 -- a turn has gone on: it is that of the same company in the same round, its list is sound, and its board has the first of
 -- what had been laid before
@@ -21,4 +21,4 @@ pub record GoesOn (old new : CompanyTurn) : Type 0 where
   pub by : new.by ≡ old.by
   pub round : new.round ≡ old.round
   pub sound : IsSound new.history
-  pub front : IsPrefix new.board.value old.history.events
+  pub prefix : IsPrefix new.board.value old.history.events

@@ -1,19 +1,15 @@
 -- What holds of each company's turn, be it made to buy a train or not.
-use Rattle.std.specs.Prelude.{◌≡◌, ◌⊎◌, ℕ, true, false, List, [], ◌∷◌, ◌++◌, Some, pos}
-use Rattle.std.specs.Int.Signed.{lt_z}
+use Rattle.std.specs.Prelude.{◌≡◌, ◌⊎◌, ℕ, true, false, List, [], ◌∷◌, ◌++◌, Some}
 use Rattle.board_state.specs.MapState.{position_of}
 use Rattle.legal_runs.specs.TwoTrain.{CanRun}
-use Rattle.events.specs.Event.{party_of_company}
 use Rattle.events.specs.declared.event.Event.{Event}
 use Rattle.events.specs.declared.event.Event.TheVariants as event
-use Rattle.totals.specs.LookBack.{Game, bankrupt_in, cash_of}
+use Rattle.totals.specs.LookBack.{Game, bankrupt_in}
 use Rattle.totals.specs.Shares.{president_of}
-use Rattle.operating.specs.Forced.{cheapest, has_trains, lack_of, with_aid}
+use Rattle.purchases.specs.Trains.{has_trains}
 use Rattle.operating.specs.MapState.{map_state_now}
-use Rattle.operating.specs.TrainLaws.{AllTrainsAreThere}
-use Rattle.operating.specs.Trains.{cost_of}
+use Rattle.purchases.specs.TrainLaws.{AllTrainsAreThere}
 use Rattle.operating.specs.Turn.{IsCompanyTurn}
-use Rattle.operating.specs.declared.operator.Operator.{Operator}
 use Rattle.tables.specs.declared.roster.Company.{Company}
 use Rattle.tables.specs.declared.round.Round.{Round}
 use Rattle.tables.specs.declared.seat.Seat.{Seat}
@@ -41,18 +37,6 @@ BankruptcyEndsTurns =
     (file : List ℕ) (round : Round) (company : Company) (old new : Game) →
     IsCompanyTurn file round company old new → bankrupt_in old.events ≡ false → bankrupt_in new.events ≡ true →
     EndsBankrupt new company
-
--- once the president has paid what the company lacks for the cheapest train that is for sale, it has exactly its price
-abbrev pub AidIsWhatLacks : Type 0
-AidIsWhatLacks =
-    (by : Operator) (game : Game) → lt_z (pos 0) (lack_of game by.company) ≡ true →
-    cash_of (with_aid by game).seats (with_aid by game).events (party_of_company by.company)
-    ≡ pos (cost_of (cheapest game.events))
-
--- where the company lacks nothing he pays nothing
-abbrev pub NoAidWithoutLack : Type 0
-NoAidWithoutLack = (by : Operator) (game : Game) → lt_z (pos 0) (lack_of game by.company) ≡ false
-    → with_aid by game ≡ game
 
 -- where all trains are there before its turn, a company that has a president owns a train after it, or a president is
 -- bankrupt, or it could run no train

@@ -10,7 +10,7 @@ use Rattle.events.specs.declared.ruling.Refusal.{Refusal}
 use Rattle.events.specs.declared.ruling.Ruling.{Ruling}
 use Rattle.totals.specs.LookBack.{Game, with_event}
 use Rattle.map_tables.specs.declared.lay.Lay.{Lay}
-use Rattle.operating.specs.declared.operator.Operator.{Operator}
+use Rattle.forced_purchase.specs.declared.operator.Operator.{Operator}
 use Rattle.operating.specs.declared.progress.Progress.{Progress}
 use Rattle.operating.specs.declared.runs.Runs.{Runs}
 use Rattle.order_grammar.specs.declared.order.Order.{Order}

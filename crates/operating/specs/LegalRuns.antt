@@ -8,7 +8,7 @@ use Rattle.map_tables.specs.declared.place.Place.{Place}
 use Rattle.operating.specs.InTurn.{InTurn}
 use Rattle.operating.specs.Runs.{judged_run, position_now, steps_now}
 use Rattle.operating.specs.Turn.{LineLeads, begun, is_held}
-use Rattle.operating.specs.declared.operator.Operator.{Operator}
+use Rattle.forced_purchase.specs.declared.operator.Operator.{Operator}
 use Rattle.operating.specs.declared.runs.CompletedRun.{CompletedRun}
 use Rattle.order_grammar.specs.declared.fault.Fault.{Fault}
 use Rattle.order_grammar.specs.declared.order.Order.{Order}

@@ -5,13 +5,7 @@ pub mod Done
 pub mod InTurn
 pub mod Runs
 pub mod Dividend
-pub mod Discards
-pub mod Trains
-pub mod Phases
-pub mod Offers
-pub mod Standing
-pub mod Privates
-pub mod Forced
+pub mod Ending
 pub mod Turn
 pub mod CompanyTurn
 pub mod Table
@@ -19,7 +13,6 @@ pub mod LegalRuns
 pub mod Laws
 pub mod TrainLaws
 pub mod TileLaws
-pub mod ConsentLaws
 pub mod SaleLaws
 pub mod Best
 pub mod BidLaws

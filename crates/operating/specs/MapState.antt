@@ -11,9 +11,9 @@ abbrev pub map_state_now : List Event → MapState
 map_state_now events = map_state_of (lays_of events) (tokens_of events) (phase_of events)
 
 -- a list begins with another
-pub record BeginsWith {A : Type 0} (front all : List A) : Type 0 where
+pub record BeginsWith {A : Type 0} (prefix all : List A) : Type 0 where
   pub rest : List A
-  pub is : all ≡ front ++ rest
+  pub is : all ≡ prefix ++ rest
 
 -- a board has the first of the tiles and tokens that were laid
 pub record IsPrefix (laid : MapState) (events : List Event) : Type 0 where

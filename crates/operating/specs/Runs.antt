@@ -25,7 +25,7 @@ use Rattle.map_tables.specs.declared.rules.RunRule.TheVariants as run_rule
 use Rattle.map_tables.specs.declared.place.Place.{Place}
 use Rattle.operating.specs.MapState.{map_state_now}
 use Rattle.operating.specs.InTurn.{InTurn, in_turn, told}
-use Rattle.operating.specs.declared.operator.Operator.{Operator}
+use Rattle.forced_purchase.specs.declared.operator.Operator.{Operator}
 use Rattle.operating.specs.declared.progress.Progress.{Progress}
 use Rattle.operating.specs.declared.runs.CompletedRun.{CompletedRun}
 use Rattle.operating.specs.declared.runs.Runs.{Runs}

@@ -8,7 +8,7 @@ use Rattle.operating.specs.declared.table.Table.{Table}
 -- its list is sound, and its board has the first of the tiles and tokens that were laid
 pub record IsLaidOut (table : Table) : Type 0 where
   pub sound : IsSound table.history
-  pub front : IsPrefix table.board.value table.history.events
+  pub prefix : IsPrefix table.board.value table.history.events
 
 -- the game to which a turn has led, if it was not broken off
 abbrev pub game_on : {Fault : Type 0} → Result Table Fault → Result Game Fault

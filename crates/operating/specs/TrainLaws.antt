@@ -1,88 +1,20 @@
--- Laws of trains. Phases never go back. The trains of a kind that are with the bank, in its pool and with the
--- companies are as many as there were at first until they rust, and none after.
-use Rattle.std.specs.Prelude.{◌≡◌, ℕ, ◌<◌, ◌≤◌, Bool, true, false, not, nat_lt, List, [], ◌∷◌, ◌++◌, Option, Some, None}
-use Rattle.std.specs.Prelude.{ℤ, pos, ◌+ℤ◌, ◌-ℤ◌}
-use Rattle.events.specs.Event.{phase_set, train_moved}
-use Rattle.events.specs.declared.event.Event.{Event}
+-- Laws of trains in a company's turn: phases never go back, and the trains that are there stay as many until they rust.
+use Rattle.std.specs.Prelude.{ℕ, ◌≤◌, List}
 use Rattle.totals.specs.LookBack.{Game}
-use Rattle.totals.specs.Trains.{TrainsAreHeld, phase_of, trains_in_play, trains_sold}
-use Rattle.operating.specs.Phases.{after_train}
-use Rattle.operating.specs.Trains.{train_judgement}
+use Rattle.totals.specs.Trains.{phase_of}
 use Rattle.operating.specs.Turn.{IsCompanyTurn}
-use Rattle.operating.specs.declared.purchase.Purchase.{Purchase}
-use Rattle.tables.specs.Train.{place_of_kind, rusting_of, trains_of}
-use Rattle.tables.specs.declared.rolling_stock.Kind.{Kind}
+use Rattle.purchases.specs.TrainLaws.{AllTrainsAreThere}
+use Rattle.tables.specs.Train.{place_of_kind}
 use Rattle.tables.specs.declared.roster.Company.{Company}
 use Rattle.tables.specs.declared.round.Round.{Round}
 
--- after the purchase of a train the phase is the same or a later one
-abbrev pub PhasesGoOn : Type 0
-PhasesGoOn =
-    (game : Game) (buyer : Company) (purchase : Purchase) →
-    place_of_kind (phase_of game.events) ≤ place_of_kind (phase_of (after_train game buyer purchase).events)
-
--- so it is after a company's turn
+-- after a company's turn the phase is the same or a later one
 abbrev pub PhasesGoOnInTurns : Type 0
 PhasesGoOnInTurns =
     (file : List ℕ) (round : Round) (company : Company) (old new : Game) →
     IsCompanyTurn file round company old new → place_of_kind (phase_of old.events) ≤ place_of_kind (phase_of new.events)
 
--- the first train of this kind has come by a phase, if it is that of a kind
-abbrev pub has_come : Kind → Option Kind → Bool
-has_come phase None = false
-has_come phase (Some rusting) = not (nat_lt (place_of_kind phase) (place_of_kind rusting))
-
--- the trains of a kind have rusted
-abbrev pub have_rusted : List Event → Kind → Bool
-have_rusted events kind = has_come (phase_of events) (rusting_of kind)
-
--- the trains of a kind that are with the bank, in its pool and with the companies, where there were this many at first
-abbrev pub trains_there : List Event → Kind → ℕ → ℤ
-trains_there events kind number = (pos number -ℤ pos (trains_sold events kind)) +ℤ trains_in_play events kind
-
--- they are as many as there were at first until they rust, and none after; and the bank has sold each kind in
--- its turn: the phase is that of the latest kind that it has sold, and it sells a 3, 4, 5 or 6 or a D once all
--- trains of each earlier kind but the 6 are sold
-pub record TrainsAreAll (events : List Event) : Type 0 where
-  pub until : (kind : Kind) (number : ℕ) → (trains_of kind).number ≡ Some number → have_rusted events kind ≡ false
-      → trains_there events kind number ≡ pos number
-  pub after : (kind : Kind) (number : ℕ) → (trains_of kind).number ≡ Some number → have_rusted events kind ≡ true
-      → trains_there events kind number ≡ pos 0
-  pub begun : 0 < place_of_kind (phase_of events) → 0 < trains_sold events (phase_of events)
-  pub latest : (kind : Kind) → 0 < trains_sold events kind → place_of_kind kind ≤ place_of_kind (phase_of events)
-  pub in_order : (earlier later : Kind) (number : ℕ) → (trains_of earlier).number ≡ Some number
-      → place_of_kind earlier < 4 → place_of_kind earlier < place_of_kind later → 0 < trains_sold events later
-      → trains_sold events earlier ≡ number
-
--- they are as many, and nobody has fewer than none
-pub record AllTrainsAreThere (events : List Event) : Type 0 where
-  pub held : TrainsAreHeld events
-  pub all : TrainsAreAll events
-
--- so it is at first
-abbrev pub AllTrainsAreThereAtFirst : Type 0
-AllTrainsAreThereAtFirst = AllTrainsAreThere []
-
--- after each event by which no train moves and no phase begins they are still as many
-abbrev pub OthersKeepAll : Type 0
-OthersKeepAll =
-    (events : List Event) (event : Event) → train_moved event ≡ None → phase_set event ≡ None → TrainsAreAll events
-    → TrainsAreAll (events ++ event ∷ [])
-
--- and nobody has fewer than none
-abbrev pub OthersKeepStanding : Type 0
-OthersKeepStanding =
-    (events : List Event) (event : Event) → train_moved event ≡ None → phase_set event ≡ None → AllTrainsAreThere events
-    → AllTrainsAreThere (events ++ event ∷ [])
-
--- so it is after the purchase of a train by the rules
-abbrev pub PurchasesKeepAll : Type 0
-PurchasesKeepAll =
-    (game : Game) (buyer : Company) (purchase : Purchase) →
-    train_judgement game buyer purchase ≡ None → AllTrainsAreThere game.events
-    → AllTrainsAreThere (after_train game buyer purchase).events
-
--- and after a company's turn
+-- where all trains are there before a company's turn, they are after it
 abbrev pub TurnsKeepAll : Type 0
 TurnsKeepAll =
     (file : List ℕ) (round : Round) (company : Company) (old new : Game) →

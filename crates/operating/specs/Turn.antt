@@ -14,7 +14,7 @@ use Rattle.std.specs.Int.RustNames.{unsigned_abs}
 use Rattle.board.specs.LayRules.{IsLayAnswer}
 use Rattle.board.specs.TokenRules.{IsTokenAnswer}
 use Rattle.events.specs.declared.event.Event.{Event}
-use Rattle.events.specs.declared.event.TrainSeller.TheVariants as seller
+use Rattle.events.specs.declared.ruling.PrivateRule.{PrivateRule}
 use Rattle.events.specs.declared.ruling.Refusal.TheVariants as refusal
 use Rattle.events.specs.declared.ruling.Ruling.TheVariants.{Obeyed, Refused, Faulty}
 use Rattle.events.specs.declared.ruling.TrainRule.{TrainRule}
@@ -29,27 +29,27 @@ use Rattle.map_tables.specs.declared.place.Place.{Place}
 use Rattle.operating.specs.Best.{BestLeads}
 use Rattle.operating.specs.Act.{after_lay, after_token, with_home, withheld}
 use Rattle.operating.specs.Dividend.{after_pay, after_withhold}
-use Rattle.operating.specs.Forced.{EndLeads}
+use Rattle.operating.specs.Ending.{EndLeads}
 use Rattle.operating.specs.MapState.{map_state_now}
 use Rattle.operating.specs.InTurn.{InTurn, at_start, in_turn, is_unpaid, lay_done, pay_done, ruled, token_done, told}
 use Rattle.operating.specs.Judgement.{asker_of}
-use Rattle.operating.specs.Phases.{after_train}
-use Rattle.operating.specs.Privates.{after_private}
+use Rattle.purchases.specs.Phases.{after_train}
+use Rattle.purchases.specs.Privates.{private_bought, private_judgement}
 use Rattle.operating.specs.Runs.{after_run}
-use Rattle.operating.specs.Trains.{train_judgement}
-use Rattle.operating.specs.declared.operator.Operator.{Operator}
-use Rattle.operating.specs.declared.purchase.Purchase.{Purchase}
+use Rattle.purchases.specs.Trains.{purchase_of, train_judgement}
+use Rattle.forced_purchase.specs.declared.operator.Operator.{Operator}
+use Rattle.purchases.specs.declared.purchase.Purchase.{Purchase}
 use Rattle.order_grammar.specs.declared.condition.Condition.{Condition}
 use Rattle.order_grammar.specs.declared.fault.Fault.{Fault}
 use Rattle.order_grammar.specs.declared.fault.Fault.TheVariants.{OutOfPlace}
 use Rattle.order_grammar.specs.declared.order.Order.{Order}
 use Rattle.order_grammar.specs.declared.order.Order.TheVariants as order
 use Rattle.order_grammar.specs.declared.order.TrainSource.{TrainSource}
-use Rattle.order_grammar.specs.declared.order.TrainSource.TheVariants as source
 use Rattle.sheets.specs.Block.{block_for}
 use Rattle.sheets.specs.Part.{Numbered}
 use Rattle.tables.specs.declared.rolling_stock.Kind.{Kind}
 use Rattle.tables.specs.declared.roster.Company.{Company}
+use Rattle.tables.specs.declared.roster.Private.{Private}
 use Rattle.tables.specs.declared.round.Round.{Round}
 use Rattle.tables.specs.declared.seat.Seat.{Seat}
 
@@ -84,19 +84,10 @@ pub record TokenLeads (by : Operator) (turn : InTurn) (line : Numbered) (place :
   pub after : new ≡ token_answered by turn line place answer
 
 -- with what the company withholds by itself, where the turn is not past its pay
-abbrev pub settled : Company → InTurn → InTurn
-settled company turn =
+abbrev pub withheld_if_unpaid : Company → InTurn → InTurn
+withheld_if_unpaid company turn =
     if is_unpaid turn.progress then in_turn (withheld turn.game company turn.progress.runs.revenue)
     (pay_done turn.progress) else turn
-
--- the purchase that a TRAIN line orders
-abbrev pub purchase_of : Kind → TrainSource → Purchase
-purchase_of kind source.Bank = record { kind = kind; from = seller.Bank; trade_in = None; asked = None }
-purchase_of kind (source.Trade trade_in) = record
-    { kind = kind; from = seller.Bank; trade_in = Some trade_in; asked = None }
-purchase_of kind source.BankPool = record { kind = kind; from = seller.BankPool; trade_in = None; asked = None }
-purchase_of kind (source.Company company price) =
-    record { kind = kind; from = seller.Company company; trade_in = None; asked = Some price }
 
 -- after a TRAIN in this line that orders this purchase, where this rule refuses it, if one does
 abbrev pub train_ruled : Operator → InTurn → Numbered → Order → Purchase → Option TrainRule → InTurn
@@ -110,6 +101,17 @@ after_buying by turn line kind from =
     train_ruled by turn line (order.BuyTrain kind from) (purchase_of kind from)
     (train_judgement turn.game by.company (purchase_of kind from))
 
+-- after a PRIVATE in this line, where this rule refuses it, if one does
+abbrev pub private_ruled : Operator → InTurn → Numbered → Private → ℕ → Option PrivateRule → InTurn
+private_ruled by turn line private price broken =
+    ruled by turn line (order.BuyOwnedPrivate private price) (option_map refusal.Private broken)
+    (λ (after : InTurn). in_turn (private_bought after.game by.company private price) after.progress)
+
+-- after a PRIVATE in this line
+abbrev pub after_private : Operator → InTurn → Numbered → Private → ℕ → InTurn
+after_private by turn line private price =
+    private_ruled by turn line private price (private_judgement turn.game by.company private price)
+
 -- an order in this line of the block leads to new; those that are not named here have no place in a block
 abbrev pub OrderLeads : Operator → InTurn → Numbered → Order → InTurn → Type 0
 OrderLeads by turn line (order.Lay lay) new = LayLeads by turn line lay new
@@ -118,7 +120,8 @@ OrderLeads by turn line (order.Run kind run) new = new ≡ after_run by turn lin
 OrderLeads by turn line order.RunBest new = BestLeads by turn line new
 OrderLeads by turn line order.Pay new = new ≡ after_pay by turn line order.Pay
 OrderLeads by turn line order.Withhold new = new ≡ after_withhold by turn line order.Withhold
-OrderLeads by turn line (order.BuyTrain kind from) new = new ≡ after_buying by (settled by.company turn) line kind from
+OrderLeads by turn line (order.BuyTrain kind from) new =
+    new ≡ after_buying by (withheld_if_unpaid by.company turn) line kind from
 OrderLeads by turn line (order.BuyOwnedPrivate private price) new = new ≡ after_private by turn line private price
 OrderLeads by turn line (order.Raise company shares) new = new ≡ turn
 OrderLeads by turn line other new = new ≡ told by turn line (Faulty OutOfPlace)
@@ -170,6 +173,12 @@ BlockEnds file round company game None new = new ≡ game
 BlockEnds file round company game (Some seat) new =
     EndLeads (record { company = company; president = seat }) (block_for file round seat.0 company) game new
 
+-- the orders of a company, these lines of its block, lead to new: line by line, then by what it withholds by itself,
+-- and by the end of its turn
+abbrev pub OrdersLead : Operator → List Numbered → InTurn → Game → Type 0
+OrdersLead by lines turn new =
+    (last : InTurn) × LinesLead by turn lines last × EndLeads by lines (withheld_if_unpaid by.company last).game new
+
 -- the turn once its home token lies
 abbrev pub begun : Game → Company → InTurn
 begun game company = in_turn (with_home game company) at_start
@@ -178,4 +187,4 @@ begun game company = in_turn (with_home game company) at_start
 pub record IsCompanyTurn (file : List ℕ) (round : Round) (company : Company) (old new : Game) : Type 0 where
   pub last : InTurn
   pub block : BlockLeads file round company (begun old company) (president_of old.events company) last
-  pub after : BlockEnds file round company (settled company last).game (president_of old.events company) new
+  pub after : BlockEnds file round company (withheld_if_unpaid company last).game (president_of old.events company) new

@@ -13,10 +13,11 @@ use Rattle.totals.specs.Shares.{president_of}
 use Rattle.map_tables.specs.declared.rules.RunRule.{RunRule}
 use Rattle.operating.specs.Best.{BestRuled, best_earned, best_judgement, trains_now}
 use Rattle.operating.specs.Calls.{Call, Course, IsPrefix, Then, Unasked}
+use Rattle.operating.specs.Ending.{EndLeads}
 use Rattle.operating.specs.InTurn.{InTurn, told}
 use Rattle.operating.specs.Runs.{position_now}
-use Rattle.operating.specs.Turn.{AskedLeads, BlockEnds, IsCompanyTurn, OrderLeads, begun, is_held, settled}
-use Rattle.operating.specs.declared.operator.Operator.{Operator}
+use Rattle.operating.specs.Turn.{AskedLeads, BlockEnds, IsCompanyTurn, OrderLeads, begun, is_held, withheld_if_unpaid}
+use Rattle.forced_purchase.specs.declared.operator.Operator.{Operator}
 use Rattle.order_grammar.specs.declared.fault.Fault.{Fault}
 use Rattle.order_grammar.specs.declared.order.Order.{Order}
 use Rattle.order_grammar.specs.declared.order.Order.TheVariants as order
@@ -92,7 +93,7 @@ BlockCalls file round company (Some seat) =
 -- that of what follows the block in the turn of a company
 abbrev pub EndCalls : List ℕ → Round → Company → Option Seat → Course InTurn Game RunnerFault
 EndCalls file round company president =
-    Unasked Memory (λ last new. BlockEnds file round company (settled company last).game president new)
+    Unasked Memory (λ last new. BlockEnds file round company (withheld_if_unpaid company last).game president new)
 
 -- that of a turn once its home token lies
 abbrev pub BegunCalls : List ℕ → Round → Company → Option Seat → Course InTurn Game RunnerFault
@@ -105,15 +106,21 @@ TurnCalls file round company old =
     Then (Unasked Memory (λ game turn. turn ≡ begun game company))
     (BegunCalls file round company (president_of old.events company)) old
 
+-- that of the orders of a company, these lines of its block
+abbrev pub OrdersCall : Operator → Round → List Numbered → Course InTurn Game RunnerFault
+OrdersCall by round lines =
+    Then (LinesCall by round lines)
+    (Unasked Memory (λ last new. EndLeads by lines (withheld_if_unpaid by.company last).game new))
+
 -- where a turn has led that has come so far, if it was not broken off
-abbrev pub led_to : InTurn → Result (Unit {0}) RunnerFault → Result InTurn RunnerFault
-led_to turn (Ok done) = Ok turn
-led_to turn (Err fault) = Err fault
+abbrev pub led_to : {A : Type 0} → A → Result (Unit {0}) RunnerFault → Result A RunnerFault
+led_to to (Ok done) = Ok to
+led_to to (Err fault) = Err fault
 
 -- the calls of a turn that was broken off are a prefix of all its calls: one that was not answered is for this company
 -- in this round
-abbrev pub IsTurnFront : Round → Company → RunnerFault → List Call → List Call → Type 0
-IsTurnFront round company =
+abbrev pub IsTurnPrefix : Round → Company → RunnerFault → List Call → List Call → Type 0
+IsTurnPrefix round company =
     IsPrefix Memory (λ fault why call. (fault ≡ why) × (call.round ≡ round) × (call.company ≡ company))
 
 -- a turn makes one list of calls, and leads to one game
@@ -135,4 +142,4 @@ RefusedTurnCallsAreAPrefix =
     (file : List ℕ) (round : Round) (company : Company) (old new : Game) (fault : RunnerFault)
     (refused whole : List Call) →
     TurnCalls file round company old (Err fault) refused → TurnCalls file round company old (Ok new) whole →
-    IsTurnFront round company fault refused whole
+    IsTurnPrefix round company fault refused whole

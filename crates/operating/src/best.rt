@@ -15,13 +15,13 @@ ghost use Rattle.order_grammar.specs.declared.order.Order.TheVariants as order;
 ghost use Rattle.sheets.specs.Part.{line_with};
 
 use crate::company_turn::CompanyTurn;
-use crate::forced::has_trains;
 use crate::map_state::update_map_state;
 use crate::progress::Progress;
 use crate::running::record_runs;
 use history::{GameView, History, Refusal, RunRule, TrainCount, at_least_zero};
 use legal_runs::{Runner, RunnerFault};
 use order_grammar::Order;
+use purchases::has_trains;
 use reach::Network;
 use sheets::ReadLine;
 use smallvec::SmallVec;

@@ -2,9 +2,9 @@
 ghost use Rattle.std.specs.Prelude.{◌≡◌};
 ghost use Rattle.operating.specs.InTurn.{at_start};
 
-use crate::operator::Operator;
 use crate::progress::Progress;
 use board::Board;
+use forced_purchase::Operator;
 use history::History;
 use std::alloc::Global;
 use tables::Round;

@@ -10,9 +10,9 @@ ghost use Rattle.operating.specs.InTurn.{in_turn};
 ghost use Rattle.sheets.specs.Part.{line_with};
 
 use crate::company_turn::CompanyTurn;
-use crate::operator::Operator;
 use crate::progress::Progress;
 use crate::withholding::withhold;
+use forced_purchase::Operator;
 use history::{Event, History, Holder, PayRule, Refusal, Shareholder, at_least_zero};
 use market::move_token_right;
 use order_grammar::Order;

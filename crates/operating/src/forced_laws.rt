@@ -1,6 +1,5 @@
 //! Laws of turns in which a company is made to buy, each the contract of a function that does nothing.
-ghost use Rattle.operating.specs.ForcedLaws.{AidIsWhatLacks, BankruptcyEndsTurns, NoAidWithoutLack, PresidentStays};
-ghost use Rattle.operating.specs.ForcedLaws.{TurnsEndWithTrains};
+ghost use Rattle.operating.specs.ForcedLaws.{BankruptcyEndsTurns, PresidentStays, TurnsEndWithTrains};
 
 /// Whoever presides over a company as its turn begins does so at its end: no sale by which money is
 /// raised for its train moves its presidency.
@@ -18,11 +17,4 @@ pub fn bankruptcy_ends_turns()
 /// owns a train after it, or a president is bankrupt, or it could run no train of kind 2.
 pub fn turns_end_with_trains()
     ensures { TurnsEndWithTrains }
-{}
-
-/// A president pays what the company lacks for its train and no more: with it the company has exactly
-/// the price, and where it lacks nothing he pays nothing.
-pub fn aid_is_what_lacks()
-    ensures lack { AidIsWhatLacks }
-    ensures none { NoAidWithoutLack }
 {}

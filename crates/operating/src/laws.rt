@@ -5,14 +5,11 @@ ghost use Rattle.operating.specs.LegalRuns.{ObeyedRunsAreLegal};
 ghost use Rattle.operating.specs.TurnCalls.{OneListOfTurnCalls, RefusedTurnCallsAreAPrefix, SomeTurnCalls};
 
 pub use crate::best_laws::best_earns_no_less;
-pub use crate::consent_laws::sellers_agree;
-pub use crate::forced_laws::{
-    aid_is_what_lacks, bankruptcy_ends_turns, presidents_stay, turns_end_with_trains,
-};
-pub use crate::private_laws::closed_for_good;
+pub use crate::forced_laws::{bankruptcy_ends_turns, presidents_stay, turns_end_with_trains};
+pub use crate::private_laws::closed_for_good_in_turns;
 pub use crate::sale_laws::{sellers_agree_in_turns, turns_say_no_bid};
 pub use crate::tile_laws::all_tiles_are_there;
-pub use crate::train_laws::{all_trains_are_there, phases_go_on};
+pub use crate::train_laws::{phases_go_on_in_turns, turns_keep_all_trains};
 
 /// After a company's turn it has operated, and else only those that had before.
 pub fn company_operates()
@@ -55,7 +52,7 @@ pub fn company_turn_ends()
 pub fn one_list_of_turn_calls()
     ensures one { OneListOfTurnCalls }
     ensures some { SomeTurnCalls }
-    ensures front { RefusedTurnCallsAreAPrefix }
+    ensures prefix { RefusedTurnCallsAreAPrefix }
 {
     map_tables::laws::neighbours_pair();
     map_tables::laws::printed_links_are_in_order();

@@ -8,43 +8,35 @@
 //! its token on the chart then moves left. Last, a company without a train that could run one must buy one, for which
 //! its president may have to pay and to sell what he holds; if he cannot pay, he is bankrupt.
 //!
-//! Reading order: `operator` (whose turn it is), `runs` (what its trains have done), `progress`
-//! (how far the turn has come), `company_turn` (all that lasts for the turn: the functions that rule
-//! a line are its methods), `table` (the game and its board between turns), `map_state` (what lies on the map), `asker` (the company as the rules of
-//! the board see it), `home`, `lay` and `token` (what orders do) with `cost`,
-//! `running`, `best`, `withholding`, `dividend`, `purchase` (the rules of trains), `discards`, `phases`
-//! (what a train brings), `train`, `private` (that it buys), `forced` (what it must buy), `turn`
-//! (the lines of a block), `playing`, `standing` (the lines before the first block) with `offers`,
-//! `laws` (what holds of every turn), `train_laws`, `tile_laws`, `private_laws`, `consent_laws`,
-//! `sale_laws`, `forced_laws`, `best_laws`.
+//! What it buys is ruled by `purchases`, and the train that it must buy by `forced_purchase`.
+//!
+//! Reading order: `runs` (what its trains have done), `progress` (how far the turn has come), `company_turn` (all that
+//! lasts for the turn: the functions that rule a line are its methods), `table` (the game and its board between turns),
+//! `map_state` (what lies on the map), `asker` (the company as the rules of the board see it), `home`, `lay` and
+//! `token` (what orders do) with `cost`, `running`, `best`, `withholding`, `dividend`, `train`, `private` (that it
+//! buys), `turn` (the lines of a block), `ending` (what it must buy), `playing`, `laws` (what holds of every turn),
+//! `train_laws`, `tile_laws`, `private_laws`, `sale_laws`, `forced_laws`, `best_laws`.
 #![tactic(auto)]
 
 mod asker;
 mod best;
 mod best_laws;
 mod company_turn;
-mod consent_laws;
 mod cost;
-mod discards;
 mod dividend;
-mod forced;
+mod ending;
 mod forced_laws;
 mod home;
 pub mod laws;
 mod lay;
 mod map_state;
-mod offers;
-mod operator;
-mod phases;
 mod playing;
 mod private;
 mod private_laws;
 mod progress;
-mod purchase;
 mod running;
 mod runs;
 mod sale_laws;
-mod standing;
 mod table;
 mod tile_laws;
 mod token;
@@ -54,5 +46,4 @@ mod turn;
 mod withholding;
 
 pub use playing::{play_company, play_on};
-pub use standing::rule_standing_lines;
 pub use table::Table;

@@ -13,7 +13,7 @@ use std::alloc::AllocError;
 pub(crate) fn update_map_state(board: &mut Board, history: &History) -> Result<(), AllocError>
     requires { IsPrefix board.old history.now.events }
     ensures map_state { OnOk result (board.new ≡ map_state_now history.now.events) }
-    ensures front { OnOk result (IsPrefix board.new history.now.events) }
+    ensures prefix { OnOk result (IsPrefix board.new history.now.events) }
 {
     put_lays(board, history)?;
     put_tokens(board, history)?;

@@ -1,21 +1,24 @@
-ghost use Rattle.std.specs.Prelude.{◌≡◌, IfErr, IfOk, length, true};
+ghost use Rattle.std.specs.Prelude.{◌≡◌, ◌≤◌, ◌<◌, IfErr, IfOk, OnOk, length, true};
 ghost use Rattle.legal_runs.specs.declared.runner.RunnerFault.TheVariants.{Refused};
 ghost use Rattle.totals.specs.Shares.{is_floated};
 ghost use Rattle.history.specs.Sound.{IsSound};
 ghost use Rattle.operating.specs.Calls.{Makes};
+ghost use Rattle.operating.specs.CompanyTurn.{IsInOrder, state};
+ghost use Rattle.operating.specs.MapState.{IsPrefix};
 ghost use Rattle.operating.specs.Table.{IsLaidOut, game_on};
-ghost use Rattle.operating.specs.Turn.{IsCompanyTurn};
-ghost use Rattle.operating.specs.TurnCalls.{TurnCalls};
+ghost use Rattle.operating.specs.Turn.{IsCompanyTurn, OrdersLead};
+ghost use Rattle.operating.specs.TurnCalls.{OrdersCall, TurnCalls, led_to};
 ghost use Rattle.sheets.specs.File.{players_of};
+ghost use Rattle.turns.specs.Small.{AreSmall};
 
 use crate::company_turn::CompanyTurn;
 use crate::home::place_home;
-use crate::operator::Operator;
 use crate::table::Table;
 use crate::withholding::withhold;
+use forced_purchase::Operator;
 use history::History;
 use legal_runs::{Runner, RunnerFault};
-use sheets::Sheets;
+use sheets::{PartsLeft, Sheets};
 use std::alloc::Global;
 use tables::{Company, Round};
 
@@ -78,14 +81,36 @@ pub fn play_on<R: Runner>(
         return Ok(Table { history, board });
     };
     let by = Operator { company, president };
+    let orders = sheets.block(president, &round, company);
     let mut turn = CompanyTurn::begin(alloc, by, round, history, board);
-    let mut orders = sheets.block(president, &round, company);
-    let mut raises = orders.duplicate();
-    turn.rule_lines(&mut orders, runner)?;
-    turn.settle()?;
-    turn.end(&mut raises)?;
+    turn.play(&orders, runner)?;
     Ok(Table {
         history: turn.history,
         board: turn.board,
     })
+}
+
+impl CompanyTurn {
+    /// Plays the turn once the company's home token lies: rules its orders, lets it withhold where it has
+    /// neither paid nor withheld, and ends the turn.
+    fn play<R: Runner>(&mut self, orders: &PartsLeft, runner: &mut R) -> Result<(), RunnerFault>
+        requires few { self.old.history.seats ≤ 6 }
+        requires at_table { self.old.by.president.0 < self.old.history.seats }
+        requires small { AreSmall orders.now.before }
+        requires order { IsInOrder self.old }
+        ensures turn { OnOk result (OrdersLead self.old.by orders.now.before (state self.old)
+            self.new.history) }
+        ensures calls { Makes R.earns runner.old (OrdersCall self.old.by self.old.round
+            orders.now.before (state self.old) (led_to self.new.history result)) runner.new }
+        ensures sound { OnOk result (IsSound self.new.history) }
+        ensures prefix { OnOk result (IsPrefix self.new.board.value self.new.history.events) }
+        ensures refuses { IfErr result (λ fault. fault ≡ Refused → R.may_refuse ≡ true) }
+    {
+        let mut lines = orders.duplicate();
+        self.rule_lines(&mut lines, runner)?;
+        self.withhold_if_unpaid()?;
+        let mut raises = orders.duplicate();
+        self.end(&mut raises)?;
+        Ok(())
+    }
 }

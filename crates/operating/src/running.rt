@@ -42,7 +42,7 @@ impl CompanyTurn {
         ensures order { OnOk result (GoesOn self.old self.new) }
     {
         let judged = self.judge_run(kind, run)?;
-        self.settle_run(line, order, judged)
+        self.rule_judged_run(line, order, judged)
     }
 
     /// What a run of the company's train does, or the first rule that it breaks. The error is
@@ -70,7 +70,7 @@ impl CompanyTurn {
     }
 
     /// Rules the order of this line, by which a train has run or which broke a rule of runs.
-    fn settle_run(
+    fn rule_judged_run(
         &mut self,
         line: ReadLine,
         order: &Order,

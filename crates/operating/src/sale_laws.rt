@@ -1,6 +1,6 @@
 //! Laws of bids and of sales to companies in a company's turn, each the contract of a function that does nothing.
 ghost use Rattle.operating.specs.BidLaws.{TurnsSayNoBid};
-ghost use Rattle.operating.specs.SaleLaws.{OthersKeepAgreed, TurnsKeepAgreed};
+ghost use Rattle.operating.specs.SaleLaws.{TurnsKeepAgreed};
 
 /// Nobody bids on a private in a company's turn.
 pub fn turns_say_no_bid()
@@ -10,6 +10,5 @@ pub fn turns_say_no_bid()
 /// Whoever sells a train or a private to a company in its turn has agreed to exactly this sale, by
 /// the list of events before it.
 pub fn sellers_agree_in_turns()
-    ensures others { OthersKeepAgreed }
-    ensures turns { TurnsKeepAgreed }
+    ensures { TurnsKeepAgreed }
 {}

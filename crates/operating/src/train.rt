@@ -1,16 +1,14 @@
 ghost use Rattle.std.specs.Prelude.{◌≡◌, OnOk};
 ghost use Rattle.operating.specs.CompanyTurn.{GoesOn, IsInOrder, state};
-ghost use Rattle.operating.specs.Trains.{IsSmallPurchase};
 ghost use Rattle.order_grammar.specs.declared.order.Order.TheVariants.{BuyTrain};
 ghost use Rattle.sheets.specs.Part.{line_with};
 ghost use Rattle.turns.specs.Small.{IsSmallOrder};
-ghost use Rattle.operating.specs.Turn.{after_buying, purchase_of};
+ghost use Rattle.operating.specs.Turn.{after_buying};
 
 use crate::company_turn::CompanyTurn;
-use crate::phases::buy_train;
-use crate::purchase::{Purchase, judge_purchase};
-use history::{Refusal, TrainSeller};
+use history::Refusal;
 use order_grammar::{Order, TrainSource};
+use purchases::{buy_train, judge_purchase, purchase_of};
 use sheets::ReadLine;
 use std::alloc::AllocError;
 use tables::Kind;
@@ -40,25 +38,5 @@ impl CompanyTurn {
             buy_train(self.alloc, &mut self.history, by.company, purchase)?;
         }
         Ok(())
-    }
-}
-
-/// The purchase that a TRAIN line orders.
-fn purchase_of(kind: Kind, from: TrainSource) -> Purchase
-    requires { IsSmallOrder (BuyTrain kind from) }
-    ensures purchase { result ≡ purchase_of kind from }
-    ensures small { IsSmallPurchase result }
-{
-    let (from, trade_in, asked) = match from {
-        TrainSource::Bank => (TrainSeller::Bank, None, None),
-        TrainSource::Trade(trade_in) => (TrainSeller::Bank, Some(trade_in), None),
-        TrainSource::BankPool => (TrainSeller::BankPool, None, None),
-        TrainSource::Company { seller, price } => (TrainSeller::Company(seller), None, Some(price)),
-    };
-    Purchase {
-        kind,
-        from,
-        trade_in,
-        asked,
     }
 }

@@ -34,6 +34,7 @@ impl CompanyTurn {
         ensures calls { Makes R.earns runner.old (LinesCall self.old.by self.old.round
             orders.old.before (state self.old) (led_to (state self.new) result)) runner.new }
         ensures by { OnOk result (self.new.by ≡ self.old.by) }
+        ensures seats { OnOk result (self.new.history.seats ≡ self.old.history.seats) }
         ensures order { OnOk result (IsInOrder self.new) }
         ensures refuses { IfErr result (λ fault. fault ≡ Refused → R.may_refuse ≡ true) }
     {
@@ -161,7 +162,7 @@ impl CompanyTurn {
             Order::Pay => self.rule_pay(line, order),
             Order::Withhold => self.rule_withhold(line, order),
             Order::BuyTrain { kind, from } => {
-                self.settle()?;
+                self.withhold_if_unpaid()?;
                 self.rule_train(line, *kind, *from)?;
                 Ok(())
             }

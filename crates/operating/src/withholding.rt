@@ -2,7 +2,7 @@ ghost use Rattle.std.specs.Prelude.{◌≡◌, ◌≤◌, OnOk};
 ghost use Rattle.operating.specs.Act.{withheld};
 ghost use Rattle.history.specs.Sound.{IsSound};
 ghost use Rattle.operating.specs.CompanyTurn.{GoesOn, IsInOrder, state};
-ghost use Rattle.operating.specs.Turn.{settled};
+ghost use Rattle.operating.specs.Turn.{withheld_if_unpaid};
 
 use crate::company_turn::CompanyTurn;
 use history::{Event, History};
@@ -12,10 +12,10 @@ use tables::{Amount, Company};
 
 impl CompanyTurn {
     /// The company withholds by itself where its turn is not past its pay.
-    pub(crate) fn settle(&mut self) -> Result<(), AllocError>
+    pub(crate) fn withhold_if_unpaid(&mut self) -> Result<(), AllocError>
         requires { IsInOrder self.old }
         ensures turn { OnOk result (state self.new
-            ≡ settled self.old.by.company (state self.old)) }
+            ≡ withheld_if_unpaid self.old.by.company (state self.old)) }
         ensures order { OnOk result (GoesOn self.old self.new) }
         ensures board { OnOk result (self.new.board ≡ self.old.board) }
     {

@@ -1,15 +1,13 @@
 -- Files whose sheets are read alike have the same game; so have those with the same sheets of each player.
-use Rattle.std.proofs.Common.{◌≡◌, ℕ, zero, suc, List, is_some, sym, ap, ◌∙◌}
+use Rattle.std.proofs.Common.{ℕ, zero, suc, List, is_some, sym, ap, ◌∙◌}
 use Rattle.std.specs.Prelude.{Option}
 use Rattle.rounds.proofs.ReadAlike.{same_before, same_goes_on, same_round}
 use Rattle.rounds.specs.Arrival.{ArrivalChangesNoGame}
 use Rattle.rounds.specs.Play.{AreRounds, Between, before_play}
 use Rattle.rounds.specs.ReadAlike.{AreReadAlike, SamePartsSameGame, SameSheetsAreReadAlike}
-use Rattle.sheets.specs.File.{players_of, sheet_of, version_of}
-use Rattle.sheets.specs.Laws.{ArrivalChangesNothing, SentTheSame}
+use Rattle.sheets.specs.Laws.{ArrivalChangesNothing}
 use Rattle.sheets.specs.Part.{parts_of}
 use Rattle.std.specs.Prelude.{[], unwrap_or}
-use Rattle.tables.specs.declared.round.Round.{Round}
 
 -- sheets that are read alike let the same rounds be played
 all_the_same : (f g : List ℕ) → AreReadAlike f g → (rounds : ℕ) (there : Between)

@@ -1,17 +1,16 @@
 -- The calls of the steps of a play, joined, are those of the game.
-use Rattle.std.proofs.Common.{◌≡◌, ℕ, zero, suc, true, false, List, [], ◌++◌, Result, Ok, append_assoc, refl, sym, ap}
+use Rattle.std.proofs.Common.{◌≡◌, ℕ, zero, suc, true, List, [], ◌++◌, Result, Ok, append_assoc, refl, sym, ap}
 use Rattle.std.proofs.Common.{subst, ◌∙◌, inl, inr}
 use Rattle.std.proofs.lemmas.Bool.{true≢false}
 use Rattle.std.proofs.lemmas.List.{append-nil}
-use Rattle.operating.specs.Calls.{Call, SomeTimesThen, TimesThen, Unasked}
+use Rattle.operating.specs.Calls.{Call, SomeTimesThen, Unasked}
 use Rattle.rounds.proofs.StepByStep.{LeadsOn, leads_on, stops_here, was_on}
 use Rattle.rounds.specs.GameCalls.{GameCalls, RoundCalls, Stops}
 use Rattle.rounds.specs.Play.{Between, Played, before_play, goes_on}
-use Rattle.rounds.specs.Steps.{CallsBetween, PlaysNext, Stays, StepCalls, Underway, game_so_far, game_there}
+use Rattle.rounds.specs.Steps.{CallsBetween, PlaysNext, StepCalls, Underway, game_so_far, game_there}
 use Rattle.rounds.specs.StepsCall.{StepsCall, StepsCallTheGame}
 use Rattle.rounds.specs.declared.fault.PlayFault.{PlayFault}
 use Rattle.rounds.specs.declared.fault.PlayFault.TheVariants.{Memory}
-use Rattle.rounds.specs.declared.game.End.{End}
 use Rattle.tables.specs.declared.round.Round.{Round}
 
 -- the calls of a step that plays a round are those of the round

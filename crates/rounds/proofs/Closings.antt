@@ -2,8 +2,10 @@
 use Rattle.std.proofs.Common.{◌≡◌, ℕ, zero, suc, true, List, refl, subst}
 use Rattle.events.specs.declared.event.Event.TheVariants as event
 use Rattle.totals.specs.LookBack.{Game, is_closed}
-use Rattle.operating.specs.PrivateLaws.{ClosedStaysClosed, KeepsClosed, OthersKeepClosed, SalesKeepClosed}
-use Rattle.operating.specs.SaleLaws.{OthersKeepAgreed, SellersAgree, TurnsKeepAgreed}
+use Rattle.operating.specs.PrivateLaws.{ClosedStaysClosed}
+use Rattle.purchases.specs.PrivateLaws.{KeepsClosed, OthersKeepClosed, SalesKeepClosed}
+use Rattle.purchases.specs.SaleLaws.{OthersKeepAgreed, SellersAgree}
+use Rattle.operating.specs.SaleLaws.{TurnsKeepAgreed}
 use Rattle.privates.specs.Standing.{standing_ruling}
 use Rattle.privates.specs.Turn.{opening_rules}
 use Rattle.rounds.proofs.OpeningSteps.{OfOpening, of_close, of_line}

@@ -15,8 +15,8 @@ use Rattle.events.specs.declared.event.Event.TheVariants as event
 use Rattle.events.specs.declared.event.Holder.{Holder}
 use Rattle.totals.specs.LookBack.{owner_of}
 use Rattle.history.specs.Record.{after_revenues, breaks, paid_to_owner, with_broken}
-use Rattle.operating.specs.PrivateLaws.{names_owner}
-use Rattle.operating.specs.SaleLaws.{sells_to_company}
+use Rattle.purchases.specs.PrivateLaws.{names_owner}
+use Rattle.purchases.specs.SaleLaws.{sells_to_company}
 use Rattle.rounds.specs.Plain.{is_plain}
 use Rattle.sheets.specs.Part.{Numbered}
 use Rattle.tables.specs.Roster.{revenue_of}

@@ -29,14 +29,14 @@ TellsOf fault why call = fault ≡ fault_in_turn why call.round call.company
 abbrev IsOne : {A B : Type 0} → Course A B PlayFault → Type 0
 IsOne course = Agree Memory TellsOf course course
 
-module _ (lists : OneListOfTurnCalls) (fronts : RefusedTurnCallsAreAPrefix) (file : List ℕ) where
+module _ (lists : OneListOfTurnCalls) (prefixes : RefusedTurnCallsAreAPrefix) (file : List ℕ) where
   -- a prefix of the calls of a company's turn
-  company_front :
+  company_prefix :
       (round : Round) (company : Company) (old new : Game) (fault : PlayFault) (some all : List Call) →
       CompanyCalls file round company old (Err fault) some → CompanyCalls file round company old (Ok new) all
       → ArePrefix fault some all
-  company_front round company old new fault some all broken led =
-      elim (fronts file round company old new broken.0 some all broken.2 led) [
+  company_prefix round company old new fault some all broken led =
+      elim (prefixes file round company old new broken.0 some all broken.2 led) [
         | inl first ↦ inl (broken.1 ∙ ap (λ (why : RunnerFault). fault_in_turn why round company) first.0, first.1)
         | inr short ↦ inr (
           short.0,
@@ -55,9 +55,9 @@ module _ (lists : OneListOfTurnCalls) (fronts : RefusedTurnCallsAreAPrefix) (fil
             let same : first.0 ≡ second.0 = next_once (next_company old.events) first.0 second.0 first.1 second.1 in
             lists file round first.0 old a b some others first.2
             (subst (λ (company : Company). CompanyCalls file round company old (Ok b) others) (sym same) second.2);
-        front = λ old fault to some all broken led.
+        prefix = λ old fault to some all broken led.
             let same : broken.0 ≡ led.0 = next_once (next_company old.events) broken.0 led.0 broken.1 led.1 in
-            company_front round broken.0 old to fault some all broken.2
+            company_prefix round broken.0 old to fault some all broken.2
             (subst (λ (company : Company). CompanyCalls file round company old (Ok to) all) (sym same) led.2);
       }
 
@@ -115,14 +115,14 @@ module _ (lists : OneListOfTurnCalls) (fronts : RefusedTurnCallsAreAPrefix) (fil
               let this = this_called_once first.0 old.in_set in
               this.once old.game a b some others first.2 (subst (λ (round : Round). Of round (Ok b) others) (sym same)
               second.2);
-          front = λ old fault to some all broken led.
+          prefix = λ old fault to some all broken led.
               let Of : Round → Result Between PlayFault → List Call → Type 0 = λ round outcome calls.
               Then (PlayedCalls file round) (Unasked Memory (λ (game : Game) (new : Between). new
               ≡ between_after round old.in_set game)) old.game outcome calls
               in
               let same : broken.0 ≡ led.0 = comes_once broken.0 led.0 (sym broken.1.comes ∙ led.1.comes) in
               let this = this_called_once broken.0 old.in_set in
-              this.front old.game fault to some all broken.2
+              this.prefix old.game fault to some all broken.2
               (subst (λ (round : Round). Of round (Ok to) all) (sym same) led.2);
         }
 
@@ -134,16 +134,16 @@ module _ (lists : OneListOfTurnCalls) (fronts : RefusedTurnCallsAreAPrefix) (fil
         (λ from to outcome calls stops round. true≢false
         (sym (ap (goes_on file) round.1.comes ∙ round.1.posted) ∙ stops.stopped))
 
-module _ (lists : OneListOfTurnCalls) (fronts : RefusedTurnCallsAreAPrefix) (one_opening : OneOpeningRound)
+module _ (lists : OneListOfTurnCalls) (prefixes : RefusedTurnCallsAreAPrefix) (one_opening : OneOpeningRound)
     (one_stock : OneStockRound) where
   -- so the game of a file makes one list of calls
   pub one_list : OneListOfCalls
   one_list file a b some others first second =
-      let one = game_called_once lists fronts file one_opening one_stock in one.once (before_play file) a b some
+      let one = game_called_once lists prefixes file one_opening one_stock in one.once (before_play file) a b some
       others first second
 
   -- and a prefix of them where play is broken off
   pub a_prefix : RefusedCallsAreAPrefix
   a_prefix file fault played refused whole broken led =
-      let one = game_called_once lists fronts file one_opening one_stock in one.front (before_play file) fault played
+      let one = game_called_once lists prefixes file one_opening one_stock in one.prefix (before_play file) fault played
       refused whole broken led

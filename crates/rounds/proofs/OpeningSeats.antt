@@ -13,7 +13,6 @@ use Rattle.privates.proofs.AtTable.{by_rules, is_under, rules_at}
 use Rattle.privates.specs.Opening.{IsOpeningRound}
 use Rattle.privates.specs.Standing.{standing_ruling}
 use Rattle.privates.specs.Turn.{InTurn, after_opening_line}
-use Rattle.privates.specs.Closing.{closed}
 use Rattle.rounds.proofs.OpeningSteps.{OfOpening, of_close, of_line}
 use Rattle.rounds.proofs.RoundSteps.{says_still}
 use Rattle.sheets.specs.Part.{Numbered}

@@ -4,8 +4,8 @@ use Rattle.std.specs.List.{list_all, range_with_len}
 use Rattle.events.specs.declared.event.Event.{Event}
 use Rattle.events.specs.declared.event.Event.TheVariants as event
 use Rattle.totals.specs.LookBack.{Game}
-use Rattle.operating.specs.Standing.{after_standing, after_standing_line, has_place_before, standing_judgement}
-use Rattle.operating.specs.Standing.{standing_ruling}
+use Rattle.purchases.specs.Standing.{after_standing, after_standing_line, has_place_before, standing_judgement}
+use Rattle.purchases.specs.Standing.{standing_ruling}
 use Rattle.rounds.proofs.Growing.{Grows, GrowsPlainly, GrowsStill, and_plain, count_aside, further, is_still}
 use Rattle.rounds.proofs.Growing.{passes_plain, passes_test, revenues_grow, stands_aside, stays}
 use Rattle.rounds.proofs.PlainLines.{GrowsPlain, SheetsArePlain, recorded_plain, ruling_plain, standing_plain}

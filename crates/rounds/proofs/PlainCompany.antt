@@ -24,24 +24,25 @@ use Rattle.map_tables.specs.declared.lay.Lay.{Lay}
 use Rattle.map_tables.specs.declared.place.Place.{Place}
 use Rattle.market.specs.Moves.{square_left_of, right_of}
 use Rattle.market.specs.Token.{with_move}
-use Rattle.operating.proofs.ForcedBuying.{cheapest_plain}
+use Rattle.forced_purchase.proofs.Cheapest.{cheapest_plain}
 use Rattle.operating.proofs.ForcedGames.{operator}
-use Rattle.operating.proofs.TrainSteps.{IsPassedOn, OfClosings, of_bop, of_choice, of_iterate, of_next, of_phase}
-use Rattle.operating.proofs.TrainSteps.{of_train_owner, of_trade}
+use Rattle.purchases.proofs.TrainSteps.{IsPassedOn, OfClosings, of_bop, of_choice, of_iterate, of_next, of_phase}
+use Rattle.purchases.proofs.TrainSteps.{of_trade, of_train_owner}
 use Rattle.operating.specs.Act.{has_home_token, with_home, withheld}
 use Rattle.operating.specs.Best.{BestRuled, best_earned, best_judgement}
 use Rattle.operating.specs.Dividend.{all_paid, paid_for, paid_out, paid_to, paid_to_seats, pay_judgement}
 use Rattle.operating.specs.Dividend.{withhold_judgement}
-use Rattle.operating.specs.Forced.{EndLeads, after_forced, after_raise_line, after_raises, cheapest, concluded}
-use Rattle.operating.specs.Forced.{falls_short, lack_of, next_to_sell, one_share, raise_rule, raise_ruled, sold_further}
-use Rattle.operating.specs.Forced.{sold_singly, with_aid, with_one_sold, with_ruling, with_sale}
+use Rattle.operating.specs.Ending.{EndLeads}
+use Rattle.forced_purchase.specs.Forced.{after_forced, after_raise_line, after_raises, cheapest, concluded, falls_short}
+use Rattle.forced_purchase.specs.Forced.{lack_of, next_to_sell, one_share, raise_rule, raise_ruled, sold_further}
+use Rattle.forced_purchase.specs.Forced.{sold_singly, with_aid, with_one_sold, with_ruling, with_sale}
 use Rattle.operating.specs.InTurn.{InTurn, in_turn, is_unpaid, pay_done, ruled, told}
-use Rattle.operating.specs.Phases.{after_train, begins_phase, bought, with_phase, with_trade}
-use Rattle.operating.specs.Privates.{private_bought, private_judgement, sold_by}
+use Rattle.purchases.specs.Phases.{after_train, begins_phase, bought, with_phase, with_trade}
+use Rattle.purchases.specs.Privates.{private_bought, private_judgement, sold_by}
 use Rattle.operating.specs.Runs.{after_run, judged_run, run_ruled}
-use Rattle.operating.specs.Trains.{cost_of, train_judgement}
+use Rattle.purchases.specs.Trains.{cost_of, purchase_of, train_judgement}
 use Rattle.operating.specs.Turn.{AskedLeads, BlockEnds, BlockLeads, IsCompanyTurn, LayLeads, LinesLead, OrderLeads}
-use Rattle.operating.specs.Turn.{ReadingLeads, TokenLeads, begun, is_held, lay_answered, purchase_of, settled}
+use Rattle.operating.specs.Turn.{ReadingLeads, TokenLeads, begun, is_held, lay_answered, withheld_if_unpaid}
 use Rattle.operating.specs.Turn.{token_answered}
 use Rattle.order_grammar.specs.declared.condition.Condition.{Condition}
 use Rattle.order_grammar.specs.declared.fault.Fault.{Fault}
@@ -117,7 +118,7 @@ module _ (company : Company) where
       let paid : Game = broken_recorded (with_event game its) in
       on.both game paid (withheld game company amount) (by_payment game its refl) (by_move square_left_of paid company)
 
-  by_settled : (turn : InTurn) → TurnAdds turn (settled company turn)
+  by_settled : (turn : InTurn) → TurnAdds turn (withheld_if_unpaid company turn)
   by_settled turn =
       let kept : Game = withheld turn.game company turn.progress.runs.revenue in
       elim (is_unpaid turn.progress) as (λ (b : Bool). TurnAdds turn
@@ -290,7 +291,7 @@ module _ (company : Company) (seat : Seat) (line : Numbered) (plain : IsPlain li
       (by_ruled turn order.Withhold (option_map refusal.Pay (withhold_judgement turn.progress)) act
       (λ after. by_withheld company after.game revenue))
   by_order turn (order.BuyTrain kind from) new leads =
-      let paid : InTurn = settled company turn in
+      let paid : InTurn = withheld_if_unpaid company turn in
       let purchase = purchase_of kind from in
       let rule : Option Refusal = option_map refusal.Train (train_judgement paid.game company purchase) in
       let act : InTurn → InTurn = λ after. in_turn (after_train after.game company purchase) after.progress in
@@ -458,7 +459,7 @@ module _ (file : List ℕ) (round : Round) (sheets : SheetsArePlain file round) 
   pub by_company_turn : (old new : Game) → IsCompanyTurn file round company old new → AddsPlainly old new
   by_company_turn old new turn =
       let home : Game = (begun old company).game in
-      let paid : Game = (settled company turn.last).game in
+      let paid : Game = (withheld_if_unpaid company turn.last).game in
       let president : Option Seat = president_of old.events company in
       on.both old home new (by_home company old)
       (on.both home turn.last.game new (by_block (begun old company) president turn.last turn.block)

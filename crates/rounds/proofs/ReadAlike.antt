@@ -10,9 +10,9 @@ use Rattle.totals.specs.Operating.{rulings_in_round}
 use Rattle.totals.specs.Shares.{president_of}
 use Rattle.history.specs.Record.{revenues_recorded, with_left}
 use Rattle.operating.specs.InTurn.{InTurn}
-use Rattle.operating.specs.Standing as rules
-use Rattle.operating.specs.Forced.{EndLeads}
-use Rattle.operating.specs.Turn.{BlockEnds, BlockLeads, IsCompanyTurn, LinesLead, begun, settled}
+use Rattle.purchases.specs.Standing as rules
+use Rattle.operating.specs.Ending.{EndLeads}
+use Rattle.operating.specs.Turn.{BlockEnds, BlockLeads, IsCompanyTurn, LinesLead, begun, withheld_if_unpaid}
 use Rattle.privates.specs.Opening.{IsOpeningRound, written_turns_for, in_play, opened}
 use Rattle.privates.specs.Standing as opening
 use Rattle.privates.specs.Turn.{opening_turns}
@@ -127,8 +127,8 @@ module _ (first second : List ℕ) where
         last = turn.last;
         block = same_block round company (begun old company) turn.last (president_of old.events company) same
             turn.block;
-        after = same_end round company (settled company turn.last).game new (president_of old.events company) same
-            turn.after;
+        after = same_end round company (withheld_if_unpaid company turn.last).game new (president_of old.events company)
+            same turn.after;
       }
 
   -- so do companies one after another

@@ -11,8 +11,8 @@ use Rattle.events.specs.Event.{token_placed, train_moved}
 use Rattle.events.specs.declared.event.Event.{Event}
 use Rattle.events.specs.declared.event.Event.TheVariants as event
 use Rattle.totals.specs.LookBack.{Game}
-use Rattle.operating.specs.PrivateLaws.{names_owner}
-use Rattle.operating.specs.SaleLaws.{sells_to_company}
+use Rattle.purchases.specs.PrivateLaws.{names_owner}
+use Rattle.purchases.specs.SaleLaws.{sells_to_company}
 use Rattle.operating.specs.Turn.{IsCompanyTurn}
 use Rattle.privates.specs.Opening.{IsOpeningRound}
 use Rattle.rounds.proofs.Growing.{Grows, GrowsStill, is_aside, is_still}

@@ -1,5 +1,5 @@
 -- The calls of steps up to one that is broken off are those of a game that was broken off.
-use Rattle.std.proofs.Common.{◌≡◌, ℕ, zero, suc, true, false, List, [], ◌++◌, Result, Ok, Err, append_assoc, refl, sym}
+use Rattle.std.proofs.Common.{◌≡◌, ℕ, zero, suc, true, List, ◌++◌, Result, Ok, Err, append_assoc, refl, sym}
 use Rattle.std.proofs.Common.{ap, subst, ◌∙◌, inl, inr}
 use Rattle.std.proofs.lemmas.Bool.{true≢false}
 use Rattle.operating.specs.Calls.{Call, SomeTimesThen, Unasked}
@@ -7,7 +7,7 @@ use Rattle.rounds.proofs.CallsJoined.{calls_of_step}
 use Rattle.rounds.proofs.StepByStep.{LeadsOn, breaks_off, leads_on, was_on}
 use Rattle.rounds.specs.GameCalls.{GameCalls, RoundCalls, Stops}
 use Rattle.rounds.specs.Play.{Between, Played, before_play, goes_on}
-use Rattle.rounds.specs.Steps.{BreaksOff, CallsBetween, PlaysNext, StepCalls, Underway}
+use Rattle.rounds.specs.Steps.{CallsBetween, PlaysNext, StepCalls, Underway}
 use Rattle.rounds.specs.StepsBroken.{BrokenStepsCallABrokenGame}
 use Rattle.rounds.specs.StepsCall.{StepsCall}
 use Rattle.rounds.specs.declared.fault.PlayFault.{PlayFault}

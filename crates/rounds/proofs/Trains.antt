@@ -3,9 +3,9 @@ use Rattle.std.proofs.Common.{◌≤◌, List, refl, ap, arith}
 use Rattle.events.specs.declared.event.Event.{Event}
 use Rattle.events.specs.declared.event.Event.TheVariants as event
 use Rattle.totals.specs.Trains.{phase_of}
-use Rattle.operating.proofs.Complete.{phase_kept}
-use Rattle.operating.specs.TrainLaws.{OthersKeepStanding, PhasesGoOnInTurns, AllTrainsAreThere}
-use Rattle.operating.specs.TrainLaws.{AllTrainsAreThereAtFirst, TurnsKeepAll}
+use Rattle.purchases.proofs.Complete.{phase_kept}
+use Rattle.purchases.specs.TrainLaws.{AllTrainsAreThere, AllTrainsAreThereAtFirst, OthersKeepStanding}
+use Rattle.operating.specs.TrainLaws.{PhasesGoOnInTurns, TurnsKeepAll}
 use Rattle.rounds.proofs.RoundSteps.{in_each_game, of_round}
 use Rattle.rounds.specs.Trains.{PhasesGoOnInRounds, AllTrainsAreThereInEachGame}
 use Rattle.tables.specs.Train.{place_of_kind}

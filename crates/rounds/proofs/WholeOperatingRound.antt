@@ -10,7 +10,7 @@ use Rattle.totals.specs.AtEnd.{RulingsAreCounted}
 use Rattle.totals.specs.LookBack.{Game, with_event}
 use Rattle.totals.specs.Operating.{rulings_in_round}
 use Rattle.history.specs.Record.{revenues_recorded, with_left}
-use Rattle.operating.specs.Standing.{after_standing}
+use Rattle.purchases.specs.Standing.{after_standing}
 use Rattle.rounds.specs.OperatingRound.{IsOperatingRound, TurnsLead, finished, lines_left, opened, told_left}
 use Rattle.sheets.specs.File.{players_of}
 use Rattle.sheets.specs.Part.{lines_in, parts_for}

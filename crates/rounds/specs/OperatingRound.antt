@@ -11,7 +11,7 @@ use Rattle.totals.specs.LookBack.{Game, bankrupt_in}
 use Rattle.totals.specs.Operating.{has_operated, rulings_in_round}
 use Rattle.history.specs.Record.{revenues_recorded, with_left}
 use Rattle.market.specs.OperatingOrder.{operates, operating_order_of, times}
-use Rattle.operating.specs.Standing.{after_standing}
+use Rattle.purchases.specs.Standing.{after_standing}
 use Rattle.operating.specs.Turn.{IsCompanyTurn}
 use Rattle.sheets.specs.Part.{lines_in, parts_for}
 use Rattle.tables.specs.Seat.{seat_at}

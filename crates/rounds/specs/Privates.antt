@@ -1,7 +1,7 @@
 -- Privates and sales to companies in the games of files.
 use Rattle.std.specs.Prelude.{◌≡◌, ℕ, true, List}
 use Rattle.totals.specs.LookBack.{is_closed}
-use Rattle.operating.specs.SaleLaws.{SellersAgree}
+use Rattle.purchases.specs.SaleLaws.{SellersAgree}
 use Rattle.privates.specs.BidsRise.{BidsRise}
 use Rattle.rounds.specs.Play.{AreRounds, Between, before_play}
 use Rattle.sheets.specs.File.{IsAccepted}

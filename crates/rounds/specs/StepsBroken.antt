@@ -3,7 +3,7 @@
 use Rattle.std.specs.Prelude.{ℕ, List, ◌++◌, Err}
 use Rattle.operating.specs.Calls.{Call}
 use Rattle.rounds.specs.GameCalls.{GameCalls}
-use Rattle.rounds.specs.Steps.{BreaksOff, IsUnbroken, StepCalls, Underway}
+use Rattle.rounds.specs.Steps.{BreaksOff, StepCalls, Underway}
 use Rattle.rounds.specs.StepsCall.{StepsCall}
 use Rattle.rounds.specs.declared.fault.PlayFault.{PlayFault}
 

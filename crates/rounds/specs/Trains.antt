@@ -1,7 +1,7 @@
 -- Trains and phases in the games of files.
 use Rattle.std.specs.Prelude.{ℕ, ◌≤◌, List}
 use Rattle.totals.specs.Trains.{phase_of}
-use Rattle.operating.specs.TrainLaws.{AllTrainsAreThere}
+use Rattle.purchases.specs.TrainLaws.{AllTrainsAreThere}
 use Rattle.rounds.specs.Play.{AreRounds, Between, IsRound, before_play}
 use Rattle.tables.specs.Train.{place_of_kind}
 

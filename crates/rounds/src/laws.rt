@@ -118,7 +118,8 @@ pub fn sets_keep_their_number()
 pub fn all_trains_are_there_in_each_game()
     ensures { AllTrainsAreThereInEachGame }
 {
-    operating::laws::all_trains_are_there()
+    purchases::laws::all_trains_are_there();
+    operating::laws::turns_keep_all_trains()
 }
 
 /// Whenever a round ends, the tiles of a number that lie on the map and those in the stock are as
@@ -133,7 +134,7 @@ pub fn all_tiles_are_there_in_each_game()
 pub fn phases_go_on_in_rounds()
     ensures { PhasesGoOnInRounds }
 {
-    operating::laws::phases_go_on()
+    operating::laws::phases_go_on_in_turns()
 }
 
 /// Whenever a round ends, each bid was at least 5 over every earlier bid on its private.
@@ -149,7 +150,8 @@ pub fn bids_rise_in_each_game()
 pub fn closed_for_good_in_each_game()
     ensures { ClosedForGood }
 {
-    operating::laws::closed_for_good()
+    purchases::laws::closed_for_good();
+    operating::laws::closed_for_good_in_turns()
 }
 
 /// Whoever sold a train or a private to a company had agreed to exactly that sale, as the list of
@@ -157,6 +159,7 @@ pub fn closed_for_good_in_each_game()
 pub fn sellers_agree_in_each_game()
     ensures { SellersAgreeInEachGame }
 {
+    purchases::laws::sellers_agree();
     operating::laws::sellers_agree_in_turns()
 }
 

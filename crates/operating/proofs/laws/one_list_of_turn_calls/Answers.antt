@@ -12,8 +12,8 @@ returns-clause-one c =
 pub returns-clause-some : goal.returns-clause-some
 returns-clause-some c = turn_called
 
-pub returns-clause-front : goal.returns-clause-front
-returns-clause-front c =
+pub returns-clause-prefix : goal.returns-clause-prefix
+returns-clause-prefix c =
     a_prefix
     (lawful c.neighbours_pair.ensures c.printed_links_are_in_order.ensures c.laid_links_are_in_order.ensures
     c.values_are_at_most_80.ensures)

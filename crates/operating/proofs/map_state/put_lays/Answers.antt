@@ -3,17 +3,17 @@ use Rattle.std.proofs.Common.{ap, sym, subst, ◌∙◌}
 use Rattle.std.specs.Prelude.{slice_get}
 use Rattle.board_state.specs.MapState.{MapState}
 use Rattle.totals.specs.Operating.{lays_of}
-use Rattle.operating.proofs.Fronts.{all_told, next}
+use Rattle.operating.proofs.Prefixes.{all_told, next}
 use Rattle.operating.specs.MapState.{BeginsWith}
 use Rattle.operating.proofs.map_state.put_lays.Goals as goal
 
 pub loop-lay-preserved : goal.loop-lay-preserved
 loop-lay-preserved c =
     let all = lays_of c.args.history.now.events in
-    let front = c.loop-lay.board.lays in
+    let prefix = c.loop-lay.board.lays in
     record {
       begins = subst (λ (laid : MapState). BeginsWith laid.lays all) (sym c.in_ok-put_lay.ensures.ok)
-          (next front all c.in-Some.lay c.loop-lay.invariant.begins
+          (next prefix all c.in-Some.lay c.loop-lay.invariant.begins
           (ap (λ n. slice_get all n) (sym c.tiles_laid.ensures) ∙ sym c.laid.ensures ∙ c.in-Some.is));
       others = ap (λ (laid : MapState). laid.tokens) c.in_ok-put_lay.ensures.ok ∙ c.loop-lay.invariant.others;
     }

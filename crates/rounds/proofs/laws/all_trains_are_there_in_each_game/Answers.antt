@@ -4,4 +4,4 @@ use Rattle.rounds.proofs.laws.all_trains_are_there_in_each_game.Goals as goal
 pub returns : goal.returns
 returns c =
     let laws = c.all_trains_are_there.ensures in
-    trains_stand laws.first laws.standing laws.turns
+    trains_stand laws.first laws.standing c.turns_keep_all_trains.ensures

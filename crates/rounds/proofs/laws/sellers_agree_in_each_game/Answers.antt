@@ -3,5 +3,4 @@ use Rattle.rounds.proofs.laws.sellers_agree_in_each_game.Goals as goal
 
 pub returns : goal.returns
 returns c =
-    let laws = c.sellers_agree_in_turns.ensures in
-    sellers_agree laws.others laws.turns
+    sellers_agree c.sellers_agree.ensures.others c.sellers_agree_in_turns.ensures

@@ -2,8 +2,8 @@
 use Rattle.std.proofs.Common.{◌≡◌, true, false, inl, inr, sym, ◌∙◌}
 use Rattle.operating.proofs.company_turn.CompanyTurn.end.Goals as goal
 
-pub buy_by_force-requires-clause-due : goal.buy_by_force-requires-clause-due
-buy_by_force-requires-clause-due c = c.in_ok-due.ensures.due.0 c.if-due.true
+pub buy_by_force-requires-clause-none : goal.buy_by_force-requires-clause-none
+buy_by_force-requires-clause-none c = (c.in_ok-due.ensures.due.0 c.if-due.true).0
 
 pub returns-then-due-clause-turn : goal.returns-then-due-clause-turn
 returns-then-due-clause-turn c = inl (c.in_ok-due.ensures.due.0 c.if-due.true, c.in_ok-buy_by_force.ensures.after)

@@ -8,7 +8,7 @@ use Rattle.operating.specs.Calls.{Makes}
 use Rattle.operating.specs.CompanyTurn.{state}
 use Rattle.operating.specs.Turn.{LineLeads, LinesLead}
 use Rattle.operating.specs.TurnCalls.{LineCalls, LinesCall, led_to}
-use Rattle.operating.specs.declared.operator.Operator.{Operator}
+use Rattle.forced_purchase.specs.declared.operator.Operator.{Operator}
 use Rattle.sheets.specs.Part.{Numbered, Parts, line_unread}
 use Rattle.tables.specs.declared.round.Round.{Round}
 use Rattle.turns.specs.Small.{AreSmall}

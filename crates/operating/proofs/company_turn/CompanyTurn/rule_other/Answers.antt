@@ -14,27 +14,27 @@ rule_train-requires-clause-small c = subst IsSmallOrder c.in-BuyTrain.is c.requi
 
 pub rule_train-requires-clause-order : goal.rule_train-requires-clause-order
 rule_train-requires-clause-order c =
-    after_settling c.args.self.now c.settle.new.self c.in_ok-settle-in-BuyTrain.ensures.turn
-    c.in_ok-settle-in-BuyTrain.ensures.order
+    after_settling c.args.self.now c.withhold_if_unpaid.new.self c.in_ok-withhold_if_unpaid-in-BuyTrain.ensures.turn
+    c.in_ok-withhold_if_unpaid-in-BuyTrain.ensures.order
 
 pub returns-in_ok-rule_train-in-BuyTrain-clause-turn :
     goal.returns-in_ok-rule_train-in-BuyTrain-clause-turn
 returns-in_ok-rule_train-in-BuyTrain-clause-turn c =
-    train_leads_on c.args.self.now.by c.settle.new.self.by (state c.args.self.now) (state c.settle.new.self)
-    (line_with c.args.line c.args.order.now) c.args.order.now _ _ (state c.rule_train.new.self) c.in-BuyTrain.is
-    c.in_ok-settle-in-BuyTrain.ensures.order.by c.in_ok-settle-in-BuyTrain.ensures.turn
+    train_leads_on c.args.self.now.by c.withhold_if_unpaid.new.self.by (state c.args.self.now)
+    (state c.withhold_if_unpaid.new.self) (line_with c.args.line c.args.order.now) c.args.order.now _ _ (state c.rule_train.new.self) c.in-BuyTrain.is
+    c.in_ok-withhold_if_unpaid-in-BuyTrain.ensures.order.by c.in_ok-withhold_if_unpaid-in-BuyTrain.ensures.turn
     c.in_ok-rule_train-in-BuyTrain.ensures.turn
 
 pub returns-in_ok-rule_train-in-BuyTrain-clause-order :
     goal.returns-in_ok-rule_train-in-BuyTrain-clause-order
 returns-in_ok-rule_train-in-BuyTrain-clause-order c =
-    let settled = c.in_ok-settle-in-BuyTrain.ensures in
+    let withheld = c.in_ok-withhold_if_unpaid-in-BuyTrain.ensures in
     let bought = c.in_ok-rule_train-in-BuyTrain.ensures in
     record {
-      by = bought.order.by ∙ settled.order.by;
-      round = bought.order.round ∙ settled.order.round;
+      by = bought.order.by ∙ withheld.order.by;
+      round = bought.order.round ∙ withheld.order.round;
       sound = bought.order.sound;
-      front = subst (λ (laid : MapState). IsPrefix laid c.args.self.now.history.events)
-          (sym (ap (λ (board : Box MapState Global). board.value) (bought.board ∙ settled.board)))
-          c.requires.order.front;
+      prefix = subst (λ (laid : MapState). IsPrefix laid c.args.self.now.history.events)
+          (sym (ap (λ (board : Box MapState Global). board.value) (bought.board ∙ withheld.board)))
+          c.requires.order.prefix;
     }

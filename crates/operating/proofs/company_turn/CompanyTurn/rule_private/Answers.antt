@@ -1,6 +1,7 @@
 use Rattle.std.proofs.Common.{◌≡◌, true, is_none, refl, sym, ◌∙◌}
-use Rattle.operating.proofs.PrivateSales.{same_after_line, sold_steps}
-use Rattle.operating.proofs.Told.{kept_all, told_obeyed}
+use Rattle.purchases.proofs.PrivateSales.{same_after_line}
+use Rattle.operating.proofs.Bought.{sold_steps}
+use Rattle.purchases.proofs.Told.{kept_all, told_obeyed}
 use Rattle.operating.specs.InTurn.{in_turn}
 use Rattle.order_grammar.specs.declared.order.Order.TheVariants.{BuyOwnedPrivate}
 use Rattle.sheets.specs.Part.{line_with}

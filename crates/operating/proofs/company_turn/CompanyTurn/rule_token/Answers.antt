@@ -67,7 +67,7 @@ returns-in_ok-append-in-Ok-clause-order c =
           c.args.place cost c.amount_of-cost.result answered c.in_ok-record-in-Ok.ensures.ruling
           c.in_ok-append-in-Ok.ensures.ok (c.amount_of-cost.ensures ∙ ap unsigned_abs may.kept)
           c.in_ok-record-in-Ok.ensures.sound;
-      front = c.in_ok-update_map_state.ensures.front;
+      prefix = c.in_ok-update_map_state.ensures.prefix;
     }
 
 pub returns-in_ok-record-in-Err-Rule-clause-turn : goal.returns-in_ok-record-in-Err-Rule-clause-turn

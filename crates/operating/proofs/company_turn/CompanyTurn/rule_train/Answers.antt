@@ -1,6 +1,7 @@
 use Rattle.std.proofs.Common.{◌≡◌, true, is_none, refl, sym, ◌∙◌}
-use Rattle.operating.proofs.Still.{bought_steps, same_judgement}
-use Rattle.operating.proofs.Told.{kept_all, told_obeyed}
+use Rattle.operating.proofs.Bought.{bought_steps}
+use Rattle.purchases.proofs.Still.{same_judgement}
+use Rattle.purchases.proofs.Told.{kept_all, told_obeyed}
 use Rattle.operating.specs.InTurn.{in_turn}
 use Rattle.order_grammar.specs.declared.order.Order.TheVariants.{BuyTrain}
 use Rattle.sheets.specs.Part.{line_with}

@@ -1,0 +1,7 @@
+pub mod Cheapest
+pub mod TrainCounts
+pub mod Steps
+pub mod Aid
+pub mod RaiseLemmas
+pub mod SalesKeepPresidency
+pub mod HasBought

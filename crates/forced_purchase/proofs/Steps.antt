@@ -1,0 +1,213 @@
+-- The steps of a forced purchase, from what each part of them does.
+use Rattle.std.proofs.Common.{◌≡◌, ℕ, zero, suc, Bool, true, false, ◌&&◌, if◌then◌else◌, List, [], ◌∷◌, ◌++◌, Option}
+use Rattle.std.proofs.Common.{Some, None, find, option_map, is_none, refl, sym, ap, subst, ◌∙◌}
+use Rattle.certs.proofs.SaleAllowed.{sale_allowed, same_judgement}
+use Rattle.certs.specs.Sale.{sale_judgement}
+use Rattle.certs.specs.SaleAct.{MaySell, after_sale}
+use Rattle.certs.specs.declared.deal.Sale.{Sale}
+use Rattle.events.specs.Event.{IsQuiet, round_begun_by}
+use Rattle.events.specs.declared.event.Event.{Event}
+use Rattle.events.specs.declared.event.Event.TheVariants as event
+use Rattle.events.specs.declared.ruling.Refusal.TheVariants as refusal
+use Rattle.events.specs.declared.ruling.Ruling.{Ruling}
+use Rattle.events.specs.declared.ruling.Ruling.TheVariants.{Obeyed}
+use Rattle.events.specs.declared.ruling.StockRule.{StockRule}
+use Rattle.events.specs.declared.ruling.StockRule.TheVariants.{NotOfStock}
+use Rattle.totals.proofs.EventAtEnd.{last_said_before, quiet_same}
+use Rattle.history.specs.Conditions.{is_met}
+use Rattle.totals.specs.LookBack.{Game, with_event}
+use Rattle.forced_purchase.specs.Forced.{after_forced, after_raise, after_raises, cheapest, concluded, falls_short}
+use Rattle.forced_purchase.specs.Forced.{needed_rule, next_to_sell, one_share, raise_rule, raise_ruled, sale_rule}
+use Rattle.forced_purchase.specs.Forced.{sold_further, sold_singly, with_aid, with_one_sold, with_ruling, with_sale}
+use Rattle.purchases.specs.Phases.{after_train}
+use Rattle.forced_purchase.specs.declared.operator.Operator.{Operator}
+use Rattle.purchases.specs.declared.purchase.Purchase.{Purchase}
+use Rattle.order_grammar.specs.declared.condition.Condition.{Condition}
+use Rattle.order_grammar.specs.declared.order.Order.TheVariants as order
+use Rattle.sheets.specs.Part.{Numbered}
+use Rattle.tables.specs.Roster.{companies}
+use Rattle.tables.specs.Steps.{iterate}
+use Rattle.tables.specs.declared.roster.Company.{Company}
+
+-- a game is its seats and its events
+made_of : (game : Game) (seats : ℕ) (events : List Event) → game.seats ≡ seats → game.events ≡ events
+    → game ≡ record { seats = seats; events = events }
+made_of game seats events same_seats same_events =
+    ap (λ (n : ℕ). let made : Game = record { seats = n; events = game.events } in made) same_seats
+    ∙ ap (λ (list : List Event). let made : Game = record { seats = seats; events = list } in made) same_events
+
+-- where no rule of stock refuses, none is broken
+none_refused : (broken : Option StockRule) → option_map refusal.Stock broken ≡ None → broken ≡ None
+none_refused None none = refl
+none_refused (Some rule) none = absurd cc
+
+-- a RAISE that is needed and breaks no rule is a sale that breaks none
+needed_obeyed : (by : Operator) (game : Game) (condition : Option Condition) (sale : Sale)
+    → needed_rule by game condition sale ≡ None → sale_rule by game sale ≡ None
+needed_obeyed by game condition sale none =
+    elim (is_met game.events condition) as (λ (met : Bool).
+    (if met then option_map refusal.Stock (sale_rule by game sale) else Some refusal.Condition) ≡ None
+    → sale_rule by game sale ≡ None) [
+      | true ↦ none_refused (sale_rule by game sale)
+      | false ↦ λ wrong. absurd cc
+    ]
+    none
+
+-- so is one that breaks none, be it needed or not
+pub raise_obeyed : (due : Bool) (by : Operator) (game : Game) (condition : Option Condition) (sale : Sale)
+    → raise_rule due by game condition sale ≡ None
+    → sale_judgement game.seats game.events by.president sale (Some by.company) ≡ None
+unfolding raise_rule sale_rule
+raise_obeyed due by game condition sale none =
+    elim (due && falls_short by game) as (λ (b : Bool).
+    (if b then needed_rule by game condition sale else Some (refusal.Stock NotOfStock)) ≡ None
+    → sale_judgement game.seats game.events by.president sale (Some by.company) ≡ None) [
+      | true ↦ needed_obeyed by game condition sale
+      | false ↦ λ wrong. absurd cc
+    ]
+    none
+
+-- and sells what it says
+pub raised : (due : Bool) (by : Operator) (old told new : Game) (line : Numbered) (sale : Sale)
+    → raise_rule due by old line.condition sale ≡ None
+    → told ≡ with_ruling by old line (Obeyed line.condition (order.Raise sale.company sale.shares))
+    → new.seats ≡ told.seats → new.events ≡ after_sale told.seats told.events by.president sale.company sale.shares
+    → new ≡ after_raise due by old line sale
+raised due by old told new line sale none is_told seats events =
+    made_of new told.seats (after_sale told.seats told.events by.president sale.company sale.shares) seats events
+    ∙ ap (λ (game : Game). with_sale by game sale) is_told
+    ∙ ap (raise_ruled by old line sale) (sym none)
+
+-- a test of nothing
+pub nothing : {A : Type 0} (found : Option A) → is_none found ≡ true → found ≡ None
+nothing None is = refl
+nothing (Some thing) is = absurd cc
+
+-- the company that is found passes the test
+found_passes : (test : Company → Bool) (among : List Company) (company : Company) → find test among ≡ Some company
+    → test company ≡ true
+found_passes test [] company is = absurd cc
+found_passes test (first ∷ others) company is =
+    elim (test first) as (λ (b : Bool). test first ≡ b → (if b then Some first else find test others) ≡ Some company
+    → test company ≡ true) [
+      | true ↦ λ passes here.
+          let same : first ≡ company = cc in
+          subst (λ (its : Company). test its ≡ true) same passes
+      | false ↦ λ fails later. found_passes test others company later
+    ]
+    refl is
+
+-- the share of the first company of which the president may sell can be sold
+pub may_sell_share : (by : Operator) (game : Game) (company : Company) (sale : Sale) → sale ≡ one_share company
+    → next_to_sell by game ≡ Some company → MaySell game.seats game.events by.president sale
+unfolding next_to_sell sale_rule
+may_sell_share by game company sale is found =
+    let passes : is_none (sale_judgement game.seats game.events by.president (one_share company) (Some by.company))
+    ≡ true = found_passes (λ its. is_none (sale_judgement game.seats game.events by.president (one_share its)
+    (Some by.company))) companies company found in
+    subst (λ (its : Sale). MaySell game.seats game.events by.president its) (sym is)
+    (sale_allowed game.seats game.events by.president (one_share company) (Some by.company)
+    (nothing (sale_judgement game.seats game.events by.president (one_share company) (Some by.company)) passes))
+
+-- a sale that breaks no rule breaks none after a ruling
+pub still_allowed : (by : Operator) (game : Game) (line : Numbered) (ruling : Ruling) (sale : Sale) →
+    sale_judgement game.seats game.events by.president sale (Some by.company) ≡ None
+    → sale_rule by (with_ruling by game line ruling) sale ≡ None
+unfolding sale_rule
+still_allowed by game line ruling sale none =
+    let its : Event = event.Ruled by.president line.number ruling in
+    let quiet : IsQuiet its = record {
+      payment = refl;
+      ownership = refl;
+      bidding = refl;
+      transfer = refl;
+      par =
+          refl;
+      square = refl;
+      office = refl;
+      float = refl;
+      sv_price = refl;
+      train = refl;
+      tile = refl;
+      token = refl;
+    } in
+    same_judgement game.seats game.events (game.events ++ its ∷ []) by.president sale (Some by.company)
+    (quiet_same game.events its quiet)
+    (last_said_before round_begun_by (game.events ++ its ∷ []) game.events its refl refl)
+    ∙ none
+
+-- nor does that of the share which is sold next
+pub next_allowed : (by : Operator) (game : Game) (company : Company) → next_to_sell by game ≡ Some company
+    → sale_rule by game (one_share company) ≡ None
+unfolding next_to_sell
+next_allowed by game company found =
+    nothing (sale_rule by game (one_share company))
+    (found_passes (λ its. is_none (sale_rule by game (one_share its))) companies company found)
+
+-- one is sold
+pub one_sold : (by : Operator) (old new : Game) (company : Company) (sale : Sale) → sale ≡ one_share company
+    → next_to_sell by old ≡ Some company → new.seats ≡ old.seats
+    → new.events ≡ after_sale old.seats old.events by.president sale.company sale.shares
+    → new ≡ with_one_sold by old (next_to_sell by old)
+one_sold by old new company sale is found seats events =
+    made_of new old.seats (after_sale old.seats old.events by.president sale.company sale.shares) seats events
+    ∙ ap (λ (its : Sale). with_sale by old its) is
+    ∙ ap (with_one_sold by old) (sym found)
+
+-- or none
+pub none_sold : (by : Operator) (game : Game) → next_to_sell by game ≡ None
+    → game ≡ with_one_sold by game (next_to_sell by game)
+none_sold by game none = ap (with_one_sold by game) (sym none)
+
+-- where the president falls short
+pub sold_then : (by : Operator) (old new : Game) → falls_short by old ≡ true
+    → new ≡ with_one_sold by old (next_to_sell by old) → new ≡ sold_further by old
+unfolding sold_further
+sold_then by old new short sold = sold ∙ ap (λ (b : Bool). if b then with_one_sold by old
+    (next_to_sell by old) else old) (sym short)
+
+pub not_sold : (by : Operator) (game : Game) → falls_short by game ≡ false → game ≡ sold_further by game
+unfolding sold_further
+not_sold by game enough = ap (λ (b : Bool). if b then with_one_sold by game (next_to_sell by game) else game)
+    (sym enough)
+
+-- who does not fall short sells nothing
+times_none : (by : Operator) (times : ℕ) (game : Game) → falls_short by game ≡ false
+    → game ≡ iterate (sold_further by) times game
+times_none by zero game enough = refl
+times_none by (suc times) game enough = not_sold by game enough ∙ ap (sold_further by) (times_none by times game enough)
+
+pub none_needed : (by : Operator) (game : Game) → falls_short by game ≡ false → game ≡ sold_singly by game
+unfolding sold_singly
+none_needed by game enough = times_none by 40 game enough
+
+-- the president is bankrupt
+pub bankrupt_then : (by : Operator) (old new : Game) → falls_short by old ≡ true
+    → new ≡ with_event old (event.Bankrupt by.president) → new ≡ concluded by old
+unfolding concluded
+bankrupt_then by old new short told =
+    told ∙ ap (λ (b : Bool). if b then with_event old (event.Bankrupt by.president) else after_train (with_aid by old)
+    by.company (cheapest old.events)) (sym short)
+
+-- or the company buys
+pub bought_then : (by : Operator) (old aided new : Game) (purchase : Purchase) → falls_short by old ≡ false
+    → purchase ≡ cheapest old.events → aided ≡ with_aid by old → new ≡ after_train aided by.company purchase
+    → new ≡ concluded by old
+unfolding concluded
+bought_then by old aided new purchase enough is_cheapest is_aided bought =
+    bought
+    ∙ ap (λ (game : Game). after_train game by.company purchase) is_aided
+    ∙ ap (after_train (with_aid by old) by.company) is_cheapest
+    ∙ ap (λ (b : Bool). if b then with_event old (event.Bankrupt by.president) else after_train (with_aid by old)
+    by.company (cheapest old.events)) (sym enough)
+
+-- all of it
+pub forced_then : (by : Operator) (lines : List Numbered) (old told raised sold new : Game)
+    → told ≡ with_event old (event.Forced by.company) → raised ≡ after_raises true by told lines
+    → sold ≡ sold_singly by raised → new ≡ concluded by sold → new ≡ after_forced by lines old
+unfolding after_forced
+forced_then by lines old told raised sold new is_told is_raised is_sold is_new =
+    is_new
+    ∙ ap (concluded by) is_sold
+    ∙ ap (λ (game : Game). concluded by (sold_singly by game)) is_raised
+    ∙ ap (λ (game : Game). concluded by (sold_singly by (after_raises true by game lines))) is_told

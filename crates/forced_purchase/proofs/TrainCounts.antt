@@ -1,0 +1,154 @@
+-- What a forced purchase needs, and what stays as it was while money is raised for it.
+use Rattle.std.proofs.Common.{◌≡◌, ℕ, zero, suc, ◌*◌, ◌==◌, Bool, true, false, if◌then◌else◌, List, [], ◌∷◌, ◌++◌}
+use Rattle.std.proofs.Common.{Option, Some, None, Result, Ok, ℤ, pos, ◌+ℤ◌, refl, ap, ◌∙◌}
+use Rattle.std.specs.Int.Signed.{lt_z}
+use Rattle.certs.specs.SaleAct.{after_sale, sold, with_president, with_successor}
+use Rattle.certs.specs.President.{successor_of}
+use Rattle.certs.specs.Purchase.{market_price_of}
+use Rattle.certs.specs.declared.deal.Sale.{Sale}
+use Rattle.events.specs.Event.{train_owner_place, train_moved}
+use Rattle.events.specs.declared.event.Event.{Event}
+use Rattle.events.specs.declared.event.Event.TheVariants as event
+use Rattle.events.specs.declared.ruling.Refusal.{Refusal}
+use Rattle.events.specs.declared.ruling.Ruling.TheVariants.{Obeyed, Refused}
+use Rattle.totals.proofs.EventAtEnd.{trains_at_before}
+use Rattle.totals.specs.LookBack.{Game, with_event}
+use Rattle.totals.specs.Shares.{president_of, square_of}
+use Rattle.history.specs.Record.{breaks, with_broken}
+use Rattle.totals.specs.Trains.{train_count, trains_held, trains_of_kinds}
+use Rattle.market.specs.Moves.{fallen}
+use Rattle.market.specs.Token.{moved_from, same_square}
+use Rattle.forced_purchase.specs.Forced.{after_raise_line, after_raises, falls_short, next_to_sell, raise_rule}
+use Rattle.forced_purchase.specs.Forced.{raise_ruled, sold_further, sold_singly, with_one_sold}
+use Rattle.purchases.specs.Trains.{has_trains}
+use Rattle.forced_purchase.specs.declared.operator.Operator.{Operator}
+use Rattle.order_grammar.specs.declared.fault.Fault.{Fault}
+use Rattle.order_grammar.specs.declared.order.Order.{Order}
+use Rattle.order_grammar.specs.declared.order.Order.TheVariants as order
+use Rattle.sheets.specs.Part.{Numbered}
+use Rattle.tables.specs.Steps.{iterate}
+use Rattle.tables.specs.Train.{kinds}
+use Rattle.tables.specs.declared.rolling_stock.Kind.{Kind}
+use Rattle.tables.specs.declared.roster.Company.{Company}
+use Rattle.tables.specs.declared.seat.Seat.{Seat}
+use Rattle.tables.specs.declared.squares.Square.{Square}
+
+-- where no train moves, each has as many
+kinds_before : (events : List Event) (event : Event) (owner : Option Company) (some : List Kind)
+    → train_moved event ≡ None → trains_of_kinds (events ++ event ∷ []) owner some ≡ trains_of_kinds events owner some
+kinds_before events event owner [] none = refl
+kinds_before events event owner (kind ∷ others) none =
+    ap (λ (n : ℤ). n +ℤ trains_of_kinds (events ++ event ∷ []) owner others)
+    (trains_at_before events event (train_owner_place owner) kind none)
+    ∙ ap (λ (n : ℤ). trains_held events owner kind +ℤ n) (kinds_before events event owner others none)
+
+pub size_before : (events : List Event) (event : Event) (owner : Option Company) → train_moved event ≡ None
+    → train_count (events ++ event ∷ []) owner ≡ train_count events owner
+size_before events event owner none = kinds_before events event owner kinds none
+
+module _ (owner : Option Company) where
+  abbrev size : List Event → ℤ
+  size events = train_count events owner
+
+  -- of two lists either has as many
+  size_if : (b : Bool) (some others old : List Event) → size some ≡ size old → size others ≡ size old
+      → size (if b then some else others) ≡ size old
+  size_if true some others old first second = first
+  size_if false some others old first second = second
+
+  size_broken : (seats : ℕ) (events : List Event) → size (with_broken seats events) ≡ size events
+  size_broken seats events = size_if (breaks seats events) (events ++ event.Broken ∷ []) events events
+      (size_before events event.Broken owner refl) refl
+
+  size_succession : (seats : ℕ) (events : List Event) (company : Company) (old : Option Seat)
+      → size (with_successor seats events company old) ≡ size events
+  size_succession seats events company None = refl
+  size_succession seats events company (Some old) =
+      let new : Seat = successor_of seats events company old in
+      size_if (new.0 == old.0) events (events ++ event.President company new ∷ []) events refl
+      (size_before events (event.President company new) owner refl)
+
+  size_move : (move : Square → Square) (events : List Event) (company : Company) (square : Option Square)
+      → size (moved_from move events company square) ≡ size events
+  size_move move events company None = refl
+  size_move move events company (Some square) =
+      size_if (same_square (move square) square) events (events ++ event.Moves company (move square) ∷ []) events refl
+      (size_before events (event.Moves company (move square)) owner refl)
+
+  -- a sale moves no train
+  pub size_sale : (seats : ℕ) (events : List Event) (seat : Seat) (company : Company) (shares : ℕ)
+      → size (after_sale seats events seat company shares) ≡ size events
+  size_sale seats events seat company shares =
+      let told : List Event = events ++ event.Sells company seat shares (shares * market_price_of events company)
+      ∷ [] in
+      let paid : List Event = sold seats events seat company shares in
+      let led : List Event = with_president seats paid company in
+      size_move (fallen shares) led company (square_of led company)
+      ∙ size_succession seats paid company (president_of paid company)
+      ∙ size_broken seats told
+      ∙ size_before events (event.Sells company seat shares (shares * market_price_of events company)) owner refl
+
+  size_raise_ruled : (by : Operator) (game : Game) (line : Numbered) (sale : Sale) (broken : Option Refusal)
+      → size (raise_ruled by game line sale broken).events ≡ size game.events
+  size_raise_ruled by game line sale None =
+      let ruled : Event = event.Ruled by.president line.number
+      (Obeyed line.condition (order.Raise sale.company sale.shares)) in
+      size_sale game.seats (game.events ++ ruled ∷ []) by.president sale.company sale.shares
+      ∙ size_before game.events ruled owner refl
+  size_raise_ruled by game line sale (Some rule) =
+      size_before game.events (event.Ruled by.president line.number
+      (Refused rule line.condition (order.Raise sale.company sale.shares))) owner refl
+
+  size_raise_line : (due : Bool) (by : Operator) (game : Game) (line : Numbered) (reading : Result Order Fault)
+      → size (after_raise_line due by game line reading).events ≡ size game.events
+  size_raise_line due by game line (Ok (order.Raise company shares)) =
+      let sale : Sale = record { company = company; shares = shares } in
+      size_raise_ruled by game line sale (raise_rule due by game line.condition sale)
+  size_raise_line due by game line other = refl
+
+  -- nor do the RAISE lines of a block
+  pub size_raises : (due : Bool) (by : Operator) (lines : List Numbered) (game : Game)
+      → size (after_raises due by game lines).events ≡ size game.events
+  size_raises due by [] game = refl
+  size_raises due by (line ∷ lines) game =
+      size_raises due by lines (after_raise_line due by game line line.reading)
+      ∙ size_raise_line due by game line line.reading
+
+  size_one_sold : (by : Operator) (game : Game) (found : Option Company)
+      → size (with_one_sold by game found).events ≡ size game.events
+  size_one_sold by game None = refl
+  size_one_sold by game (Some company) = size_sale game.seats game.events by.president company 1
+
+  size_further : (by : Operator) (game : Game) → size (sold_further by game).events ≡ size game.events
+  unfolding sold_further
+  size_further by game =
+      elim (falls_short by game) as (λ (b : Bool). size
+      (if b then with_one_sold by game (next_to_sell by game) else game).events ≡ size game.events) [
+        | true ↦ size_one_sold by game (next_to_sell by game)
+        | false ↦ refl
+      ]
+
+  size_steps : (by : Operator) (n : ℕ) (game : Game) → size (iterate (sold_further by) n game).events ≡ size game.events
+  size_steps by zero game = refl
+  size_steps by (suc n) game = size_further by (iterate (sold_further by) n game) ∙ size_steps by n game
+
+  -- nor do the sales of single shares
+  pub size_singly : (by : Operator) (game : Game) → size (sold_singly by game).events ≡ size game.events
+  unfolding sold_singly
+  size_singly by game = size_steps by 40 game
+
+-- so a company without a train still has none once the money is raised
+pub still_none : (by : Operator) (lines : List Numbered) (old told raised sold : Game)
+    → told ≡ with_event old (event.Forced by.company) → raised ≡ after_raises true by told lines
+    → sold ≡ sold_singly by raised → has_trains old.events by.company ≡ false
+    → has_trains sold.events by.company ≡ false
+still_none by lines old told raised sold is_told is_raised is_sold none =
+    let owner : Option Company = Some by.company in
+    ap (lt_z (pos 0))
+    (ap (λ (game : Game). train_count game.events owner) is_sold
+    ∙ size_singly owner by raised
+    ∙ ap (λ (game : Game). train_count game.events owner) is_raised
+    ∙ size_raises owner true by lines told
+    ∙ ap (λ (game : Game). train_count game.events owner) is_told
+    ∙ size_before old.events (event.Forced by.company) owner refl)
+    ∙ none

@@ -1,0 +1,2 @@
+pub mod Forced
+pub mod ForcedLaws

@@ -1,0 +1,10 @@
+use tables::{Company, Seat};
+
+/// A company, and the seat that gives its orders.
+#[derive(Clone, Copy, Debug)]
+pub struct Operator {
+    /// The company.
+    pub company: Company,
+    /// Its president.
+    pub president: Seat,
+}

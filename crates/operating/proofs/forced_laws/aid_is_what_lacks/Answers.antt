@@ -1,8 +1,0 @@
-use Rattle.operating.proofs.ForcedAid.{aid_is_what_lacks, no_aid_without_lack}
-use Rattle.operating.proofs.forced_laws.aid_is_what_lacks.Goals as goal
-
-pub returns-clause-lack : goal.returns-clause-lack
-returns-clause-lack c = aid_is_what_lacks
-
-pub returns-clause-none : goal.returns-clause-none
-returns-clause-none c = no_aid_without_lack

@@ -1,0 +1,17 @@
+pub mod Folding
+pub mod Told
+pub mod PhaseLemmas
+pub mod DiscardLemmas
+pub mod Buying
+pub mod TrainSteps
+pub mod Rust
+pub mod Complete
+pub mod Held
+pub mod Sales
+pub mod Fleet
+pub mod Still
+pub mod PrivateSales
+pub mod ClosedPrivates
+pub mod Consents
+pub mod AgreedSales
+pub mod SaleLaws

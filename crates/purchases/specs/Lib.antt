@@ -1,0 +1,10 @@
+pub mod Discards
+pub mod Trains
+pub mod Phases
+pub mod Offers
+pub mod Standing
+pub mod Privates
+pub mod ConsentLaws
+pub mod SaleLaws
+pub mod PrivateLaws
+pub mod TrainLaws

@@ -1,0 +1,126 @@
+-- What the purchase of a train brings, event by event, each on the list that the one before left. A train that is
+-- traded in goes to the pool, and then the train comes to the company. BOP closes once BO buys. The first train
+-- of a later kind from the bank begins its phase: the trains that it rusts leave play, company by company and
+-- then those of the pool; with the first 5 all privates close; and then each company with more trains than
+-- the new phase allows discards those that are too many to the pool.
+use Rattle.std.specs.Prelude.{ℕ, ◌==◌, Bool, false, ◌&&◌, nat_lt, if◌then◌else◌, List, Option, Some, None, is_some, pos}
+use Rattle.std.specs.Prelude.{◌-ℤ◌}
+use Rattle.std.specs.List.{fold}
+use Rattle.events.specs.declared.event.Event.{Event}
+use Rattle.events.specs.declared.event.Event.TheVariants as event
+use Rattle.events.specs.declared.event.TrainSeller.{TrainSeller}
+use Rattle.events.specs.declared.event.TrainSeller.TheVariants as seller
+use Rattle.totals.specs.LookBack.{Game, owner_of, with_event}
+use Rattle.totals.specs.Trains.{phase_of, at_least_zero, train_count, trains_held, trains_sold}
+use Rattle.purchases.specs.Discards.{next_discard}
+use Rattle.purchases.specs.Trains.{cost_of}
+use Rattle.purchases.specs.declared.purchase.Purchase.{Purchase}
+use Rattle.tables.specs.Roster.{companies, privates, same_company}
+use Rattle.tables.specs.Steps.{iterate}
+use Rattle.tables.specs.Train.{kinds, limit_of, place_of_kind, rusting_of, same_kind}
+use Rattle.tables.specs.declared.rolling_stock.Kind.{Kind}
+use Rattle.tables.specs.declared.rolling_stock.Kind.TheVariants.{Five}
+use Rattle.tables.specs.declared.roster.Company.{Company}
+use Rattle.tables.specs.declared.roster.Company.TheVariants as company
+use Rattle.tables.specs.declared.roster.Private.{Private}
+use Rattle.tables.specs.declared.roster.Private.TheVariants as private
+
+-- with TRADED, where a train is traded in
+abbrev pub with_trade : Game → Company → Option Kind → Game
+with_trade game company None = game
+with_trade game company (Some kind) = with_event game (event.Traded company kind)
+
+-- with CLOSED, where a private is open
+abbrev pub with_closed : Game → Private → Game
+with_closed game private =
+    if is_some (owner_of game.events private) then with_event game (event.Closed private) else game
+
+-- with CLOSED of each private that is open, in roster order
+abbrev pub with_all_closed : Game → Game
+with_all_closed game = fold with_closed game privates
+
+-- with CLOSED of BOP, where BO has bought
+abbrev pub with_bop_closed : Game → Company → Game
+with_bop_closed game buyer = if same_company buyer company.BaltimoreOhio then with_closed game
+    private.BaltimoreOhio else game
+
+-- with RUSTED of a train of the kind that a company has, or the pool
+abbrev pub with_one_rusted : Option Company → Kind → Game → Game
+with_one_rusted owner kind game = with_event game (event.Rusted owner kind)
+
+-- with RUSTED of each train of the kind that a company has, or the pool
+abbrev pub with_trains_rusted : Option Company → Kind → Game → Game
+with_trains_rusted owner kind game =
+    iterate (with_one_rusted owner kind) (at_least_zero (trains_held game.events owner kind)) game
+
+-- with RUSTED of each train of the kind that a company has
+abbrev pub with_company_rusted : Kind → Game → Company → Game
+with_company_rusted kind game company = with_trains_rusted (Some company) kind game
+
+-- with RUSTED of each train of the kind: company by company in roster order, then those of the pool
+abbrev pub with_kind_rusted : Game → Kind → Game
+with_kind_rusted game kind = with_trains_rusted None kind (fold (with_company_rusted kind) game companies)
+
+-- the trains of a kind rust at the first train of this kind
+abbrev pub rusts_at : Option Kind → Kind → Bool
+rusts_at None new = false
+rusts_at (Some rusting) new = same_kind rusting new
+
+-- with RUSTED of each train of a kind, if they rust at the first train of this kind
+abbrev pub with_kind_rusted_at : Kind → Game → Kind → Game
+with_kind_rusted_at new game kind = if rusts_at (rusting_of kind) new then with_kind_rusted game kind else game
+
+-- with RUSTED of each train that the first train of a kind rusts
+abbrev pub with_rusted : Kind → Game → Game
+with_rusted new game = fold (with_kind_rusted_at new) game kinds
+
+-- with CLOSED of each private that is open, where this phase closes them
+abbrev pub with_privates_closed : Kind → Game → Game
+with_privates_closed phase game = if same_kind phase Five then with_all_closed game else game
+
+-- with DISCARDED of a train of this kind, if of any
+abbrev pub with_discarded : Game → Company → Option Kind → Game
+with_discarded game company None = game
+with_discarded game company (Some kind) = with_event game (event.Discarded company kind)
+
+-- with DISCARDED of the train that a company discards next
+abbrev pub with_next_discarded : Company → Game → Game
+with_next_discarded company game = with_discarded game company (next_discard game.events company)
+
+-- how many trains a company has over the limit of the phase
+abbrev pub excess_of : Game → Company → ℕ
+excess_of game company = at_least_zero (train_count game.events (Some company) -ℤ pos (limit_of (phase_of game.events)))
+
+-- with DISCARDED of each train that a company has over the limit
+abbrev pub with_limit_kept : Game → Company → Game
+with_limit_kept game company = iterate (with_next_discarded company) (excess_of game company) game
+
+-- with DISCARDED of each train over the limit, company by company in roster order
+abbrev pub with_limits_kept : Game → Game
+with_limits_kept game = fold with_limit_kept game companies
+
+-- after a phase has begun
+abbrev pub with_phase : Game → Kind → Game
+with_phase game phase =
+    with_limits_kept (with_privates_closed phase (with_rusted phase (with_event game (event.Phase phase))))
+
+-- the purchase is that of the first train of a later kind from the bank
+abbrev pub begins_phase : List Event → TrainSeller → Kind → Bool
+begins_phase events seller.Bank kind =
+    trains_sold events kind == 0 && nat_lt (place_of_kind (phase_of events)) (place_of_kind kind)
+begins_phase events seller.BankPool kind = false
+begins_phase events (seller.Company company) kind = false
+
+-- after the train has come to the company
+abbrev pub bought : Game → Company → Purchase → Game
+bought game company purchase =
+    with_bop_closed
+    (with_event (with_trade game company purchase.trade_in)
+    (event.Train company purchase.kind purchase.from (cost_of purchase)))
+    company
+
+-- after a purchase by a company, and what follows from it
+abbrev pub after_train : Game → Company → Purchase → Game
+after_train game company purchase =
+    if begins_phase game.events purchase.from purchase.kind then with_phase (bought game company purchase)
+    purchase.kind else bought game company purchase

@@ -1,0 +1,213 @@
+//! Trains that a company discards: by the lines of its president, or else the least that it has.
+ghost use Rattle.std.specs.Prelude.{◌≡◌, OnOk, IfOk, Some};
+ghost use Rattle.purchases.specs.Discards.{discard_in, discard_judgement, discarded_by, first_held, has_train};
+ghost use Rattle.purchases.specs.Discards.{is_no_discard, is_president, kinds_then, line_of, lines_of, next_discard};
+ghost use Rattle.purchases.specs.Discards.{presides_then, without_first};
+ghost use Rattle.events.specs.Event.{obeyed_of, office_of};
+ghost use Rattle.totals.specs.Shares.{president_said};
+ghost use Rattle.tables.specs.Train.{same_kind};
+
+use history::{Event, GameView, History, Ruling, TrainRule};
+use order_grammar::Order;
+use std::alloc::{AllocError, Global};
+use tables::{Company, Kind, Seat};
+
+/// The rule that a line DISCARD of a seat breaks, if it breaks it.
+pub(crate) fn judge_discard(
+    history: &History,
+    seat: Seat,
+    company: Company,
+    kind: Kind,
+) -> Option<TrainRule>
+    ensures { result ≡ discard_judgement history.now.events seat company kind }
+{
+    if is_no_discard(&history.now(), seat, company, kind) {
+        return Some(TrainRule::NoDiscard);
+    }
+    None
+}
+
+/// Whether the seat is not president of the company, or the company has no such train.
+fn is_no_discard(past: &GameView, seat: Seat, company: Company, kind: Kind) -> bool
+    ensures { result ≡ is_no_discard past.now.events.now seat company kind }
+{
+    !is_president(past.president(company), seat) || !has_train(past, company, kind)
+}
+
+/// Whether a seat presides.
+pub(crate) fn is_president(president: Option<Seat>, seat: Seat) -> bool
+    ensures { result ≡ is_president president seat }
+{
+    matches!(president, Some(president) if president == seat)
+}
+
+/// Whether a company has a train of a kind.
+pub(crate) fn has_train(past: &GameView, company: Company, kind: Kind) -> bool
+    ensures { result ≡ has_train past.now.events.now company kind }
+{
+    past.trains(Some(company), kind) > 0
+}
+
+/// The kind of which a company discards next: by a line of its president, or else the least that it
+/// has. `None` where it has no train.
+pub(crate) fn next_discard(
+    alloc: Global,
+    history: &History,
+    company: Company,
+) -> Result<Option<Kind>, AllocError>
+    ensures { IfOk result (λ kind. kind ≡ next_discard history.now.events company) }
+{
+    let now = history.now();
+    let lines = lines_of(alloc, &now, company, now.president(company))?;
+    match first_held(&now, company, lines.as_slice()) {
+        Some(kind) => Ok(Some(kind)),
+        None => Ok(first_held(&now, company, &Kind::ALL)),
+    }
+}
+
+/// The first of these kinds of which a company has a train.
+fn first_held(past: &GameView, company: Company, kinds: &[Kind]) -> Option<Kind>
+    ensures { result ≡ first_held past.now.events.now company kinds.now }
+{
+    for kind in kinds {
+        if has_train(past, company, *kind) {
+            return Some(*kind);
+        }
+    }
+    None
+}
+
+/// The kinds of a president's lines for a company that are still to serve in this round, in order.
+fn lines_of(
+    alloc: Global,
+    past: &GameView,
+    company: Company,
+    president: Option<Seat>,
+) -> Result<Vec<Kind>, AllocError>
+    ensures { IfOk result (λ lines. lines.items
+        ≡ lines_of past.now.events.now company president) }
+{
+    match president {
+        Some(seat) => lines_in(alloc, past.events, company, seat),
+        None => Ok(Vec::new(alloc)),
+    }
+}
+
+/// The same of a list of events, for a seat.
+fn lines_in(
+    alloc: Global,
+    events: &[Event],
+    company: Company,
+    seat: Seat,
+) -> Result<Vec<Kind>, AllocError>
+    ensures { IfOk result (λ lines. lines.items ≡ lines_of events.now company (Some seat)) }
+{
+    let mut lines = Vec::new(alloc);
+    let mut presides = false;
+    for event in events {
+        note(&mut lines, event, seat, company, presides)?;
+        presides = presides_after(presides, event, seat, company);
+    }
+    Ok(lines)
+}
+
+/// Notes what an event does to the lines of a seat for a company that are still to serve, where the
+/// seat presides or not.
+fn note(
+    lines: &mut Vec<Kind>,
+    event: &Event,
+    seat: Seat,
+    company: Company,
+    presides: bool,
+) -> Result<(), AllocError>
+    ensures { OnOk result (lines.new.items ≡ kinds_then seat company
+        (record { presides = presides; kinds = lines.old.items }) event.now) }
+{
+    if event.round().is_some() {
+        lines.clear();
+        return Ok(());
+    }
+    if let Some(kind) = kind_ordered(event, seat, company) {
+        lines.push(kind)?;
+    }
+    match discarded_by(event, company) {
+        Some(kind) if presides => remove_first(lines, kind),
+        _ => {}
+    }
+    Ok(())
+}
+
+/// Whether a seat presides over a company after an event.
+fn presides_after(presides: bool, event: &Event, seat: Seat, company: Company) -> bool
+    ensures { result ≡ presides_then seat presides
+        (president_said company (office_of event.now)) }
+{
+    match event.office() {
+        Some(office) if office.company == company => office.president == seat,
+        _ => presides,
+    }
+}
+
+/// The kind of which a company is to discard by a line of a seat that an event obeys.
+fn kind_ordered(event: &Event, seat: Seat, company: Company) -> Option<Kind>
+    ensures { result ≡ line_of seat company (obeyed_of event.now) }
+{
+    match event {
+        Event::Ruled {
+            seat: by,
+            ruling,
+            ..
+        } if *by == seat => match ruling.ruling() {
+            Ruling::Obeyed { order, .. } => discard_in(&order, company),
+            _ => None,
+        },
+        _ => None,
+    }
+}
+
+/// The kind of which an order says that a company is to discard.
+fn discard_in(order: &Order, company: Company) -> Option<Kind>
+    ensures { result ≡ discard_in company order.now }
+{
+    match order {
+        Order::Discard {
+            company: other,
+            kind,
+        } if *other == company => Some(*kind),
+        _ => None,
+    }
+}
+
+/// The kind of which a company discards by an event.
+fn discarded_by(event: &Event, company: Company) -> Option<Kind>
+    ensures { result ≡ discarded_by company event.now }
+{
+    match event {
+        Event::Discarded {
+            company: other,
+            kind,
+        } if *other == company => Some(*kind),
+        _ => None,
+    }
+}
+
+/// Removes the first of a kind, if there is one.
+fn remove_first(lines: &mut Vec<Kind>, kind: Kind)
+    ensures { lines.new.items ≡ without_first kind lines.old.items }
+{
+    let mut place = 0;
+    while place < lines.len() {
+        if is_kind(lines[place], kind) {
+            lines.remove(place);
+            return;
+        }
+        place += 1;
+    }
+}
+
+/// Whether two kinds are the same.
+fn is_kind(one: Kind, kind: Kind) -> bool
+    ensures { result ≡ same_kind one kind }
+{
+    one == kind
+}

@@ -1,0 +1,143 @@
+//! The purchase of a private by a company.
+ghost use Rattle.std.specs.Prelude.{◌≡◌, OnOk, None, Some};
+ghost use Rattle.totals.specs.LookBack.{owner_of};
+ghost use Rattle.history.specs.Sound.{IsSound};
+ghost use Rattle.purchases.specs.Privates.{private_bought, private_judgement, sold_by};
+ghost use Rattle.purchases.specs.Privates.{is_given, is_given_by};
+ghost use Rattle.purchases.specs.Privates.{is_too_dear, is_too_early};
+ghost use Rattle.purchases.specs.Privates.{is_wrong_price};
+
+use history::{Event, GameView, History, Holder, Party, PrivateRule};
+use order_grammar::Offer;
+use std::alloc::AllocError;
+use tables::{Amount, Company, Kind, Money, Private, Seat, face};
+
+/// A company buys a private from the player who owns it, which nothing keeps it from.
+pub fn buy_private(
+    history: &mut History,
+    company: Company,
+    private: Private,
+    price: Amount,
+) -> Result<(), AllocError>
+    requires may { private_judgement history.old company private price ≡ None }
+    requires sound { IsSound history.old }
+    ensures after { OnOk result (history.new ≡ private_bought history.old company private price) }
+    ensures sound { OnOk result (IsSound history.new) }
+{
+    let Some(owner) = history.owner(private) else {
+        return Ok(());
+    };
+    buy_from(history, company, private, price, owner)
+}
+
+/// A company buys a private from this owner, if that is a player.
+fn buy_from(
+    history: &mut History,
+    company: Company,
+    private: Private,
+    price: Amount,
+    owner: Holder,
+) -> Result<(), AllocError>
+    requires owner { owner_of history.old.events private ≡ Some owner }
+    requires may { private_judgement history.old company private price ≡ None }
+    requires sound { IsSound history.old }
+    ensures after { OnOk result (history.new
+        ≡ sold_by history.old company private price (Some owner)) }
+    ensures sound { OnOk result (IsSound history.new) }
+{
+    let Holder::Seat(seller) = owner else {
+        return Ok(());
+    };
+    history.append(Event::PrivateBought {
+        private,
+        company,
+        seller,
+        price,
+    })?;
+    Ok(())
+}
+
+/// The first rule that the purchase of a private by a company breaks; `None` if it breaks none.
+pub fn judge_private(
+    history: &History,
+    company: Company,
+    private: Private,
+    price: Amount,
+) -> Option<PrivateRule>
+    ensures { result ≡ private_judgement history.now company private price }
+{
+    broken_by(&history.now(), company, private, price)
+}
+
+/// The first rule that the purchase of a private breaks.
+fn broken_by(
+    past: &GameView,
+    company: Company,
+    private: Private,
+    price: Amount,
+) -> Option<PrivateRule>
+    ensures { result ≡ private_judgement
+        (record { seats = past.now.seats; events = past.now.events.now }) company private price }
+{
+    if is_too_early(past) {
+        return Some(PrivateRule::TooEarly);
+    }
+    if is_wrong_price(private, price) {
+        return Some(PrivateRule::WrongPrice);
+    }
+    if !is_given(past, company, private, price) {
+        return Some(PrivateRule::NoConsent);
+    }
+    if private == Private::BaltimoreOhio {
+        return Some(PrivateRule::NeverSold);
+    }
+    if is_too_dear(past, company, price) {
+        return Some(PrivateRule::CashTooSmall);
+    }
+    None
+}
+
+/// Whether a company has less than a price.
+fn is_too_dear(past: &GameView, company: Company, price: Amount) -> bool
+    ensures { result ≡ is_too_dear
+        (record { seats = past.now.seats; events = past.now.events.now }) company price }
+{
+    past.cash(Party::of_company(company)) < Money::from(price)
+}
+
+/// Whether phase 3 has not begun.
+fn is_too_early(past: &GameView) -> bool
+    ensures { result ≡ is_too_early past.now.events.now }
+{
+    past.phase().place() < Kind::Three.place()
+}
+
+/// Whether a price is under half of the face value, or over twice that.
+fn is_wrong_price(private: Private, price: Amount) -> bool
+    ensures { result ≡ is_wrong_price private price }
+{
+    let (face, price) = (u64::from(face(private)), u64::from(price));
+    price + price < face || face + face < price
+}
+
+/// Whether a player owns a private, and consents to its sale to a company at a price.
+fn is_given(past: &GameView, buyer: Company, private: Private, price: Amount) -> bool
+    ensures { result ≡ is_given past.now.events.now buyer private price }
+{
+    let sale = Offer::Private {
+        private,
+        buyer,
+        price,
+    };
+    is_given_by(past, past.owner(private), past.president(buyer), sale)
+}
+
+/// Whether this owner is a player, and consents to a sale where this seat takes.
+fn is_given_by(past: &GameView, owner: Option<Holder>, taker: Option<Seat>, sale: Offer) -> bool
+    ensures { result ≡ is_given_by past.now.events.now owner taker sale }
+{
+    match (owner, taker) {
+        (Some(Holder::Seat(giver)), Some(taker)) => past.has_consent(giver, taker, sale),
+        _ => false,
+    }
+}

@@ -1,0 +1,272 @@
+//! The purchase of a train: what is on sale, what it costs, and the rules.
+ghost use Rattle.std.specs.Prelude.{◌≡◌, ◌≤◌, pos};
+ghost use Rattle.purchases.specs.Trains.{IsSmallPurchase, cost_of, first_left, first_left_of, has_trains};
+ghost use Rattle.purchases.specs.Trains.{is_at_train_limit, is_left, is_no_trade_in, is_not_sellers, is_on_sale};
+ghost use Rattle.purchases.specs.Trains.{is_too_dear, lacks_consent, may_be_traded, may_trade, presidents_agree};
+ghost use Rattle.purchases.specs.Trains.{price_for_trade, price_of_train, purchase_of, sells, sells_diesels};
+ghost use Rattle.purchases.specs.Trains.{traded_count, train_judgement};
+ghost use Rattle.order_grammar.specs.declared.order.Order.TheVariants.{BuyTrain};
+ghost use Rattle.turns.specs.Small.{IsSmallOrder};
+
+use crate::discards::has_train;
+use history::{GameView, History, Party, TrainRule, TrainSeller};
+use order_grammar::{Offer, TrainSource};
+use tables::{Amount, Company, Kind, Money, Seat, limit, train};
+
+/// The purchase of a train.
+#[derive(Clone, Copy, Debug, PartialEq, Eq)]
+pub struct Purchase {
+    /// Its kind.
+    pub kind: Kind,
+    /// Where it is bought.
+    pub from: TrainSeller,
+    /// The kind of a train that is traded in for it, if one is.
+    pub trade_in: Option<Kind>,
+    /// The price that the order names, where another company sells it, in dollars.
+    pub asked: Option<Amount>,
+}
+
+impl Purchase {
+    /// What it costs.
+    pub fn price(&self) -> Amount
+        requires { IsSmallPurchase self.now }
+        ensures price { result ≡ cost_of self.now }
+        ensures small { result ≤ 99999 }
+    {
+        match self.asked {
+            Some(asked) => asked,
+            None => price_of_train(self.kind, self.trade_in),
+        }
+    }
+}
+
+/// The purchase that a TRAIN line orders.
+pub fn purchase_of(kind: Kind, from: TrainSource) -> Purchase
+    requires { IsSmallOrder (BuyTrain kind from) }
+    ensures purchase { result ≡ purchase_of kind from }
+    ensures small { IsSmallPurchase result }
+{
+    let (from, trade_in, asked) = match from {
+        TrainSource::Bank => (TrainSeller::Bank, None, None),
+        TrainSource::Trade(trade_in) => (TrainSeller::Bank, Some(trade_in), None),
+        TrainSource::BankPool => (TrainSeller::BankPool, None, None),
+        TrainSource::Company { seller, price } => (TrainSeller::Company(seller), None, Some(price)),
+    };
+    Purchase {
+        kind,
+        from,
+        trade_in,
+        asked,
+    }
+}
+
+/// Whether a company has a train.
+pub fn has_trains(past: &GameView, company: Company) -> bool
+    ensures { result ≡ has_trains past.now.events.now company }
+{
+    past.train_count(Some(company)) > 0
+}
+
+/// What a train of the bank or the pool costs.
+fn price_of_train(kind: Kind, trade_in: Option<Kind>) -> Amount
+    ensures price { result ≡ price_of_train kind trade_in }
+    ensures small { result ≤ 1100 }
+{
+    match trade_in {
+        None => train(kind).price,
+        Some(_) => price_for_trade(kind),
+    }
+}
+
+/// The kinds of which the bank sells only the least that is left.
+pub const NUMBERED: [Kind; 5] = [Kind::Two, Kind::Three, Kind::Four, Kind::Five, Kind::Six];
+
+/// The first rule that a purchase by a company breaks; `None` if it breaks none.
+pub fn judge_purchase(history: &History, company: Company, purchase: Purchase) -> Option<TrainRule>
+    requires { IsSmallPurchase purchase }
+    ensures { result ≡ train_judgement history.now company purchase }
+{
+    broken_by(&history.now(), company, purchase)
+}
+
+/// The first rule that a purchase breaks.
+fn broken_by(past: &GameView, company: Company, purchase: Purchase) -> Option<TrainRule>
+    requires { IsSmallPurchase purchase }
+    ensures { result ≡ train_judgement
+        (record { seats = past.now.seats; events = past.now.events.now }) company purchase }
+{
+    if !is_on_sale(past, purchase.from, purchase.kind) {
+        return Some(TrainRule::NotOnSale);
+    }
+    if is_full(past, company, purchase.trade_in) {
+        return Some(TrainRule::TrainLimit);
+    }
+    if is_too_dear(past, company, purchase) {
+        return Some(TrainRule::CashTooSmall);
+    }
+    if lacks_consent(past, company, purchase) {
+        return Some(TrainRule::NoConsent);
+    }
+    if is_not_sellers(past, company, purchase.kind, purchase.from) {
+        return Some(TrainRule::NotSellers);
+    }
+    if is_no_trade_in(past, company, purchase.kind, purchase.trade_in) {
+        return Some(TrainRule::NoTradeIn);
+    }
+    None
+}
+
+/// Whether such a train is on sale there.
+fn is_on_sale(past: &GameView, from: TrainSeller, kind: Kind) -> bool
+    ensures { result ≡ is_on_sale past.now.events.now from kind }
+{
+    match from {
+        TrainSeller::Bank => sells(past, kind),
+        TrainSeller::BankPool => past.trains(None, kind) > 0,
+        TrainSeller::Company(_) => true,
+    }
+}
+
+/// Whether the bank sells trains of a kind.
+pub fn sells(past: &GameView, kind: Kind) -> bool
+    ensures { result ≡ sells past.now.events.now kind }
+{
+    first_left(past) == Some(kind) || (kind == Kind::Diesel && sells_diesels(past))
+}
+
+/// Whether the bank sells a D: it has sold a 6.
+fn sells_diesels(past: &GameView) -> bool
+    ensures { result ≡ sells_diesels past.now.events.now }
+{
+    past.trains_sold(Kind::Six) > 0
+}
+
+/// The least kind of 2 to 6 of which the bank has some left.
+fn first_left(past: &GameView) -> Option<Kind>
+    ensures { result ≡ first_left past.now.events.now }
+{
+    first_of(past, &NUMBERED)
+}
+
+/// The first of these kinds of which the bank has some left.
+fn first_of(past: &GameView, kinds: &[Kind]) -> Option<Kind>
+    ensures { result ≡ first_left_of past.now.events.now kinds.now }
+{
+    for kind in kinds {
+        if is_left(past, *kind) {
+            return Some(*kind);
+        }
+    }
+    None
+}
+
+/// Whether the bank has trains of a kind left.
+fn is_left(past: &GameView, kind: Kind) -> bool
+    ensures { result ≡ is_left past.now.events.now kind }
+{
+    match train(kind).number {
+        None => true,
+        Some(number) => past.trains_sold(kind) < usize::from(number),
+    }
+}
+
+/// Whether a company would have more trains than the phase allows. One that is to be traded in is
+/// not counted, whether the company has it or not.
+fn is_full(past: &GameView, company: Company, trade_in: Option<Kind>) -> bool
+    ensures { result ≡ is_at_train_limit past.now.events.now company trade_in }
+{
+    let kept = Money::from(past.train_count(Some(company))) - traded_count(trade_in);
+    kept >= limit(past.phase()) as Money
+}
+
+/// What a train of a kind costs a company that trades a train in: a D is cheaper then.
+fn price_for_trade(kind: Kind) -> Amount
+    ensures price { result ≡ price_for_trade kind }
+    ensures small { result ≤ 1100 }
+{
+    match kind {
+        Kind::Diesel => 800,
+        other => train(other).price,
+    }
+}
+
+/// Whether a train of a kind may be traded in for a D.
+fn may_be_traded(kind: Kind) -> bool
+    ensures { result ≡ may_be_traded kind }
+{
+    matches!(kind, Kind::Four | Kind::Five | Kind::Six)
+}
+
+/// How many trains are traded in.
+fn traded_count(trade_in: Option<Kind>) -> Money
+    ensures { result ≡ pos (traded_count trade_in) }
+{
+    match trade_in {
+        None => 0,
+        Some(_) => 1,
+    }
+}
+
+/// Whether a train costs more than the company has.
+fn is_too_dear(past: &GameView, company: Company, purchase: Purchase) -> bool
+    requires { IsSmallPurchase purchase }
+    ensures { result ≡ is_too_dear
+        (record { seats = past.now.seats; events = past.now.events.now }) company purchase }
+{
+    past.cash(Party::of_company(company)) < Money::from(purchase.price())
+}
+
+/// Whether a company that is to sell a train has not consented, or the price is 0.
+fn lacks_consent(past: &GameView, buyer: Company, purchase: Purchase) -> bool
+    requires { IsSmallPurchase purchase }
+    ensures { result ≡ lacks_consent past.now.events.now buyer purchase }
+{
+    let TrainSeller::Company(seller) = purchase.from else {
+        return false;
+    };
+    let (kind, price) = (purchase.kind, purchase.price());
+    let sale = Offer::Train {
+        kind,
+        seller,
+        buyer,
+        price,
+    };
+    price == 0 || !presidents_agree(past, past.president(seller), past.president(buyer), sale)
+}
+
+/// Whether the one president consents to what the other takes; not where there are not both.
+fn presidents_agree(past: &GameView, giver: Option<Seat>, taker: Option<Seat>, sale: Offer) -> bool
+    ensures { result ≡ presidents_agree past.now.events.now giver taker sale }
+{
+    match (giver, taker) {
+        (Some(giver), Some(taker)) => past.has_consent(giver, taker, sale),
+        _ => false,
+    }
+}
+
+/// Whether a company that is to sell a train has none of the kind, or is the buyer.
+fn is_not_sellers(past: &GameView, buyer: Company, kind: Kind, from: TrainSeller) -> bool
+    ensures { result ≡ is_not_sellers past.now.events.now buyer kind from }
+{
+    match from {
+        TrainSeller::Company(seller) => !has_train(past, seller, kind) || buyer == seller,
+        TrainSeller::Bank | TrainSeller::BankPool => false,
+    }
+}
+
+/// Whether a train is to be traded in that is not there, or that may not be.
+fn is_no_trade_in(past: &GameView, company: Company, kind: Kind, trade_in: Option<Kind>) -> bool
+    ensures { result ≡ is_no_trade_in past.now.events.now company kind trade_in }
+{
+    match trade_in {
+        None => false,
+        Some(old) => !may_trade(past, company, kind, old),
+    }
+}
+
+/// Whether a train that the company has may be traded in for one of this kind.
+fn may_trade(past: &GameView, company: Company, kind: Kind, trade_in: Kind) -> bool
+    ensures { result ≡ may_trade past.now.events.now company kind trade_in }
+{
+    kind == Kind::Diesel && may_be_traded(trade_in) && past.trains(Some(company), trade_in) > 0
+}

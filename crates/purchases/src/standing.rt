@@ -1,0 +1,74 @@
+ghost use Rattle.std.specs.Prelude.{◌≡◌, OnOk, length};
+ghost use Rattle.history.specs.Sound.{IsSound};
+ghost use Rattle.purchases.specs.Standing.{after_standing, after_standing_line, has_place_before, standing_judgement};
+ghost use Rattle.sheets.specs.File.{players_of};
+ghost use Rattle.sheets.specs.Taken.{after_each};
+
+use crate::discards::judge_discard;
+use crate::offers::judge_offer;
+use history::{History, Refusal};
+use order_grammar::Order;
+use sheets::{PartsLeft, Sheets};
+use std::alloc::AllocError;
+use tables::{Round, Seat};
+use turns::{Family, rule_line};
+
+/// Rules the standing lines of each sheet for an operating round, seat by seat. The list of events
+/// must be sound.
+pub fn rule_standing_lines(
+    history: &mut History,
+    sheets: &Sheets,
+    round: Round,
+) -> Result<(), AllocError>
+    requires { IsSound history.old }
+    ensures seats { OnOk result (history.new.seats ≡ history.old.seats) }
+    ensures events { OnOk result (history.new.events
+        ≡ after_standing (length (players_of sheets.now)) sheets.now round history.old.events) }
+    ensures sound { OnOk result (IsSound history.new) }
+{
+    for seat in 0..sheets.seats() {
+        let seat = Seat::at(seat);
+        rule_standing(history, seat, &mut sheets.parts(seat, round))?;
+    }
+    Ok(())
+}
+
+/// Rules the standing lines of a seat's sheet, those before its first head.
+fn rule_standing(history: &mut History, seat: Seat, sheet: &mut PartsLeft) -> Result<(), AllocError>
+    requires { IsSound history.old }
+    ensures seats { OnOk result (history.new.seats ≡ history.old.seats) }
+    ensures events { OnOk result (history.new.events
+        ≡ after_each (after_standing_line seat) history.old.events sheet.old.before) }
+    ensures sound { OnOk result (IsSound history.new) }
+{
+    let mut order = Order::Blank;
+    while let Some(line) = sheet.take_line() {
+        rule_line(&StandingLines, history, seat, line, &mut order)?;
+    }
+    Ok(())
+}
+
+/// The standing lines of a sheet, those before its first head: DISCARD and OFFER have a place there.
+struct StandingLines;
+
+impl Family for StandingLines {
+    ghost place = { has_place_before };
+
+    ghost judgement = { λ lines game seat. standing_judgement game.events seat };
+
+    ghost may_judge = { λ game seat. Unit {0} };
+
+    fn has_place(&self, order: &Order) -> bool {
+        matches!(order, Order::Discard { .. } | Order::Offer(_))
+    }
+
+    fn judge(&self, history: &History, seat: Seat, order: &Order) -> Option<Refusal> {
+        match order {
+            Order::Discard { company, kind } => {
+                judge_discard(history, seat, *company, *kind).map(Refusal::Train)
+            }
+            Order::Offer(sale) => judge_offer(history, seat, *sale),
+            _ => None,
+        }
+    }
+}
