@@ -1,4 +1,4 @@
--- A state of the search and the walk that it stands for: a piece is taken exactly where a step goes on.
+-- A state of the search and the walk that it stands for: a segment is taken exactly where a step goes on.
 use Rattle.std.proofs.Common.{◌≡◌, ◌↔◌, ℕ, ◌+◌, ◌-◌, ◌<◌, Bool, true, ◌⊎◌, inl, inr, Option, Some, None, List, ◌∷◌}
 use Rattle.std.proofs.Common.{◌++◌, length, set, sym, ap, subst, ◌∙◌, arith, length-set}
 use Rattle.map_tables.specs.declared.place.Stop.{Stop}
@@ -151,7 +151,7 @@ module _ (position : Position) (company : Company) (kinds : List Kind) (task : T
         whole = length_marked assigned.used segment.borders.items ∙ tells.whole;
       }
 
-  -- a run that turns back is where it began; its stops and borders may be told in another order
+  -- a run that turns back is where it began; its stops and borders may be listed in another order
   pub to_home : (most : ℕ) (others : List ℕ) (at : Spot) (stops : List Stop) (borders : List ℕ) (assigned : Assigned)
       (run : PartialRun) → Tells task position company most others at stops borders assigned run
       → (home : Spot) (seen : List Stop) (gone : List ℕ) → run.home ≡ spot_number home → AreCanonical stops seen

@@ -1,4 +1,4 @@
--- What lies ahead of a run is found piece by piece, and what is found is all that the run may come to.
+-- What lies ahead of a run is found segment by segment, and what is found is all that the run may reach.
 use Rattle.std.proofs.Common.{◌≡◌, ℕ, ◌+◌, ◌<◌, ◌≤◌, Bool, true, false, not, ◌&&◌, ◌⊎◌, inl, inr, Some, List, length}
 use Rattle.std.proofs.Common.{get_or, set, replicate, slice_get, refl, sym, ap, subst, ◌∙◌, arith, le_trans}
 use Rattle.std.proofs.Common.{get_or-set_same}
@@ -44,7 +44,7 @@ module _ (task : Task) (assigned : Assigned) (run : PartialRun) where
         fewer = le_trans second.fewer first.fewer;
       }
 
-  -- no piece is gone over, one more is, and all are
+  -- no segment is gone over, one more is, and all are
   pub below_none : (spot : ℕ) (ahead : List Bool) → WidensBelow task assigned run spot 0 ahead ahead
   below_none spot ahead = record { widens = widens_none ahead; leads = λ place leg low at taken. absurd (omega arith) }
 
@@ -137,7 +137,7 @@ module _ (task : Task) (assigned : Assigned) (run : PartialRun) where
             (not_both (ends_in (node_at task spot)) ends passes);
       }
 
-  -- a piece leads to what lies ahead, or may not be taken
+  -- a segment leads to what lies ahead, or may not be taken
   along_known : (segment : Segment) (ahead : List Bool) → LiesAhead ahead segment.to
       → WidensBy task assigned run segment ahead ahead
   along_known segment ahead lies = record { widens = widens_none ahead; leads = λ taken. lies }
@@ -174,7 +174,7 @@ module _ (task : Task) (assigned : Assigned) (run : PartialRun) where
       → WidensBy task assigned run segment old new
   along_at segment old new past = record { widens = past.widens; leads = λ taken. past.lies }
 
-  -- a piece does not lead on
+  -- a segment does not lead on
   pub along_not : (segment : Segment) (ahead : List Bool) → leads_on task assigned run ahead segment ≡ false
       → WidensBy task assigned run segment ahead ahead
   along_not segment ahead is = by_mark (get_or ahead segment.to false) refl is
@@ -215,7 +215,7 @@ module _ (task : Task) (assigned : Assigned) (run : PartialRun) where
         all = all_over ahead (widens_both (replicate 744 false) middle ahead first.widens second.widens).over;
       }
 
--- a piece that leads on reaches a stop that does not lie ahead
+-- a segment that leads on reaches a stop that does not lie ahead
 pub leads_free : (lies takes : Bool) → (not lies && takes) ≡ true → lies ≡ false
 leads_free true takes is = absurd (not_both false is refl)
 leads_free false takes is = refl

@@ -1,5 +1,5 @@
--- Ways that are tried are moves that are tried: what may be done by a piece begins with a way, and whatever comes after a
--- way comes after its pieces.
+-- Legs that are tried are moves that are tried: what may be done by a segment begins with a leg, and whatever comes
+-- after a leg comes after its segments.
 use Rattle.std.proofs.Common.{◌≡◌, ℕ, ◌+◌, ◌<◌, ◌≤◌, Bool, true, false, ◌&&◌, ◌⊎◌, inl, inr, Some, List, [], ◌∷◌, ◌++◌}
 use Rattle.std.proofs.Common.{length, slice_get, replicate, refl, sym, ap, subst, ◌∙◌, arith, le_trans, length-append}
 use Rattle.std.proofs.lemmas.Option.{slice_get_within}
@@ -31,13 +31,13 @@ use Rattle.search_task.proofs.Places.{below_next}
 use Rattle.best_run.proofs.Traced.{Leads, TakesFrom, traced_both, traced_none}
 use Rattle.search_task.proofs.Booleans.{both_are, both_first, both_second}
 
--- a piece that leads from a spot is fit
+-- a segment that leads from a spot is fit
 fits_at : (task : Task) → IsFit task → (spot place : ℕ) (segment : Segment) (stop : Bool)
     → stop_in (node_at task spot) ≡ stop → LeadsFrom task spot place segment → SegmentFits task stop segment
 fits_at task fit spot place segment stop is leads =
     subst (λ (b : Bool). SegmentFits task b segment) is (fit.segments spot place segment leads)
 
--- a way reaches a stop
+-- a leg reaches a stop
 leads_stop : (task : Task) (hops : List Hop) (segment : Segment) (to : ℕ) → LeadsTo task segment hops to
     → stop_in (node_at task to) ≡ true
 leads_stop task [] segment to leads = ap (λ (n : ℕ). stop_in (node_at task n)) (sym leads.1) ∙ leads.0
@@ -69,7 +69,7 @@ over_one task fit (hop ∷ hops) segment to side leads =
           length-append next.borders.items (borders_by more.segment hops),
         )
 
--- a way is as fit as a piece from a side, and leads to a stop
+-- a leg is as fit as a segment from a side, and leads to a stop
 pub leg_fits : (task : Task) → IsFit task → (stop : ℕ) (legs : List Leg) → AreLegsOf task stop legs
     → stop_in (node_at task stop) ≡ true → (leg : Leg) → IsAmong leg legs
     → SegmentFits task false leg.segment × (stop_in (node_at task leg.segment.to) ≡ true)
@@ -90,7 +90,7 @@ leg_fits task fit stop legs are stops leg among =
       leads_stop task hops segment leg.segment.to made.leads,
     )
 
--- after a way one is where its pieces lead
+-- after a leg one is where its segments lead
 there_by : (task : Task) (assigned : Assigned) (run : PartialRun) (segment : Segment) (borders : List ℕ) (to : ℕ)
     → BordersFit borders → segment.borders.items ≡ numbers_in (marked_all none_used borders) → segment.to ≡ to
     → partial (using assigned segment) (along task run segment) ≡ partial (over assigned borders) (arrived task run to)
@@ -101,7 +101,7 @@ there_by task assigned run segment borders to fit same is =
 
 module _ (task : Task) (fit : IsFit task) (stop : ℕ) (stops : stop_in (node_at task stop) ≡ true) (legs : List Leg)
     (are : AreLegsOf task stop legs) where
-  -- whatever comes after a way comes after its first piece
+  -- whatever comes after a leg comes after its first segment
   pub record BySegments (assigned : Assigned) (run : PartialRun) (leg : Leg) (later : List Move) : Type 0 where
     pub segment : Segment
     pub leads : LeadsFrom task stop leg.first segment
@@ -151,12 +151,12 @@ module _ (task : Task) (fit : IsFit task) (stop : ℕ) (stops : stop_in (node_at
         marks_are = back.marks_are ∙ ap (λ (steps : List Step). go_along steps ++ marks_of later) (sym made.steps);
       }
 
-  -- what may be done by a piece begins with a way
+  -- what may be done by a segment begins with a leg
   pub record ByLeg (assigned : Assigned) (run : PartialRun) (place : ℕ) (segment : Segment) (moves : List Move) : Type
       0 where
     pub leg : Leg
     pub place_of : ℕ
-    pub stands : slice_get legs place_of ≡ Some leg
+    pub is_leg : slice_get legs place_of ≡ Some leg
     pub first : leg.first ≡ place
     pub can : can_take task run assigned.used leg.segment ≡ true
     pub later : List Move
@@ -190,7 +190,7 @@ module _ (task : Task) (fit : IsFit task) (stop : ℕ) (stops : stop_in (node_at
       record {
         leg = leg;
         place_of = at.0;
-        stands = at.1;
+        is_leg = at.1;
         first = has.made.place_is;
         can = both_are (may_come (stop_in (node_at task leg.segment.to)) run leg.segment.to)
             (misses assigned.used leg.segment.borders.items)
@@ -204,11 +204,11 @@ module _ (task : Task) (fit : IsFit task) (stop : ℕ) (stops : stop_in (node_at
         total = chunk.total ∙ ap (λ s. total_after task s chunk.later) (sym here);
       }
 
-  -- a way at a place is among them
+  -- a leg at a place is among them
   among_at : (place : ℕ) (leg : Leg) → slice_get legs place ≡ Some leg → IsAmong leg legs
   among_at place leg at = among_place legs place leg at
 
-  -- no way has been tried, one more has been, or it is none that is to be tried
+  -- no leg has been tried, one more has been, or it is none that is to be tried
   pub legs_none : (from : State) (assigned : Assigned) (runs : Leg → PartialRun) (Q : Leg → Type 0) (best : Found)
       → TriesLegs task from assigned runs (λ leg. IsListed legs 0 leg × Q leg) best best
   legs_none from assigned runs Q best =
@@ -222,11 +222,11 @@ module _ (task : Task) (fit : IsFit task) (stop : ℕ) (stops : stop_in (node_at
 
   legs_next : (P Q : Leg → Type 0) (place : ℕ) (leg other : Leg) → slice_get legs place ≡ Some leg
       → IsListed legs (place + 1) other → IsListed legs place other ⊎ (leg ≡ other)
-  legs_next P Q place leg other at stands =
-      elim (below_next stands.0 place stands.1) [
-        | inl less ↦ inl (stands.0, less, stands.2)
+  legs_next P Q place leg other at is_listed =
+      elim (below_next is_listed.0 place is_listed.1) [
+        | inl less ↦ inl (is_listed.0, less, is_listed.2)
         | inr same ↦ inr (let one : Some leg ≡ Some other =
-            sym at ∙ (ap (λ (i : ℕ). slice_get legs i) (sym same) ∙ stands.2) in cc)
+            sym at ∙ (ap (λ (i : ℕ). slice_get legs i) (sym same) ∙ is_listed.2) in cc)
       ]
 
   pub legs_more :
@@ -270,11 +270,11 @@ module _ (task : Task) (fit : IsFit task) (stop : ℕ) (stops : stop_in (node_at
       → place < most
   place_within place leg most at all = omega (arith, slice_get_within legs place leg at, all)
 
--- any way
+-- any leg
 abbrev pub AnyLeg : Leg → Type 0
 AnyLeg leg = Unit {0}
 
--- a way by which a run may turn back
+-- a leg by which a run may turn back
 abbrev pub IsLater : PartialRun → Leg → Type 0
 IsLater run leg = run.first ≤ leg.first
 
@@ -319,8 +319,8 @@ module _ (task : Task) (fit : IsFit task) (assigned : Assigned) (whole : length 
             (
               by.place_of,
               place_within task fit run.head stops legs are by.place_of
-                  by.leg count by.stands all,
-              by.stands,
+                  by.leg count by.is_leg all,
+              by.is_leg,
             ),
             tt,
           ) by.can by.later by.completes in
@@ -338,7 +338,7 @@ module _ (task : Task) (fit : IsFit task) (assigned : Assigned) (whole : length 
       → can_take task (turned_back run) assigned.used leg.segment ≡ true → Leads task (partial assigned run)
       (partial (using assigned leg.segment) (along task (turned_back run) leg.segment))
       (Turn ∷ go_along leg.steps.items)
-  leads_turn run stops once stands passes legs are place leg at after can later completes =
+  leads_turn run stops once head_stops passes legs are place leg at after can later completes =
       let by : BySegments task fit run.home stops legs are assigned (turned_back run) leg later =
       by_segments task fit run.home stops legs are assigned (turned_back run) leg
       (among_at task fit run.home stops legs are place leg at) can later completes in
@@ -347,7 +347,7 @@ module _ (task : Task) (fit : IsFit task) (assigned : Assigned) (whole : length 
         completes = (
           record {
             once = once;
-            at_stop = stands;
+            at_stop = head_stops;
             later = after;
             passes = passes;
             leads = by.leads;
@@ -383,8 +383,8 @@ module _ (task : Task) (fit : IsFit task) (assigned : Assigned) (whole : length 
             (
               by.place_of,
               place_within task fit run.home stops legs are by.place_of
-                  by.leg count by.stands all,
-              by.stands,
+                  by.leg count by.is_leg all,
+              by.is_leg,
             ),
             omega (arith, may.later, by.first),
           ) by.can by.later
@@ -442,8 +442,8 @@ module _ (task : Task) (fit : IsFit task) (assigned : Assigned) (whole : length 
           let low : IsLow by.leg.first = λ taken ends. tries.most known by.leg (
             (
               by.place_of,
-              place_within task fit there stops legs are by.place_of by.leg count by.stands all,
-              by.stands,
+              place_within task fit there stops legs are by.place_of by.leg count by.is_leg all,
+              by.is_leg,
             ),
             tt,
           ) taken by.later ends in

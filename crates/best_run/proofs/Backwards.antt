@@ -148,11 +148,11 @@ record Ends (walk : List Step) (at : Spot) : Type 0 where
   pub last : Step
   pub rest : List Step
   pub is : walk ≡ last ∷ rest
-  pub stands : left_at last ≡ at
+  pub is_at : left_at last ≡ at
 
 ends_back : (step : Step) (before done : List Step)
     → Ends (onto (returning (step ∷ before)) done) (begins_at step before)
-ends_back step [] done = record { last = flipped step; rest = done; is = refl; stands = flip_leaves step }
+ends_back step [] done = record { last = flipped step; rest = done; is = refl; is_at = flip_leaves step }
 ends_back step (earlier ∷ before) done = ends_back earlier before (flipped step ∷ done)
 
 crosses_back : (steps done : List Step) → crossed (onto (returning steps) done)
@@ -268,7 +268,7 @@ module _ (position : Position) (lawful : IsLawful position) where
     pub last : Step
     pub rest : List Step
     pub is : onto (returning (step ∷ before)) [] ≡ last ∷ rest
-    pub stands : left_at last ≡ begins_at step before
+    pub is_at : left_at last ≡ begins_at step before
     pub starts : begins_at last rest ≡ left_at step
     pub visits : visited (last ∷ rest) ≡ onto (visited (step ∷ before)) []
     pub crosses : crossed (last ∷ rest) ≡ onto (crossed (step ∷ before)) []
@@ -290,7 +290,7 @@ module _ (position : Position) (lawful : IsLawful position) where
         last = end.last;
         rest = end.rest;
         is = end.is;
-        stands = end.stands;
+        is_at = end.is_at;
         starts = subst (λ w. Starts w (left_at step)) end.is
             (starts_back before (flipped step) [] (left_at step) (flip_enters step));
         visits = visits;

@@ -1,5 +1,5 @@
--- Each legal run is met: from the first of its tokens along one branch, and then, if it has another, back at the token and
--- along that. The first branch is the one whose first piece is before the other's.
+-- Each legal run is met: from the first of its tokens along one branch, and then, if it has another, back at the token
+-- and along that. The first branch is the one whose first segment is before the other's.
 use Rattle.std.proofs.Common.{◌≡◌, ◌↔◌, ℕ, ◌+◌, ◌<◌, ◌≤◌, true, false, ◌⊎◌, inl, inr, Some, List, [], ◌∷◌, ◌++◌, length}
 use Rattle.std.proofs.Common.{get_or, set, refl, sym, ap, subst, ◌∙◌, arith, length-set}
 use Rattle.map_tables.specs.declared.place.Stop.{Stop}
@@ -199,9 +199,9 @@ module _ (position : Position) (company : Company) (lawful : IsLawful position) 
         can_go position company kinds task describes most others at (home ∷ []) [] assigned run tells step segment is
         (subst AreDistinct visits first.stops) (subst (λ vs. length vs ≤ most) visits first.few) first.borders
         first.free near in
-        let told = subst (λ vs. Tells task position company most others (left_at step) vs (crossed (step ∷ []))
-        (using assigned segment) (along task run segment)) (sym visits) can.told in
-        let end = rest told in (
+        let tells_next = subst (λ vs. Tells task position company most others (left_at step) vs (crossed (step ∷ []))
+        (using assigned segment) (along task run segment)) (sym visits) can.tells in
+        let end = rest tells_next in (
           begin (spot_number at) index segment ∷ end.0,
           (
             record {
@@ -226,8 +226,8 @@ module _ (position : Position) (company : Company) (lawful : IsLawful position) 
         → after.total ≡ assigned.total → after.kind ≡ assigned.kind → after.cap ≡ assigned.cap → done.most ≡ most
         → Tells task position company most others last (visited walk) (crossed walk) after done → EndsAt walk last
         → EndsAtStop walk → MayEarn walk → Done walk → CanFinish task (partial after done) total
-    finish_here walk last after done next_is total_is kind_is cap_is most_same tells stands ends may rest =
-        finish_run position company kinds task describes most others walk last after done total tells stands ends
+    finish_here walk last after done next_is total_is kind_is cap_is most_same tells at_end ends may rest =
+        finish_run position company kinds task describes most others walk last after done total tells at_end ends
         (ap (λ (k : ℕ). may_earn k after.cap done.most (earned position walk)) kind_is
         ∙ (ap (λ (c : ℕ). may_earn assigned.kind c done.most (earned position walk)) cap_is
         ∙ (ap (λ (m : ℕ). may_earn assigned.kind assigned.cap m (earned position walk)) most_same ∙ may)))
@@ -240,7 +240,7 @@ module _ (position : Position) (company : Company) (lawful : IsLawful position) 
           whole = tells.whole;
         }))
 
-    -- what some steps are for the walk of which they are the first
+    -- what some steps are for the walk whose first they are
     ahead_first : (later : List Step) (step : Step) (before : List Step) (home : ℕ)
         → AreAhead task home (visited (onto later (step ∷ before))) → AreAhead task home (visited (step ∷ before))
     ahead_first later step before home ahead spot stop there among =
@@ -262,10 +262,10 @@ module _ (position : Position) (company : Company) (lawful : IsLawful position) 
         describes.complete (spot_number at) step first.walk.0 goes in
         begin_run step home there token has.index has.segment has.leads has.segment_is first
         (ahead_first later step [] (spot_number at) ahead)
-        (λ told. walk_on position company kinds task describes most others later step [] (using assigned has.segment)
-        (along task (begun task assigned (spot_number at) has.index) has.segment) total told holds ahead
-        (λ last after done stays stands tells. finish_here (onto later (step ∷ [])) last after done stays.next
-        stays.total stays.kind stays.cap (stays.most ∙ most_is) tells stands ends may rest))
+        (λ tells_next. walk_on position company kinds task describes most others later step []
+        (using assigned has.segment) (along task (begun task assigned (spot_number at) has.index) has.segment) total
+        tells_next holds ahead (λ last after done stays at_end tells. finish_here (onto later (step ∷ [])) last after
+        done stays.next stays.total stays.kind stays.cap (stays.most ∙ most_is) tells at_end ends may rest))
 
     -- a run along one branch from its token, and then along another; the first branch, turned about, comes before the second
     two_branches : (first : Step) (along_first : List Step) (last : Step) (before : List Step) (second : Step)
@@ -295,9 +295,9 @@ module _ (position : Position) (company : Company) (lawful : IsLawful position) 
         (canonical_back (visited branch) (visited back) one.stops) ahead_back in
         begin_run first home enters token i p leads_i is_p one_step
         (ahead_first along_first first [] (spot_number at) ahead_branch)
-        (λ told. walk_on position company kinds task describes most others along_first first [] (using assigned p)
-        (along task (begun task assigned (spot_number at) i) p) total told holds_one ahead_branch
-        (λ there after done stays stands tells.
+        (λ tells_next. walk_on position company kinds task describes most others along_first first [] (using assigned p)
+        (along task (begun task assigned (spot_number at) i) p) total tells_next holds_one ahead_branch
+        (λ there after done stays at_end tells.
         let same : done.home ≡ spot_number at = stays.home in
         let at_home : done.home ≡ spot_number (left_at last) = same ∙ one_number at (left_at last) home enters leaves in
         let tells_back : Tells task position company most others (left_at last) (visited back) (crossed back) after
@@ -317,16 +317,16 @@ module _ (position : Position) (company : Company) (lawful : IsLawful position) 
         passes_by position company kinds task describes most others (left_at last) (stop_of (left_at last)) refl
         done.home at_home (entered_at second) two_steps.walk.1 two_steps.red.0 two_steps.full.0 in
         let stops : stop_in (node_at task done.head) ≡ true =
-        ends_at_stop position company kinds task describes most others branch there stands ends_one done.head
+        ends_at_stop position company kinds task describes most others branch there at_end ends_one done.head
         tells.head in
         let end : CanFinish task (partial (using after q) (along task (turned_back done) q)) total =
         walk_on position company kinds task describes most others along_second second back (using after q)
-        (along task (turned_back done) q) total can.told holds
+        (along task (turned_back done) q) total can.tells holds
         (subst (λ (n : ℕ). AreAhead task n (visited walk)) (sym same) ahead)
-        (λ where_it_is later finished keeps stands_there tells_there.
+        (λ where_it_is later finished keeps at_end_there tells_there.
         finish_here walk where_it_is later finished (keeps.next ∙ stays.next) (keeps.total ∙ stays.total)
         (keeps.kind ∙ stays.kind) (keeps.cap ∙ stays.cap) (keeps.most ∙ stays.most ∙ most_is) tells_there
-        stands_there ends may rest)
+        at_end_there ends may rest)
         in (
           turn j q ∷ end.0,
           (
@@ -383,7 +383,7 @@ module _ (position : Position) (company : Company) (lawful : IsLawful position) 
         subst (IsRun home) (sym turned.is)
         (record {
           holds = turned.holds;
-          ends = (run.holds.begins.0, ap stop_of turned.stands ∙ run.holds.begins.1);
+          ends = (run.holds.begins.0, ap stop_of turned.is_at ∙ run.holds.begins.1);
           token = run.token;
           ahead = ahead_canonical task (number_of home) (visited (step ∷ before)) (visited walk) one.stops run.ahead;
           may = may_one (step ∷ before) walk one run.may;
@@ -425,7 +425,7 @@ module _ (position : Position) (company : Company) (lawful : IsLawful position) 
         leads_i is_p leads_j is_q order
         (ahead_at (entered_at (flipped last)) home enters (onto later (step ∷ last ∷ before)) run)
         (subst (Holds position company most others) (sym turned.is) turned.holds)
-        (subst EndsAtStop (sym turned.is) (holds.begins.0, ap stop_of turned.stands ∙ holds.begins.1))
+        (subst EndsAtStop (sym turned.is) (holds.begins.0, ap stop_of turned.is_at ∙ holds.begins.1))
         run.holds run.ends run.may run.rest
 
     -- the branch by which it leaves is gone along first
@@ -460,7 +460,7 @@ module _ (position : Position) (company : Company) (lawful : IsLawful position) 
         subst (λ w. AreOne position w (turned.last ∷ turned.rest)) (sym some.is)
         (one_turned most others top under turned) in
         two_branches step later turned.last turned.rest (flipped last) (returning before) home one enters
-        (ap stop_of (turned.stands ∙ starts) ∙ enters) run.token i j p q leads_i is_p leads_j is_q order
+        (ap stop_of (turned.is_at ∙ starts) ∙ enters) run.token i j p q leads_i is_p leads_j is_q order
         (ahead_at (entered_at step) home enters (onto (returning before) (flipped last ∷ turned.last ∷ turned.rest))
         run_back)
         (subst (Holds position company most others) (sym some.is) holds)

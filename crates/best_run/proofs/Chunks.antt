@@ -1,5 +1,5 @@
--- A run that has left a stop by a piece comes, over sides, to the next stop: what it may do until then is a way. So a way
--- at once leads to the same state as its pieces one by one.
+-- A run that has left a stop by a segment comes, over sides, to the next stop: what it may do until then is a leg. So a
+-- leg at once leads to the same state as its segments one by one.
 use Rattle.std.proofs.Common.{◌≡◌, ℕ, zero, suc, ◌+◌, ◌<◌, ◌≤◌, Bool, true, false, not, ◌&&◌, nat_lt, ◌⊎◌, inl, inr}
 use Rattle.std.proofs.Common.{List, [], ◌∷◌, ◌++◌, length, get_or, set, refl, sym, ap, subst, ◌∙◌, arith, length-set}
 use Rattle.reach.proofs.Marking.{set_cases}
@@ -26,7 +26,7 @@ use Rattle.search_task.proofs.Places.{leading_fits, side_value}
 use Rattle.best_run.proofs.Places.{take_free}
 use Rattle.search_task.proofs.Booleans.{both_are, both_first}
 
--- what some pieces cross is free where they are
+-- what some segments cross is free where they are
 pub free_all : (segment : Segment) (hops : List Hop) (used : List Bool) → AreFree used segment hops
     → misses used (borders_by segment hops) ≡ true
 free_all segment [] used free = free
@@ -100,7 +100,7 @@ misses_right first xs ys free =
     free_misses first ys (λ border among marked. misses_free first (xs ++ ys) free border
     ((among_both border xs ys).1 (inr among)) marked)
 
--- pieces that are free by themselves are free where none of their borders is used
+-- segments that are free by themselves are free where none of their borders is used
 free_in : (segment : Segment) (hops : List Hop) (used others first : List Bool) → length others ≡ 279
     → IsOfBoth used others first → BordersFit (borders_by segment hops) → AreFree others segment hops
     → misses first (borders_by segment hops) ≡ true → AreFree used segment hops
@@ -128,7 +128,7 @@ free_used segment hops used fit free misses_it =
     free_in segment hops used none_used used (length_replicate 279 false) (λ border marked. inr marked) fit free
     misses_it
 
--- the borders of some pieces have numbers
+-- the borders of some segments have numbers
 pub fits_by : (task : Task) → IsFit task → (segment : Segment) (hops : List Hop) (to : ℕ)
     → BordersFit segment.borders.items → LeadsTo task segment hops to → BordersFit (borders_by segment hops)
 fits_by task fit segment [] to fits leads = fits
@@ -183,7 +183,7 @@ module _ (task : Task) (fit : IsFit task) where
       to false)) one
       ∙ ap (λ (m : List Bool). nat_lt 0 run.left && not (get_or m to false)) three
 
-  -- what comes after a piece begins with a way
+  -- what comes after a segment begins with a leg
   pub record Chunk (assigned : Assigned) (run : PartialRun) (segment : Segment) (moves : List Move) : Type 0 where
     pub hops : List Hop
     pub to : ℕ
@@ -256,7 +256,7 @@ module _ (task : Task) (fit : IsFit task) where
       (may_earn assigned.kind assigned.cap (along task run segment).most (along task run segment).value)
       completes.0 in cc)
 
-  -- whatever comes after a way comes after its pieces
+  -- whatever comes after a leg comes after its segments
   pub record Back (assigned : Assigned) (run : PartialRun) (segment : Segment) (hops : List Hop) (to : ℕ)
       (later : List Move) : Type 0 where
     pub can : can_take task run assigned.used segment ≡ true

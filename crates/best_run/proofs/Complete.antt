@@ -30,7 +30,7 @@ use Rattle.search_task.proofs.Marked.{free_misses}
 use Rattle.best_run.proofs.Prefix.{Holds, distinct_apart, holds_first, onto}
 use Rattle.search_task.proofs.Booleans.{both_are}
 
--- some moves lead from a state to the end, and earn so much
+-- some moves lead from a state to the end, and earn this much
 abbrev pub CanFinish : Task → State → ℕ → Type 0
 CanFinish task state total = (moves : List Move) × Completes task state moves × (total_after task state moves ≡ total)
 
@@ -84,20 +84,20 @@ pub record StaysSo (assigned after : Assigned) (run done : PartialRun) : Type 0 
 module _ (position : Position) (company : Company) (kinds : List Kind) (task : Task)
     (describes : Describes position company kinds task) (most : ℕ) (others : List ℕ) where
   -- what some moves tell of a run
-  abbrev pub Told : Spot → List Stop → List ℕ → Assigned → PartialRun → Type 0
-  Told at stops borders assigned run = Tells task position company most others at stops borders assigned run
+  abbrev pub TellsHere : Spot → List Stop → List ℕ → Assigned → PartialRun → Type 0
+  TellsHere at stops borders assigned run = Tells task position company most others at stops borders assigned run
 
-  -- the next step of a walk that holds, by its piece
+  -- the next step of a walk that holds, by its segment
   pub record CanGo (at : Spot) (stops : List Stop) (borders : List ℕ) (assigned : Assigned) (run : PartialRun)
       (step : Step) (segment : Segment) : Type 0 where
     pub taken : can_take task run assigned.used segment ≡ true
-    pub told : Told (left_at step) (listed (stop_of (left_at step)) ++ stops)
+    pub tells : TellsHere (left_at step) (listed (stop_of (left_at step)) ++ stops)
         (border_at (entered_at step).hex (entered_at step).end ++ borders) (using assigned segment)
         (along task run segment)
 
   -- the borders of a step are free
   step_free : (at : Spot) (stops : List Stop) (borders : List ℕ) (assigned : Assigned) (run : PartialRun)
-      → Told at stops borders assigned run → (step : Step) (segment : Segment) → IsSegmentOf step segment
+      → TellsHere at stops borders assigned run → (step : Step) (segment : Segment) → IsSegmentOf step segment
       → AreDistinct (border_at (entered_at step).hex (entered_at step).end ++ borders)
       → ((border : ℕ) → IsAmong border (border_at (entered_at step).hex (entered_at step).end ++ borders)
       → ¬ IsAmong border others) → misses assigned.used segment.borders.items ≡ true
@@ -113,7 +113,7 @@ module _ (position : Position) (company : Company) (kinds : List Kind) (task : T
 
   -- so the step can be taken
   by_left : (at : Spot) (stops : List Stop) (borders : List ℕ) (assigned : Assigned) (run : PartialRun)
-      → Told at stops borders assigned run → (step : Step) (segment : Segment) → IsSegmentOf step segment
+      → TellsHere at stops borders assigned run → (step : Step) (segment : Segment) → IsSegmentOf step segment
       → misses assigned.used segment.borders.items ≡ true → (found : Option Stop) → stop_of (left_at step) ≡ found
       → AreDistinct (listed found ++ stops) → length (listed found ++ stops) ≤ most
       → AreAhead task run.home (listed found) → CanGo at stops borders assigned run step segment
@@ -124,7 +124,7 @@ module _ (position : Position) (company : Company) (kinds : List Kind) (task : T
       record {
         taken = both_are (may_come (stop_in (node_at task segment.to)) run segment.to)
             (misses assigned.used segment.borders.items) (ap (λ b. may_come b run segment.to) node.stops) free;
-        told = subst (λ o. Told (left_at step) (listed o ++ stops)
+        tells = subst (λ o. TellsHere (left_at step) (listed o ++ stops)
             (border_at (entered_at step).hex (entered_at step).end ++ borders) (using assigned segment)
             (along task run segment)) (sym side)
             (to_side position company kinds task describes most others at stops borders assigned run tells step segment
@@ -146,7 +146,7 @@ module _ (position : Position) (company : Company) (kinds : List Kind) (task : T
             (ap (λ b. may_come b run segment.to) node.stops
             ∙ both_are (ltb 0 run.left) (not (get_or run.visited segment.to false)) (lt-ltb 0 run.left left)
             (not_marked (get_or run.visited segment.to false) new)) free;
-        told = subst (λ o. Told (left_at step) (listed o ++ stops)
+        tells = subst (λ o. TellsHere (left_at step) (listed o ++ stops)
             (border_at (entered_at step).hex (entered_at step).end ++ borders) (using assigned segment)
             (along task run segment)) (sym there)
             (to_stop position company kinds task describes most others at stops borders assigned run tells step segment
@@ -154,7 +154,7 @@ module _ (position : Position) (company : Company) (kinds : List Kind) (task : T
       }
 
   pub can_go : (at : Spot) (stops : List Stop) (borders : List ℕ) (assigned : Assigned) (run : PartialRun)
-      → Told at stops borders assigned run → (step : Step) (segment : Segment) → IsSegmentOf step segment
+      → TellsHere at stops borders assigned run → (step : Step) (segment : Segment) → IsSegmentOf step segment
       → AreDistinct (listed (stop_of (left_at step)) ++ stops)
       → length (listed (stop_of (left_at step)) ++ stops) ≤ most
       → AreDistinct (border_at (entered_at step).hex (entered_at step).end ++ borders)
@@ -188,20 +188,20 @@ module _ (position : Position) (company : Company) (kinds : List Kind) (task : T
   -- where a walk that ends at a stop is, there is one
   pub ends_at_stop : (walk : List Step) (at : Spot) → EndsAt walk at → EndsAtStop walk → (number : ℕ)
       → number ≡ spot_number at → stop_in (node_at task number) ≡ true
-  ends_at_stop [] at stands ends number is = absurd stands
-  ends_at_stop (step ∷ before) at stands ends number is =
-      let there : stop_of at ≡ Some ends.0 = ap stop_of (sym stands) ∙ ends.1 in
+  ends_at_stop [] at at_end ends number is = absurd at_end
+  ends_at_stop (step ∷ before) at at_end ends number is =
+      let there : stop_of at ≡ Some ends.0 = ap stop_of (sym at_end) ∙ ends.1 in
       let node : IsStopNode position company ends.0 (node_at task (spot_number at)) =
       node_left position company kinds task describes at (Some ends.0) there in
       subst (λ (n : ℕ). stop_in (node_at task n) ≡ true) (sym is) node.stops
 
   -- a run that has been gone over is finished, if what comes after it can be finished
   pub finish_run : (walk : List Step) (at : Spot) (assigned : Assigned) (run : PartialRun) (total : ℕ)
-      → Told at (visited walk) (crossed walk) assigned run → EndsAt walk at → EndsAtStop walk
+      → TellsHere at (visited walk) (crossed walk) assigned run → EndsAt walk at → EndsAtStop walk
       → may_earn assigned.kind assigned.cap run.most (earned position walk) ≡ true
       → CanFinish task (between (with_run_finished assigned run)) total → CanFinish task (partial assigned run) total
-  finish_run walk at assigned run total tells stands ends may rest =
-      let stops : stop_in (node_at task run.head) ≡ true = ends_at_stop walk at stands ends run.head tells.head in
+  finish_run walk at assigned run total tells at_end ends may rest =
+      let stops : stop_in (node_at task run.head) ≡ true = ends_at_stop walk at at_end ends run.head tells.head in
       let earns : may_earn assigned.kind assigned.cap run.most run.value ≡ true =
       subst (λ (v : ℕ). may_earn assigned.kind assigned.cap run.most v ≡ true) (sym tells.value) may in (
         finish ∷ rest.0,
@@ -215,11 +215,11 @@ module _ (position : Position) (company : Company) (kinds : List Kind) (task : T
 
   -- the steps to the end of a walk, if what comes after them can be finished
   pub walk_on : (later : List Step) (step : Step) (before : List Step) (assigned : Assigned) (run : PartialRun)
-      (total : ℕ) → Told (left_at step) (visited (step ∷ before)) (crossed (step ∷ before)) assigned run
+      (total : ℕ) → TellsHere (left_at step) (visited (step ∷ before)) (crossed (step ∷ before)) assigned run
       → Holds position company most others (onto later (step ∷ before))
       → AreAhead task run.home (visited (onto later (step ∷ before)))
       → ((last : Spot) (after : Assigned) (done : PartialRun) → StaysSo assigned after run done
-      → EndsAt (onto later (step ∷ before)) last → Told last (visited (onto later (step ∷ before)))
+      → EndsAt (onto later (step ∷ before)) last → TellsHere last (visited (onto later (step ∷ before)))
       (crossed (onto later (step ∷ before))) after done → CanFinish task (partial after done) total)
       → CanFinish task (partial assigned run) total
   walk_on [] step before assigned run total tells holds ahead done =
@@ -255,9 +255,9 @@ module _ (position : Position) (company : Company) (kinds : List Kind) (task : T
       passes_by (left_at step) (stop_of (left_at step)) refl run.head tells.head (entered_at next) first.walk.1
       first.red.0 first.full.0 in
       let rest : CanFinish task (partial (using assigned has.segment) (along task run has.segment)) total =
-      walk_on later next (step ∷ before) (using assigned has.segment) (along task run has.segment) total go_next.told
+      walk_on later next (step ∷ before) (using assigned has.segment) (along task run has.segment) total go_next.tells
       holds ahead
-      (λ last after run_done stays stands told. done last after run_done
+      (λ last after run_done stays at_end tells_next. done last after run_done
       (record {
         next = stays.next;
         total = stays.total;
@@ -268,7 +268,7 @@ module _ (position : Position) (company : Company) (kinds : List Kind) (task : T
         home = stays.home;
         first = stays.first;
         turned = stays.turned;
-      }) stands told)
+      }) at_end tells_next)
       in (
         go has.index has.segment ∷ rest.0,
         (

@@ -51,7 +51,7 @@ both_true : (a b c : Bool) → (b ≡ true → c ≡ true) → (a && b) ≡ true
 both_true true b c makes is = makes is
 both_true false b c makes is = is
 
--- a piece that may be taken
+-- a segment that may be taken
 freer_take : (task : Task) (run : PartialRun) (used others : List Bool) (segment : Segment) → Freer used others
     → can_take task run used segment ≡ true → can_take task run others segment ≡ true
 freer_take task run used others segment freer =
@@ -255,7 +255,7 @@ still_earned :
     → new.move_path.refused ≡ None →
     Earns task state (marks_in new.move_path) new.amount
 still_earned task state old new traced earns none =
-    elim (traced.told none) [
+    elim (traced.recorded none) [
       | inl same ↦
           let before = earns (traced.refused none) in
           record {

@@ -79,7 +79,7 @@ freer_if : (stop : Bool) (visited others : List Bool) (n : ℕ) → Freer visite
 freer_if true visited others n freer = freer_set visited others n freer
 freer_if false visited others n freer = freer
 
--- a piece that reaches a stop crosses a border
+-- a segment that reaches a stop crosses a border
 fewer_left : (task : Task) (from to : Bool) (segment : Segment) → SegmentFits task from segment
     → stop_in (node_at task segment.to) ≡ true → (used : List Bool) → length used ≡ 279
     → misses used segment.borders.items ≡ true → unused (marked_all used segment.borders.items) + 1 ≤ unused used
@@ -98,7 +98,7 @@ module _ (task : Task) (fit : IsFit task) where
       free_misses used segment.borders.items (λ border among marked. misses_free assigned.used segment.borders.items
       free border among (freer_marked assigned.used used border borders marked))
 
-  -- a piece that may be taken
+  -- a segment that may be taken
   frees_take : (assigned : Assigned) (run : PartialRun) (home first left value : ℕ) (visited used : List Bool)
       (kind cap more : ℕ) → Frees assigned run home first left value visited used kind cap more
       → (spot index : ℕ) (segment : Segment) → LeadsFrom task spot index segment

@@ -1,4 +1,4 @@
--- What the search finds is the greatest revenue, and the runs that the path tells earn it.
+-- What the search finds is the greatest revenue, and the runs that the path gives earn it.
 use Rattle.std.proofs.Common.{◌≡◌, ℕ, ◌+◌, true, false, List, [], ◌∷◌, replicate, refl, sym, subst, ◌∙◌, arith}
 use Rattle.std.specs.List.{AllByRecursion}
 use Rattle.reach.proofs.Collected.{none_marked}
@@ -18,13 +18,13 @@ use Rattle.best_run.specs.declared.move_path.Mark.{Mark}
 use Rattle.search_task.specs.Described.{Describes}
 use Rattle.best_run.specs.Moves.{Earns, marks_of, start, total_after}
 use Rattle.best_run.specs.Suffix.{IsTop}
-use Rattle.best_run.specs.MovePath.{CanBeClaimed, marks_in, runs_told, written}
+use Rattle.best_run.specs.MovePath.{CanBeClaimed, marks_in, runs_of_marks, written}
 use Rattle.best_run.proofs.Complete.{CanFinish}
 use Rattle.search_task.proofs.Marked.{length_replicate}
 use Rattle.best_run.proofs.Branches.{Used}
 use Rattle.best_run.proofs.Runs.{finish_set}
 use Rattle.best_run.proofs.Sets.{Avoids, IsWithin}
-use Rattle.best_run.proofs.Sound.{RunsTold, sound_from, two_at_least}
+use Rattle.best_run.proofs.Sound.{RunsEarn, sound_from, two_at_least}
 
 -- nothing is assigned at first
 abbrev nothing : Assigned
@@ -79,28 +79,28 @@ module _ (position : Position) (company : Company) (lawful : IsLawful position) 
       (within_none position runs)
 
   -- the marks of moves from the start to the end tell a legal set of runs
-  pub record TellSet (marks : List Mark) (amount : ℕ) : Type 0 where
-    pub set : IsLegalSet position company kinds (runs_told kinds [] marks)
-    pub earns : revenue_of position (runs_told kinds [] marks) ≡ amount
+  pub record MarksEarn (marks : List Mark) (amount : ℕ) : Type 0 where
+    pub set : IsLegalSet position company kinds (runs_of_marks kinds [] marks)
+    pub earns : revenue_of position (runs_of_marks kinds [] marks) ≡ amount
 
-  pub tell_set : (marks : List Mark) (amount : ℕ) → Earns task start marks amount → TellSet marks amount
-  tell_set marks amount earns =
-      let told : RunsTold position company lawful kinds task describes [] kinds nothing
-      (total_after task start earns.moves) (runs_told kinds [] (marks_of earns.moves)) =
+  pub marks_earn : (marks : List Mark) (amount : ℕ) → Earns task start marks amount → MarksEarn marks amount
+  marks_earn marks amount earns =
+      let read : RunsEarn position company lawful kinds task describes [] kinds nothing
+      (total_after task start earns.moves) (runs_of_marks kinds [] (marks_of earns.moves)) =
       sound_from position company lawful kinds task describes earns.moves start earns.completes [] kinds none_used
       describes.trains in
-      subst (λ (all : List Mark). TellSet all amount) (sym earns.marks_are)
+      subst (λ (all : List Mark). MarksEarn all amount) (sym earns.marks_are)
       (record {
-        set = record { legal = told.set.legal; each_once = told.set.each_once; apart = told.set.apart };
-        earns = omega (arith, told.earns, earns.total);
+        set = record { legal = read.set.legal; each_once = read.set.each_once; apart = read.set.apart };
+        earns = omega (arith, read.earns, earns.total);
       })
 
   -- what has been explored from the start is the greatest
   pub greatest_found : (found : Found) → IsTop task found → IsGreatest position company kinds found.amount
   greatest_found found top =
-      let told : TellSet (marks_in found.move_path) found.amount =
-      tell_set (marks_in found.move_path) found.amount top.earns in
-      record { earned = (runs_told kinds [] (marks_in found.move_path), told.set, told.earns); most = most }
+      let read : MarksEarn (marks_in found.move_path) found.amount =
+      marks_earn (marks_in found.move_path) found.amount top.earns in
+      record { earned = (runs_of_marks kinds [] (marks_in found.move_path), read.set, read.earns); most = most }
     where
       most : IsMost position company kinds found.amount
       most runs set =

@@ -1,5 +1,5 @@
 -- A run earns at most what it has, the level for each stop that is left, what the stops ahead are worth beyond the
--- level, of those at which it ends as many as it may come to, and what the later trains earn by themselves.
+-- level, of those at which it ends as many as it may reach, and what the later trains earn by themselves.
 use Rattle.std.proofs.Common.{◌≡◌, ℕ, zero, suc, ◌+◌, ◌-◌, ◌*◌, ◌<◌, ◌≤◌, Bool, true, false, not, ◌&&◌, nat_lt, ◌⊎◌}
 use Rattle.std.proofs.Common.{Option, Some, None, inl, inr, List, [], ◌∷◌, length, get_or, set, slice_get, refl, sym}
 use Rattle.std.proofs.Common.{ap, subst, ◌∙◌, arith, length-set, suc-mul}
@@ -147,7 +147,7 @@ come_before task run segment low true spot is =
     (both_second (nat_lt 0 (left_after (stop_in (node_at task segment.to)) run.left))
     (not (get_or (marked_if (stop_in (node_at task segment.to)) run.visited segment.to) spot false)) is)))))
 
--- a piece that may be taken after another may be taken before it
+-- a segment that may be taken after another may be taken before it
 take_before : (task : Task) (assigned : Assigned) (run : PartialRun) (from : Bool) (segment : Segment)
     → SegmentFits task from segment → length assigned.used ≡ 279 → length run.visited ≡ 744 → (other : Segment)
     → can_take task (along task run segment) (using assigned segment).used other ≡ true
@@ -166,7 +166,7 @@ take_before task assigned run from segment fits whole spots other is =
     misses_free (marked_all assigned.used segment.borders.items) other.borders.items missed border among
     ((marks_more assigned.used segment.borders.items fits.borders whole border).1 (inr marked))))
 
--- a run that turns back may take the same pieces
+-- a run that turns back may take the same segments
 pub take_back : (task : Task) (run : PartialRun) (used : List Bool) (segment : Segment)
     → can_take task (turned_back run) used segment ≡ can_take task run used segment
 take_back task run used segment = ap (λ b. b && misses used segment.borders.items)
@@ -192,18 +192,18 @@ module _ (task : Task) (fit : IsFit task) (ready : AreReady task) (first : Assig
         → can_take task begun first.used segment ≡ true
     pub head : IsGoneOverFrom task first begun least ahead run.head
     pub home : run.turned ≡ false → IsGoneOverFrom task first begun run.first ahead run.home
-    pub stands : IsStop task run.head
+    pub head_is_stop : IsStop task run.head
     pub begins : IsStop task run.home
     pub next : assigned.next ≡ first.next
     pub most : run.most ≡ begun.most
     pub whole : length assigned.used ≡ 279
     pub spots : length run.visited ≡ 744
 
-  -- the next way
+  -- the next leg
   pub record Leads (assigned : Assigned) (run : PartialRun) (leg : Leg) : Type 0 where
     pub from : ℕ
     pub place : ℕ
-    pub stands : slice_get (legs_at task from) place ≡ Some leg
+    pub is_leg : slice_get (legs_at task from) place ≡ Some leg
     pub free : misses first.used leg.segment.borders.items ≡ true
     pub lies : LiesAhead ahead leg.segment.to
     pub fits : SegmentFits task false leg.segment
@@ -220,13 +220,13 @@ module _ (task : Task) (fit : IsFit task) (ready : AreReady task) (first : Assig
       → slice_get (legs_at task run.head) place ≡ Some leg → least ≤ leg.first
       → can_take task run assigned.used leg.segment ≡ true → Leads assigned run leg
   leads_by least on assigned run follows passes place leg at later taken =
-      let fits = leg_fits task fit run.head (legs_at task run.head) (legs_of task ready run.head follows.stands)
-      follows.stands.1
+      let fits = leg_fits task fit run.head (legs_at task run.head) (legs_of task ready run.head follows.head_is_stop)
+      follows.head_is_stop.1
       leg (among_place (legs_at task run.head) place leg at) in
       record {
         from = run.head;
         place = place;
-        stands = at;
+        is_leg = at;
         free = free_first begun first.used leg.segment (follows.takes leg.segment taken);
         lies = follows.head passes place leg at later (follows.takes leg.segment taken);
         fits = fits.0;
@@ -249,7 +249,7 @@ module _ (task : Task) (fit : IsFit task) (ready : AreReady task) (first : Assig
       elim ends [
         | inl ending ↦ inl ending
         | inr last ↦ inr (λ index other at taken.
-            last_stuck task first.used assigned.used leads.from leads.place leg last.1 leads.stands leads.fits.borders
+            last_stuck task first.used assigned.used leads.from leads.place leg last.1 leads.is_leg leads.fits.borders
             follows.whole leads.free index other at
             (free_first begun first.used other.segment (follows.takes other.segment
             (take_before task assigned run false leg.segment leads.fits follows.whole follows.spots other.segment
@@ -270,7 +270,7 @@ module _ (task : Task) (fit : IsFit task) (ready : AreReady task) (first : Assig
             follows.whole follows.spots other is);
         head = λ passes place other at later taken. look.all leg.segment.to leads.lies passes place other at taken;
         home = follows.home;
-        stands = leads.stop;
+        head_is_stop = leads.stop;
         begins = follows.begins;
         next = follows.next;
         most = follows.most;
@@ -287,7 +287,7 @@ module _ (task : Task) (fit : IsFit task) (ready : AreReady task) (first : Assig
         takes = λ segment taken. follows.takes segment (sym (take_back task run assigned.used segment) ∙ taken);
         head = follows.home once;
         home = λ wrong. absurd (not_both true refl wrong);
-        stands = follows.begins;
+        head_is_stop = follows.begins;
         begins = follows.begins;
         next = follows.next;
         most = follows.most;
@@ -302,7 +302,7 @@ module _ (task : Task) (fit : IsFit task) (ready : AreReady task) (first : Assig
       + ends_by on (goes_back task run) (one_end level nodes (but ahead run.visited))
       (two_ends level nodes (but ahead run.visited))
 
-  -- a way leaves no more to be earned, as if the stop that it leaves might be passed
+  -- a leg leaves no more to be earned, as if the stop that it leaves might be passed
   pub still_leg : (level least : ℕ) (on : Bool) (assigned : Assigned) (run : PartialRun) → Follows least on assigned run
       → (leg : Leg) → Leads assigned run leg → can_take task run assigned.used leg.segment ≡ true
       → value_in (node_at task leg.segment.to) + still level (passes leg.segment.to) (along task run leg.segment)
@@ -364,7 +364,7 @@ module _ (task : Task) (fit : IsFit task) (ready : AreReady task) (first : Assig
           (worth_less level nodes (set (but ahead run.visited) to false) (but ahead run.visited)
           (unset_within (but ahead run.visited) to)).two))
 
-  -- a way leaves no more to be earned
+  -- a leg leaves no more to be earned
   still_go : (level least : ℕ) (on : Bool) (assigned : Assigned) (run : PartialRun) → Follows least on assigned run
       → ends_in (node_at task run.head) ≡ false → (place : ℕ) (leg : Leg)
       → slice_get (legs_at task run.head) place ≡ Some leg → Leads assigned run leg
@@ -412,12 +412,12 @@ module _ (task : Task) (fit : IsFit task) (ready : AreReady task) (first : Assig
             less.one less.two,
       )
 
-  -- the way with which what comes after a piece begins
+  -- the leg with which what comes after a segment begins
   abbrev Leg_of : (least : ℕ) (on : Bool) (assigned : Assigned) (run : PartialRun) → Follows least on assigned run → ℕ
       → Segment → List Move → Type 0
   Leg_of least on assigned run follows place segment moves =
-      ByLeg task fit run.head follows.stands.1 (legs_at task run.head) (legs_of task ready run.head follows.stands)
-      assigned run
+      ByLeg task fit run.head follows.head_is_stop.1 (legs_at task run.head)
+      (legs_of task ready run.head follows.head_is_stop) assigned run
       place segment moves
 
   leg_of : (least : ℕ) (on : Bool) (assigned : Assigned) (run : PartialRun) → (follows : Follows least on assigned run)
@@ -426,8 +426,8 @@ module _ (task : Task) (fit : IsFit task) (ready : AreReady task) (first : Assig
       → Completes task (partial (using assigned segment) (along task run segment)) moves
       → Leg_of least on assigned run follows place segment moves
   leg_of least on assigned run follows place segment moves leads taken completes =
-      by_leg task fit run.head follows.stands.1 (legs_at task run.head) (legs_of task ready run.head follows.stands)
-      assigned run
+      by_leg task fit run.head follows.head_is_stop.1 (legs_at task run.head)
+      (legs_of task ready run.head follows.head_is_stop) assigned run
       follows.whole place segment moves leads taken completes
 
   -- all ways on
@@ -445,7 +445,7 @@ module _ (task : Task) (fit : IsFit task) (ready : AreReady task) (first : Assig
       let may = completes.0 in
       let by : Leg_of 0 on assigned run follows index segment moves =
       leg_of 0 on assigned run follows index segment moves may.leads may.taken completes.1 in
-      let leads : Leads assigned run by.leg = leads_by 0 on assigned run follows may.passes by.place_of by.leg by.stands
+      let leads : Leads assigned run by.leg = leads_by 0 on assigned run follows may.passes by.place_of by.leg by.is_leg
       (omega arith) by.can in
       let rest : total_after task (partial (using assigned by.leg.segment) (along task run by.leg.segment)) by.later
       ≤ assigned.total + (run.value + value_in (node_at task by.leg.segment.to))
@@ -457,7 +457,7 @@ module _ (task : Task) (fit : IsFit task) (ready : AreReady task) (first : Assig
         arith,
         rest,
         by.total,
-        still_go level 0 on assigned run follows may.passes by.place_of by.leg by.stands
+        still_go level 0 on assigned run follows may.passes by.place_of by.leg by.is_leg
             leads by.can,
       )
   low_by level later bound zero (turn index segment ∷ moves) enough assigned run on follows completes =
@@ -468,7 +468,7 @@ module _ (task : Task) (fit : IsFit task) (ready : AreReady task) (first : Assig
       let by : Leg_of run.first true assigned (turned_back run) back index segment moves =
       leg_of run.first true assigned (turned_back run) back index segment moves may.leads may.taken completes.1 in
       let leads : Leads assigned (turned_back run) by.leg =
-      leads_by run.first true assigned (turned_back run) back may.passes by.place_of by.leg by.stands
+      leads_by run.first true assigned (turned_back run) back may.passes by.place_of by.leg by.is_leg
       (omega (arith, may.later, by.first)) by.can in
       let rest : total_after task (partial (using assigned by.leg.segment)
       (along task (turned_back run) by.leg.segment)) by.later
@@ -482,7 +482,7 @@ module _ (task : Task) (fit : IsFit task) (ready : AreReady task) (first : Assig
         rest,
         by.total,
         still_go level run.first true assigned (turned_back run) back may.passes
-            by.place_of by.leg by.stands leads by.can,
+            by.place_of by.leg by.is_leg leads by.can,
         still_back level on run may.once may.passes,
       )
   low_by level later bound fuel (finish ∷ moves) enough assigned run on follows completes =
@@ -512,7 +512,7 @@ module _ (task : Task) (fit : IsFit task) (ready : AreReady task) (first : Assig
       let may = completes.0 in
       let by : Leg_of 0 on assigned run follows index segment moves =
       leg_of 0 on assigned run follows index segment moves may.leads may.taken completes.1 in
-      let leads : Leads assigned run by.leg = leads_by 0 on assigned run follows may.passes by.place_of by.leg by.stands
+      let leads : Leads assigned run by.leg = leads_by 0 on assigned run follows may.passes by.place_of by.leg by.is_leg
       (omega arith) by.can in
       let rest = low_canonical level most some equal later canonical bound fuel by.later
       (omega (arith, by.shorter, enough)) (using assigned by.leg.segment) (along task run by.leg.segment)
@@ -520,7 +520,7 @@ module _ (task : Task) (fit : IsFit task) (ready : AreReady task) (first : Assig
       (omega (
         arith,
         low,
-        still_go level 0 on assigned run follows may.passes by.place_of by.leg by.stands leads
+        still_go level 0 on assigned run follows may.passes by.place_of by.leg by.is_leg leads
             by.can,
       )) by.completes in
       omega (arith, rest, by.total)
@@ -533,7 +533,7 @@ module _ (task : Task) (fit : IsFit task) (ready : AreReady task) (first : Assig
       let by : Leg_of run.first true assigned (turned_back run) back index segment moves =
       leg_of run.first true assigned (turned_back run) back index segment moves may.leads may.taken completes.1 in
       let leads : Leads assigned (turned_back run) by.leg =
-      leads_by run.first true assigned (turned_back run) back may.passes by.place_of by.leg by.stands
+      leads_by run.first true assigned (turned_back run) back may.passes by.place_of by.leg by.is_leg
       (omega (arith, may.later, by.first)) by.can in
       let rest = low_canonical level most some equal later canonical bound fuel by.later
       (omega (arith, by.shorter, enough)) (using assigned by.leg.segment)
@@ -543,7 +543,7 @@ module _ (task : Task) (fit : IsFit task) (ready : AreReady task) (first : Assig
         arith,
         low,
         still_go level run.first true assigned (turned_back run) back may.passes by.place_of by.leg
-            by.stands leads by.can,
+            by.is_leg leads by.can,
         still_back level on run may.once may.passes,
       )) by.completes in
       omega (arith, rest, by.total)
@@ -561,14 +561,14 @@ module _ (task : Task) (fit : IsFit task) (ready : AreReady task) (first : Assig
 
   pub first_follows : IsStop task begun.head → IsStop task begun.home → length first.used ≡ 279
       → length begun.visited ≡ 744 → Follows 0 (goes_on task begun) first begun
-  first_follows stands begins whole spots =
+  first_follows head_is_stop begins whole spots =
       record {
         halts = λ off. inl (was_true (ends_in (node_at task begun.head)) off);
         takes =
             λ segment taken. taken;
         head = λ passes place leg at later taken. look.head passes place leg at taken;
         home = look.home;
-        stands = stands;
+        head_is_stop = head_is_stop;
         begins = begins;
         next = refl;
         most = refl;
@@ -581,11 +581,11 @@ module _ (task : Task) (fit : IsFit task) (ready : AreReady task) (first : Assig
       → EarnAtMost task (first.next + 1) later → length first.used ≡ 279 → length begun.visited ≡ 744
       → first.total + begun.value + most_ahead level task nodes begun ahead + later ≤ best
       → EndsAtMost task first begun best
-  ends_low stands begins level later best bound whole spots low moves completes =
+  ends_low head_is_stop begins level later best bound whole spots low moves completes =
       omega (
         arith,
         low_by level later bound (length moves) moves (omega arith) first begun (goes_on task begun)
-            (first_follows stands begins whole spots) completes,
+            (first_follows head_is_stop begins whole spots) completes,
         still_first level,
       )
 
@@ -594,11 +594,11 @@ module _ (task : Task) (fit : IsFit task) (ready : AreReady task) (first : Assig
       → ArePrunedByCap task (first.next + 1) begun.most most (first.total + most) best → length first.used ≡ 279
       → length begun.visited ≡ 744 → begun.value + most_ahead level task nodes begun ahead ≤ most
       → EndsAtMost task first begun best
-  ends_canonical stands begins level most best capped whole spots low moves completes =
+  ends_canonical head_is_stop begins level most best capped whole spots low moves completes =
       omega (
         arith,
         capped.short,
         low_canonical level most capped.some capped.equal capped.bound capped.are_equal
             capped.rest (length moves) moves (omega arith) first begun (goes_on task begun)
-            (first_follows stands begins whole spots) (omega (arith, low, still_first level)) completes,
+            (first_follows head_is_stop begins whole spots) (omega (arith, low, still_first level)) completes,
       )

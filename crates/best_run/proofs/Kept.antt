@@ -116,7 +116,7 @@ explores_kept task state like old new kept canonical explores is =
       grows = omega (arith, explores.grows, is.amount);
       traced = traced_both task state old new kept explores.grows (omega (arith, is.amount)) explores.traced (record {
         refused = is.refused;
-        told = λ none. inl (record { amount = is.amount; marks = is.marks });
+        recorded = λ none. inl (record { amount = is.amount; marks = is.marks });
       });
       known = λ known place entry there. subst (λ (n : ℕ). LeadsToAtMost task (state_at entry) n) (sym is.amount)
           (elim (is.only place entry there) [
@@ -132,8 +132,8 @@ pub granted : (best found : Found) → unless_refused best ≡ Ok found → (fou
 granted best found is = by_error best.move_path.refused is
   where
     by_error : (refused : Option AllocError) → found_or best refused ≡ Ok found → (found ≡ best) × (refused ≡ None)
-    by_error None told = (let same : best ≡ found = cc in sym same, refl)
-    by_error (Some error) told = absurd cc
+    by_error None holds = (let same : best ≡ found = cc in sym same, refl)
+    by_error (Some error) holds = absurd cc
 
 -- no state is kept at first
 pub empty_memo : (task : Task) (found : Found) → IsNothing found → AreInMemo task found

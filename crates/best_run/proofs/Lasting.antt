@@ -22,13 +22,13 @@ use Rattle.best_run.proofs.Beyond.{level_ahead, most_of, same_node, worth_ended,
 use Rattle.search_task.proofs.Places.{value_low}
 use Rattle.search_task.proofs.Booleans.{not_both}
 
--- a run that has come to a last stop by a way goes on from there by none
+-- a run that has reached a last stop by a leg goes on from there by none
 pub last_stuck : (task : Task) (used now : List Bool) (stop place : ℕ) (leg : Leg) → IsLast task used leg.segment.to
     → slice_get (legs_at task stop) place ≡ Some leg → BordersFit leg.segment.borders.items → length now ≡ 279
     → misses used leg.segment.borders.items ≡ true → (index : ℕ) (other : Leg)
     → slice_get (legs_at task leg.segment.to) index ≡ Some other → misses used other.segment.borders.items ≡ true
     → misses (marked_all now leg.segment.borders.items) other.segment.borders.items ≡ true → ⊥
-last_stuck task used now stop place leg last at fits whole missed index other stands free left =
+last_stuck task used now stop place leg last at fits whole missed index other is_found free left =
     let mirror = last.0 stop place leg at in
     let border = last.1.0 in
     let back : misses used mirror.back.segment.borders.items ≡ true =
@@ -36,7 +36,7 @@ last_stuck task used now stop place leg last at fits whole missed index other st
     (λ b among marked. misses_free used leg.segment.borders.items missed b (mirror.within b among) marked) in
     let came : IsAmong border leg.segment.borders.items =
     mirror.within border (last.1.1 mirror.place mirror.back mirror.is_there back) in
-    let goes : IsAmong border other.segment.borders.items = last.1.1 index other stands free in
+    let goes : IsAmong border other.segment.borders.items = last.1.1 index other is_found free in
     misses_free (marked_all now leg.segment.borders.items) other.segment.borders.items left border goes
     ((marks_more now leg.segment.borders.items fits whole border).1 (inl came))
 
@@ -141,9 +141,9 @@ counts_set task assigned run nodes n node other at low value ends plain counts =
             ∙ ap (λ (i : ℕ). value_in (node_at task i)) here.0))
         | inr same ↦ ap value_in same ∙ counts.value spot
       ];
-      ends = λ spot told. elim (set_at nodes n spot other within) [
-        | inl here ↦ subst (EndsThere task assigned run) here.0 (ends (sym (ap ends_in here.1) ∙ told))
-        | inr same ↦ counts.ends spot (sym (ap ends_in same) ∙ told)
+      ends = λ spot holds. elim (set_at nodes n spot other within) [
+        | inl here ↦ subst (EndsThere task assigned run) here.0 (ends (sym (ap ends_in here.1) ∙ holds))
+        | inr same ↦ counts.ends spot (sym (ap ends_in same) ∙ holds)
       ];
       plain = λ none. ap (λ (xs : List Node). set xs n other) (counts.plain none)
           ∙ (ap (λ (x : Node). set task.spots.items n x) (plain none) ∙ set_same task.spots.items n node at);
@@ -177,7 +177,7 @@ module _ (task : Task) (assigned : Assigned) (run : PartialRun) (ahead : List Bo
   has_ended ends ranks =
       record {
         nodes = set has.nodes n node;
-        counts = counts_set task assigned run has.nodes n node node at placed refl (λ told. inl ends) (λ none. refl)
+        counts = counts_set task assigned run has.nodes n node node at placed refl (λ holds. inl ends) (λ none. refl)
             has.counts;
         known = worth_ended (set has.nodes n node) ahead n node old new
             (set_here has.nodes n node (omega (arith, placed, has.counts.all))) (sym (ap ends_in at) ∙ ends) small
@@ -285,7 +285,7 @@ turned_ends task assigned run ahead n node at placed small lies old middle new c
     let value : value_in (slice_get has.nodes n) ≡ node.value = has.counts.value n ∙ ap value_in at in
     record {
       nodes = set has.nodes n other;
-      counts = counts_set task assigned run has.nodes n node other at placed refl (λ told. inr last)
+      counts = counts_set task assigned run has.nodes n node other at placed refl (λ holds. inr last)
           (λ none. absurd (none_most run.most last.0 none)) has.counts;
       known = worth_turned has.nodes ahead n other old middle new lies (omega (arith, placed, has.counts.all))
           counted.passed refl value small back ranks has.known;

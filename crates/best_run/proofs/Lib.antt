@@ -20,7 +20,7 @@ pub mod Branches
 pub mod Chunks
 pub mod Sets
 pub mod Runs
-pub mod Told
+pub mod ReadPath
 pub mod Sound
 pub mod Greatest
 pub mod Along

@@ -40,7 +40,7 @@ use Rattle.search_task.proofs.Marks.{length_marked}
 use Rattle.search_task.proofs.Places.{below_next, one_leg}
 use Rattle.search_task.proofs.Booleans.{both_are, both_first, both_second, not_both}
 
--- a run that has visited nothing takes each piece whose borders are not used
+-- a run that has visited nothing takes each segment whose borders are not used
 takes_free : (task : Task) (used : List Bool) (segment : Segment)
     → can_take task anywhere used segment ≡ misses used segment.borders.items
 takes_free task used segment = ap (λ b. b && misses used segment.borders.items)
@@ -50,7 +50,7 @@ takes_free task used segment = ap (λ b. b && misses used segment.borders.items)
     by_stop true = ap not (none_marked 744 segment.to)
     by_stop false = refl
 
--- no way leads from a stop that has none
+-- no leg leads from a stop that has none
 none_lead : (task : Task) (used reach : List Bool) (spot : ℕ) → legs_at task spot ≡ [] → AllLead task used reach spot
 none_lead task used reach spot none place leg at free =
     absurd (no_leg place (ap (λ (legs : List Leg). slice_get legs place) (sym none) ∙ at))
@@ -82,7 +82,7 @@ next_listed stops place stop spot at listed =
       | inr same ↦ inr (same_stop stops place listed.0 stop spot at listed.2 same)
     ]
 
--- what lies in reach: nothing, what more tokens lead to, and what no token leads to
+-- what is in reach: nothing, what more tokens lead to, and what no token leads to
 pub reach_none : (task : Task) (used : List Bool) → ReachesBelow task used 0 (replicate 744 false)
 reach_none task used =
     record {
@@ -121,21 +121,21 @@ pub reach_more : (task : Task) (assigned : Assigned) (place stop : ℕ) (old mid
 reach_more task assigned place stop old middle new at before holds more =
     record {
       own = λ spot listed own. elim (next_listed task.stops.items place stop spot at listed) [
-        | inl less ↦ λ index leg stands free. more.widens.kept leg.segment.to
-            (holds.kept leg.segment.to (before.own spot less own index leg stands free))
+        | inl less ↦ λ index leg is_found free. more.widens.kept leg.segment.to
+            (holds.kept leg.segment.to (before.own spot less own index leg is_found free))
         | inr same ↦ subst (AllLead task assigned.used new) same more.here
       ];
       held = λ spot listed own. elim (next_listed task.stops.items place stop spot at listed) [
         | inl less ↦ more.widens.kept spot (holds.kept spot (before.held spot less own))
         | inr same ↦ subst (LiesAhead new) same (more.widens.kept stop holds.lies)
       ];
-      all = λ spot lies passes index leg stands free. elim (more.widens.over spot lies) [
+      all = λ spot lies passes index leg is_found free. elim (more.widens.over spot lies) [
         | inl known ↦ elim (holds.over spot known) [
           | inl was ↦ more.widens.kept leg.segment.to (holds.kept leg.segment.to
-              (before.all spot was passes index leg stands free))
-          | inr same ↦ subst (AllLead task assigned.used new) same more.here index leg stands free
+              (before.all spot was passes index leg is_found free))
+          | inr same ↦ subst (AllLead task assigned.used new) same more.here index leg is_found free
         ]
-        | inr over ↦ over passes index leg stands (takes_free task assigned.used leg.segment ∙ free)
+        | inr over ↦ over passes index leg is_found (takes_free task assigned.used leg.segment ∙ free)
       ];
     }
 
@@ -245,7 +245,7 @@ open_all task used spot legs count shut there all below place leg at missed =
     let low : place < length legs = slice_get_within legs place leg (ap (λ ws. slice_get ws place) (sym there) ∙ at) in
     below place leg (omega (arith, low, all)) at missed
 
--- the ways from no stop are open, those from one more are, those from one need not be, and all are
+-- the legs from no stop are open, those from one more are, those from one need not be, and all are
 pub shut_none : (task : Task) (used reach : List Bool) → length used ≡ 279
     → IsShutBelow task used reach 0 (replicate 279 true)
 shut_none task used reach whole =
@@ -261,8 +261,8 @@ shut_more task used reach place stop old new at before opens here =
     record {
       kept = opens.kept before.kept;
       open_legs = λ spot listed out. elim (next_listed task.stops.items place stop spot at listed) [
-        | inl less ↦ λ index leg stands free. opens.fewer leg.segment.borders.items
-            (before.open_legs spot less out index leg stands free)
+        | inl less ↦ λ index leg is_found free. opens.fewer leg.segment.borders.items
+            (before.open_legs spot less out index leg is_found free)
         | inr same ↦ subst (λ (n : ℕ). AreOpen task used n new) same here
       ];
     }
@@ -349,7 +349,7 @@ module _ (task : Task) (fit : IsFit task) (ready : AreReady task) (first reach s
     pub shares : Shares assigned.used others
     pub sees : Sees run marks
     pub spots : length run.visited ≡ 744
-    pub stands : IsStop task run.head
+    pub head_is_stop : IsStop task run.head
     pub begins : IsStop task run.home
     pub head : ends_in (node_at task run.head) ≡ false → SetsOut task reach run.head
     pub home : ends_in (node_at task run.home) ≡ false → SetsOut task reach run.home
@@ -358,7 +358,7 @@ module _ (task : Task) (fit : IsFit task) (ready : AreReady task) (first reach s
   GoesOn (between assigned) others marks = Shares assigned.used others
   GoesOn (partial assigned run) others marks = Goes assigned run others marks
 
-  -- the next way
+  -- the next leg
   record Takes_it (others marks : List Bool) (run : PartialRun) (leg : Leg) : Type 0 where
     pub can : can_take task (with_marks run marks) others leg.segment ≡ true
     pub lies : LiesAhead reach leg.segment.to
@@ -432,7 +432,7 @@ module _ (task : Task) (fit : IsFit task) (ready : AreReady task) (first reach s
         sees = sees_next (stop_in (node_at task leg.segment.to)) run.visited marks leg.segment.to
             (omega (arith, spots, takes.fits.to)) sees;
         spots = mark_length (stop_in (node_at task leg.segment.to)) run.visited leg.segment.to ∙ spots;
-        stands = takes.stop;
+        head_is_stop = takes.stop;
         begins = begins;
         head = λ passes. inr (takes.lies, passes);
         home = home;
@@ -469,7 +469,7 @@ module _ (task : Task) (fit : IsFit task) (ready : AreReady task) (first reach s
       let marks = run.visited in
       let spots : length marks ≡ 744 = length-set (own_before task stop) stop true ∙ own_length task stop in
       let takes : Takes_it others marks run by.leg =
-      takes_it assigned.used others goes stop is (inl may.token) by.place_of by.leg by.stands run marks
+      takes_it assigned.used others goes stop is (inl may.token) by.place_of by.leg by.is_leg run marks
       (λ spot lies was. was) by.can in
       let rest : Moved (partial (using (with_used assigned others) by.leg.segment)
       (along task (with_marks run marks) by.leg.segment))
@@ -484,7 +484,7 @@ module _ (task : Task) (fit : IsFit task) (ready : AreReady task) (first reach s
       (with_used assigned others)
       (with_marks run marks) by.leg rest.moves = by_segments task fit stop may.begins (legs_at task stop)
       (legs_of task ready stop is) (with_used assigned others) (with_marks run marks) by.leg
-      (among_place (legs_at task stop) by.place_of by.leg by.stands) takes.can rest.moves rest.completes in
+      (among_place (legs_at task stop) by.place_of by.leg by.is_leg) takes.can rest.moves rest.completes in
       record {
         moves = begin stop index back.segment ∷ back.moves;
         completes = (
@@ -507,14 +507,14 @@ module _ (task : Task) (fit : IsFit task) (ready : AreReady task) (first reach s
   move_by (suc fuel) (go index segment ∷ moves) enough (partial assigned run) others marks goes completes =
       let may = completes.0 in
       let stop = run.head in
-      let is : IsStop task stop = goes.stands in
+      let is : IsStop task stop = goes.head_is_stop in
       let by : ByLeg task fit stop is.1 (legs_at task stop) (legs_of task ready stop is) assigned run index segment
       moves =
       by_leg task fit stop is.1 (legs_at task stop) (legs_of task ready stop is) assigned run goes.shares.whole index
       segment
       moves may.leads may.taken completes.1 in
       let takes : Takes_it others marks run by.leg =
-      takes_it assigned.used others goes.shares stop is (goes.head may.passes) by.place_of by.leg by.stands run
+      takes_it assigned.used others goes.shares stop is (goes.head may.passes) by.place_of by.leg by.is_leg run
       marks goes.sees by.can in
       let rest : Moved (partial (using (with_used assigned others) by.leg.segment)
       (along task (with_marks run marks) by.leg.segment))
@@ -529,7 +529,7 @@ module _ (task : Task) (fit : IsFit task) (ready : AreReady task) (first reach s
       (with_used assigned others)
       (with_marks run marks) by.leg rest.moves = by_segments task fit stop is.1 (legs_at task stop)
       (legs_of task ready stop is) (with_used assigned others) (with_marks run marks) by.leg
-      (among_place (legs_at task stop) by.place_of by.leg by.stands) takes.can rest.moves rest.completes in
+      (among_place (legs_at task stop) by.place_of by.leg by.is_leg) takes.can rest.moves rest.completes in
       record {
         moves = go by.leg.first back.segment ∷ back.moves;
         completes = (record { passes = may.passes; leads = back.leads; taken = back.can }, back.completes);
@@ -548,7 +548,7 @@ module _ (task : Task) (fit : IsFit task) (ready : AreReady task) (first reach s
       segment
       moves may.leads may.taken completes.1 in
       let takes : Takes_it others marks run by.leg =
-      takes_it assigned.used others goes.shares stop is (goes.home may.passes) by.place_of by.leg by.stands run
+      takes_it assigned.used others goes.shares stop is (goes.home may.passes) by.place_of by.leg by.is_leg run
       marks goes.sees by.can in
       let rest : Moved (partial (using (with_used assigned others) by.leg.segment)
       (along task (with_marks run marks) by.leg.segment))
@@ -563,7 +563,7 @@ module _ (task : Task) (fit : IsFit task) (ready : AreReady task) (first reach s
       (with_used assigned others)
       (with_marks run marks) by.leg rest.moves = by_segments task fit stop is.1 (legs_at task stop)
       (legs_of task ready stop is) (with_used assigned others) (with_marks run marks) by.leg
-      (among_place (legs_at task stop) by.place_of by.leg by.stands) takes.can rest.moves rest.completes in
+      (among_place (legs_at task stop) by.place_of by.leg by.is_leg) takes.can rest.moves rest.completes in
       record {
         moves = turn by.leg.first back.segment ∷ back.moves;
         completes = (
@@ -602,15 +602,15 @@ reach_at task assigned stop old middle new holds more =
             | inl was ↦ still spot (reaches spot is (inr (was, on.1)))
             | inr same ↦ subst (AllLead task assigned.used new) same more.here
           ]
-          | inr over ↦ λ index leg stands free. over on.1 index leg stands
+          | inr over ↦ λ index leg is_found free. over on.1 index leg is_found
               (takes_free task assigned.used leg.segment ∙ free)
         ]
       ];
     }
   where
     still : (spot : ℕ) → AllLead task assigned.used old spot → AllLead task assigned.used new spot
-    still spot leads index leg stands free = more.widens.kept leg.segment.to
-        (holds.kept leg.segment.to (leads index leg stands free))
+    still spot leads index leg is_found free = more.widens.kept leg.segment.to
+        (holds.kept leg.segment.to (leads index leg is_found free))
 
 -- a state that is alike has as many borders
 pub canonical_whole : (task : Task) (assigned : Assigned) (run : Option PartialRun) (like : SearchState)
@@ -664,7 +664,7 @@ low_canonical task fit ready assigned run like whole canonical most low =
           shares = shares;
           sees = barred.marks.only;
           spots = on.spots;
-          stands = on.head.0;
+          head_is_stop = on.head.0;
           begins =
               on.home.0;
           head = on.head.1;

@@ -1,4 +1,4 @@
--- Stops and pieces by their places, and what a piece leaves to be earned.
+-- Stops and segments by their places, and what a segment leaves to be earned.
 use Rattle.std.proofs.Common.{◌≡◌, ℕ, ◌+◌, ◌*◌, ◌≤◌, Bool, true, false, ◌&&◌, List, length, refl, sym, ◌∙◌, arith}
 use Rattle.search_task.specs.declared.task.Segment.{Segment}
 use Rattle.search_task.specs.declared.task.Task.{Task}
@@ -17,7 +17,7 @@ credit_low : (b : Bool) → credit b ≤ 80
 credit_low true = omega arith
 credit_low false = omega arith
 
--- the borders of a piece that is taken are free
+-- the borders of a segment that is taken are free
 pub take_free : (task : Task) (run : PartialRun) (used : List Bool) (segment : Segment)
     → can_take task run used segment ≡ true → misses used segment.borders.items ≡ true
 take_free task run used segment taken =
@@ -28,7 +28,7 @@ pub one_if : Bool → ℕ
 one_if true = 1
 one_if false = 0
 
--- what is left to be earned is enough after a piece
+-- what is left to be earned is enough after a segment
 pub room_by : (task : Task) (assigned : Assigned) (run : PartialRun) (segment : Segment) → IsFit task
     → length assigned.used ≡ 279 → misses assigned.used segment.borders.items ≡ true → (from to : Bool)
     → stop_in (node_at task segment.to) ≡ to → SegmentFits task from segment

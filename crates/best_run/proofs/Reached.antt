@@ -1,6 +1,6 @@
--- What lies in reach bounds what the next trains earn: a run begins at a token that lies there, and reaches no stop
--- that does not. So each of the next trains that are alike earns at most the level for each stop of its run, what the
--- stops in reach are worth beyond it, and as much as two of them at which it ends.
+-- What is in reach bounds what the next trains earn: a run begins at a token that lies there, and reaches no stop that
+-- does not. So each of the next trains that are alike earns at most the level for each stop of its run, what the stops
+-- in reach are worth beyond it, and as much as two of them at which it ends.
 use Rattle.std.proofs.Common.{◌≡◌, ℕ, zero, suc, ◌+◌, ◌-◌, ◌*◌, ◌<◌, ◌≤◌, Bool, true, false, not, ◌&&◌, nat_lt, inl}
 use Rattle.std.proofs.Common.{inr, Option, Some, None, List, [], ◌∷◌, length, get_or, set, slice_get, refl, sym, ap}
 use Rattle.std.proofs.Common.{subst, ◌∙◌, arith, length-set, suc-mul, get_or-set_same}
@@ -51,7 +51,7 @@ one_ran : (all total count cap bound : ℕ) → all ≤ total + cap + (count * c
     → all ≤ total + (suc count * cap + bound)
 one_ran all total count cap bound low = omega (arith, low, suc-mul count cap)
 
--- a way leads from a stop that has none
+-- a leg leads from a stop that has none
 no_leg : (legs : List Leg) (place : ℕ) (leg : Leg) → legs ≡ [] → slice_get legs place ≡ Some leg → ⊥
 no_leg [] zero leg none at = let wrong : None ≡ Some leg = at in cc
 no_leg [] (suc place) leg none at = let wrong : None ≡ Some leg = at in cc
@@ -60,7 +60,7 @@ no_leg (first ∷ legs) place leg none at = cc
 module _ (task : Task) (fit : IsFit task) (ready : AreReady task) (reach : List Bool) (level most cap bound : ℕ)
     (some : 0 < most) (low : (most * level + beyond level task.spots.items reach)
     + two_ends level task.spots.items reach ≤ cap) where
-  -- all that a run may come to from a token lies in reach
+  -- all that a run may reach from a token lies in reach
   look_of : (assigned : Assigned) → IsInReach task assigned.used reach → AreHeld task assigned.used reach
       → (stop index : ℕ) → IsStop task stop → own_in (node_at task stop) ≡ true
       → IsOutlook task assigned (begun task assigned stop index) reach
@@ -139,16 +139,16 @@ module _ (task : Task) (fit : IsFit task) (ready : AreReady task) (reach : List 
       both_second (may_come (stop_in (node_at task by.leg.segment.to)) run by.leg.segment.to)
       (misses assigned.used by.leg.segment.borders.items) by.can in
       let fits = leg_fits task fit stop (legs_at task stop) (legs_of task ready stop is) is.1 by.leg
-      (among_place (legs_at task stop) by.place_of by.leg by.stands) in
+      (among_place (legs_at task stop) by.place_of by.leg by.is_leg) in
       let leads : Leads task fit ready assigned run reach look task.spots.items (counts_plain task assigned run)
       assigned
       run by.leg = record {
         from = stop;
         place = by.place_of;
-        stands = by.stands;
+        is_leg = by.is_leg;
         free = missed;
         lies =
-            reaches stop is (inl may.token) by.place_of by.leg by.stands missed;
+            reaches stop is (inl may.token) by.place_of by.leg by.is_leg missed;
         fits = fits.0;
         stop =
             (fits.0.to, fits.1);
@@ -164,7 +164,7 @@ module _ (task : Task) (fit : IsFit task) (ready : AreReady task) (reach : List 
       follows_go task fit ready assigned run reach look task.spots.items (counts_plain task assigned run) 0
       (goes_on task run) assigned run follows by.leg leads in
       let lies : LiesAhead reach stop = elim (held.held stop is may.token) [
-        | inl none ↦ absurd (no_leg (legs_at task stop) by.place_of by.leg none by.stands)
+        | inl none ↦ absurd (no_leg (legs_at task stop) by.place_of by.leg none by.is_leg)
         | inr there ↦ there
       ] in
       let came : may_come true run by.leg.segment.to ≡ true =
@@ -193,7 +193,7 @@ module _ (task : Task) (fit : IsFit task) (ready : AreReady task) (reach : List 
       omega arith in subst (λ (n : ℕ). get_or task.trains.items n 0 ≡ most) there
       (equal (suc train) (omega (arith, less)))
 
-  -- each of the trains of one kind earns at most so much
+  -- each of the trains of one kind earns at most this much
   reach_low : (moves : List Move) (assigned : Assigned) → IsInReach task assigned.used reach
       → AreHeld task assigned.used reach → length assigned.used ≡ 279 → (count : ℕ)
       → AreEqual task assigned.next count most → EarnAtMost task (assigned.next + count) bound
@@ -226,7 +226,7 @@ module _ (task : Task) (fit : IsFit task) (ready : AreReady task) (reach : List 
       absurd completes.0
   reach_low (finish ∷ moves) assigned reaches held whole (suc count) equal rest completes = absurd completes.0
 
--- what lies in reach is worth too little
+-- what is in reach is worth too little
 worth_low : (task : Task) (reach : List Bool) (worth : Worth) (most cap place : ℕ)
     → IsWorth task.spots.items reach worth → place < worth.levels
     → (most * (10 * place) + get_or worth.beyond place 0) + ((worth.first - 10 * place) + (worth.second - 10 * place))

@@ -31,7 +31,7 @@ use Rattle.best_run.specs.declared.state.Assigned.{Assigned}
 use Rattle.best_run.specs.declared.state.PartialRun.{PartialRun}
 use Rattle.best_run.specs.declared.move_path.Mark.{Mark}
 use Rattle.best_run.specs.declared.move_path.Mark.TheVariants.{Go, Pass, Finish, Turn}
-use Rattle.best_run.specs.MovePath.{runs_told, turned_about, turned_step}
+use Rattle.best_run.specs.MovePath.{runs_of_marks, turned_about, turned_step}
 use Rattle.search_task.specs.Described.{Describes, IsSegmentOf, IsSideNode, IsStepFrom, IsStopNode, most_of}
 use Rattle.search_task.specs.Described.{most_of_all}
 use Rattle.best_run.specs.Moves.{Allows, Completes, Move, State, along, begin, begun, between, can_take, go, marks_of}
@@ -107,13 +107,14 @@ turned_walk steps = all_turned steps []
 
 module _ (position : Position) (company : Company) (lawful : IsLawful position) (kinds : List Kind) (task : Task)
     (describes : Describes position company kinds task) where
-  abbrev Told : ℕ → List ℕ → Spot → List Stop → List ℕ → Assigned → PartialRun → Type 0
-  Told most others at stops borders assigned run = Tells task position company most others at stops borders assigned run
+  abbrev TellsHere : ℕ → List ℕ → Spot → List Stop → List ℕ → Assigned → PartialRun → Type 0
+  TellsHere most others at stops borders assigned run = Tells task position company most others at stops borders
+      assigned run
 
-  -- what a piece that is taken tells of its step
+  -- what a segment that is taken tells of its step
   record Went (most : ℕ) (others : List ℕ) (stops : List Stop) (borders : List ℕ) (assigned : Assigned)
       (run : PartialRun) (step : Step) (segment : Segment) : Type 0 where
-    pub told : Told most others (left_at step) (listed (stop_of (left_at step)) ++ stops)
+    pub tells : TellsHere most others (left_at step) (listed (stop_of (left_at step)) ++ stops)
         (border_at (entered_at step).hex (entered_at step).end ++ borders) (using assigned segment)
         (along task run segment)
     pub stops_once : AreDistinct stops → AreDistinct (listed (stop_of (left_at step)) ++ stops)
@@ -124,7 +125,7 @@ module _ (position : Position) (company : Company) (lawful : IsLawful position) 
         → ¬ IsAmong border others
 
   went_by : (most : ℕ) (others : List ℕ) (at : Spot) (stops : List Stop) (borders : List ℕ) (assigned : Assigned)
-      (run : PartialRun) → Told most others at stops borders assigned run → (step : Step) (segment : Segment)
+      (run : PartialRun) → TellsHere most others at stops borders assigned run → (step : Step) (segment : Segment)
       → IsSegmentOf step segment → can_take task run assigned.used segment ≡ true → (found : Option Stop)
       → stop_of (left_at step) ≡ found → Went most others stops borders assigned run step segment
   went_by most others at stops borders assigned run tells step segment is taken None side =
@@ -132,7 +133,7 @@ module _ (position : Position) (company : Company) (lawful : IsLawful position) 
       both_second (may_come (stop_in (node_at task segment.to)) run segment.to)
       (misses assigned.used segment.borders.items) taken in
       record {
-        told = subst (λ o. Told most others (left_at step) (listed o ++ stops)
+        tells = subst (λ o. TellsHere most others (left_at step) (listed o ++ stops)
             (border_at (entered_at step).hex (entered_at step).end ++ borders) (using assigned segment)
             (along task run segment)) (sym side)
             (to_side position company kinds task describes most others at stops borders assigned run tells step segment
@@ -161,7 +162,7 @@ module _ (position : Position) (company : Company) (lawful : IsLawful position) 
       not_set (get_or run.visited segment.to false) (both_second (ltb 0 run.left)
       (not (get_or run.visited segment.to false)) come) in
       record {
-        told = subst (λ o. Told most others (left_at step) (listed o ++ stops)
+        tells = subst (λ o. TellsHere most others (left_at step) (listed o ++ stops)
             (border_at (entered_at step).hex (entered_at step).end ++ borders) (using assigned segment)
             (along task run segment)) (sym there)
             (to_stop position company kinds task describes most others at stops borders assigned run tells step segment
@@ -214,37 +215,37 @@ module _ (position : Position) (company : Company) (lawful : IsLawful position) 
       ]
 
   -- some runs are a set for the trains that are left, and earn what is earned from a state on
-  pub record RunsTold (others : List ℕ) (left : List Kind) (assigned : Assigned) (total : ℕ)
+  pub record RunsEarn (others : List ℕ) (left : List Kind) (assigned : Assigned) (total : ℕ)
       (runs : List TrainRun) : Type 0 where
     pub set : IsSetFor position company left others runs
     pub earns : assigned.total + revenue_of position runs ≡ total
 
   -- the first of some runs is that of the next train
-  pub record RunTold (others : List ℕ) (kind : Kind) (left : List Kind) (assigned : Assigned) (total : ℕ)
-      (told : List TrainRun) : Type 0 where
+  pub record RunEarns (others : List ℕ) (kind : Kind) (left : List Kind) (assigned : Assigned) (total : ℕ)
+      (read : List TrainRun) : Type 0 where
     pub steps : List Step
     pub legal : RunsLegally position company (record { kind = kind; steps = steps })
     pub avoids : Avoids others (record { kind = kind; steps = steps })
     pub runs : List TrainRun
     pub set : IsSetFor position company left (crossed steps ++ others) runs
     pub earns : assigned.total + (earned position steps + revenue_of position runs) ≡ total
-    pub are : told ≡ record { kind = kind; steps = steps } ∷ runs
+    pub are : read ≡ record { kind = kind; steps = steps } ∷ runs
 
-  -- the borders of a piece change nothing in what the others earn
+  -- the borders of a segment change nothing in what the others earn
   keep_assigned :
       (others : List ℕ) (kind : Kind) (left : List Kind) (assigned : Assigned) (segment : Segment) (total : ℕ)
       (runs : List TrainRun) →
-      RunTold others kind left (using assigned segment) total runs → RunTold others kind left assigned total runs
-  keep_assigned others kind left assigned segment total runs told =
+      RunEarns others kind left (using assigned segment) total runs → RunEarns others kind left assigned total runs
+  keep_assigned others kind left assigned segment total runs read =
       record {
-        steps = told.steps;
-        legal = told.legal;
-        avoids = told.avoids;
-        runs = told.runs;
-        set = told.set;
+        steps = read.steps;
+        legal = read.legal;
+        avoids = read.avoids;
+        runs = read.runs;
+        set = read.set;
         earns =
-            told.earns;
-        are = told.are;
+            read.earns;
+        are = read.are;
       }
 
   -- a run that has not turned back began where its walk does
@@ -256,14 +257,14 @@ module _ (position : Position) (company : Company) (lawful : IsLawful position) 
   SoundFrom (between assigned) total marks =
       (others : List ℕ) (left : List Kind) → Used others assigned
       → drop assigned.next task.trains.items ≡ most_of_all left
-      → RunsTold others left assigned total (runs_told left [] marks)
+      → RunsEarn others left assigned total (runs_of_marks left [] marks)
   SoundFrom (partial assigned run) total marks =
       (others : List ℕ) (kind : Kind) (left : List Kind) (step : Step) (before : List Step)
-      → Told (most_of (stops_of kind)) others (left_at step) (visited (step ∷ before)) (crossed (step ∷ before))
+      → TellsHere (most_of (stops_of kind)) others (left_at step) (visited (step ∷ before)) (crossed (step ∷ before))
       assigned run → Holds position company (most_of (stops_of kind)) others (step ∷ before)
       → HasSuch (λ stop. HasToken position stop company) (visited (step ∷ before)) → BeginsHome run step before
       → drop (assigned.next + 1) task.trains.items ≡ most_of_all left
-      → RunTold others kind left assigned total (runs_told (kind ∷ left) (step ∷ before) marks)
+      → RunEarns others kind left assigned total (runs_of_marks (kind ∷ left) (step ∷ before) marks)
 
   -- the end: all trains are assigned
   at_end : (assigned : Assigned) → length task.trains.items ≤ assigned.next
@@ -290,17 +291,17 @@ module _ (position : Position) (company : Company) (lawful : IsLawful position) 
       absurd (omega (arith, drop_none task.trains.items assigned.next trains))
   has_passed assigned total marks before rest others (kind ∷ left) used trains =
       let next = drop_first task.trains.items assigned.next (most_of (stops_of kind)) (most_of_all left) trains in
-      let told : RunsTold others left (passed assigned) total (runs_told left [] marks) =
+      let read : RunsEarn others left (passed assigned) total (runs_of_marks left [] marks) =
       rest others left (record { used = used.used; whole = used.whole }) next.2 in
       record {
         set = record {
-          legal = told.set.legal;
-          each_once = λ k. omega (arith, told.set.each_once k);
+          legal = read.set.legal;
+          each_once = λ k. omega (arith, read.set.each_once k);
           apart =
-              told.set.apart;
-          avoid = told.set.avoid;
+              read.set.apart;
+          avoid = read.set.avoid;
         };
-        earns = told.earns;
+        earns = read.earns;
       }
 
   -- a run is finished
@@ -314,7 +315,7 @@ module _ (position : Position) (company : Company) (lawful : IsLawful position) 
     where
       ends_by :
           (found : Option Stop) → stop_of (left_at step) ≡ found →
-          RunTold others kind left assigned total (runs_told (kind ∷ left) (step ∷ before) (Finish ∷ marks))
+          RunEarns others kind left assigned total (runs_of_marks (kind ∷ left) (step ∷ before) (Finish ∷ marks))
       ends_by None side =
           let node : IsSideNode (node_at task (spot_number (left_at step))) =
           node_left position company kinds task describes (left_at step) None side in
@@ -322,8 +323,8 @@ module _ (position : Position) (company : Company) (lawful : IsLawful position) 
           subst (λ (n : ℕ). stop_in (node_at task n) ≡ true) tells.head may in
           absurd (let wrong : true ≡ false = sym stops ∙ node.stops in cc)
       ends_by (Some stop) there =
-          let told : RunsTold (crossed (step ∷ before) ++ others) left (with_run_finished assigned run) total
-          (runs_told left [] marks) =
+          let read : RunsEarn (crossed (step ∷ before) ++ others) left (with_run_finished assigned run) total
+          (runs_of_marks left [] marks) =
           rest (crossed (step ∷ before) ++ others) left
           (record {
             used = λ border. let all : IsAmong border (crossed (step ∷ before) ++ others)
@@ -356,9 +357,9 @@ module _ (position : Position) (company : Company) (lawful : IsLawful position) 
               no_full_inside = holds.full;
             };
             avoids = holds.free;
-            runs = runs_told left [] marks;
-            set = told.set;
-            earns = let total = told.earns in omega (arith, tells.value);
+            runs = runs_of_marks left [] marks;
+            set = read.set;
+            earns = let total = read.earns in omega (arith, tells.value);
             are = refl;
           }
 
@@ -380,9 +381,9 @@ module _ (position : Position) (company : Company) (lawful : IsLawful position) 
       refl in
       let passes = may_pass (left_at step) (stop_of (left_at step)) refl (entered_at next) joined
       (subst (λ (n : ℕ). ends_in (node_at task n) ≡ false) tells.head may.passes) in
-      let told : RunTold others kind left (using assigned segment) total
-      (runs_told (kind ∷ left) (next ∷ step ∷ before) marks) =
-      rest others kind left next (step ∷ before) went.told
+      let read : RunEarns others kind left (using assigned segment) total
+      (runs_of_marks (kind ∷ left) (next ∷ step ∷ before) marks) =
+      rest others kind left next (step ∷ before) went.tells
       (record {
         walk = (from.track, joined, holds.walk);
         begins = holds.begins;
@@ -398,10 +399,10 @@ module _ (position : Position) (company : Company) (lawful : IsLawful position) 
       (such_later (λ stop. HasToken position stop company) (listed (stop_of (left_at next))) (visited (step ∷ before))
       own) home trains
       in
-      let runs : Step → List TrainRun = λ last. runs_told (kind ∷ left) (last ∷ step ∷ before) marks in
+      let runs : Step → List TrainRun = λ last. runs_of_marks (kind ∷ left) (last ∷ step ∷ before) marks in
       keep_assigned others kind left assigned segment total (runs segment.step)
-      (subst (λ (last : Step). RunTold others kind left (using assigned segment) total (runs last))
-      (sym from.segment_is.step_is) told)
+      (subst (λ (last : Step). RunEarns others kind left (using assigned segment) total (runs last))
+      (sym from.segment_is.step_is) read)
 
   -- where a run is at a stop, its walk ends at one
   ends_there : (step : Step) (before : List Step) (number : ℕ) → number ≡ spot_number (left_at step)
@@ -429,14 +430,14 @@ module _ (position : Position) (company : Company) (lawful : IsLawful position) 
       let walk = turned.last ∷ turned.rest in
       let one : AreOne position (step ∷ before) walk =
       one_turned position company lawful kinds task describes most others step before turned in
-      let at_home : run.home ≡ spot_number (left_at turned.last) = home may.once ∙ ap spot_number (sym turned.stands) in
-      let tells_back : Told most others (left_at turned.last) (visited walk) (crossed walk) assigned
+      let at_home : run.home ≡ spot_number (left_at turned.last) = home may.once ∙ ap spot_number (sym turned.is_at) in
+      let tells_back : TellsHere most others (left_at turned.last) (visited walk) (crossed walk) assigned
       (turned_back run) = to_home position company kinds task describes most others (left_at step)
       (visited (step ∷ before)) (crossed (step ∷ before)) assigned run tells (left_at turned.last) (visited walk)
       (crossed walk) at_home one.stops one.worth one.borders in
       let about : turned_about (step ∷ before) ≡ walk = turned_walk (step ∷ before) ∙ turned.is in
-      subst (λ (steps : List Step). RunTold others kind left assigned total
-      (runs_told (kind ∷ left) steps (Go segment.step ∷ marks))) (sym about)
+      subst (λ (steps : List Step). RunEarns others kind left assigned total
+      (runs_of_marks (kind ∷ left) steps (Go segment.step ∷ marks))) (sym about)
       (has_gone assigned (turned_back run) index segment total marks
       (record { passes = may.passes; leads = may.leads; taken = may.taken }) rest others kind left turned.last
       turned.rest tells_back turned.holds
@@ -478,34 +479,34 @@ module _ (position : Position) (company : Company) (lawful : IsLawful position) 
   -- a run of the first train before those of the others is a set
   set_more :
       (others : List ℕ) (kind : Kind) (left : List Kind) (assigned : Assigned) (total : ℕ) (runs : List TrainRun) →
-      RunTold others kind left assigned total runs → RunsTold others (kind ∷ left) assigned total runs
-  set_more others kind left assigned total runs told =
-      subst (RunsTold others (kind ∷ left) assigned total) (sym told.are)
+      RunEarns others kind left assigned total runs → RunsEarn others (kind ∷ left) assigned total runs
+  set_more others kind left assigned total runs read =
+      subst (RunsEarn others (kind ∷ left) assigned total) (sym read.are)
       (record {
         set = record {
-          legal = (told.legal, told.set.legal);
-          each_once = λ k. omega (arith, told.set.each_once k);
-          apart = (apart_by told.runs told.set.avoid, told.set.apart);
-          avoid = (told.avoids, avoid_by told.runs told.set.avoid);
+          legal = (read.legal, read.set.legal);
+          each_once = λ k. omega (arith, read.set.each_once k);
+          apart = (apart_by read.runs read.set.avoid, read.set.apart);
+          avoid = (read.avoids, avoid_by read.runs read.set.avoid);
         };
-        earns = told.earns;
+        earns = read.earns;
       })
     where
-      apart_by : (runs : List TrainRun) → AllByRecursion (Avoids (crossed told.steps ++ others)) runs
-          → AllByRecursion (λ other. ShareNoBorder told.steps other.steps) runs
+      apart_by : (runs : List TrainRun) → AllByRecursion (Avoids (crossed read.steps ++ others)) runs
+          → AllByRecursion (λ other. ShareNoBorder read.steps other.steps) runs
       apart_by [] avoid = tt
       apart_by (run ∷ runs) avoid = (
         (λ border here there. avoid.0 border there
-            ((among_both border (crossed told.steps) others).1 (inl here))),
+            ((among_both border (crossed read.steps) others).1 (inl here))),
         apart_by runs avoid.1,
       )
 
-      avoid_by : (runs : List TrainRun) → AllByRecursion (Avoids (crossed told.steps ++ others)) runs
+      avoid_by : (runs : List TrainRun) → AllByRecursion (Avoids (crossed read.steps ++ others)) runs
           → AllByRecursion (Avoids others) runs
       avoid_by [] avoid = tt
       avoid_by (run ∷ runs) avoid = (
         (λ border here there. avoid.0 border here
-            ((among_both border (crossed told.steps) others).1 (inr there))),
+            ((among_both border (crossed read.steps) others).1 (inr there))),
         avoid_by runs avoid.1,
       )
 
@@ -536,8 +537,8 @@ module _ (position : Position) (company : Company) (lawful : IsLawful position) 
       segment from.segment_is may.taken (stop_of (left_at step)) refl in
       let visits : visited (step ∷ []) ≡ listed (stop_of (left_at step)) ++ (stop ∷ []) =
       ap (λ o. listed (stop_of (left_at step)) ++ (listed o ++ [])) entered.1 in
-      let told = subst (λ vs. Tells task position company most others (left_at step) vs (crossed (step ∷ []))
-      (using assigned segment) (along task (begun task assigned number index) segment)) (sym visits) went.told in
+      let tells_next = subst (λ vs. Tells task position company most others (left_at step) vs (crossed (step ∷ []))
+      (using assigned segment) (along task (begun task assigned number index) segment)) (sym visits) went.tells in
       let node : IsStopNode position company stop (node_at task number) =
       subst (λ (n : ℕ). IsStopNode position company stop (node_at task n)) (sym entered.2)
       (node_left position company kinds task describes (entered_at step) (Some stop) entered.1) in
@@ -545,13 +546,13 @@ module _ (position : Position) (company : Company) (lawful : IsLawful position) 
       subst (HasSuch (λ s. HasToken position s company)) (sym visits)
       (such_later (λ s. HasToken position s company) (listed (stop_of (left_at step))) (stop ∷ [])
       (inl (node.own.0 may.token))) in
-      let runs : Step → List TrainRun = λ first. runs_told (kind ∷ left) (first ∷ []) marks in
+      let runs : Step → List TrainRun = λ first. runs_of_marks (kind ∷ left) (first ∷ []) marks in
       set_more others kind left assigned total (runs segment.step)
       (keep_assigned others kind left assigned segment total (runs segment.step)
-      (subst (λ (first : Step). RunTold others kind left (using assigned segment) total (runs first))
+      (subst (λ (first : Step). RunEarns others kind left (using assigned segment) total (runs first))
       (sym from.segment_is.step_is)
-      (rest others kind left step [] told (first_holds most others assigned (begun task assigned number index) step
-      segment stop entered.1 from.track went) own (λ once. entered.2) next.2)))
+      (rest others kind left step [] tells_next (first_holds most others assigned (begun task assigned number index)
+      step segment stop entered.1 from.track went) own (λ once. entered.2) next.2)))
 
   pub sound_from : (moves : List Move) (state : State) → Completes task state moves
       → SoundFrom state (total_after task state moves) (marks_of moves)

@@ -19,7 +19,7 @@ use Rattle.best_run.specs.MovePath.{IsWritten, marks_in}
 -- nothing has been found
 pub traced_none : (task : Task) (state : State) (best : Found) → IsTraced task state best best
 traced_none task state best =
-    record { refused = λ none. none; told = λ none. inl (record { amount = refl; marks = refl }) }
+    record { refused = λ none. none; recorded = λ none. inl (record { amount = refl; marks = refl }) }
 
 -- where no way on earns more than what has been found, none need be tried
 pub explores_bounded : (task : Task) (state : State) (best : Found) → LeadsToAtMost task state best.amount
@@ -34,8 +34,8 @@ pub traced_both :
 traced_both task state old middle new grows more first second =
     record {
       refused = λ none. first.refused (second.refused none);
-      told =
-          λ none. by_second (second.refused none) (second.told none);
+      recorded =
+          λ none. by_second (second.refused none) (second.recorded none);
     }
   where
     by_first : IsAsBefore middle new → IsAsBefore old middle ⊎ IsBetter task state old middle
@@ -55,7 +55,7 @@ traced_both task state old middle new grows more first second =
     by_second :
         middle.move_path.refused ≡ None → IsAsBefore middle new ⊎ IsBetter task state middle new
         → IsAsBefore old new ⊎ IsBetter task state old new
-    by_second none (inl same) = by_first same (first.told none)
+    by_second none (inl same) = by_first same (first.recorded none)
     by_second none (inr better) = inr (record { more = omega (arith, grows, better.more); earns = better.earns })
 
 -- whatever comes after a state comes after one before it, behind some marks
@@ -82,19 +82,19 @@ earns_by task from to prefix marks amount leads earns =
       marks_are = ap (λ (later : List Mark). prefix ++ later) earns.marks_are ∙ sym by.marks_are;
     }
 
--- what is found from a state on, once the moves that led there are told
+-- what is found from a state on, once the moves that led there are recorded
 found_before :
     (task : Task) (from to : State) (prefix : List Mark) (old middle new : Found) → old.amount ≤ middle.amount →
     (middle.move_path.refused ≡ None → old.move_path.refused ≡ None) → Traces old.amount prefix middle new →
     (middle.move_path.refused ≡ None → IsAsBefore old middle
     ⊎ (Leads task from to prefix × IsBetter task to old middle)) → IsTraced task from old new
-found_before task from to prefix old middle new grows refused traces told =
+found_before task from to prefix old middle new grows refused traces unless_refused =
     elim (same_or_more grows) [
       | inl same ↦
           let as_before : new.move_path ≡ middle.move_path = traces.as_before (omega arith) in
           record {
             refused = λ none. refused (subst (λ (t : MovePath). t.refused ≡ None) as_before none);
-            told = λ none. elim (told (subst (λ (t : MovePath). t.refused ≡ None) as_before none)) [
+            recorded = λ none. elim (unless_refused (subst (λ (t : MovePath). t.refused ≡ None) as_before none)) [
               | inl before ↦ inl (record {
                 amount = traces.amount ∙ before.amount;
                 marks =
@@ -107,7 +107,7 @@ found_before task from to prefix old middle new grows refused traces told =
           let written : IsWritten prefix middle.move_path new.move_path = traces.written more in
           record {
             refused = λ none. refused (written.refused none);
-            told = λ none. elim (told (written.refused none)) [
+            recorded = λ none. elim (unless_refused (written.refused none)) [
               | inl before ↦ absurd (omega (arith, more, before.amount))
               | inr better ↦ inr (record {
                 more = omega (arith, better.1.more, traces.amount);
@@ -146,12 +146,12 @@ explores_from task from to prefix old middle new leads explores traces =
     record {
       grows = omega (arith, explores.grows, traces.amount);
       traced = found_before task from to prefix old middle new explores.grows explores.traced.refused traces
-          (λ none. elim (explores.traced.told none) [ inl before ↦ inl before | inr better ↦ inr (leads, better) ]);
+          (λ none. elim (explores.traced.recorded none) [ inl before ↦ inl before | inr better ↦ inr (leads, better) ]);
       known = λ known. known_traced task old.amount prefix middle new traces (explores.known known);
       most = λ known moves completes. omega (arith, explores.most known moves completes, traces.amount);
     }
 
--- a way has been tried with a run, and the path tells of it from where it is tried
+-- a leg has been tried with a run, and the path tells of it from where it is tried
 pub record TakesFrom (task : Task) (from : State) (assigned : Assigned) (run : PartialRun) (leg : Leg)
     (old new : Found) : Type 0 where
   pub grows : old.amount ≤ new.amount
@@ -174,7 +174,8 @@ takes_from task from assigned run leg prefix old middle new leads takes traces =
     record {
       grows = omega (arith, takes.grows, traces.amount);
       traced = found_before task from there prefix old middle new takes.grows takes.refused traces
-          (λ none. elim (takes.told none) [ inl before ↦ inl before | inr better ↦ inr (leads better.0, better.1) ]);
+          (λ none. elim (takes.recorded none) [ inl before ↦ inl before | inr better ↦ inr (leads better.0, better.1)
+          ]);
       known = λ known. known_traced task old.amount prefix middle new traces (takes.known known);
       most = λ known can moves completes. omega (arith, takes.most known can moves completes, traces.amount);
     }

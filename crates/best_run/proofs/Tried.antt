@@ -1,4 +1,4 @@
--- What has been tried: moves of one sort after those of another, a piece as a move, and all moves of a state.
+-- What has been tried: moves of one sort after those of another, a segment as a move, and all moves of a state.
 use Rattle.std.proofs.Common.{◌≡◌, ℕ, ◌+◌, ◌<◌, ◌≤◌, true, false, ◌⊎◌, inl, inr, Option, Some, None, List, [], ◌∷◌}
 use Rattle.std.proofs.Common.{length, refl, sym, ap, ◌∙◌, arith, le_trans}
 use Rattle.std.proofs.lemmas.Option.{slice_get_within}
@@ -84,7 +84,7 @@ over_better task assigned old move_path over low empty same =
       grows = omega (arith, low);
       traced = record {
         refused = λ none. sym same ∙ none;
-        told = λ none. inr (record {
+        recorded = λ none. inr (record {
           more = low;
           earns =
               record { moves = []; completes = over; total = refl; marks_are = empty };

@@ -1,8 +1,8 @@
--- What may lie ahead of a run that has begun: the stops that it may still come to, if it may take each leg that it may
+-- What may lie ahead of a run that has begun: the stops that it may still reach, if it may take each leg that it may
 -- take now. With a level, this many dollars, each stop to come is worth at most the level and what it is worth beyond:
 -- so the run earns at most the level for each stop that is left, and what the stops ahead are worth beyond it. Of the
--- stops at which runs end, red or full, it may come to one from where it is and to one from where it began, so only
--- those count that are worth most.
+-- stops at which runs end, red or full, it may reach one from where it is and to one from where it began, so only those
+-- count that are worth most.
 use Rattle.std.specs.Prelude.{◌≡◌, ℕ, ◌+◌, ◌-◌, ◌*◌, ◌<◌, ◌≤◌, max, Bool, true, false, not, ◌&&◌, ◌⊎◌, Some, List, []}
 use Rattle.std.specs.Prelude.{◌∷◌, get_or, slice_get}
 use Rattle.search_task.specs.declared.task.Node.{Node}
@@ -27,7 +27,7 @@ IsGoneOver task assigned run ahead spot =
     ends_in (node_at task spot) ≡ false → (place : ℕ) (leg : Leg) → slice_get (legs_at task spot) place ≡ Some leg
     → can_take task run assigned.used leg.segment ≡ true → LiesAhead ahead leg.segment.to
 
--- the same for those legs alone of which the first segment is not before a place
+-- the same for those legs alone whose first segment is not before a place
 abbrev pub IsGoneOverFrom : Task → Assigned → PartialRun → ℕ → List Bool → ℕ → Type 0
 IsGoneOverFrom task assigned run least ahead spot =
     ends_in (node_at task spot) ≡ false → (place : ℕ) (leg : Leg) → slice_get (legs_at task spot) place ≡ Some leg
@@ -81,7 +81,7 @@ pub record WidensBackBelow (task : Task) (assigned : Assigned) (run : PartialRun
   pub leads : (place : ℕ) (leg : Leg) → place < most → slice_get (legs_at task run.home) place ≡ Some leg
       → run.first ≤ leg.first → can_take task run assigned.used leg.segment ≡ true → LiesAhead new leg.segment.to
 
--- all stops that a run may still come to lie ahead
+-- all stops that a run may still reach lie ahead
 pub record IsOutlook (task : Task) (assigned : Assigned) (run : PartialRun) (ahead : List Bool) : Type 0 where
   pub head : IsGoneOver task assigned run ahead run.head
   pub home : run.turned ≡ false → IsGoneOverFrom task assigned run run.first ahead run.home
@@ -179,10 +179,10 @@ at_level worth place left on back =
     (left * (10 * place) + get_or worth.beyond place 0)
     + ends_by on back (worth.first - 10 * place) ((worth.first - 10 * place) + (worth.second - 10 * place))
 
--- so much is no less than what it may earn by some level
+-- this much is no less than what it may earn by some level
 abbrev pub IsLeast : Worth → ℕ → Bool → Bool → ℕ → Type 0
 IsLeast worth left on back least = (place : ℕ) × (place < worth.levels) × (at_level worth place left on back ≤ least)
 
--- all ways on from a run earn at most so much
+-- all ways on from a run earn at most this much
 abbrev pub EndsAtMost : Task → Assigned → PartialRun → ℕ → Type 0
 EndsAtMost task assigned run most = LeadsToAtMost task (partial assigned run) most

@@ -1,5 +1,5 @@
--- What the trains that are left can come to: the borders that no leg from there crosses make no difference to them, so two
--- states that differ in such borders alone are alike: between runs, or with the same run begun.
+-- What the trains that are left can reach: the borders that no leg from there crosses make no difference to them, so
+-- two states that differ in such borders alone are alike: between runs, or with the same run begun.
 use Rattle.std.specs.Prelude.{◌≡◌, ℕ, ◌<◌, Bool, true, false, not, ◌&&◌, ◌||◌, ◌⊎◌, Option, Some, None, List, []}
 use Rattle.std.specs.Prelude.{length, get_or, replicate, slice_get}
 use Rattle.best_run.specs.declared.search_state.SearchState.{SearchState}

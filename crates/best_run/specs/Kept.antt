@@ -67,7 +67,7 @@ pub record IsKept (search_state : SearchState) (old new : Found) : Type 0 where
   pub only : (place : ℕ) (entry : SearchState) → slice_get new.memo.items place ≡ Some entry
       → IsHeld old entry ⊎ (search_state ≡ entry)
 
--- nothing is found yet, no move is told, and no state is kept
+-- nothing is found yet, no move is recorded, and no state is kept
 pub record IsNothing (found : Found) : Type 0 where
   pub amount : found.amount ≡ 0
   pub marks : marks_in found.move_path ≡ []

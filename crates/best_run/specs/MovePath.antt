@@ -33,14 +33,14 @@ turned_step step = record { link = step.link; turned = not step.turned }
 abbrev pub turned_about : List Step → List Step
 turned_about steps = map turned_step (reverse steps)
 
--- the walk of the next train that some marks tell, whose steps so far are known, the latest in front; none where the
+-- the walk of the next train that some marks give, whose steps so far are known, the latest in front; none where the
 -- train does not run
-abbrev pub walk_told : List Step → List Mark → Option (List Step)
-walk_told walk [] = None
-walk_told walk (Pass ∷ marks) = None
-walk_told walk (Go step ∷ marks) = walk_told (step ∷ walk) marks
-walk_told walk (Turn ∷ marks) = walk_told (turned_about walk) marks
-walk_told walk (Finish ∷ marks) = Some walk
+abbrev pub walk_of_marks : List Step → List Mark → Option (List Step)
+walk_of_marks walk [] = None
+walk_of_marks walk (Pass ∷ marks) = None
+walk_of_marks walk (Go step ∷ marks) = walk_of_marks (step ∷ walk) marks
+walk_of_marks walk (Turn ∷ marks) = walk_of_marks (turned_about walk) marks
+walk_of_marks walk (Finish ∷ marks) = Some walk
 
 -- the marks after those of the next train
 abbrev pub after_walk : List Mark → List Mark
@@ -55,11 +55,11 @@ abbrev pub with_run : Kind → Option (List Step) → List TrainRun → List Tra
 with_run kind None runs = runs
 with_run kind (Some steps) runs = record { kind = kind; steps = steps } ∷ runs
 
--- the runs of some trains that some marks tell, where the steps so far of the first one's are known
-abbrev pub runs_told : List Kind → List Step → List Mark → List TrainRun
-runs_told [] walk marks = []
-runs_told (kind ∷ kinds) walk marks =
-    with_run kind (walk_told walk marks) (runs_told kinds [] (after_walk marks))
+-- the runs of some trains that some marks give, where the steps so far of the first one's are known
+abbrev pub runs_of_marks : List Kind → List Step → List Mark → List TrainRun
+runs_of_marks [] walk marks = []
+runs_of_marks (kind ∷ kinds) walk marks =
+    with_run kind (walk_of_marks walk marks) (runs_of_marks kinds [] (after_walk marks))
 
 -- some runs, written out by their places
 abbrev pub written : List TrainRun → List ClaimedRun
@@ -71,9 +71,9 @@ pub record CanBeClaimed (run : TrainRun) : Type 0 where
   pub least : 2 ≤ length (places_of run.steps)
   pub most : length (places_of run.steps) ≤ 280
 
--- the runs that a path tells of some trains
+-- the runs that a path gives of some trains
 abbrev pub runs_in : List Kind → MovePath → List TrainRun
-runs_in kinds move_path = runs_told kinds [] (marks_in move_path)
+runs_in kinds move_path = runs_of_marks kinds [] (marks_in move_path)
 
 -- all of them can be written out
 abbrev pub CanBeRead : List Kind → MovePath → Type 0
@@ -89,5 +89,5 @@ steps_of walk = option_map (λ (steps : Vec Step Global). steps.items) walk
 
 -- the marks of the next train are read and taken away; both lists of marks are from the last to the first
 pub record IsWalkRead (old new : List Mark) (walk : Option (Vec Step Global)) : Type 0 where
-  pub walk_is : steps_of walk ≡ walk_told [] (reverse old)
+  pub walk_is : steps_of walk ≡ walk_of_marks [] (reverse old)
   pub after : reverse new ≡ after_walk (reverse old)

@@ -87,8 +87,8 @@ abbrev pub with_run_finished : Assigned → PartialRun → Assigned
 with_run_finished assigned run =
     record assigned { next = assigned.next + 1; total = assigned.total + run.value; kind = run.most; cap = run.value }
 
--- Equal trains may change their runs, so only such ways are gone that none of them earns more than the one before:
--- a run earns no more than the last one, if that is of a train of the same kind.
+-- Equal trains may change their runs, so only those runs are tried where none of them earns more than the one before: a
+-- run earns no more than the last one, if that is of a train of the same kind.
 abbrev pub may_earn : ℕ → ℕ → ℕ → ℕ → Bool
 may_earn kind cap most value = (kind == 0 || not (kind == most)) || nat_le value cap
 
@@ -191,7 +191,7 @@ marks_of (go index segment ∷ moves) = Go segment.step ∷ marks_of moves
 marks_of (turn index segment ∷ moves) = Turn ∷ Go segment.step ∷ marks_of moves
 marks_of (finish ∷ moves) = Finish ∷ marks_of moves
 
--- some marks are those of moves that lead from a state to the end, and earn so much
+-- some marks are those of moves that lead from a state to the end, and earn this much
 pub record Earns (task : Task) (state : State) (marks : List Mark) (amount : ℕ) : Type 0 where
   pub moves : List Move
   pub completes : Completes task state moves
@@ -212,16 +212,16 @@ pub record IsBetter (task : Task) (state : State) (old new : Found) : Type 0 whe
 -- before
 pub record IsTraced (task : Task) (state : State) (old new : Found) : Type 0 where
   pub refused : new.move_path.refused ≡ None → old.move_path.refused ≡ None
-  pub told : new.move_path.refused ≡ None → IsAsBefore old new ⊎ IsBetter task state old new
+  pub recorded : new.move_path.refused ≡ None → IsAsBefore old new ⊎ IsBetter task state old new
 
--- if more has been found than so much, some marks are written in front of the path; nothing else changes
+-- if more has been found than this much, some marks are written in front of the path; nothing else changes
 pub record Traces (least : ℕ) (marks : List Mark) (old new : Found) : Type 0 where
   pub amount : new.amount ≡ old.amount
   pub memo : new.memo.items ≡ old.memo.items
   pub as_before : old.amount ≤ least → new.move_path ≡ old.move_path
   pub written : least < old.amount → IsWritten marks old.move_path new.move_path
 
--- all ways from a state to the end earn at most so much
+-- all ways from a state to the end earn at most this much
 abbrev pub LeadsToAtMost : Task → State → ℕ → Type 0
 LeadsToAtMost task state most = (moves : List Move) → Completes task state moves → total_after task state moves ≤ most
 
@@ -265,7 +265,7 @@ pub record Takes (task : Task) (assigned : Assigned) (run : PartialRun) (segment
     0 where
   pub grows : old.amount ≤ new.amount
   pub refused : new.move_path.refused ≡ None → old.move_path.refused ≡ None
-  pub told : new.move_path.refused ≡ None → IsAsBefore old new
+  pub recorded : new.move_path.refused ≡ None → IsAsBefore old new
       ⊎ ((can_take task run assigned.used segment ≡ true)
       × IsBetter task (partial (using assigned segment) (along task run segment)) old new)
   pub known : AreInMemo task old → AreInMemo task new
@@ -310,7 +310,7 @@ Any number = Unit {0}
 abbrev pub Below : ℕ → ℕ → Type 0
 Below most number = number < most
 
--- such ways have been tried, each with its run: the best found grows at most, the path tells how it is earned from
+-- such legs have been tried, each with its run: the best found grows at most, the path tells how it is earned from
 -- where the legs are tried, and whatever comes after one of them earns at most that
 pub record TriesLegs (task : Task) (from : State) (assigned : Assigned) (runs : Leg → PartialRun) (P : Leg → Type 0)
     (old new : Found) : Type 0 where

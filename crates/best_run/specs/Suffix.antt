@@ -12,7 +12,7 @@ use Rattle.best_run.specs.Moves.{AreInMemo, Completes, Earns, Move, between, sta
 abbrev pub nothing_before : ℕ → Assigned
 nothing_before next = record { next = next; total = 0; kind = 0; cap = 0; used = replicate 279 false }
 
--- the trains from one on earn at most so much
+-- the trains from one on earn at most this much
 abbrev pub EarnAtMost : Task → ℕ → ℕ → Type 0
 EarnAtMost task next most =
     (moves : List Move) → Completes task (between (nothing_before next)) moves

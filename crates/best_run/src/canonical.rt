@@ -35,7 +35,7 @@ fn anywhere() -> PartialRun
     }
 }
 
-/// Adds to what lies in reach of the trains that are left what a run may come to from a token.
+/// Adds to what is in reach of the trains that are left what a run may reach from a token.
 fn reach_from(task: &Task, assigned: &Assigned, stop: usize, reach: &mut Outlook)
     requires fit { IsFit task.now }
     requires ready { AreReady task.now }
@@ -89,7 +89,7 @@ pub(crate) fn reach(task: &Task, assigned: &Assigned) -> Outlook
     reach
 }
 
-/// Whether the trains that are left can earn no more than what has been found, by what lies in reach:
+/// Whether the trains that are left can earn no more than what has been found, by what is in reach:
 /// each of the next ones that are alike earns no more than that, and the others no more than by
 /// themselves. It may be false where that holds.
 pub(crate) fn is_pruned_by_reach(
@@ -192,7 +192,7 @@ pub(crate) fn canonical(task: &Task, assigned: &Assigned, reach: &Spots) -> Sear
     }
 }
 
-/// Adds to what lies in reach a stop, and what a run may come to from there.
+/// Adds to what is in reach a stop, and what a run may reach from there.
 fn reach_at(task: &Task, assigned: &Assigned, stop: usize, reach: &mut Outlook)
     requires fit { IsFit task.now }
     requires ready { AreReady task.now }

@@ -15,7 +15,7 @@
 //! and the run begun), `outlook` (what lies ahead of that run) with `worth` (what that is worth), `last` (at which
 //! stops ahead it ends), `move_path` (the moves that earn what has been found), `search_state` (a state that is kept),
 //! `memo` (what has been found, and what need not be explored again), `canonical` (states that are alike to the trains
-//! left), `search`, `claimed` (the runs that a path tells), `runner` (what tells the revenue alone), `keeping` (what
+//! left), `search`, `claimed` (the runs that a path gives), `runner` (what tells the revenue alone), `keeping` (what
 //! keeps the runs and marks as well).
 #![tactic(auto)]
 

@@ -46,7 +46,8 @@ impl Found {
         }
     }
 
-    /// What is found, unless memory was refused for a mark or for a place. The only error is that refusal.
+    /// What is found, unless memory was refused for a mark or for a place. It fails only if memory is
+    /// refused.
     pub(crate) fn unless_refused(self) -> Result<Found, AllocError>
         ensures { result ≡ unless_refused self }
     {

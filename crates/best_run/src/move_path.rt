@@ -1,4 +1,4 @@
-//! The path: how the best found is earned. The moves that earn it are told by their marks, which are
+//! The path: how the best found is earned. The moves that earn it are written as marks, which are
 //! written on the way back from the end, the last one first.
 ghost use Rattle.std.specs.Prelude.{◌≡◌, [], ◌∷◌, ◌++◌, None, Some};
 ghost use Rattle.best_run.specs.MovePath.{IsWritten, go_along, marks_in};

@@ -20,7 +20,7 @@ use tables::Amount;
 /// What lies ahead of a run.
 #[derive(Drop)]
 pub(crate) struct Outlook {
-    /// The stops that it may come to.
+    /// The stops that it may reach.
     pub(crate) ahead: Spots,
     /// How many these are.
     pub(crate) stops: usize,
@@ -71,7 +71,7 @@ fn leads_on(
         && segment.borders.misses(&assigned.used)
 }
 
-/// Adds to what lies ahead of a run what it may come to from a stop: whether there is anything.
+/// Adds to what lies ahead of a run what it may reach from a stop: whether there is anything.
 #[cycle(look)]
 fn look_from(
     task: &Task,
@@ -105,7 +105,7 @@ fn look_from(
     leads
 }
 
-/// Adds to what lies ahead of a run a stop, and what it may come to from there. Where that is nothing, the stop
+/// Adds to what lies ahead of a run a stop, and what it may reach from there. Where that is nothing, the stop
 /// may be last.
 #[cycle(look)]
 #[inline(always)]
@@ -130,7 +130,7 @@ fn look_at(task: &Task, assigned: &Assigned, run: &PartialRun, spot: usize, outl
     }
 }
 
-/// Adds to what lies ahead of a run what it may come to by a segment.
+/// Adds to what lies ahead of a run what it may reach by a segment.
 #[inline(always)]
 pub(crate) fn look_along(
     task: &Task,
@@ -153,8 +153,8 @@ pub(crate) fn look_along(
     }
 }
 
-/// Adds to what lies ahead of a run what it may come to from where it began, once it turns back: not by
-/// a leg before the one by which it began.
+/// Adds to what lies ahead of a run what it may reach from where it began, once it turns back: not by a
+/// leg before the one by which it began.
 fn look_back(task: &Task, assigned: &Assigned, run: &PartialRun, outlook: &mut Outlook)
     requires fit { IsFit task.now }
     requires ready { AreReady task.now }

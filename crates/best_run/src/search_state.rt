@@ -14,8 +14,8 @@ pub(crate) struct SearchState {
     pub(crate) run: Option<PartialRun>,
 }
 
-/// Whether a run covers another, or there is none in either state. Where a train ran before, it is not told: its run may not
-/// earn more than that one did.
+/// Whether a run covers another, or there is none in either state. Where a train ran before, it may be false: its run
+/// may not earn more than that one did.
 fn dominates_run(kind: usize, run: &Option<PartialRun>, other: &Option<PartialRun>) -> bool
     ensures { IsTrue result → DominatesAny kind run.now other.now }
 {

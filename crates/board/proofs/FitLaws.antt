@@ -1,4 +1,4 @@
--- What keeps what lies fit.
+-- What keeps the map state fit.
 use Rattle.std.proofs.Common.{◌≡◌, ◌∙◌, ap, sym, subst, refl, ◌+◌, ◌≤◌, inl, inr, true, false, cond, List, [], ◌∷◌}
 use Rattle.std.proofs.Common.{◌++◌, Some, None, arith}
 use Rattle.std.proofs.lemmas.Bool.{or_parts}
@@ -23,7 +23,7 @@ use Rattle.tables.proofs.Rules.{none_broken}
 use Rattle.tables.specs.Rules.{first_broken}
 use Rattle.tables.specs.declared.roster.Company.{Company}
 
--- what lies, with the home tokens to come
+-- the map state, with the home tokens to come
 abbrev with_homes : MapState → MapState
 with_homes laid = record laid { tokens = laid.tokens ++ homes_to_come laid.tokens }
 

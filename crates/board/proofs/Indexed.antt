@@ -1,4 +1,4 @@
--- The index of a board has what lies, and goes on to have it as tiles and tokens are laid.
+-- The index of a board has the map state, and goes on to have it as tiles and tokens are laid.
 use Rattle.std.proofs.Common.{◌≡◌, ◌∙◌, ◌≢◌, ap, sym, subst, refl, ℕ, zero, suc, ◌+◌, ◌<◌, ◌≤◌, ◌&&◌, ◌||◌, Bool, true}
 use Rattle.std.proofs.Common.{false, cond, List, [], ◌∷◌, ◌++◌, Option, Some, None, length, map, get_or, set, replicate}
 use Rattle.std.proofs.Common.{arith, get_or-set_same, get_or-set_other}

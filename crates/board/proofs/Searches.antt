@@ -1,4 +1,4 @@
--- Searches through a list, one element after another, for one of which something holds.
+-- Searches through a list, one element after another, for one where something holds.
 use Rattle.std.proofs.Common.{◌≡◌, sym, subst, ℕ, ◌+◌, ◌<◌, ◌≤◌, inl, inr, true, false, List, length, take, get_or}
 use Rattle.std.proofs.Common.{refl}
 use Rattle.std.proofs.lemmas.List.{take_all}

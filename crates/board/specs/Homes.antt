@@ -15,7 +15,7 @@ use Rattle.map_tables.specs.declared.place.Place.{Place}
 use Rattle.tables.specs.Rules.{first_broken}
 use Rattle.tables.specs.declared.roster.Company.{Company}
 
--- what lies fits, with the home tokens to come
+-- the map state fits, with the home tokens to come
 abbrev pub Fits : MapState → Type 0
 Fits laid = AreFitWithHomes laid.lays laid.tokens
 
@@ -23,7 +23,7 @@ Fits laid = AreFitWithHomes laid.lays laid.tokens
 abbrev pub FitsWithoutHomes : Type 0
 FitsWithoutHomes = (laid : MapState) → Fits laid → board_fault_of laid.lays laid.tokens ≡ None
 
--- a lay by the rules keeps what lies fit
+-- a lay by the rules keeps the map state fit
 abbrev pub LayKeepsFit : Type 0
 LayKeepsFit =
     (laid : MapState) (asker : Asker) (lay : Lay) → Fits laid → first_broken (map_rules laid asker lay) ≡ None

@@ -15,7 +15,7 @@ const TOKENS: usize = 25;
 
 /// The tiles and tokens that lie on the map, in a phase. To a contract it is those that were laid,
 /// oldest first: what is replaced is remembered. Beside the lists it keeps an index, so that it
-/// takes no longer to find what lies where more was laid.
+/// takes no longer to find a tile or a token where more was laid.
 #[derive(Drop)]
 pub struct Board {
     pub(crate) lays: Vec<Lay>,

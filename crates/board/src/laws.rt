@@ -8,7 +8,7 @@ pub fn fits_without_homes()
     ensures { FitsWithoutHomes }
 {}
 
-/// A lay by the rules keeps what lies fit, with the home tokens that are still to come.
+/// A lay by the rules keeps the map state fit, with the home tokens that are still to come.
 pub fn lay_keeps_fit()
     ensures { LayKeepsFit }
 {}

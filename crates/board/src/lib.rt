@@ -2,18 +2,18 @@
 //! by which a company lays more.
 //!
 //! What a map state is, its position and what may lie at all is in `board_state`. To a contract a
-//! `Board` is a map state. `Board::of` refuses what may not lie on the map.
-//! `try_lay` and `try_token` give the cost of a tile or a token, or the first rule that it breaks,
-//! and change nothing; `put_lay` and `put_token` lay it. A board that begins with `Board::empty` gets
-//! so what lies, tile by tile, and by `put_phase` the phase.
+//! `Board` is a map state. `Board::of` refuses what may not lie on the map. `try_lay` and `try_token`
+//! give the cost of a tile or a token, or the first rule that it breaks, and change nothing;
+//! `put_lay` and `put_token` lay it. A board that begins with `Board::empty` gets so the map state,
+//! tile by tile, and by `put_phase` the phase.
 //!
 //! The definitions, in `specs/`: `LayRules` and `TokenRules` (each rule beside its code, in order), `Powers`
 //! (of CS and DH), `Homes` and `Stock` (what the rules keep: a slot for each home token, and no more tiles
 //! than there are), and two small examples, `Example`.
 //!
-//! A `Board` keeps an index beside its lists, by which what lies is found at once, with the links of
-//! each tile that lies, turned as it was laid. It is the same to a contract as a `PlainBoard`, which
-//! has the lists alone, and is shorter to read.
+//! A `Board` keeps an index beside its lists, by which a tile or a token is found at once, with the
+//! links of each tile that lies, turned as it was laid. It is the same to a contract as a
+//! `PlainBoard`, which has the lists alone, and is shorter to read.
 //!
 //! Reading order: `fault`, `kept` (the links of a hex as a value), `index`,
 //! `board`, `after` (a board with one tile more), `network` (the position that is kept), `asker`,

@@ -77,7 +77,7 @@ west_is_red : is_red_kind (print_of A11).kind ≡ true
 unfolding index_of groups plain_hexes print_of
 west_is_red = refl
 
--- the links of a hex are those of its print, or of what lies there
+-- the links of a hex are those of its print, or of what is there
 of_track : PrintedLinksAreInOrder → LaidLinksAreInOrder → (laid : MapState) (hex : Hex) (whole : Bool)
     → AreLinksOf hex (if whole then by_tile (printed_links_of hex) laid_links_of
     (tile_on laid.lays hex) else printed_links_of hex)

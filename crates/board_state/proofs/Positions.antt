@@ -23,7 +23,7 @@ unfolding hexes index_of
 index_low A9 = lit< tt
 index_low hex = lit< tt
 
--- the position has in a hex what lies there
+-- the position has in a hex what is there
 pub in_hex_is : (laid : MapState) (hex : Hex) → in_hex (position_of laid) hex ≡ on_map_in laid hex
 unfolding position_of
 in_hex_is laid hex =
@@ -64,7 +64,7 @@ at_stop_is laid stop =
     ∙ ap (λ stops. get_or stops (stop_index_of stop.number) no_stop) (stops_kept laid stop.hex)
     ∙ numbered (λ number. on_map_at laid (stop_at hex number)) (print_of hex).stops stop.number no_stop
 
--- at a stop of a hex it has what lies there
+-- at a stop of a hex it has what is there
 pub shown : (laid : MapState) (stop : Stop) → is_stop (joined_stop_of stop) ≡ true
     → at_stop (position_of laid) stop ≡ on_map_at laid (joined_stop_of stop)
 shown laid stop is = at_stop_is laid stop ∙ ap (λ b. cond b (on_map_at laid (joined_stop_of stop)) no_stop) is

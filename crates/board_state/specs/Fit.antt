@@ -1,5 +1,5 @@
--- The rules on what lies on the map, as a table: the first that is broken refuses a board. None is broken exactly
--- where the tiles and tokens are fit.
+-- The rules on the tiles and tokens on the map, as a table: the first that is broken refuses a board. None is broken
+-- exactly where the tiles and tokens are fit.
 use Rattle.std.specs.Prelude.{◌≡◌, ◌↔◌, List, [], ◌∷◌, Option, None}
 use Rattle.std.specs.List.{list_any}
 use Rattle.board_state.specs.declared.fault.BoardFault.{BoardFault}
@@ -10,7 +10,7 @@ use Rattle.map_tables.specs.declared.place.Place.{Place}
 use Rattle.tables.specs.Rules.{Rule, first_broken}
 use Rattle.tables.specs.declared.roster.Company.{Company}
 
--- the rules that what lies may break
+-- the rules that a map state may break
 abbrev pub board_rules : List Lay → List (Place × Company) → List (Rule BoardFault)
 board_rules lays tokens =
     record { code = fault.Kind; broken = list_any is_wrong_kind lays }

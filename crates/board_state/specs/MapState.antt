@@ -28,15 +28,15 @@ pub record MapState : Type 0 where
   pub tokens : List (Place × Company)
   pub phase : Kind
 
--- what lies after these lays and tokens, in a phase
+-- the map state after these lays and tokens, in a phase
 abbrev pub map_state_of : List Lay → List (Place × Company) → Kind → MapState
 map_state_of lays tokens phase = record { lays = lays; tokens = tokens; phase = phase }
 
--- what lies once one more tile is laid
+-- the map state once one more tile is laid
 abbrev pub with_lay : MapState → Lay → MapState
 with_lay laid lay = record laid { lays = laid.lays ++ lay ∷ [] }
 
--- what lies once one more token is placed
+-- the map state once one more token is placed
 abbrev pub with_token : MapState → Place → Company → MapState
 with_token laid place company = record laid { tokens = laid.tokens ++ (place, company) ∷ [] }
 
@@ -56,7 +56,7 @@ is_red_kind (Open kind) = false
 is_red_kind Grey = false
 is_red_kind Red = true
 
--- what lies at a stop
+-- what is at a stop
 abbrev pub on_map_at : MapState → Stop → AtStop
 on_map_at laid stop =
     record {
@@ -72,7 +72,7 @@ stop_numbers zero = []
 stop_numbers (suc zero) = First ∷ []
 stop_numbers (suc (suc more)) = First ∷ Second ∷ []
 
--- what lies at the stops of a hex; a stop that lies in two hexes is kept in the one that names it
+-- what is at the stops of a hex; a stop that lies in two hexes is kept in the one that names it
 abbrev pub stops_in : MapState → Hex → List AtStop
 stops_in laid hex =
     if same_hex (joined_hex hex) hex then map (λ number. on_map_at laid (stop_at hex number))
@@ -82,7 +82,7 @@ stops_in laid hex =
 abbrev pub track_in : List Lay → Hex → List Link
 track_in lays hex = if same_hex (joined_hex hex) hex then links_on lays hex else printed_links_of hex
 
--- what lies in a hex
+-- what is in a hex
 abbrev pub on_map_in : MapState → Hex → InHex
 on_map_in laid hex = record { links = track_in laid.lays hex; stops = stops_in laid hex }
 

@@ -137,7 +137,7 @@ pub fn is_open(kind: HexKind) -> bool
     }
 }
 
-/// Whether the print of a hex has track at a side.
+/// Whether a printed hex has track at a side.
 fn has_print_at(hex: Hex, side: Side) -> bool
     ensures { result ≡ has_print_at hex side }
 {

@@ -6,14 +6,15 @@
 //! last tile that was laid there, or its print.
 //!
 //! What gives the map state is `OnMap`: all that the position has follows from its five answers. A
-//! `PlainBoard` has the lists alone, and looks for what lies; `PlainBoard::of` refuses what may not
-//! lie on the map.
+//! `PlainBoard` has the lists alone, and looks for a tile or a token; `PlainBoard::of` refuses what
+//! may not lie on the map.
 //!
-//! The definitions, in `specs/`: `MapState` (what lies, and the position) and `Fit` (what may lie at
-//! all).
+//! The definitions, in `specs/`: `MapState` (the tiles and tokens, and the position) and `Fit` (what
+//! may lie at all).
 //!
 //! Reading order: `fault`, `shown` (what shows at a hex or a stop), `fit` (what may lie at all),
-//! `on_map` (what follows from what lies), `plain`, `network` (the position that is kept), `laws`.
+//! `on_map` (what follows from the map state), `plain`, `network` (the position that is kept),
+//! `laws`.
 #![tactic(auto)]
 
 mod fault;

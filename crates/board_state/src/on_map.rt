@@ -15,7 +15,8 @@ use map_tables::{
 };
 use tables::{Amount, Company, Kind};
 
-/// What gives what lies on the map. All that a contract says of it, it says of what was laid.
+/// What gives the tiles and tokens on the map. All that a contract says of it, it says of what was
+/// laid.
 pub trait OnMap {
     /// What lies.
     ghost laid: { Self → MapState };
@@ -108,7 +109,7 @@ fn slots_there<L: OnMap>(board: &L, stop: Stop) -> usize
     }
 }
 
-/// How many tokens a stop takes, by what lies and in the position.
+/// How many tokens a stop takes, by the map state and in the position.
 pub fn slots<L: OnMap>(board: &L, stop: Stop) -> usize
     ensures slots { result ≡ slots_at (L.laid board.now).lays stop }
     ensures shown { result ≡ (at_stop (position_of (L.laid board.now)) stop).slots }

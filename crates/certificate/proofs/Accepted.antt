@@ -152,11 +152,11 @@ module _ (position : Position) (lawful : IsLawful position) (company : Company) 
   children_good : (node : Node) → IsGoodNode position company all node
       → AreGood (children position company reached node)
   children_good node good child among =
-      let choice : IsGoodChoice position lawful company reached named all node.settled node.begun node.trains child =
-      choice_good position lawful company reached named all node.settled node.begun node.trains good child among in
+      let choice : IsGoodChoice position lawful company reached named all node.assigned node.begun node.trains child =
+      choice_good position lawful company reached named all node.assigned node.begun node.trains good child among in
       choice.good
 
-  leaf_bound : (node : Node) → IsLeaf node → bound position reached node ≡ revenue_of position node.settled
+  leaf_bound : (node : Node) → IsLeaf node → bound position reached node ≡ revenue_of position node.assigned
   leaf_bound node leaf =
       let nothing : may_come position reached node.begun node.trains ≡ 0 =
       ap (may_come position reached node.begun) leaf in omega arith
@@ -164,14 +164,14 @@ module _ (position : Position) (lawful : IsLawful position) (company : Company) 
   -- a leaf below a node at which marks hold earns no more
   abbrev IsCovered : Node → Type 0
   IsCovered node = (leaf : Node) → IsBelow position company reached node leaf → IsLeaf leaf
-      → revenue_of position leaf.settled ≤ revenue
+      → revenue_of position leaf.assigned ≤ revenue
 
   covered_by_cut : (node : Node) → bound position reached node ≤ revenue → IsGoodNode position company all node
       → IsCovered node
   covered_by_cut node within good leaf below is =
       let under = good_below position lawful company reached named all node leaf good below in
       let falls : bound position reached leaf ≤ bound position reached node = under.1 in
-      let earns : bound position reached leaf ≡ revenue_of position leaf.settled = leaf_bound leaf is in
+      let earns : bound position reached leaf ≡ revenue_of position leaf.assigned = leaf_bound leaf is in
       omega arith
 
   mutual
@@ -220,9 +220,9 @@ module _ (position : Position) (lawful : IsLawful position) (company : Company) 
       no_leaf_there : (node : Node) → IsGoodNode position company all node → revenue < bound position reached node
           → ¬ IsLeaf node
       no_leaf_there node good over leaf =
-          let earns : bound position reached node ≡ revenue_of position node.settled = leaf_bound node leaf in
-          let low : revenue_of position node.settled ≤ revenue =
-          most node.settled (good_set position company all node good) in
+          let earns : bound position reached node ≡ revenue_of position node.assigned = leaf_bound node leaf in
+          let low : revenue_of position node.assigned ≤ revenue =
+          most node.assigned (good_set position company all node good) in
           absurd (omega arith)
 
 module _ (position : Position) (lawful : IsLawful position) (company : Company) (trains : List Kind) where
@@ -239,7 +239,7 @@ module _ (position : Position) (lawful : IsLawful position) (company : Company) 
       let named : AreNamed are.reached = stops_named are.reached are.are_reached in
       let found = set_is_leaf position lawful company trains are.reached (λ stop. (are.are_reached.exact stop).1) runs
       set in
-      let low : revenue_of position found.0.settled ≤ revenue =
+      let low : revenue_of position found.0.assigned ≤ revenue =
       covered position lawful company are.reached named trains revenue (root_of trains) are.marks are.hold
       (root_good position lawful company are.reached named trains) found.0 found.1 found.2 in
       omega (arith, found.3.earn_same)

@@ -21,7 +21,7 @@ use Rattle.reach.specs.declared.walk.Step.{Step}
 use Rattle.reach.proofs.Collected.{lies_there, own_hex}
 use Rattle.legal_runs.specs.Fault.{has_border}
 use Rattle.legal_runs.specs.Legal.{border_at, border_of}
-use Rattle.certificate.specs.Tree.{Node, for_each, hexes_of, is_free_end, node_if, ways_at, ways_by, ways_from}
+use Rattle.certificate.specs.Tree.{Node, for_each, hexes_of, is_free_end, node_if, steps_at, steps_by, steps_from}
 use Rattle.certificate.specs.Tree.{with_step, with_steps}
 use Rattle.legal_runs.proofs.Borders.{faced}
 use Rattle.legal_runs.proofs.Marks.{among_both, among_is, eqb_not}
@@ -73,7 +73,7 @@ module _ (test : Step → Bool) (node : Node) (steps : List Step) where
       among (among_node_if (test step) (with_step node step) passes)
 
 -- a step enters a link where it should
-pub ways_are : (end : End) (link : Link) (step : Step) → IsAmong step (ways_by end link)
+pub ways_are : (end : End) (link : Link) (step : Step) → IsAmong step (steps_by end link)
     → (step.link ≡ link) × ((entered_at step).end ≡ end)
 ways_are end link step among =
     by_tests (end_order link.a == end_order end) (end_order link.b == end_order end) refl refl among
@@ -100,7 +100,7 @@ ways_are end link step among =
 way_itself :
     (link : Link) (turned : Bool) → Ordered link →
     IsAmong (let step : Step = record { link = link; turned = turned } in step)
-    (ways_by (if turned then link.b else link.a) link)
+    (steps_by (if turned then link.b else link.a) link)
 way_itself link false facts =
     subst (λ (b : Bool). IsAmong (let step : Step = record { link = link; turned = false } in step)
     (if b then record { link = link; turned = false }
@@ -214,9 +214,9 @@ module _ (position : Position) (lawful : IsLawful position) where
     pub track : IsTrack position step
     pub enters : entered_at step ≡ spot_at hex end
 
-  pub way_is : (hex : Hex) (end : End) (step : Step) → IsAmong step (ways_at position hex end) → IsWay hex end step
-  way_is hex end step among =
-      let found = for_each_among (ways_by end) (links_of position hex) step among in
+  pub step_is : (hex : Hex) (end : End) (step : Step) → IsAmong step (steps_at position hex end) → IsWay hex end step
+  step_is hex end step among =
+      let found = for_each_among (steps_by end) (links_of position hex) step among in
       let is = ways_are end found.0 step found.2 in
       let lies : found.0.hex ≡ hex = lies_there hex (links_of position hex) found.0 (lawful.links hex).here found.1 in
       record {
@@ -226,10 +226,10 @@ module _ (position : Position) (lawful : IsLawful position) where
             ∙ ap (spot_at hex) is.1;
       }
 
-  pub way_there : (step : Step) → IsTrack position step
-      → IsAmong step (ways_at position step.link.hex (entered_at step).end)
-  way_there step track =
-      among_for_each (ways_by (entered_at step).end) (links_of position step.link.hex) step.link step track
+  pub step_there : (step : Step) → IsTrack position step
+      → IsAmong step (steps_at position step.link.hex (entered_at step).end)
+  step_there step track =
+      among_for_each (steps_by (entered_at step).end) (links_of position step.link.hex) step.link step track
       (way_itself step.link step.turned (ordered position lawful step track))
 
   -- a step that leaves a stop
@@ -238,11 +238,11 @@ module _ (position : Position) (lawful : IsLawful position) where
     pub from_stop : stop_of (entered_at step) ≡ Some stop
 
   pub leaves_stop : (stop : Stop) → joined_stop_of stop ≡ stop → (step : Step)
-      → IsAmong step (ways_from position stop) → Leaves stop step
+      → IsAmong step (steps_from position stop) → Leaves stop step
   leaves_stop stop names step among =
-      let found = for_each_among (λ (hex : Hex). ways_at position hex (AtStop stop.number)) (hexes_of stop.hex) step
+      let found = for_each_among (λ (hex : Hex). steps_at position hex (AtStop stop.number)) (hexes_of stop.hex) step
       among in
-      let way : IsWay found.0 (AtStop stop.number) step = way_is found.0 (AtStop stop.number) step found.2 in
+      let way : IsWay found.0 (AtStop stop.number) step = step_is found.0 (AtStop stop.number) step found.2 in
       record {
         track = way.track;
         from_stop = ap stop_of way.enters ∙ ap (λ (h : Hex). Some (stop_at h stop.number))
@@ -252,15 +252,15 @@ module _ (position : Position) (lawful : IsLawful position) where
   by_its_end :
       (stop : Stop) (step : Step) → IsTrack position step → (end : End) → (entered_at step).end ≡ end
       → stop_at_end step.link.hex end ≡ Some stop →
-      IsAmong step (ways_from position stop)
+      IsAmong step (steps_from position stop)
   by_its_end stop step track (AtSide side) enters is = absurd cc
   by_its_end stop step track (AtStop number) enters is =
       let named : stop_at (joined_hex step.link.hex) number ≡ stop = cc in
-      subst (λ (s : Stop). IsAmong step (ways_from position s)) named
-      (among_for_each (λ (hex : Hex). ways_at position hex (AtStop number)) (hexes_of (joined_hex step.link.hex))
+      subst (λ (s : Stop). IsAmong step (steps_from position s)) named
+      (among_for_each (λ (hex : Hex). steps_at position hex (AtStop number)) (hexes_of (joined_hex step.link.hex))
       step.link.hex step (among_its_hexes step.link.hex)
-      (subst (λ (e : End). IsAmong step (ways_at position step.link.hex e)) enters (way_there step track)))
+      (subst (λ (e : End). IsAmong step (steps_at position step.link.hex e)) enters (step_there step track)))
 
   pub stop_left : (stop : Stop) (step : Step) → IsTrack position step → stop_of (entered_at step) ≡ Some stop
-      → IsAmong step (ways_from position stop)
+      → IsAmong step (steps_from position stop)
   stop_left stop step track is = by_its_end stop step track (entered_at step).end refl is

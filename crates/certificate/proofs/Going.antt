@@ -19,7 +19,7 @@ use Rattle.tables.specs.declared.rolling_stock.Kind.TheVariants.{Two}
 use Rattle.legal_runs.specs.Legal.{listed}
 use Rattle.legal_runs.specs.Set.{TrainRun}
 use Rattle.certificate.specs.Tree.{Node, bound, children, choices_at, for_each, hexes_of, may_all_earn, may_come}
-use Rattle.certificate.specs.Tree.{node_if, node_of, setting_out, ways_at, ways_by, ways_from, with_step, with_steps}
+use Rattle.certificate.specs.Tree.{node_if, node_of, setting_out, steps_at, steps_by, steps_from, with_step, with_steps}
 use Rattle.certificate.specs.Walked.{at_end, capped, cuts, ends, has_no_train, splits}
 use Rattle.reach.specs.Search.{twin_of}
 use Rattle.certificate.specs.Walking.{LeavesOver, IsBetweenRuns, WalksOver, earned_from, node_from, reached_in}
@@ -27,7 +27,7 @@ use Rattle.certificate.specs.Walking.{set_outs, trains_of_tree}
 use Rattle.certificate.specs.declared.decider.Decision.{Decision}
 use Rattle.certificate.specs.declared.decider.Decision.TheVariants.{Cut, Split, Stop as Ends}
 use Rattle.certificate.specs.declared.tree.Tree.{Tree}
-use Rattle.certificate.proofs.Branching.{among_for_each, way_is}
+use Rattle.certificate.proofs.Branching.{among_for_each, step_is}
 use Rattle.certificate.proofs.Places.{earned_is}
 use Rattle.certificate.proofs.Walked.{walks_both, walks_ended}
 
@@ -46,34 +46,34 @@ pub one_step : (test : Step → Bool) (node : Node) (step : Step)
 one_step test node step = append-nil (node_if (test step) (with_step node step))
 
 -- the step into a link, if there is one
-pub one_way :
+pub step_found :
     (test : Step → Bool) (node : Node) (end : End) (link : Link) (found : Option Step) (step : Step)
-    → found ≡ Some step → listed found ≡ ways_by end link →
-    node_if (test step) (with_step node step) ≡ with_steps test node (ways_by end link)
-one_way test node end link found step is ways =
+    → found ≡ Some step → listed found ≡ steps_by end link →
+    node_if (test step) (with_step node step) ≡ with_steps test node (steps_by end link)
+step_found test node end link found step is ways =
     sym (one_step test node step) ∙ (ap (λ (o : Option Step). with_steps test node (listed o)) (sym is)
     ∙ ap (with_steps test node) ways)
 
-pub no_way : (test : Step → Bool) (node : Node) (end : End) (link : Link) (found : Option Step) → found ≡ None
-    → listed found ≡ ways_by end link → with_steps test node (ways_by end link) ≡ []
-no_way test node end link found is ways = ap (with_steps test node) (sym ways ∙ ap listed is)
+pub no_step_found : (test : Step → Bool) (node : Node) (end : End) (link : Link) (found : Option Step) → found ≡ None
+    → listed found ≡ steps_by end link → with_steps test node (steps_by end link) ≡ []
+no_step_found test node end link found is ways = ap (with_steps test node) (sym ways ∙ ap listed is)
 
-pub way_enters :
+pub step_enters :
     (position : Position) → IsLawful position → (at : Spot) (link : Link) (found : Option Step) (step : Step)
     → IsAmong link (links_of position at.hex) →
-    found ≡ Some step → listed found ≡ ways_by at.end link → entered_at step ≡ at
-way_enters position lawful at link found step among is ways =
-    let here : IsAmong step (ways_by at.end link) =
+    found ≡ Some step → listed found ≡ steps_by at.end link → entered_at step ≡ at
+step_enters position lawful at link found step among is ways =
+    let here : IsAmong step (steps_by at.end link) =
     subst (λ (l : List Step). IsAmong step l) (sym (ap listed is) ∙ ways) (inl refl) in
-    (way_is position lawful at.hex at.end step (among_for_each (ways_by at.end) (links_of position at.hex) link step
+    (step_is position lawful at.hex at.end step (among_for_each (steps_by at.end) (links_of position at.hex) link step
     among here)).enters
 
 -- a stop is left in its hexes
 pub one_hex : (position : Position) (stop : Stop) → twin_of stop.hex ≡ None
-    → ways_from position stop ≡ ways_at position stop.hex (AtStop stop.number)
+    → steps_from position stop ≡ steps_at position stop.hex (AtStop stop.number)
 one_hex position stop none =
-    ap (for_each (λ (hex : Hex). ways_at position hex (AtStop stop.number))) (alone stop.hex none)
-    ∙ append-nil (ways_at position stop.hex (AtStop stop.number))
+    ap (for_each (λ (hex : Hex). steps_at position hex (AtStop stop.number))) (alone stop.hex none)
+    ∙ append-nil (steps_at position stop.hex (AtStop stop.number))
   where
     alone : (hex : Hex) → twin_of hex ≡ None → hexes_of hex ≡ hex ∷ []
     alone J2 is = cc
@@ -81,12 +81,12 @@ one_hex position stop none =
     alone hex is = refl
 
 pub two_hexes : (position : Position) (stop : Stop) (other : Hex) → twin_of stop.hex ≡ Some other
-    → ways_from position stop ≡ ways_at position other (AtStop stop.number)
-    ++ ways_at position stop.hex (AtStop stop.number)
+    → steps_from position stop ≡ steps_at position other (AtStop stop.number)
+    ++ steps_at position stop.hex (AtStop stop.number)
 two_hexes position stop other is =
-    ap (for_each (λ (hex : Hex). ways_at position hex (AtStop stop.number))) (both stop.hex other is)
-    ∙ ap (λ (l : List Step). ways_at position other (AtStop stop.number) ++ l)
-    (append-nil (ways_at position stop.hex (AtStop stop.number)))
+    ap (for_each (λ (hex : Hex). steps_at position hex (AtStop stop.number))) (both stop.hex other is)
+    ∙ ap (λ (l : List Step). steps_at position other (AtStop stop.number) ++ l)
+    (append-nil (steps_at position stop.hex (AtStop stop.number)))
   where
     both : (hex other : Hex) → twin_of hex ≡ Some other → hexes_of hex ≡ other ∷ hex ∷ []
     both J2 other so = let same : I1 ≡ other = cc in ap (λ (h : Hex). h ∷ J2 ∷ []) same
@@ -96,13 +96,13 @@ two_hexes position stop other is =
 pub hexes_steps :
     (position : Position) (test : Step → Bool) (node : Node) (stop : Stop) (other : Hex)
     → twin_of stop.hex ≡ Some other →
-    with_steps test node (ways_from position stop)
-    ≡ with_steps test node (ways_at position other (AtStop stop.number))
-    ++ with_steps test node (ways_at position stop.hex (AtStop stop.number))
+    with_steps test node (steps_from position stop)
+    ≡ with_steps test node (steps_at position other (AtStop stop.number))
+    ++ with_steps test node (steps_at position stop.hex (AtStop stop.number))
 hexes_steps position test node stop other is =
     ap (with_steps test node) (two_hexes position stop other is)
-    ∙ steps_both test node (ways_at position other (AtStop stop.number))
-    (ways_at position stop.hex (AtStop stop.number))
+    ∙ steps_both test node (steps_at position other (AtStop stop.number))
+    (steps_at position stop.hex (AtStop stop.number))
 
 module _ {S : Type 0} (decides : S → ℕ → Bool → Decision → S → Type 0) (position : Position) (tree : Tree) where
   abbrev Over : S → List Node → Bool → S → Type 0
@@ -189,16 +189,16 @@ module _ {S : Type 0} (decides : S → ℕ → Bool → Decision → S → Type 
   come_is [] = refl
   come_is (kind ∷ later) = omega arith
 
-  module _ (value : ℕ) (settled : List TrainRun) (at_node : IsBetweenRuns position tree value settled) where
+  module _ (value : ℕ) (assigned : List TrainRun) (at_node : IsBetweenRuns position tree value assigned) where
     pub bound_from : (place : ℕ) → capped (value + capped (earned_from tree.groups place))
-        ≡ capped (bound position (reached_in tree) (node_from tree settled place))
+        ≡ capped (bound position (reached_in tree) (node_from tree assigned place))
     bound_from place =
         let come = come_is (drop place (trains_of_tree tree)) in
         let all = earned_is position (reached_in tree) tree.groups at_node.tree_is.earnings place in
         omega (arith, at_node.earns, come, all)
 
     pub leaf_bound : (place : ℕ) → length (trains_of_tree tree) ≤ place
-        → value ≡ capped (bound position (reached_in tree) (node_from tree settled place))
+        → value ≡ capped (bound position (reached_in tree) (node_from tree assigned place))
     leaf_bound place high =
         let none : may_come position (reached_in tree) [] (drop place (trains_of_tree tree)) ≡ 0 =
         ap (may_come position (reached_in tree) []) (drop_all place (trains_of_tree tree) high) in
@@ -221,50 +221,51 @@ module _ {S : Type 0} (decides : S → ℕ → Bool → Decision → S → Type 
     outer place high = ap has_no_train (drop_all place (trains_of_tree tree) high)
 
     children_from : (place : ℕ) → place < length (trains_of_tree tree)
-        → children position tree.company (reached_in tree) (node_from tree settled place)
-        ≡ node_from tree settled (place + 1) ∷ setting_out position tree.company (reached_in tree)
-        (node_from tree settled place)
+        → children position tree.company (reached_in tree) (node_from tree assigned place)
+        ≡ node_from tree assigned (place + 1) ∷ setting_out position tree.company (reached_in tree)
+        (node_from tree assigned place)
     children_from place low =
         let first = kind_first place low in
-        ap (choices_at position tree.company (reached_in tree) settled []) first.1
-        ∙ ap (λ (l : List Kind). node_from tree settled (place + 1)
-        ∷ setting_out position tree.company (reached_in tree) (node_of settled [] l)) (sym first.1)
+        ap (choices_at position tree.company (reached_in tree) assigned []) first.1
+        ∙ ap (λ (l : List Kind). node_from tree assigned (place + 1)
+        ∷ setting_out position tree.company (reached_in tree) (node_of assigned [] l)) (sym first.1)
 
     no_children : (place : ℕ) → length (trains_of_tree tree) ≤ place
-        → children position tree.company (reached_in tree) (node_from tree settled place) ≡ []
-    no_children place high = ap (choices_at position tree.company (reached_in tree) settled [])
+        → children position tree.company (reached_in tree) (node_from tree assigned place) ≡ []
+    no_children place high = ap (choices_at position tree.company (reached_in tree) assigned [])
         (drop_all place (trains_of_tree tree) high)
 
-    one_out : (first place : ℕ) → first ≤ place → set_outs position tree settled first (place + 1 - first)
-        ≡ setting_out position tree.company (reached_in tree) (node_from tree settled place)
-        ++ set_outs position tree settled first (place - first)
+    one_out : (first place : ℕ) → first ≤ place → set_outs position tree assigned first (place + 1 - first)
+        ≡ setting_out position tree.company (reached_in tree) (node_from tree assigned place)
+        ++ set_outs position tree assigned first (place - first)
     one_out first place low =
         let e : place + 1 - first ≡ suc (place - first) = omega arith in
         let f : first + (place - first) ≡ place = omega arith in
-        ap (set_outs position tree settled first) e
-        ∙ ap (λ (n : ℕ). setting_out position tree.company (reached_in tree) (node_from tree settled n)
-        ++ set_outs position tree settled first (place - first)) f
+        ap (set_outs position tree assigned first) e
+        ∙ ap (λ (n : ℕ). setting_out position tree.company (reached_in tree) (node_from tree assigned n)
+        ++ set_outs position tree assigned first (place - first)) f
 
     -- down the nodes at which no run is begun
-    pub down_first : (s : S) (first : ℕ) → Ahead s (node_from tree settled first ∷ []) s
-        (node_from tree settled first ∷ set_outs position tree settled first (first - first))
+    pub down_first : (s : S) (first : ℕ) → Ahead s (node_from tree assigned first ∷ []) s
+        (node_from tree assigned first ∷ set_outs position tree assigned first (first - first))
     down_first s first whole u walk =
         let e : first - first ≡ 0 = omega arith in
-        subst (λ (n : ℕ). Over s (node_from tree settled first ∷ set_outs position tree settled first n) whole u) e walk
+        subst (λ (n : ℕ). Over s (node_from tree assigned first ∷ set_outs position tree assigned first n) whole u) e
+        walk
 
     pub down_next :
         (s t u : S) (first place : ℕ) → first ≤ place → place < length (trains_of_tree tree) →
-        Ahead s (node_from tree settled first ∷ []) t (node_from tree settled place
-        ∷ set_outs position tree settled first (place - first)) →
+        Ahead s (node_from tree assigned first ∷ []) t (node_from tree assigned place
+        ∷ set_outs position tree assigned first (place - first)) →
         decides t (capped (value + capped (earned_from tree.groups place))) false Split u →
-        Ahead s (node_from tree settled first ∷ []) u (node_from tree settled (place + 1)
-        ∷ set_outs position tree settled first (place + 1 - first))
+        Ahead s (node_from tree assigned first ∷ []) u (node_from tree assigned (place + 1)
+        ∷ set_outs position tree assigned first (place + 1 - first))
     down_next s t u first place low before ahead decided whole last walk =
-        let node : Node = node_from tree settled place in
-        let rest : List Node = set_outs position tree settled first (place - first) in
+        let node : Node = node_from tree assigned place in
+        let rest : List Node = set_outs position tree assigned first (place - first) in
         let walked : Over u (children position tree.company (reached_in tree) node ++ rest) whole last =
         subst (λ (l : List Node). Over u (l ++ rest) whole last) (sym (children_from place before))
-        (subst (λ (l : List Node). Over u (node_from tree settled (place + 1) ∷ l) whole last)
+        (subst (λ (l : List Node). Over u (node_from tree assigned (place + 1) ∷ l) whole last)
         (one_out first place low) walk) in
         ahead whole last (splits t u last node rest whole (asked place false Split t u (inner place before) decided)
         walked)
@@ -272,7 +273,7 @@ module _ {S : Type 0} (decides : S → ℕ → Bool → Decision → S → Type 
         asked : (at : ℕ) (leaf : Bool) (decision : Decision) (before after : S)
             → has_no_train (drop at (trains_of_tree tree)) ≡ leaf
             → decides before (capped (value + capped (earned_from tree.groups at))) leaf decision after
-            → decides before (capped (bound position (reached_in tree) (node_from tree settled at)))
+            → decides before (capped (bound position (reached_in tree) (node_from tree assigned at)))
             (has_no_train (drop at (trains_of_tree tree))) decision after
         asked at leaf decision before after is decided =
             subst (λ (n : ℕ). decides before n (has_no_train (drop at (trains_of_tree tree))) decision after)
@@ -282,7 +283,7 @@ module _ {S : Type 0} (decides : S → ℕ → Bool → Decision → S → Type 
 
     asked_inner : (at : ℕ) (decision : Decision) (before after : S) → at < length (trains_of_tree tree)
         → decides before (capped (value + capped (earned_from tree.groups at))) false decision after
-        → decides before (capped (bound position (reached_in tree) (node_from tree settled at)))
+        → decides before (capped (bound position (reached_in tree) (node_from tree assigned at)))
         (has_no_train (drop at (trains_of_tree tree))) decision after
     asked_inner at decision before after low decided =
         subst (λ (n : ℕ). decides before n (has_no_train (drop at (trains_of_tree tree))) decision after)
@@ -292,7 +293,7 @@ module _ {S : Type 0} (decides : S → ℕ → Bool → Decision → S → Type 
 
     asked_outer : (at : ℕ) (decision : Decision) (before after : S) → length (trains_of_tree tree) ≤ at
         → decides before value true decision after → decides before
-        (capped (bound position (reached_in tree) (node_from tree settled at)))
+        (capped (bound position (reached_in tree) (node_from tree assigned at)))
         (has_no_train (drop at (trains_of_tree tree))) decision after
     asked_outer at decision before after high decided =
         subst (λ (n : ℕ). decides before n (has_no_train (drop at (trains_of_tree tree))) decision after)
@@ -301,86 +302,86 @@ module _ {S : Type 0} (decides : S → ℕ → Bool → Decision → S → Type 
 
     pub down_cut :
         (s t u : S) (first place : ℕ) → place < length (trains_of_tree tree) →
-        Ahead s (node_from tree settled first ∷ []) t (node_from tree settled place
-        ∷ set_outs position tree settled first (place - first)) →
+        Ahead s (node_from tree assigned first ∷ []) t (node_from tree assigned place
+        ∷ set_outs position tree assigned first (place - first)) →
         decides t (capped (value + capped (earned_from tree.groups place))) false Cut u →
-        Ahead s (node_from tree settled first ∷ []) u (set_outs position tree settled first (place - first))
+        Ahead s (node_from tree assigned first ∷ []) u (set_outs position tree assigned first (place - first))
     down_cut s t u first place before ahead decided whole last walk =
-        ahead whole last (cuts t u last (node_from tree settled place)
-        (set_outs position tree settled first (place - first)) whole (asked_inner place Cut t u before decided) walk)
+        ahead whole last (cuts t u last (node_from tree assigned place)
+        (set_outs position tree assigned first (place - first)) whole (asked_inner place Cut t u before decided) walk)
 
     pub down_end :
         (s t u : S) (first place : ℕ) → place < length (trains_of_tree tree) →
-        Ahead s (node_from tree settled first ∷ []) t (node_from tree settled place
-        ∷ set_outs position tree settled first (place - first)) →
+        Ahead s (node_from tree assigned first ∷ []) t (node_from tree assigned place
+        ∷ set_outs position tree assigned first (place - first)) →
         decides t (capped (value + capped (earned_from tree.groups place))) false Ends u →
-        Over s (node_from tree settled first ∷ []) false u
+        Over s (node_from tree assigned first ∷ []) false u
     down_end s t u first place before ahead decided =
-        ahead false u (ends t u (node_from tree settled place) (set_outs position tree settled first (place - first))
+        ahead false u (ends t u (node_from tree assigned place) (set_outs position tree assigned first (place - first))
         (asked_inner place Ends t u before decided))
 
     pub leaf_cut :
         (s t u : S) (first place : ℕ) → length (trains_of_tree tree) ≤ place →
-        Ahead s (node_from tree settled first ∷ []) t (node_from tree settled place
-        ∷ set_outs position tree settled first (place - first)) →
-        decides t value true Cut u → Ahead s (node_from tree settled first ∷ []) u
-        (set_outs position tree settled first (place - first))
+        Ahead s (node_from tree assigned first ∷ []) t (node_from tree assigned place
+        ∷ set_outs position tree assigned first (place - first)) →
+        decides t value true Cut u → Ahead s (node_from tree assigned first ∷ []) u
+        (set_outs position tree assigned first (place - first))
     leaf_cut s t u first place high ahead decided whole last walk =
-        ahead whole last (cuts t u last (node_from tree settled place)
-        (set_outs position tree settled first (place - first)) whole (asked_outer place Cut t u high decided) walk)
+        ahead whole last (cuts t u last (node_from tree assigned place)
+        (set_outs position tree assigned first (place - first)) whole (asked_outer place Cut t u high decided) walk)
 
     pub leaf_split :
         (s t u : S) (first place : ℕ) → length (trains_of_tree tree) ≤ place →
-        Ahead s (node_from tree settled first ∷ []) t (node_from tree settled place
-        ∷ set_outs position tree settled first (place - first)) →
-        decides t value true Split u → Ahead s (node_from tree settled first ∷ []) u
-        (set_outs position tree settled first (place - first))
+        Ahead s (node_from tree assigned first ∷ []) t (node_from tree assigned place
+        ∷ set_outs position tree assigned first (place - first)) →
+        decides t value true Split u → Ahead s (node_from tree assigned first ∷ []) u
+        (set_outs position tree assigned first (place - first))
     leaf_split s t u first place high ahead decided whole last walk =
-        let rest : List Node = set_outs position tree settled first (place - first) in
-        ahead whole last (splits t u last (node_from tree settled place) rest whole
+        let rest : List Node = set_outs position tree assigned first (place - first) in
+        ahead whole last (splits t u last (node_from tree assigned place) rest whole
         (asked_outer place Split t u high decided)
         (subst (λ (l : List Node). Over u (l ++ rest) whole last) (sym (no_children place high)) walk))
 
     pub leaf_end :
         (s t u : S) (first place : ℕ) → length (trains_of_tree tree) ≤ place →
-        Ahead s (node_from tree settled first ∷ []) t (node_from tree settled place
-        ∷ set_outs position tree settled first (place - first)) →
-        decides t value true Ends u → Over s (node_from tree settled first ∷ []) false u
+        Ahead s (node_from tree assigned first ∷ []) t (node_from tree assigned place
+        ∷ set_outs position tree assigned first (place - first)) →
+        decides t value true Ends u → Over s (node_from tree assigned first ∷ []) false u
     leaf_end s t u first place high ahead decided =
-        ahead false u (ends t u (node_from tree settled place) (set_outs position tree settled first (place - first))
+        ahead false u (ends t u (node_from tree assigned place) (set_outs position tree assigned first (place - first))
         (asked_outer place Ends t u high decided))
 
     -- up again
-    last_out : (first place : ℕ) → first < place → set_outs position tree settled first (place - first)
-        ≡ setting_out position tree.company (reached_in tree) (node_from tree settled (place - 1))
-        ++ set_outs position tree settled first (place - 1 - first)
+    last_out : (first place : ℕ) → first < place → set_outs position tree assigned first (place - first)
+        ≡ setting_out position tree.company (reached_in tree) (node_from tree assigned (place - 1))
+        ++ set_outs position tree assigned first (place - 1 - first)
     last_out first place low =
         let e : place - first ≡ place - 1 + 1 - first = omega arith in
-        ap (set_outs position tree settled first) e ∙ one_out first (place - 1) (omega arith)
+        ap (set_outs position tree assigned first) e ∙ one_out first (place - 1) (omega arith)
 
     pub up_over :
         (s t u : S) (first place : ℕ) (all : List Node) → first < place →
-        Ahead s all t (set_outs position tree settled first (place - first)) →
-        Over t (setting_out position tree.company (reached_in tree) (node_from tree settled (place - 1))) true u →
-        Ahead s all u (set_outs position tree settled first (place - 1 - first))
+        Ahead s all t (set_outs position tree assigned first (place - first)) →
+        Over t (setting_out position tree.company (reached_in tree) (node_from tree assigned (place - 1))) true u →
+        Ahead s all u (set_outs position tree assigned first (place - 1 - first))
     up_over s t u first place all low ahead walk =
-        goes_over s t u all (setting_out position tree.company (reached_in tree) (node_from tree settled (place - 1)))
-        (set_outs position tree settled first (place - 1 - first))
+        goes_over s t u all (setting_out position tree.company (reached_in tree) (node_from tree assigned (place - 1)))
+        (set_outs position tree assigned first (place - 1 - first))
         (subst (λ (l : List Node). Ahead s all t l) (last_out first place low) ahead) walk
 
     pub up_ends :
         (s t u : S) (first place : ℕ) (all : List Node) → first < place →
-        Ahead s all t (set_outs position tree settled first (place - first)) →
-        Over t (setting_out position tree.company (reached_in tree) (node_from tree settled (place - 1))) false u
+        Ahead s all t (set_outs position tree assigned first (place - first)) →
+        Over t (setting_out position tree.company (reached_in tree) (node_from tree assigned (place - 1))) false u
         → Over s all false u
     up_ends s t u first place all low ahead walk =
         ends_on_way s t u all (setting_out position tree.company (reached_in tree)
-        (node_from tree settled (place - 1))) (set_outs position tree settled first (place - 1 - first))
+        (node_from tree assigned (place - 1))) (set_outs position tree assigned first (place - 1 - first))
         (subst (λ (l : List Node). Ahead s all t l) (last_out first place low) ahead) walk
 
     pub up_whole : (s t : S) (first place : ℕ) (all : List Node) → place ≤ first
-        → Ahead s all t (set_outs position tree settled first (place - first)) → Over s all true t
+        → Ahead s all t (set_outs position tree assigned first (place - first)) → Over s all true t
     up_whole s t first place all high ahead =
         let e : place - first ≡ 0 = omega arith in
-        goes_to_end s t all (set_outs position tree settled first (place - first))
-        (ap (set_outs position tree settled first) e) ahead
+        goes_to_end s t all (set_outs position tree assigned first (place - first))
+        (ap (set_outs position tree assigned first) e) ahead

@@ -1,4 +1,4 @@
--- Down the tree what holds at a node keeps holding, and the bound never grows; so the settled runs of a leaf are a
+-- Down the tree what holds at a node keeps holding, and the bound never grows; so the assigned runs of a leaf are a
 -- legal set, which earns no more than the bound of any node above it.
 use Rattle.std.proofs.Common.{◌≡◌, ◌+◌, ◌≤◌, inl, inr, if◌then◌else◌, List, [], ◌∷◌, ◌++◌, refl, ap, subst, arith}
 use Rattle.map_tables.specs.Place.{joined_stop_of}
@@ -84,8 +84,8 @@ module _ (position : Position) (lawful : IsLawful position) (company : Company) 
   good_down start good (node ∷ before) way =
       let above = good_down start good before way.1 in
       let last : Node = end_of position company reached start before in
-      let choice : IsGoodChoice position lawful company reached named all last.settled last.begun last.trains node =
-      choice_good position lawful company reached named all last.settled last.begun last.trains above.0 node
+      let choice : IsGoodChoice position lawful company reached named all last.assigned last.begun last.trains node =
+      choice_good position lawful company reached named all last.assigned last.begun last.trains above.0 node
       way.0 in
       (choice.good, let falls = choice.falls in let over = above.1 in omega arith)
 
@@ -120,8 +120,8 @@ pub bounds_fall : BoundsFall
 bounds_fall position company trains reach node child lawful is there among =
     let good = good_in_tree position company trains reach node lawful is there in
     let choice : IsGoodChoice position lawful company reach.stops (all_named position company reach is) trains
-    node.settled node.begun node.trains child = choice_good position lawful company reach.stops
-    (all_named position company reach is) trains node.settled node.begun node.trains good child among in
+    node.assigned node.begun node.trains child = choice_good position lawful company reach.stops
+    (all_named position company reach is) trains node.assigned node.begun node.trains good child among in
     choice.falls
 
 pub leaves_earn : LeavesEarnTheirBounds
@@ -134,13 +134,13 @@ no_leaf_more position company trains reach node leaf lawful is there below none 
     let good = good_in_tree position company trains reach node lawful is there in
     let under = good_below position lawful company reach.stops (all_named position company reach is) trains node leaf
     good below in
-    let earns : bound position reach.stops leaf ≡ revenue_of position leaf.settled =
+    let earns : bound position reach.stops leaf ≡ revenue_of position leaf.assigned =
     leaves_earn position reach leaf none in
     let falls = under.1 in omega arith
 
--- the settled runs of a node are a legal set
+-- the assigned runs of a node are a legal set
 pub good_set : (position : Position) (company : Company) (trains : List Kind) (node : Node)
-    → IsGoodNode position company trains node → IsLegalSet position company trains node.settled
+    → IsGoodNode position company trains node → IsLegalSet position company trains node.assigned
 good_set position company trains node good = record
     { legal = good.legal; each_once = λ k. omega (arith, good.taken k); apart = good.apart }
 

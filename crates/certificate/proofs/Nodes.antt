@@ -1,4 +1,4 @@
--- What holds at each node of the choice tree: its settled runs are legal and share no border, the run begun could be
+-- What holds at each node of the choice tree: its assigned runs are legal and share no border, the run begun could be
 -- finished as a legal one, and the trains that ran and those to come are no more than there are. Each choice keeps it,
 -- and has no greater bound.
 use Rattle.std.proofs.Common.{◌≡◌, ℕ, suc, ◌+◌, ◌<◌, ◌≤◌, Bool, true, false, not, ltb, ◌&&◌, ◌||◌, ◌⊎◌, inl, inr}
@@ -28,10 +28,10 @@ use Rattle.legal_runs.specs.Set.{AreApart, RunsLegally, ShareNoBorder, TrainRun,
 use Rattle.certificate.specs.Tree.{Node, bound, with_steps, choices_at, finishing, from_border, from_head, from_stop}
 use Rattle.certificate.specs.Tree.{goes_over, gone_over, is_finished, is_last_stop, is_new_stop, is_used_up, leads_on}
 use Rattle.certificate.specs.Tree.{may_all_earn, may_come, may_earn, node_of, run_borders, setting_out, taken_borders}
-use Rattle.certificate.specs.Tree.{ways_at, ways_from, for_each}
+use Rattle.certificate.specs.Tree.{steps_at, steps_from, for_each}
 use Rattle.certificate.proofs.Bounds.{one_stop_more}
 use Rattle.certificate.proofs.Branching.{IsWay, LeadsOver, Leaves, border_both, for_each_among, leads_over, leaves_stop}
-use Rattle.certificate.proofs.Branching.{node_if_among, not_true, way_is, with_steps_among}
+use Rattle.certificate.proofs.Branching.{node_if_among, not_true, step_is, with_steps_among}
 use Rattle.legal_runs.proofs.Joined.{fails, has_stop_is, has_such}
 use Rattle.legal_runs.proofs.Marks.{among_both}
 use Rattle.legal_runs.proofs.Tests.{has_token_is, is_full_is}
@@ -63,15 +63,15 @@ IsInHand position company borders begun [] = begun ≡ []
 IsInHand position company borders begun (kind ∷ later) = IsBegun position company kind borders begun
 
 -- what holds at a node, where these are all trains
-pub record IsGood (position : Position) (company : Company) (all : List Kind) (settled : List TrainRun)
+pub record IsGood (position : Position) (company : Company) (all : List Kind) (assigned : List TrainRun)
     (begun : List Step) (trains : List Kind) : Type 0 where
-  pub legal : AllByRecursion (RunsLegally position company) settled
-  pub apart : AreApart settled
-  pub taken : (kind : Kind) → in_number kind (trains_that_run settled) + in_number kind trains ≤ in_number kind all
-  pub in_hand : IsInHand position company (run_borders settled) begun trains
+  pub legal : AllByRecursion (RunsLegally position company) assigned
+  pub apart : AreApart assigned
+  pub taken : (kind : Kind) → in_number kind (trains_that_run assigned) + in_number kind trains ≤ in_number kind all
+  pub in_hand : IsInHand position company (run_borders assigned) begun trains
 
 abbrev pub IsGoodNode : Position → Company → List Kind → Node → Type 0
-IsGoodNode position company all node = IsGood position company all node.settled node.begun node.trains
+IsGoodNode position company all node = IsGood position company all node.assigned node.begun node.trains
 
 -- no border is among none
 none_used : (borders : List ℕ) → AllByRecursion (λ border. ¬ IsAmong border []) borders
@@ -176,7 +176,7 @@ pub none_begun : (position : Position) (company : Company) (borders : List ℕ) 
 none_begun position company borders [] = refl
 none_begun position company borders (kind ∷ later) = tt
 
--- a run shares no border with settled ones whose borders are free of its own
+-- a run shares no border with assigned ones whose borders are free of its own
 shares_none :
     (steps : List Step) (runs : List TrainRun) → ((border : ℕ) → IsAmong border (crossed steps)
     → ¬ IsAmong border (run_borders runs)) →
@@ -191,22 +191,22 @@ shares_none steps (run ∷ runs) free = (
 module _ (position : Position) (lawful : IsLawful position) (company : Company) (reached : List Stop)
     (named : (stop : Stop) → IsAmong stop reached → joined_stop_of stop ≡ stop) (all : List Kind) where
   -- a choice is good, and its bound no greater
-  pub record IsGoodChoice (settled : List TrainRun) (begun : List Step) (trains : List Kind) (child : Node) : Type
+  pub record IsGoodChoice (assigned : List TrainRun) (begun : List Step) (trains : List Kind) (child : Node) : Type
       0 where
     pub good : IsGoodNode position company all child
-    pub falls : bound position reached child ≤ bound position reached (node_of settled begun trains)
+    pub falls : bound position reached child ≤ bound position reached (node_of assigned begun trains)
 
-  module _ (settled : List TrainRun) (kind : Kind) (later : List Kind) where
+  module _ (assigned : List TrainRun) (kind : Kind) (later : List Kind) where
     -- no run for this train
-    no_run : IsGood position company all settled [] (kind ∷ later)
-        → IsGoodChoice settled [] (kind ∷ later) (node_of settled [] later)
+    no_run : IsGood position company all assigned [] (kind ∷ later)
+        → IsGoodChoice assigned [] (kind ∷ later) (node_of assigned [] later)
     no_run good =
         record {
           good = record {
             legal = good.legal;
             apart = good.apart;
             taken = λ k. omega (arith, good.taken k);
-            in_hand = none_begun position company (run_borders settled) later;
+            in_hand = none_begun position company (run_borders assigned) later;
           };
           falls = omega (arith, none_in_hand position reached later);
         }
@@ -220,7 +220,7 @@ module _ (position : Position) (lawful : IsLawful position) (company : Company) 
 
     first_gone :
         (stop : Stop) (step : Step) → stop_of (entered_at step) ≡ Some stop →
-        (over : LeadsOver (taken_borders (node_of settled [] (kind ∷ later))) (left_at step).hex (left_at step).end) →
+        (over : LeadsOver (taken_borders (node_of assigned [] (kind ∷ later))) (left_at step).hex (left_at step).end) →
         gone_over (step ∷ []) ≡ border_of (left_at step).hex over.side ∷ []
     first_gone stop step enters over =
         ap (λ (l : List ℕ). l ++ (border_at (entered_at step).hex (entered_at step).end ++ []))
@@ -229,12 +229,12 @@ module _ (position : Position) (lawful : IsLawful position) (company : Company) 
         (no_border (entered_at step).hex (entered_at step).end stop enters)
 
     set_out :
-        IsGood position company all settled [] (kind ∷ later) → (stop : Stop) → IsAmong stop reached → (step : Step) →
-        Leaves position lawful stop step → LeadsOver (run_borders settled) (left_at step).hex (left_at step).end →
-        IsGoodChoice settled [] (kind ∷ later) (node_of settled (step ∷ []) (kind ∷ later))
+        IsGood position company all assigned [] (kind ∷ later) → (stop : Stop) → IsAmong stop reached → (step : Step) →
+        Leaves position lawful stop step → LeadsOver (run_borders assigned) (left_at step).hex (left_at step).end →
+        IsGoodChoice assigned [] (kind ∷ later) (node_of assigned (step ∷ []) (kind ∷ later))
     set_out good stop there step leaves over =
         let none : stop_of (left_at step) ≡ None = stop_none (left_at step).hex (left_at step).end
-        (run_borders settled) over in
+        (run_borders assigned) over in
         let stops : visited (step ∷ []) ≡ stop ∷ [] = first_visited stop step leaves.from_stop none in
         let gone : gone_over (step ∷ []) ≡ border_of (left_at step).hex over.side ∷ [] =
         first_gone stop step leaves.from_stop over in
@@ -249,19 +249,19 @@ module _ (position : Position) (lawful : IsLawful position) (company : Company) 
               stops = subst (λ (l : List Stop). AreDistinct l) (sym stops) (λ h. h, tt);
               once = subst (λ (l : List ℕ). AreDistinct l) (sym gone) (λ h. h, tt);
               free = λ border among. elim (subst (λ (l : List ℕ). IsAmong border l) gone among) [
-                | inl is ↦ subst (λ (b : ℕ). ¬ IsAmong b (run_borders settled)) is over.free
+                | inl is ↦ subst (λ (b : ℕ). ¬ IsAmong b (run_borders assigned)) is over.free
                 | inr wrong ↦ absurd wrong
               ];
               no_red = (tt, tt);
               no_full = (tt, tt);
               room = subst (λ (l : List Stop). HasRoom kind (length l) (left_at step).end) (sym stops)
-                  (room_over kind 1 (left_at step).hex (left_at step).end (run_borders settled) over (two_fit kind));
+                  (room_over kind 1 (left_at step).hex (left_at step).end (run_borders assigned) over (two_fit kind));
             };
           };
           falls =
-              subst (λ (l : List Stop). revenue_of position settled
+              subst (λ (l : List Stop). revenue_of position assigned
               + (worth position l + (may_earn position reached kind l + may_all_earn position reached later))
-              ≤ bound position reached (node_of settled [] (kind ∷ later))) (sym stops)
+              ≤ bound position reached (node_of assigned [] (kind ∷ later))) (sym stops)
               (omega (
                 arith,
                 one_stop_more position stop [] kind reached refl there
@@ -270,24 +270,24 @@ module _ (position : Position) (lawful : IsLawful position) (company : Company) 
         }
 
     setting_out_good :
-        IsGood position company all settled [] (kind ∷ later) → (child : Node) →
-        IsAmong child (setting_out position company reached (node_of settled [] (kind ∷ later)))
-        → IsGoodChoice settled [] (kind ∷ later) child
+        IsGood position company all assigned [] (kind ∷ later) → (child : Node) →
+        IsAmong child (setting_out position company reached (node_of assigned [] (kind ∷ later)))
+        → IsGoodChoice assigned [] (kind ∷ later) child
     setting_out_good good child among =
-        let node = node_of settled [] (kind ∷ later) in
-        let found = with_steps_among (goes_over (taken_borders node)) node (for_each (ways_from position) reached)
+        let node = node_of assigned [] (kind ∷ later) in
+        let found = with_steps_among (goes_over (taken_borders node)) node (for_each (steps_from position) reached)
         child among in
-        let from = for_each_among (ways_from position) reached found.0 found.1 in
-        subst (IsGoodChoice settled [] (kind ∷ later)) found.3
+        let from = for_each_among (steps_from position) reached found.0 found.1 in
+        subst (IsGoodChoice assigned [] (kind ∷ later)) found.3
         (set_out good from.0 from.1 found.0 (leaves_stop position lawful from.0 (named from.0 from.1) found.0 from.2)
-        (leads_over (run_borders settled) (left_at found.0).hex (left_at found.0).end found.2))
+        (leads_over (run_borders assigned) (left_at found.0).hex (left_at found.0).end found.2))
 
-    module _ (step : Step) (before : List Step) (good : IsGood position company all settled (step ∷ before)
+    module _ (step : Step) (before : List Step) (good : IsGood position company all assigned (step ∷ before)
         (kind ∷ later)) where
       abbrev run : List Step
       run = step ∷ before
 
-      abbrev so_far : IsRunBegun position company kind (run_borders settled) step before
+      abbrev so_far : IsRunBegun position company kind (run_borders assigned) step before
       so_far = good.in_hand
 
       -- a step that goes on: it crosses the border at the head, and passes what it may
@@ -301,16 +301,16 @@ module _ (position : Position) (lawful : IsLawful position) (company : Company) 
 
       -- over a border
       went_over :
-          (next : Step) → GoesFurther next → LeadsOver (gone_over run ++ run_borders settled) (left_at next).hex
+          (next : Step) → GoesFurther next → LeadsOver (gone_over run ++ run_borders assigned) (left_at next).hex
           (left_at next).end →
-          IsGoodChoice settled run (kind ∷ later) (node_of settled (next ∷ run) (kind ∷ later))
+          IsGoodChoice assigned run (kind ∷ later) (node_of assigned (next ∷ run) (kind ∷ later))
       went_over next on over =
           let none : stop_of (left_at next) ≡ None = stop_none (left_at next).hex (left_at next).end _ over in
           let stops : visited (next ∷ run) ≡ visited run = ap (λ (l : Option Stop). listed l ++ visited run) none in
           let gone : gone_over (next ∷ run) ≡ border_of (left_at next).hex over.side ∷ gone_over run =
           ap (λ (l : List ℕ). l ++ crossed (next ∷ run)) (over_border (left_at next).hex (left_at next).end _ over)
           ∙ ap (λ (l : List ℕ). border_of (left_at next).hex over.side ∷ l) on.over in
-          let parts = among_both (border_of (left_at next).hex over.side) (gone_over run) (run_borders settled) in
+          let parts = among_both (border_of (left_at next).hex over.side) (gone_over run) (run_borders assigned) in
           record {
             good = record {
               legal = good.legal;
@@ -323,7 +323,7 @@ module _ (position : Position) (lawful : IsLawful position) (company : Company) 
                 once = subst (λ (l : List ℕ). AreDistinct l) (sym gone)
                     (λ here. over.free (parts.1 (inl here)), so_far.once);
                 free = λ border among. elim (subst (λ (l : List ℕ). IsAmong border l) gone among) [
-                  | inl is ↦ subst (λ (b : ℕ). ¬ IsAmong b (run_borders settled)) is
+                  | inl is ↦ subst (λ (b : ℕ). ¬ IsAmong b (run_borders assigned)) is
                       (λ here. over.free (parts.1 (inr here)))
                   | inr earlier ↦ so_far.free border earlier
                 ];
@@ -334,9 +334,9 @@ module _ (position : Position) (lawful : IsLawful position) (company : Company) 
               };
             };
             falls =
-                subst (λ (l : List Stop). revenue_of position settled
+                subst (λ (l : List Stop). revenue_of position assigned
                 + (worth position l + (may_earn position reached kind l + may_all_earn position reached later))
-                ≤ bound position reached (node_of settled run (kind ∷ later))) (sym stops)
+                ≤ bound position reached (node_of assigned run (kind ∷ later))) (sym stops)
                 (omega arith);
           }
 
@@ -344,7 +344,7 @@ module _ (position : Position) (lawful : IsLawful position) (company : Company) 
       came_to :
           (next : Step) → GoesFurther next → (stop : Stop) → stop_of (left_at next) ≡ Some stop
           → IsNew reached (visited run) stop →
-          IsGoodChoice settled run (kind ∷ later) (node_of settled (next ∷ run) (kind ∷ later))
+          IsGoodChoice assigned run (kind ∷ later) (node_of assigned (next ∷ run) (kind ∷ later))
       came_to next on stop is new =
           let stops : visited (next ∷ run) ≡ stop ∷ visited run =
           ap (λ (l : Option Stop). listed l ++ visited run) is in
@@ -373,9 +373,9 @@ module _ (position : Position) (lawful : IsLawful position) (company : Company) 
               };
             };
             falls =
-                subst (λ (l : List Stop). revenue_of position settled
+                subst (λ (l : List Stop). revenue_of position assigned
                 + (worth position l + (may_earn position reached kind l + may_all_earn position reached later))
-                ≤ bound position reached (node_of settled run (kind ∷ later))) (sym stops)
+                ≤ bound position reached (node_of assigned run (kind ∷ later))) (sym stops)
                 (omega (arith, one_stop_more position stop (visited run) kind reached new.no_other new.there on.room));
           }
 
@@ -403,20 +403,20 @@ module _ (position : Position) (lawful : IsLawful position) (company : Company) 
 
       border_good :
           stop_of (left_at step) ≡ None → (found : Option Spot) → across (left_at step) ≡ found → (child : Node) →
-          IsAmong child (from_border position company reached (node_of settled run (kind ∷ later)) found) →
-          IsGoodChoice settled run (kind ∷ later) child
+          IsAmong child (from_border position company reached (node_of assigned run (kind ∷ later)) found) →
+          IsGoodChoice assigned run (kind ∷ later) child
       border_good none None is child among = absurd among
       border_good none (Some spot) is child among =
-          let node = node_of settled run (kind ∷ later) in
-          let found = with_steps_among (leads_on reached node) node (ways_at position spot.hex spot.end) child among in
+          let node = node_of assigned run (kind ∷ later) in
+          let found = with_steps_among (leads_on reached node) node (steps_at position spot.hex spot.end) child among in
           let on : GoesFurther found.0 = from_side spot none is found.0
-          (way_is position lawful spot.hex spot.end found.0 found.1) in
-          subst (IsGoodChoice settled run (kind ∷ later)) found.3
+          (step_is position lawful spot.hex spot.end found.0 found.1) in
+          subst (IsGoodChoice assigned run (kind ∷ later)) found.3
           (elim (either (is_new_stop reached (visited run) (stop_of (left_at found.0)))
           (goes_over (taken_borders node) found.0) found.2) [
             | inl new ↦ let stop = new_stop reached (visited run) (stop_of (left_at found.0)) new in came_to found.0
                 on stop.0 stop.1 stop.2
-            | inr over ↦ went_over found.0 on (leads_over (gone_over run ++ run_borders settled) (left_at found.0).hex
+            | inr over ↦ went_over found.0 on (leads_over (gone_over run ++ run_borders assigned) (left_at found.0).hex
                 (left_at found.0).end over)
           ])
 
@@ -444,27 +444,27 @@ module _ (position : Position) (lawful : IsLawful position) (company : Company) 
 
       stop_good :
           (stop : Stop) → stop_of (left_at step) ≡ Some stop → (last : Bool) →
-          is_last_stop position company reached (node_of settled run (kind ∷ later)) kind stop ≡ last → (child : Node) →
-          IsAmong child (from_stop position company reached (node_of settled run (kind ∷ later)) kind stop) →
-          IsGoodChoice settled run (kind ∷ later) child
+          is_last_stop position company reached (node_of assigned run (kind ∷ later)) kind stop ≡ last
+          → (child : Node) → IsAmong child (from_stop position company reached (node_of assigned run (kind ∷ later))
+          kind stop) → IsGoodChoice assigned run (kind ∷ later) child
       stop_good stop is true last child among =
-          let node = node_of settled run (kind ∷ later) in
+          let node = node_of assigned run (kind ∷ later) in
           let none : IsAmong child [] = subst (λ (b : Bool). IsAmong child
-          (if b then [] else with_steps (goes_over (taken_borders node)) node (ways_from position stop))) last
+          (if b then [] else with_steps (goes_over (taken_borders node)) node (steps_from position stop))) last
           among in absurd none
       stop_good stop is false last child among =
-          let node = node_of settled run (kind ∷ later) in
+          let node = node_of assigned run (kind ∷ later) in
           let some = subst (λ (b : Bool). IsAmong child (if b then [] else with_steps (goes_over (taken_borders node))
-          node (ways_from position stop))) last among in
-          let found = with_steps_among (goes_over (taken_borders node)) node (ways_from position stop) child some in
+          node (steps_from position stop))) last among in
+          let found = with_steps_among (goes_over (taken_borders node)) node (steps_from position stop) child some in
           let first = neither (is_red position stop) (is_full position company stop
           || is_used_up (stops_of kind) (length (visited run))) last in
           let second = neither (is_full position company stop) (is_used_up (stops_of kind) (length (visited run)))
           first.1 in
           let on : GoesFurther found.0 = through_stop stop is first.0 second.0 second.1 found.0
           (leaves_stop position lawful stop (names_itself (left_at step) stop is) found.0 found.1) in
-          subst (IsGoodChoice settled run (kind ∷ later)) found.3
-          (went_over found.0 on (leads_over (gone_over run ++ run_borders settled) (left_at found.0).hex
+          subst (IsGoodChoice assigned run (kind ∷ later)) found.3
+          (went_over found.0 on (leads_over (gone_over run ++ run_borders assigned) (left_at found.0).hex
           (left_at found.0).end found.2))
 
       -- the finished run
@@ -474,7 +474,7 @@ module _ (position : Position) (lawful : IsLawful position) (company : Company) 
       done :
           (stop : Stop) → stop_of (left_at step) ≡ Some stop
           → is_finished position company reached (visited run) ≡ true →
-          IsGoodChoice settled run (kind ∷ later) (node_of (record { kind = kind; steps = run } ∷ settled) [] later)
+          IsGoodChoice assigned run (kind ∷ later) (node_of (record { kind = kind; steps = run } ∷ assigned) [] later)
       done stop is finished =
           let parts = both (not (ltb (length (visited run)) 2)) (list_any (has_token position company) (visited run))
           finished in
@@ -500,41 +500,42 @@ module _ (position : Position) (lawful : IsLawful position) (company : Company) 
                 good.legal,
               );
               apart = (
-                shares_none run settled (λ border among. so_far.free border
+                shares_none run assigned (λ border among. so_far.free border
                     (subst (λ (l : List ℕ). IsAmong border l) (sym gone) among)),
                 good.apart,
               );
               taken = λ k. omega (arith, good.taken k);
-              in_hand = none_begun position company (crossed run ++ run_borders settled) later;
+              in_hand = none_begun position company (crossed run ++ run_borders assigned) later;
             };
             falls = omega (arith, none_in_hand position reached later);
           }
 
       head_good :
           (found : Option Stop) → stop_of (left_at step) ≡ found → (child : Node) →
-          IsAmong child (from_head position company reached (node_of settled run (kind ∷ later)) kind later
+          IsAmong child (from_head position company reached (node_of assigned run (kind ∷ later)) kind later
           (left_at step) found) →
-          IsGoodChoice settled run (kind ∷ later) child
+          IsGoodChoice assigned run (kind ∷ later) child
       head_good None is child among = border_good is (across (left_at step)) refl child among
       head_good (Some stop) is child among =
-          let node = node_of settled run (kind ∷ later) in
+          let node = node_of assigned run (kind ∷ later) in
           elim ((among_both child (finishing position company reached node kind later)
           (from_stop position company reached node kind stop)).0 among) [
             | inl finished ↦
                 let found = node_if_among (is_finished position company reached (visited run))
-                (node_of (record { kind = kind; steps = run } ∷ settled) [] later) child finished in
-                subst (IsGoodChoice settled run (kind ∷ later)) found.1 (done stop is found.0)
+                (node_of (record { kind = kind; steps = run } ∷ assigned) [] later) child finished in
+                subst (IsGoodChoice assigned run (kind ∷ later)) found.1 (done stop is found.0)
             | inr on ↦ stop_good stop is (is_last_stop position company reached node kind stop) refl child on
           ]
 
   -- each choice at a good node is good
   pub choice_good :
-      (settled : List TrainRun) (begun : List Step) (trains : List Kind)
-      → IsGood position company all settled begun trains → (child : Node) →
-      IsAmong child (choices_at position company reached settled begun trains) → IsGoodChoice settled begun trains child
-  choice_good settled begun [] good child among = absurd among
-  choice_good settled [] (kind ∷ later) good child (inl is) =
-      subst (IsGoodChoice settled [] (kind ∷ later)) is (no_run settled kind later good)
-  choice_good settled [] (kind ∷ later) good child (inr among) = setting_out_good settled kind later good child among
-  choice_good settled (step ∷ before) (kind ∷ later) good child among =
-      head_good settled kind later step before good (stop_of (left_at step)) refl child among
+      (assigned : List TrainRun) (begun : List Step) (trains : List Kind)
+      → IsGood position company all assigned begun trains → (child : Node) →
+      IsAmong child (choices_at position company reached assigned begun trains)
+      → IsGoodChoice assigned begun trains child
+  choice_good assigned begun [] good child among = absurd among
+  choice_good assigned [] (kind ∷ later) good child (inl is) =
+      subst (IsGoodChoice assigned [] (kind ∷ later)) is (no_run assigned kind later good)
+  choice_good assigned [] (kind ∷ later) good child (inr among) = setting_out_good assigned kind later good child among
+  choice_good assigned (step ∷ before) (kind ∷ later) good child among =
+      head_good assigned kind later step before good (stop_of (left_at step)) refl child among

@@ -27,7 +27,7 @@ use Rattle.legal_runs.specs.Set.{TrainRun, revenue_of}
 use Rattle.legal_runs.proofs.TwoTrain.{no_border}
 use Rattle.certificate.specs.Tree.{Node, children, finishing, from_border, from_head, from_stop, goes_over, gone_over}
 use Rattle.certificate.specs.Tree.{is_free_end, is_last_stop, is_new_stop, may_all_earn, node_if, node_of, run_borders}
-use Rattle.certificate.specs.Tree.{taken_borders, with_steps, ways_at}
+use Rattle.certificate.specs.Tree.{taken_borders, with_steps, steps_at}
 use Rattle.certificate.specs.Walked.{capped}
 use Rattle.certificate.specs.Walking.{AreCrossed, Continues, IsOnRun, IsBetweenRuns, earned_from, is_none_left}
 use Rattle.certificate.specs.Walking.{kind_from, may_take, node_at, node_from, reached_in, still_left, trains_of_tree}
@@ -164,26 +164,27 @@ and_true false b is free = cc
 pub seen_false : (a b : Bool) → b ≡ true → (a && not b) ≡ false
 seen_false a b is = both_false a b is
 
-module _ (position : Position) (tree : Tree) (begun : Begun) (used marks : List Bool) (settled : List TrainRun)
-    (steps : List Step) (stops : List Stop) (at_node : IsOnRun position tree begun used marks settled steps stops) where
+module _ (position : Position) (tree : Tree) (begun : Begun) (used marks : List Bool) (assigned : List TrainRun)
+    (steps : List Step) (stops : List Stop) (at_node : IsOnRun position tree begun used marks assigned steps
+    stops) where
   -- over a border
   pub on_run_over :
       (step : Step) (side : Side) → Continues steps stops step → stop_of (left_at step) ≡ None
       → (left_at step).end ≡ AtSide side →
       border_of (left_at step).hex side < length used →
-      IsOnRun position tree begun (set used (border_of (left_at step).hex side) true) marks settled (step ∷ steps)
+      IsOnRun position tree begun (set used (border_of (left_at step).hex side) true) marks assigned (step ∷ steps)
       (visited (step ∷ steps))
   on_run_over step side continues none at low =
       let border : ℕ = border_of (left_at step).hex side in
       let same : visited (step ∷ steps) ≡ stops = continues.visits ∙ ap (λ (o : Option Stop). listed o ++ stops) none in
       let over : gone_over (step ∷ steps) ≡ border ∷ gone_over steps =
       continues.crosses ∙ ap (λ (e : End). border_at (left_at step).hex e ++ gone_over steps) at in
-      subst (λ (all : List Stop). IsOnRun position tree begun (set used border true) marks settled (step ∷ steps) all)
+      subst (λ (all : List Stop). IsOnRun position tree begun (set used border true) marks assigned (step ∷ steps) all)
       (sym same)
       (record {
         tree_is = at_node.tree_is;
-        crossed = subst (λ (all : List ℕ). AreCrossed (set used border true) (all ++ run_borders settled)) (sym over)
-            (crossed_more used border (gone_over steps ++ run_borders settled) low at_node.crossed);
+        crossed = subst (λ (all : List ℕ). AreCrossed (set used border true) (all ++ run_borders assigned)) (sym over)
+            (crossed_more used border (gone_over steps ++ run_borders assigned) low at_node.crossed);
         seen = at_node.seen;
         some = at_node.some;
         value = at_node.value;
@@ -201,21 +202,22 @@ module _ (position : Position) (tree : Tree) (begun : Begun) (used marks : List 
       → here.value ≡ capped (begun.value + value_of position stop) →
       here.left ≡ option_map (λ n. n - 1) begun.left
       → here.own_token ≡ (has_token position tree.company stop || begun.own_token) →
-      IsOnRun position tree here used (set marks (stop_order stop) true) settled (step ∷ steps) (visited (step ∷ steps))
+      IsOnRun position tree here used (set marks (stop_order stop) true) assigned (step ∷ steps)
+      (visited (step ∷ steps))
   on_run_at_stop step stop here continues is low kind next later value left own =
       let same : visited (step ∷ steps) ≡ stop ∷ stops =
       continues.visits ∙ ap (λ (o : Option Stop). listed o ++ stops) is in
       let over : gone_over (step ∷ steps) ≡ gone_over steps =
       continues.crosses ∙ ap (λ (b : List ℕ). b ++ gone_over steps)
       (no_border (left_at step).hex (left_at step).end stop is) in
-      subst (λ (all : List Stop). IsOnRun position tree here used (set marks (stop_order stop) true) settled
+      subst (λ (all : List Stop). IsOnRun position tree here used (set marks (stop_order stop) true) assigned
       (step ∷ steps) all) (sym same)
       (record {
         tree_is = at_node.tree_is;
-        crossed = subst (λ (all : List ℕ). AreCrossed used (all ++ run_borders settled)) (sym over) at_node.crossed;
+        crossed = subst (λ (all : List ℕ). AreCrossed used (all ++ run_borders assigned)) (sym over) at_node.crossed;
         seen = visited_more marks stop stops low at_node.seen;
         some = omega arith;
-        value = value ∙ value_more begun.value (value_of position stop) (revenue_of position settled)
+        value = value ∙ value_more begun.value (value_of position stop) (revenue_of position assigned)
             (worth position stops) at_node.value;
         later = later ∙ (at_node.later ∙ ap (λ (n : ℕ). capped
             (may_all_earn position (reached_in tree) (drop n (trains_of_tree tree)))) (sym next));
@@ -235,12 +237,12 @@ module _ (position : Position) (tree : Tree) (begun : Begun) (used marks : List 
       omega (arith, ap length same, at_node.some)
 
 -- the node is the same after a stop more
-pub same_node : (tree : Tree) (here begun : Begun) (settled : List TrainRun) (steps : List Step)
+pub same_node : (tree : Tree) (here begun : Begun) (assigned : List TrainRun) (steps : List Step)
     → here.kind ≡ begun.kind → here.next ≡ begun.next
-    → node_at tree here settled steps ≡ node_at tree begun settled steps
-same_node tree here begun settled steps kind next =
-    ap (λ (k : Kind). node_of settled steps (k ∷ drop here.next (trains_of_tree tree))) kind
-    ∙ ap (λ (n : ℕ). node_of settled steps (begun.kind ∷ drop n (trains_of_tree tree))) next
+    → node_at tree here assigned steps ≡ node_at tree begun assigned steps
+same_node tree here begun assigned steps kind next =
+    ap (λ (k : Kind). node_of assigned steps (k ∷ drop here.next (trains_of_tree tree))) kind
+    ∙ ap (λ (n : ℕ). node_of assigned steps (begun.kind ∷ drop n (trains_of_tree tree))) next
 
 -- the children with the head at a border
 is_beyond : (hex : Hex) (end : End) (beyond : Spot) → across_end hex end ≡ Some beyond
@@ -255,35 +257,35 @@ is_beyond hex (AtSide side) beyond is = by_next (neighbour_of hex side) is
 is_beyond hex (AtStop number) beyond is = absurd cc
 
 pub children_at_border :
-    (position : Position) (tree : Tree) (begun : Begun) (settled : List TrainRun) (steps : List Step) (step : Step)
+    (position : Position) (tree : Tree) (begun : Begun) (assigned : List TrainRun) (steps : List Step) (step : Step)
     (beyond : Spot) →
     stop_of (left_at step) ≡ None → across (left_at step) ≡ Some beyond →
-    children position tree.company (reached_in tree) (node_at tree begun settled (step ∷ steps))
-    ≡ with_steps (may_take (reached_in tree) (node_at tree begun settled (step ∷ steps)) beyond.end)
-    (node_at tree begun settled (step ∷ steps)) (ways_at position beyond.hex beyond.end)
-children_at_border position tree begun settled steps step beyond none over =
-    let node : Node = node_at tree begun settled (step ∷ steps) in
+    children position tree.company (reached_in tree) (node_at tree begun assigned (step ∷ steps))
+    ≡ with_steps (may_take (reached_in tree) (node_at tree begun assigned (step ∷ steps)) beyond.end)
+    (node_at tree begun assigned (step ∷ steps)) (steps_at position beyond.hex beyond.end)
+children_at_border position tree begun assigned steps step beyond none over =
+    let node : Node = node_at tree begun assigned (step ∷ steps) in
     let later : List Kind = drop begun.next (trains_of_tree tree) in
     let far = is_beyond (left_at step).hex (left_at step).end beyond over in
     ap (from_head position tree.company (reached_in tree) node begun.kind later (left_at step)) none
     ∙ (ap (from_border position tree.company (reached_in tree) node) over
-    ∙ ap (λ (e : End). with_steps (may_take (reached_in tree) node e) node (ways_at position beyond.hex beyond.end))
+    ∙ ap (λ (e : End). with_steps (may_take (reached_in tree) node e) node (steps_at position beyond.hex beyond.end))
     (sym far.1))
 
 -- the children with the head at a stop
 abbrev pub with_run : Begun → List TrainRun → List Step → List TrainRun
-with_run begun settled steps = record { kind = begun.kind; steps = steps } ∷ settled
+with_run begun assigned steps = record { kind = begun.kind; steps = steps } ∷ assigned
 
 pub children_at_stop :
-    (position : Position) (tree : Tree) (begun : Begun) (settled : List TrainRun) (steps : List Step) (step : Step)
+    (position : Position) (tree : Tree) (begun : Begun) (assigned : List TrainRun) (steps : List Step) (step : Step)
     (stop : Stop) →
     stop_of (left_at step) ≡ Some stop →
-    children position tree.company (reached_in tree) (node_at tree begun settled (step ∷ steps))
-    ≡ finishing position tree.company (reached_in tree) (node_at tree begun settled (step ∷ steps)) begun.kind
+    children position tree.company (reached_in tree) (node_at tree begun assigned (step ∷ steps))
+    ≡ finishing position tree.company (reached_in tree) (node_at tree begun assigned (step ∷ steps)) begun.kind
     (drop begun.next (trains_of_tree tree))
-    ++ from_stop position tree.company (reached_in tree) (node_at tree begun settled (step ∷ steps)) begun.kind stop
-children_at_stop position tree begun settled steps step stop is =
-    ap (from_head position tree.company (reached_in tree) (node_at tree begun settled (step ∷ steps)) begun.kind
+    ++ from_stop position tree.company (reached_in tree) (node_at tree begun assigned (step ∷ steps)) begun.kind stop
+children_at_stop position tree begun assigned steps step stop is =
+    ap (from_head position tree.company (reached_in tree) (node_at tree begun assigned (step ∷ steps)) begun.kind
     (drop begun.next (trains_of_tree tree)) (left_at step)) is
 
 two_is : (count : ℕ) (b : Bool) → nat_lt count 2 ≡ b → 2 ≤ count → b ≡ false
@@ -291,56 +293,56 @@ two_is count true is two = absurd (let low : count < 2 = ltb-true count 2 is in 
 two_is count false is two = refl
 
 pub finishing_is :
-    (position : Position) (tree : Tree) (begun : Begun) (settled : List TrainRun) (steps : List Step) (own : Bool)
+    (position : Position) (tree : Tree) (begun : Begun) (assigned : List TrainRun) (steps : List Step) (own : Bool)
     → 2 ≤ length (visited steps) →
     own ≡ list_any (has_token position tree.company) (visited steps) →
-    finishing position tree.company (reached_in tree) (node_at tree begun settled steps) begun.kind
+    finishing position tree.company (reached_in tree) (node_at tree begun assigned steps) begun.kind
     (drop begun.next (trains_of_tree tree))
-    ≡ node_if own (node_from tree (with_run begun settled steps) begun.next)
-finishing_is position tree begun settled steps own two is =
-    let node : Node = node_from tree (with_run begun settled steps) begun.next in
+    ≡ node_if own (node_from tree (with_run begun assigned steps) begun.next)
+finishing_is position tree begun assigned steps own two is =
+    let node : Node = node_from tree (with_run begun assigned steps) begun.next in
     let many : nat_lt (length (visited steps)) 2 ≡ false =
     two_is (length (visited steps)) (nat_lt (length (visited steps)) 2) refl two in
     ap (λ (b : Bool). node_if (not b && list_any (has_token position tree.company) (visited steps)) node) many
     ∙ ap (λ (b : Bool). node_if b node) (sym is)
 
-module _ (position : Position) (tree : Tree) (begun : Begun) (used marks : List Bool) (settled : List TrainRun)
+module _ (position : Position) (tree : Tree) (begun : Begun) (used marks : List Bool) (assigned : List TrainRun)
     (before : List Step) (step : Step) (stop : Stop)
-    (at_node : IsOnRun position tree begun used marks settled (step ∷ before) (visited (step ∷ before)))
+    (at_node : IsOnRun position tree begun used marks assigned (step ∷ before) (visited (step ∷ before)))
     (at : stop_of (left_at step) ≡ Some stop) where
-  pub is_last : is_last_stop position tree.company (reached_in tree) (node_at tree begun settled (step ∷ before))
+  pub is_last : is_last_stop position tree.company (reached_in tree) (node_at tree begun assigned (step ∷ before))
       begun.kind stop ≡ (is_red position stop || (is_full position tree.company stop || is_none_left begun.left))
   is_last =
       ap (λ (b : Bool). is_red position stop || (is_full position tree.company stop || b))
       (used_up_is (stops_of begun.kind) (length (visited (step ∷ before))) ∙ ap is_none_left (sym at_node.left))
 
-  pub finished_is_between : IsBetweenRuns position tree begun.value (with_run begun settled (step ∷ before))
+  pub finished_is_between : IsBetweenRuns position tree begun.value (with_run begun assigned (step ∷ before))
   finished_is_between = record {
     tree_is = at_node.tree_is;
     earns =
-        at_node.value ∙ ap capped (swapped (revenue_of position settled) (worth position (visited (step ∷ before))));
+        at_node.value ∙ ap capped (swapped (revenue_of position assigned) (worth position (visited (step ∷ before))));
   }
     where
       swapped : (a b : ℕ) → a + b ≡ b + a
       swapped a b = omega arith
 
-  pub finished_crossed : AreCrossed used (run_borders (with_run begun settled (step ∷ before)))
+  pub finished_crossed : AreCrossed used (run_borders (with_run begun assigned (step ∷ before)))
   finished_crossed =
-      subst (λ (b : List ℕ). AreCrossed used ((b ++ crossed (step ∷ before)) ++ run_borders settled))
+      subst (λ (b : List ℕ). AreCrossed used ((b ++ crossed (step ∷ before)) ++ run_borders assigned))
       (no_border (left_at step).hex (left_at step).end stop at) at_node.crossed
 
 -- a run that has not left its first stop
 pub on_run_from :
-    (position : Position) (tree : Tree) (value place : ℕ) (used : List Bool) (settled : List TrainRun) (kind : Kind)
+    (position : Position) (tree : Tree) (value place : ℕ) (used : List Bool) (assigned : List TrainRun) (kind : Kind)
     (stop : Stop) (begun : Begun) →
-    IsBetweenRuns position tree value settled → AreCrossed used (run_borders settled)
+    IsBetweenRuns position tree value assigned → AreCrossed used (run_borders assigned)
     → place < length (trains_of_tree tree) → begun.kind ≡ kind →
     begun.next ≡ capped (place + 1) → begun.later ≡ capped (earned_from tree.groups (capped (place + 1)))
     → begun.value ≡ capped (value + value_of position stop) →
     begun.left ≡ option_map (λ n. n - 1) (stops_of kind)
     → begun.own_token ≡ (has_token position tree.company stop || false) →
-    IsOnRun position tree begun used (set (replicate 186 false) (stop_order stop) true) settled [] (stop ∷ [])
-on_run_from position tree value place used settled kind stop begun at_node crossed low train next later amount left own
+    IsOnRun position tree begun used (set (replicate 186 false) (stop_order stop) true) assigned [] (stop ∷ [])
+on_run_from position tree value place used assigned kind stop begun at_node crossed low train next later amount left own
     =
     let fits = at_node.tree_is.fits in
     let here : capped (place + 1) ≡ place + 1 = omega arith in
@@ -349,8 +351,8 @@ on_run_from position tree value place used settled kind stop begun at_node cross
       crossed = crossed;
       seen = visited_more (replicate 186 false) stop [] (omega (arith, order_low stop)) none_visited;
       some = omega arith;
-      value = amount ∙ value_more value (value_of position stop) (revenue_of position settled) 0
-          (at_node.earns ∙ ap capped (plus_none (revenue_of position settled)));
+      value = amount ∙ value_more value (value_of position stop) (revenue_of position assigned) 0
+          (at_node.earns ∙ ap capped (plus_none (revenue_of position assigned)));
       later =
           later ∙ ap capped (sym (earned_is position (reached_in tree) tree.groups at_node.tree_is.earnings
           (capped (place + 1)))
@@ -364,24 +366,24 @@ on_run_from position tree value place used settled kind stop begun at_node cross
     plus_none n = omega arith
 
 pub node_out :
-    (position : Position) (tree : Tree) (value place : ℕ) (settled : List TrainRun) (kind : Kind) (begun : Begun)
-    → IsBetweenRuns position tree value settled →
+    (position : Position) (tree : Tree) (value place : ℕ) (assigned : List TrainRun) (kind : Kind) (begun : Begun)
+    → IsBetweenRuns position tree value assigned →
     place < length (trains_of_tree tree) → kind_from tree.groups place ≡ Some kind → begun.kind ≡ kind
     → begun.next ≡ capped (place + 1) →
-    node_from tree settled place ≡ node_at tree begun settled []
-node_out position tree value place settled kind begun at_node low is train next =
+    node_from tree assigned place ≡ node_at tree begun assigned []
+node_out position tree value place assigned kind begun at_node low is train next =
     let fits = at_node.tree_is.fits in
     let here : place + 1 ≡ capped (place + 1) = omega arith in
-    ap (node_of settled []) (kind_is tree.groups place kind is
+    ap (node_of assigned []) (kind_is tree.groups place kind is
     ∙ (ap (λ (n : ℕ). kind ∷ drop n (trains_of_tree tree)) (here ∙ sym next)
     ∙ ap (λ (k : Kind). k ∷ drop begun.next (trains_of_tree tree)) (sym train)))
 
 -- the marks are as they were
 pub same_state :
-    (position : Position) (tree : Tree) (begun : Begun) (used marks others seen : List Bool) (settled : List TrainRun)
+    (position : Position) (tree : Tree) (begun : Begun) (used marks others seen : List Bool) (assigned : List TrainRun)
     (steps : List Step) (stops : List Stop) →
-    others ≡ used → seen ≡ marks → IsOnRun position tree begun used marks settled steps stops
-    → IsOnRun position tree begun others seen settled steps stops
-same_state position tree begun used marks others seen settled steps stops same also at_node =
-    subst (λ (u : List Bool). IsOnRun position tree begun u seen settled steps stops) (sym same)
-    (subst (λ (m : List Bool). IsOnRun position tree begun used m settled steps stops) (sym also) at_node)
+    others ≡ used → seen ≡ marks → IsOnRun position tree begun used marks assigned steps stops
+    → IsOnRun position tree begun others seen assigned steps stops
+same_state position tree begun used marks others seen assigned steps stops same also at_node =
+    subst (λ (u : List Bool). IsOnRun position tree begun u seen assigned steps stops) (sym same)
+    (subst (λ (m : List Bool). IsOnRun position tree begun used m assigned steps stops) (sym also) at_node)

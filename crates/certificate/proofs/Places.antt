@@ -197,8 +197,8 @@ module _ (trains : List Kind) (d six five four three two : Group) (is_d : IsGrou
   abbrev only : Kind → List Kind
   only kind = for_each (λ train. if same_kind train kind then train ∷ [] else []) trains
 
-  abbrev front : Group → List Kind
-  front group = replicate group.count group.kind
+  abbrev prefix : Group → List Kind
+  prefix group = replicate group.count group.kind
 
   pub groups_in_order : trains_in all_groups ≡ greatest_first trains
   groups_in_order =

@@ -1,5 +1,5 @@
--- A legal run whose borders are free is a way down the tree: from where nothing is begun, step by step, to where it is
--- settled.
+-- A legal run whose borders are free is a path down the tree: from where nothing is begun, step by step, to where it is
+-- assigned.
 use Rattle.std.proofs.Common.{◌≡◌, ℕ, suc, Bool, true, false, not, ltb, ◌||◌, ◌⊎◌, inl, inr, Option, Some, None, IfSome}
 use Rattle.std.proofs.Common.{if◌then◌else◌, List, [], ◌∷◌, ◌++◌, length, refl, ap, sym, ◌∙◌, subst, arith}
 use Rattle.std.specs.List.{list_any}
@@ -25,9 +25,9 @@ use Rattle.legal_runs.specs.Legal.{AreAtMost, AreDistinct, IsLegalRun, border_at
 use Rattle.legal_runs.specs.Set.{TrainRun}
 use Rattle.certificate.specs.Tree.{IsBelow, Node, children, finishing, for_each, from_border, from_head, from_stop}
 use Rattle.certificate.specs.Tree.{goes_over, gone_over, is_finished, is_last_stop, is_new_stop, is_used_up, leads_on}
-use Rattle.certificate.specs.Tree.{node_of, run_borders, taken_borders, ways_at, ways_from, with_steps}
+use Rattle.certificate.specs.Tree.{node_of, run_borders, steps_at, steps_from, taken_borders, with_steps}
 use Rattle.certificate.proofs.Branching.{LeadsOver, among_for_each, among_node_if, among_with_steps, border_both}
-use Rattle.certificate.proofs.Branching.{over_leads, stop_left, true_both, way_there}
+use Rattle.certificate.proofs.Branching.{over_leads, step_there, stop_left, true_both}
 use Rattle.legal_runs.proofs.Joined.{fails, has_stop_is, not_less, such_has}
 use Rattle.legal_runs.proofs.Marks.{among_both}
 use Rattle.certificate.proofs.Nodes.{HasRoom, IsRunBegun, fewer_fit}
@@ -81,16 +81,16 @@ or_right true b is = refl
 or_right false b is = is
 
 module _ (position : Position) (lawful : IsLawful position) (company : Company) (reached : List Stop)
-    (settled : List TrainRun) (kind : Kind) (later : List Kind) where
+    (assigned : List TrainRun) (kind : Kind) (later : List Kind) where
   abbrev base : Node
-  base = node_of settled [] (kind ∷ later)
+  base = node_of assigned [] (kind ∷ later)
 
   abbrev at : List Step → Node
-  at begun = node_of settled begun (kind ∷ later)
+  at begun = node_of assigned begun (kind ∷ later)
 
   -- a run so far that can be finished as it is meant
   record IsPrefix (step : Step) (before : List Step) : Type 0 where
-    begun : IsRunBegun position company kind (run_borders settled) step before
+    begun : IsRunBegun position company kind (run_borders assigned) step before
     onward : stop_of (left_at step) ≡ None → (spot : Spot) × (across (left_at step) ≡ Some spot)
     there : (stop : Stop) → IsAmong stop (visited (step ∷ before)) → IsAmong stop reached
 
@@ -166,7 +166,7 @@ module _ (position : Position) (lawful : IsLawful position) (company : Company) 
   over_free :
       (step : Step) (before : List Step) → IsPrefix step before → (borders : List ℕ) →
       ((border : ℕ) → IsAmong border borders → IsAmong border (crossed (step ∷ before))
-      ⊎ IsAmong border (run_borders settled)) →
+      ⊎ IsAmong border (run_borders assigned)) →
       stop_of (left_at step) ≡ None → LeadsOver borders (left_at step).hex (left_at step).end
   over_free step before prefix borders parts none =
       let spot = prefix.onward none in
@@ -177,7 +177,7 @@ module _ (position : Position) (lawful : IsLawful position) (company : Company) 
       ap (λ (e : End). border_at (left_at step).hex e ++ crossed (step ∷ before)) over.at_side in
       let once : AreDistinct (border_of (left_at step).hex over.side ∷ crossed (step ∷ before)) =
       subst (λ (l : List ℕ). AreDistinct l) gone begun.once in
-      let free : ¬ IsAmong (border_of (left_at step).hex over.side) (run_borders settled) =
+      let free : ¬ IsAmong (border_of (left_at step).hex over.side) (run_borders assigned) =
       begun.free (border_of (left_at step).hex over.side)
       (subst (λ (l : List ℕ). IsAmong (border_of (left_at step).hex over.side) l) (sym gone) (inl refl)) in
       record {
@@ -216,11 +216,11 @@ module _ (position : Position) (lawful : IsLawful position) (company : Company) 
       ((among_both stop (listed (stop_of (left_at step))) (listed (stop_of (entered_at step)) ++ [])).1
       (inr ((among_both stop (listed (stop_of (entered_at step))) []).1
       (inl (subst (λ (s : Option Stop). IsAmong stop (listed s)) (sym enters) (inl refl)))))) in
-      inr (among_with_steps (goes_over (taken_borders base)) base (for_each (ways_from position) reached) step
-      (among_for_each (ways_from position) reached stop step among
+      inr (among_with_steps (goes_over (taken_borders base)) base (for_each (steps_from position) reached) step
+      (among_for_each (steps_from position) reached stop step among
       (stop_left position lawful stop step begun.walk.0 enters))
       (over_leads (taken_borders base) (left_at step).hex (left_at step).end
-      (over_free step [] prefix (run_borders settled) (λ border here. inr here) none)))
+      (over_free step [] prefix (run_borders assigned) (λ border here. inr here) none)))
 
   -- a later one
   module _ (step earlier : Step) (more : List Step) (prefix : IsPrefix step (earlier ∷ more)) where
@@ -229,11 +229,11 @@ module _ (position : Position) (lawful : IsLawful position) (company : Company) 
 
     -- what was crossed before it
     taken_before :
-        (border : ℕ) → IsAmong border (gone_over run ++ run_borders settled) →
-        IsAmong border (crossed (step ∷ run)) ⊎ IsAmong border (run_borders settled)
+        (border : ℕ) → IsAmong border (gone_over run ++ run_borders assigned) →
+        IsAmong border (crossed (step ∷ run)) ⊎ IsAmong border (run_borders assigned)
     taken_before border among =
         let begun = prefix.begun in
-        elim ((among_both border (gone_over run) (run_borders settled)).0 among) [
+        elim ((among_both border (gone_over run) (run_borders assigned)).0 among) [
           | inl here ↦ inl (subst (λ (l : List ℕ). IsAmong border l)
               (sym (joint_crossed step earlier more begun.walk.1)) here)
           | inr there ↦ inr there
@@ -242,9 +242,9 @@ module _ (position : Position) (lawful : IsLawful position) (company : Company) 
     leads_further : (found : Option Stop) → stop_of (left_at step) ≡ found → leads_on reached (at run) step ≡ true
     leads_further None is =
         or_right (is_new_stop reached (visited run) (stop_of (left_at step)))
-        (goes_over (gone_over run ++ run_borders settled) step)
-        (over_leads (gone_over run ++ run_borders settled) (left_at step).hex (left_at step).end
-        (over_free step run prefix (gone_over run ++ run_borders settled) taken_before is))
+        (goes_over (gone_over run ++ run_borders assigned) step)
+        (over_leads (gone_over run ++ run_borders assigned) (left_at step).hex (left_at step).end
+        (over_free step run prefix (gone_over run ++ run_borders assigned) taken_before is))
     leads_further (Some stop) is =
         let begun = prefix.begun in
         let stops : AreDistinct (stop ∷ visited run) =
@@ -252,7 +252,7 @@ module _ (position : Position) (lawful : IsLawful position) (company : Company) 
         let among : IsAmong stop reached = prefix.there stop
         (subst (λ (s : Option Stop). IsAmong stop (listed s ++ visited run)) (sym is) (inl refl)) in
         or_left (is_new_stop reached (visited run) (stop_of (left_at step)))
-        (goes_over (gone_over run ++ run_borders settled) step)
+        (goes_over (gone_over run ++ run_borders assigned) step)
         (subst (λ (s : Option Stop). is_new_stop reached (visited run) s ≡ true) (sym is)
         (true_both (has_stop stop reached) (not (has_stop stop (visited run))) ((has_stop_is stop reached).1 among)
         (ap not ((fails (has_stop stop (visited run)) (has_stop_is stop (visited run))).1 stops.0))))
@@ -270,8 +270,8 @@ module _ (position : Position) (lawful : IsLawful position) (company : Company) 
         (subst (λ (s : Option Spot). IsAmong (at (step ∷ run)) (from_border position company reached (at run) s))
         (sym over)
         (among_with_steps (leads_on reached (at run)) (at run)
-        (ways_at position (entered_at step).hex (entered_at step).end) step
-        (way_there position lawful step begun.walk.0) (leads_further (stop_of (left_at step)) refl)))
+        (steps_at position (entered_at step).hex (entered_at step).end) step
+        (step_there position lawful step begun.walk.0) (leads_further (stop_of (left_at step)) refl)))
 
     through_stop :
         (stop : Stop) → stop_of (left_at earlier) ≡ Some stop → stop_of (entered_at step) ≡ Some stop →
@@ -290,16 +290,16 @@ module _ (position : Position) (lawful : IsLawful position) (company : Company) 
         let goes : is_last_stop position company reached (at run) kind stop ≡ false =
         all_false (is_red position stop) (is_full position company stop)
         (is_used_up (stops_of kind) (length (visited run))) not_red not_full room in
-        let steps : List Node = with_steps (goes_over (taken_borders (at run))) (at run) (ways_from position stop) in
+        let steps : List Node = with_steps (goes_over (taken_borders (at run))) (at run) (steps_from position stop) in
         subst (λ (s : Option Stop). IsAmong (at (step ∷ run))
         (from_head position company reached (at run) kind later (left_at earlier) s)) (sym is)
         ((among_both (at (step ∷ run)) (finishing position company reached (at run) kind later)
         (from_stop position company reached (at run) kind stop)).1
         (inr (subst (λ (b : Bool). IsAmong (at (step ∷ run)) (if b then [] else steps)) (sym goes)
-        (among_with_steps (goes_over (taken_borders (at run))) (at run) (ways_from position stop) step
+        (among_with_steps (goes_over (taken_borders (at run))) (at run) (steps_from position stop) step
         (stop_left position lawful stop step begun.walk.0 enters)
-        (over_leads (gone_over run ++ run_borders settled) (left_at step).hex (left_at step).end
-        (over_free step run prefix (gone_over run ++ run_borders settled) taken_before none))))))
+        (over_leads (gone_over run ++ run_borders assigned) (left_at step).hex (left_at step).end
+        (over_free step run prefix (gone_over run ++ run_borders assigned) taken_before none))))))
 
     later_child : AreJoined (left_at earlier) (entered_at step)
         → IsAmong (at (step ∷ run)) (children position company reached (at run))
@@ -322,14 +322,14 @@ module _ (position : Position) (lawful : IsLawful position) (company : Company) 
           → AreJoined (left_at earlier) (entered_at step)
       joint step earlier more prefix = let begun = prefix.begun in begun.walk.1
 
-  -- and settled
+  -- and assigned
   abbrev done : List Step → Node
-  done steps = node_of (record { kind = kind; steps = steps } ∷ settled) [] later
+  done steps = node_of (record { kind = kind; steps = steps } ∷ assigned) [] later
 
   module _ (exactly : (stop : Stop) → ReachesStop position company stop → IsAmong stop reached) where
     whole :
         (step : Step) (before : List Step) → IsLegalRun position company kind [] (step ∷ before) →
-        ((border : ℕ) → IsAmong border (crossed (step ∷ before)) → ¬ IsAmong border (run_borders settled))
+        ((border : ℕ) → IsAmong border (crossed (step ∷ before)) → ¬ IsAmong border (run_borders assigned))
         → IsPrefix step before
     whole step before legal free =
         let gone : gone_over (step ∷ before) ≡ crossed (step ∷ before) =
@@ -359,7 +359,7 @@ module _ (position : Position) (lawful : IsLawful position) (company : Company) 
     pub run_below :
         (start : Node) → IsBelow position company reached start base → (steps : List Step)
         → IsLegalRun position company kind [] steps →
-        ((border : ℕ) → IsAmong border (crossed steps) → ¬ IsAmong border (run_borders settled))
+        ((border : ℕ) → IsAmong border (crossed steps) → ¬ IsAmong border (run_borders assigned))
         → IsBelow position company reached start (done steps)
     run_below start below [] legal free = absurd legal.begins
     run_below start below (step ∷ before) legal free =

@@ -1,4 +1,4 @@
--- Each legal set is the settled runs of a leaf: train by train, in their order, a run of the set is taken for a train
+-- Each legal set is the assigned runs of a leaf: train by train, in their order, a run of the set is taken for a train
 -- of its kind, or none where no run of that kind is left.
 use Rattle.std.proofs.Common.{◌≡◌, ◌↔◌, ℕ, ◌+◌, ◌≤◌, Bool, true, false, ◌⊎◌, inl, inr, if◌then◌else◌, List, [], ◌∷◌}
 use Rattle.std.proofs.Common.{refl, ap, subst, arith}
@@ -156,42 +156,42 @@ enough kind k runs later none few = by_test (same_kind kind k) refl
 
 module _ (position : Position) (lawful : IsLawful position) (company : Company) (reached : List Stop)
     (exactly : (stop : Stop) → ReachesStop position company stop → IsAmong stop reached) (start : Node) where
-  -- a run crosses none of the borders of the settled ones
+  -- a run crosses none of the borders of the assigned ones
   abbrev IsFree : List TrainRun → TrainRun → Type 0
-  IsFree settled run = (border : ℕ) → IsAmong border (crossed run.steps) → ¬ IsAmong border (run_borders settled)
+  IsFree assigned run = (border : ℕ) → IsAmong border (crossed run.steps) → ¬ IsAmong border (run_borders assigned)
 
-  -- what is left of a set while some of its runs are settled
-  record IsLeft (settled runs : List TrainRun) (trains : List Kind) : Type 0 where
+  -- what is left of a set while some of its runs are assigned
+  record IsLeft (assigned runs : List TrainRun) (trains : List Kind) : Type 0 where
     legal : AllByRecursion (RunsLegally position company) runs
     apart : AreApart runs
-    free : AllByRecursion (IsFree settled) runs
+    free : AllByRecursion (IsFree assigned) runs
     enough_trains : (k : Kind) → in_number k (trains_that_run runs) ≤ in_number k trains
 
-  -- a leaf with the runs that were settled and those that were left
-  record IsLeafOf (settled runs : List TrainRun) : Type 0 where
+  -- a leaf with the runs that were assigned and those that were left
+  record IsLeafOf (assigned runs : List TrainRun) : Type 0 where
     leaf : Node
     below : IsBelow position company reached start leaf
     is_leaf : IsLeaf leaf
-    same : (run : TrainRun) → IsAmong run leaf.settled ↔ (IsAmong run settled ⊎ IsAmong run runs)
-    earns : revenue_of position leaf.settled ≡ revenue_of position settled + revenue_of position runs
+    same : (run : TrainRun) → IsAmong run leaf.assigned ↔ (IsAmong run assigned ⊎ IsAmong run runs)
+    earns : revenue_of position leaf.assigned ≡ revenue_of position assigned + revenue_of position runs
 
-  -- with one run more settled
+  -- with one run more assigned
   still_free :
-      (run : TrainRun) (settled rest : List TrainRun)
+      (run : TrainRun) (assigned rest : List TrainRun)
       → AllByRecursion (λ (other : TrainRun). ShareNoBorder run.steps other.steps) rest →
-      AllByRecursion (IsFree settled) rest → AllByRecursion (IsFree (run ∷ settled)) rest
-  still_free run settled [] apart free = tt
-  still_free run settled (other ∷ rest) apart free = (
-    λ border among there. elim ((among_both border (crossed run.steps) (run_borders settled)).0 there) [
+      AllByRecursion (IsFree assigned) rest → AllByRecursion (IsFree (run ∷ assigned)) rest
+  still_free run assigned [] apart free = tt
+  still_free run assigned (other ∷ rest) apart free = (
+    λ border among there. elim ((among_both border (crossed run.steps) (run_borders assigned)).0 there) [
       | inl here ↦ apart.0 border here among
       | inr later ↦ free.0 border among later
     ],
-    still_free run settled rest apart.1 free.1,
+    still_free run assigned rest apart.1 free.1,
   )
 
-  one_settled : (settled runs rest : List TrainRun) (run : TrainRun) → TakenOut run runs rest
-      → IsLeafOf (run ∷ settled) rest → IsLeafOf settled runs
-  one_settled settled runs rest run out found =
+  one_assigned : (assigned runs rest : List TrainRun) (run : TrainRun) → TakenOut run runs rest
+      → IsLeafOf (run ∷ assigned) rest → IsLeafOf assigned runs
+  one_assigned assigned runs rest run out found =
       record {
         leaf = found.leaf;
         below = found.below;
@@ -214,31 +214,31 @@ module _ (position : Position) (lawful : IsLawful position) (company : Company) 
         earns = omega (arith, found.earns, earns_out position run runs rest out);
       }
 
-  all_settled :
-      (trains : List Kind) (settled runs : List TrainRun)
-      → IsBelow position company reached start (node_of settled [] trains) →
-      IsLeft settled runs trains → IsLeafOf settled runs
-  all_settled [] settled [] below left =
+  all_assigned :
+      (trains : List Kind) (assigned runs : List TrainRun)
+      → IsBelow position company reached start (node_of assigned [] trains) →
+      IsLeft assigned runs trains → IsLeafOf assigned runs
+  all_assigned [] assigned [] below left =
       record {
-        leaf = node_of settled [] [];
+        leaf = node_of assigned [] [];
         below = below;
         is_leaf = refl;
         same = λ run. (λ h. inl h, λ h. elim h [ inl there ↦ there | inr none ↦ absurd none ]);
         earns = omega arith;
       }
-  all_settled [] settled (run ∷ runs) below left =
+  all_assigned [] assigned (run ∷ runs) below left =
       absurd (let few = left.enough_trains run.kind in let one = own_kind run.kind in omega arith)
-  all_settled (kind ∷ later) settled runs below left =
-      by_run (found_run kind runs) (λ more rest there its. all_settled later more rest there its)
+  all_assigned (kind ∷ later) assigned runs below left =
+      by_run (found_run kind runs) (λ more rest there its. all_assigned later more rest there its)
     where
       by_run :
           Found kind runs →
           ((more rest : List TrainRun) → IsBelow position company reached start (node_of more [] later)
           → IsLeft more rest later → IsLeafOf more rest) →
-          IsLeafOf settled runs
+          IsLeafOf assigned runs
       by_run (inr none) go_on =
-          go_on settled runs
-          (one_below position company reached start (node_of settled [] (kind ∷ later)) (node_of settled [] later)
+          go_on assigned runs
+          (one_below position company reached start (node_of assigned [] (kind ∷ later)) (node_of assigned [] later)
           below (inl refl))
           (record {
             legal = left.legal;
@@ -249,19 +249,19 @@ module _ (position : Position) (lawful : IsLawful position) (company : Company) 
       by_run (inl found) go_on =
           let run : TrainRun = record { kind = kind; steps = found.0 } in
           let legal = all_out (RunsLegally position company) run runs found.1 found.2 left.legal in
-          let free = all_out (IsFree settled) run runs found.1 found.2 left.free in
+          let free = all_out (IsFree assigned) run runs found.1 found.2 left.free in
           let apart = apart_out run runs found.1 found.2 left.apart in
-          one_settled settled runs found.1 run found.2
-          (go_on (run ∷ settled) found.1
-          (run_below position lawful company reached settled kind later exactly start below found.0 legal.0 free.0)
+          one_assigned assigned runs found.1 run found.2
+          (go_on (run ∷ assigned) found.1
+          (run_below position lawful company reached assigned kind later exactly start below found.0 legal.0 free.0)
           (record {
             legal = legal.1;
             apart = apart.1;
-            free = still_free run settled found.1 apart.0 free.1;
+            free = still_free run assigned found.1 apart.0 free.1;
             enough_trains = λ k. omega (arith, number_out k run runs found.1 found.2, left.enough_trains k);
           }))
 
--- nothing is settled at first
+-- nothing is assigned at first
 free_at_first :
     (runs : List TrainRun) →
     AllByRecursion (λ (run : TrainRun). (border : ℕ) → IsAmong border (crossed run.steps)
@@ -269,13 +269,13 @@ free_at_first :
 free_at_first [] = tt
 free_at_first (run ∷ runs) = (λ border among none. none, free_at_first runs)
 
--- a leaf with the runs of a set, where none was settled before
+-- a leaf with the runs of a set, where none was assigned before
 its_leaf :
     (position : Position) (lawful : IsLawful position) (company : Company) (trains : List Kind) (reached : List Stop)
     (exactly : (stop : Stop) → ReachesStop position company stop → IsAmong stop reached) (runs : List TrainRun) →
     IsLeafOf position lawful company reached exactly (root_of trains) [] runs →
     (leaf : Node) × IsBelow position company reached (root_of trains) leaf × IsLeaf leaf
-    × AreItsRuns position leaf.settled runs
+    × AreItsRuns position leaf.assigned runs
 its_leaf position lawful company trains reached exactly runs found = (
   found.leaf,
   found.below,
@@ -295,11 +295,11 @@ pub set_is_leaf :
     ((stop : Stop) → ReachesStop position company stop → IsAmong stop reached) → (runs : List TrainRun)
     → IsLegalSet position company trains runs →
     (leaf : Node) × IsBelow position company reached (root_of trains) leaf × IsLeaf leaf
-    × AreItsRuns position leaf.settled runs
+    × AreItsRuns position leaf.assigned runs
 set_is_leaf position lawful company trains reached exactly runs set =
     its_leaf position lawful company trains reached exactly runs
-    (all_settled position lawful company reached exactly (root_of trains) (greatest_first trains) [] runs ([], tt, refl)
-    (record {
+    (all_assigned position lawful company reached exactly (root_of trains) (greatest_first trains) [] runs
+    ([], tt, refl) (record {
       legal = set.legal;
       apart = set.apart;
       free = free_at_first runs;

@@ -84,13 +84,13 @@ used_up_is None count = refl
 
 -- the amounts
 pub bound_is :
-    (value still later settled here may all : ℕ) → value ≡ capped (settled + here) → still ≡ may → later ≡ capped all →
-    capped (capped (value + still) + later) ≡ capped (settled + (here + (may + all)))
-bound_is value still later settled here may all is also too = omega arith
+    (value still later assigned here may all : ℕ) → value ≡ capped (assigned + here) → still ≡ may
+    → later ≡ capped all → capped (capped (value + still) + later) ≡ capped (assigned + (here + (may + all)))
+bound_is value still later assigned here may all is also too = omega arith
 
-pub value_more : (value stop settled here : ℕ) → value ≡ capped (settled + here)
-    → capped (value + stop) ≡ capped (settled + (here + stop))
-value_more value stop settled here is = omega arith
+pub value_more : (value stop assigned here : ℕ) → value ≡ capped (assigned + here)
+    → capped (value + stop) ≡ capped (assigned + (here + stop))
+value_more value stop assigned here is = omega arith
 
 -- what the trains of some groups may earn, group by group
 pub sum_start : (groups items : List Group) (place : ℕ) → items ≡ groups

@@ -19,7 +19,7 @@ use Rattle.certificate.specs.Digits.{bits_of_digits}
 use Rattle.certificate.specs.Holding.{left_over}
 use Rattle.certificate.specs.Tree.{Node, bound, children, for_each, root_of}
 
--- what lies in a hex
+-- what is in a hex
 unfoldable pub on_map : Hex → InHex
 on_map H10 = record {
   links = record { hex = H10; a = AtSide West; b = AtStop First }

@@ -1,12 +1,12 @@
--- The choice tree of a company's best runs. A node has the runs that are settled, the run that is begun, and the
+-- The choice tree of a company's best runs. A node has the runs that are assigned, the run that is begun, and the
 -- trains to come; the first of these is the train in hand, whose run it is. A run that is begun has a head: at a stop,
--- or at a border, beyond which it goes on. While none is begun the choices are no run for this train, and then the
--- runs that leave a reached stop, by each of its links. From a border they are the links of the hex beyond at that
--- side, to another side whose border was not crossed or to a reached stop that is not in the run. At a stop they are
--- first the finished run, if it has two stops and an own token, and then each link of the stop whose border was not
--- crossed, unless the stop is red or full or the train has used up its stops. Nodes without a train are the leaves.
+-- or at a border, beyond which it goes on. While none is begun the choices are no run for this train, and then the runs
+-- that leave a reached stop, by each of its links. From a border they are the links of the hex beyond at that side, to
+-- another side whose border was not crossed or to a reached stop that is not in the run. At a stop they are first the
+-- finished run, if it has two stops and an own token, and then each link of the stop whose border was not crossed,
+-- unless the stop is red or full or the train has used up its stops. Nodes without a train are the leaves.
 --
--- The bound of a node is what its settled runs and the stops of the run begun earn, and for that run the greatest
+-- The bound of a node is what its assigned runs and the stops of the run begun earn, and for that run the greatest
 -- values of reached stops that are not in it, as many as it may still visit, and for each train after it the greatest
 -- values of reached stops, as many as it may visit; a D may visit all.
 use Rattle.std.specs.Prelude.{◌≡◌, ℕ, zero, suc, ◌+◌, ◌-◌, max, ◌==◌, nat_lt, Bool, true, false, not, ◌&&◌, ◌||◌}
@@ -33,13 +33,13 @@ use Rattle.legal_runs.specs.Legal.{border_at, border_of, crossed, visited, worth
 use Rattle.legal_runs.specs.Set.{TrainRun, revenue_of}
 
 pub record Node : Type 0 where
-  pub settled : List TrainRun
+  pub assigned : List TrainRun
   pub begun : List Step
   pub trains : List Kind
 
--- a node with these settled runs, this run begun and these trains
+-- a node with these assigned runs, this run begun and these trains
 abbrev pub node_of : List TrainRun → List Step → List Kind → Node
-node_of settled begun trains = record { settled = settled; begun = begun; trains = trains }
+node_of assigned begun trains = record { assigned = assigned; begun = begun; trains = trains }
 
 -- what each of some things has, one after the other
 abbrev pub for_each : {A B : Type 0} → (A → List B) → List A → List B
@@ -61,14 +61,14 @@ abbrev pub root_of : List Kind → Node
 root_of trains = node_of [] [] (greatest_first trains)
 
 -- the step into a link at one of its ends
-abbrev pub ways_by : End → Link → List Step
-ways_by end link =
+abbrev pub steps_by : End → Link → List Step
+steps_by end link =
     if end_order link.a == end_order end then record { link = link; turned = false } ∷ [] else
     (if end_order link.b == end_order end then record { link = link; turned = true } ∷ [] else [])
 
 -- the steps that enter a link at an end in a hex, in the order of the links
-abbrev pub ways_at : Position → Hex → End → List Step
-ways_at position hex end = for_each (ways_by end) (links_of position hex)
+abbrev pub steps_at : Position → Hex → End → List Step
+steps_at position hex end = for_each (steps_by end) (links_of position hex)
 
 -- the hexes in which a stop lies
 abbrev pub hexes_of : Hex → List Hex
@@ -77,8 +77,8 @@ hexes_of A11 = A9 ∷ A11 ∷ []
 hexes_of hex = hex ∷ []
 
 -- the steps that leave a stop
-abbrev pub ways_from : Position → Stop → List Step
-ways_from position stop = for_each (λ hex. ways_at position hex (AtStop stop.number)) (hexes_of stop.hex)
+abbrev pub steps_from : Position → Stop → List Step
+steps_from position stop = for_each (λ hex. steps_at position hex (AtStop stop.number)) (hexes_of stop.hex)
 
 -- the borders that some runs cross
 abbrev pub run_borders : List TrainRun → List ℕ
@@ -92,7 +92,7 @@ gone_over (step ∷ before) = border_at (left_at step).hex (left_at step).end ++
 
 -- the borders that were crossed
 abbrev pub taken_borders : Node → List ℕ
-taken_borders node = gone_over node.begun ++ run_borders node.settled
+taken_borders node = gone_over node.begun ++ run_borders node.assigned
 
 -- an end of a hex is a side at a border that was not crossed
 abbrev pub is_free_end : List ℕ → Hex → End → Bool
@@ -115,7 +115,7 @@ leads_on reached node step =
 
 -- with one more step of the run
 abbrev pub with_step : Node → Step → Node
-with_step node step = node_of node.settled (step ∷ node.begun) node.trains
+with_step node step = node_of node.assigned (step ∷ node.begun) node.trains
 
 -- a node, where a test passes
 abbrev pub node_if : Bool → Node → List Node
@@ -134,7 +134,7 @@ is_used_up None count = false
 module _ (position : Position) (company : Company) (reached : List Stop) where
   -- no run is begun
   abbrev pub setting_out : Node → List Node
-  setting_out node = with_steps (goes_over (taken_borders node)) node (for_each (ways_from position) reached)
+  setting_out node = with_steps (goes_over (taken_borders node)) node (for_each (steps_from position) reached)
 
   -- the run is finished, if it has two stops and an own token
   abbrev pub is_finished : List Stop → Bool
@@ -142,7 +142,7 @@ module _ (position : Position) (company : Company) (reached : List Stop) where
 
   abbrev pub finishing : Node → Kind → List Kind → List Node
   finishing node kind later =
-      node_if (is_finished (visited node.begun)) (node_of (record { kind = kind; steps = node.begun } ∷ node.settled)
+      node_if (is_finished (visited node.begun)) (node_of (record { kind = kind; steps = node.begun } ∷ node.assigned)
       [] later)
 
   -- no run goes on from a stop
@@ -154,12 +154,12 @@ module _ (position : Position) (company : Company) (reached : List Stop) where
   abbrev pub from_stop : Node → Kind → Stop → List Node
   from_stop node kind stop =
       if is_last_stop node kind stop then [] else with_steps (goes_over (taken_borders node)) node
-      (ways_from position stop)
+      (steps_from position stop)
 
   -- the head is at a border
   abbrev pub from_border : Node → Option Spot → List Node
   from_border node None = []
-  from_border node (Some spot) = with_steps (leads_on reached node) node (ways_at position spot.hex spot.end)
+  from_border node (Some spot) = with_steps (leads_on reached node) node (steps_at position spot.hex spot.end)
 
   -- the head is at a stop, or at a border
   abbrev pub from_head : Node → Kind → List Kind → Spot → Option Stop → List Node
@@ -168,15 +168,15 @@ module _ (position : Position) (company : Company) (reached : List Stop) where
 
   -- the choices at a node, in order
   abbrev pub choices_at : List TrainRun → List Step → List Kind → List Node
-  choices_at settled begun [] = []
-  choices_at settled [] (kind ∷ later) = node_of settled [] later ∷ setting_out (node_of settled [] (kind ∷ later))
-  choices_at settled (step ∷ before) (kind ∷ later) =
-      from_head (node_of settled (step ∷ before) (kind ∷ later)) kind later (left_at step) (stop_of (left_at step))
+  choices_at assigned begun [] = []
+  choices_at assigned [] (kind ∷ later) = node_of assigned [] later ∷ setting_out (node_of assigned [] (kind ∷ later))
+  choices_at assigned (step ∷ before) (kind ∷ later) =
+      from_head (node_of assigned (step ∷ before) (kind ∷ later)) kind later (left_at step) (stop_of (left_at step))
 
   abbrev pub children : Node → List Node
-  children node = choices_at node.settled node.begun node.trains
+  children node = choices_at node.assigned node.begun node.trains
 
-  -- a way down the tree: its nodes, the latest first, each a child of the one before; and where it ends
+  -- a path down the tree: its nodes, the latest first, each a child of the one before; and where it ends
   abbrev pub end_of : Node → List Node → Node
   end_of start [] = start
   end_of start (node ∷ before) = node
@@ -234,4 +234,4 @@ may_come position reached begun (kind ∷ later) =
 
 -- the bound of a node
 abbrev pub bound : Position → List Stop → Node → ℕ
-bound position reached node = revenue_of position node.settled + may_come position reached node.begun node.trains
+bound position reached node = revenue_of position node.assigned + may_come position reached node.begun node.trains

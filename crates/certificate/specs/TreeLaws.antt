@@ -1,7 +1,7 @@
--- What joins the choice tree to the legal sets. Each leaf's settled runs are a legal set for the trains; and each legal
--- set is that of a leaf, at whichever of its stops a run begins, wherever its own tokens are, and however far a D goes.
--- No node has a child with a greater bound; a leaf's bound is what it earns; so no leaf below a node earns more than
--- the node's bound.
+-- What joins the choice tree to the legal sets. Each leaf's assigned runs are a legal set for the trains; and each
+-- legal set is that of a leaf, at whichever of its stops a run begins, wherever its own tokens are, and however far a D
+-- goes. No node has a child with a greater bound; a leaf's bound is what it earns; so no leaf below a node earns more
+-- than the node's bound.
 use Rattle.std.specs.Prelude.{◌≡◌, ◌↔◌, ◌≤◌, List}
 use Rattle.reach.specs.Lawful.{IsLawful}
 use Rattle.reach.specs.Position.{Position, IsAmong}
@@ -27,7 +27,7 @@ BoundsFall =
 abbrev pub LeavesEarnTheirBounds : Type 0
 LeavesEarnTheirBounds =
     (position : Position) (reach : Reaching) (node : Node) →
-    IsLeaf node → bound position reach.stops node ≡ revenue_of position node.settled
+    IsLeaf node → bound position reach.stops node ≡ revenue_of position node.assigned
 
 -- no leaf below a node earns more than the node's bound
 abbrev pub NoLeafEarnsMore : Type 0
@@ -35,23 +35,23 @@ NoLeafEarnsMore =
     (position : Position) (company : Company) (trains : List Kind) (reach : Reaching) (node leaf : Node) →
     IsLawful position → IsReach position company reach → IsInTree position company trains reach node →
     IsBelow position company reach.stops node leaf → IsLeaf leaf →
-    revenue_of position leaf.settled ≤ bound position reach.stops node
+    revenue_of position leaf.assigned ≤ bound position reach.stops node
 
--- each leaf's settled runs are a legal set
+-- each leaf's assigned runs are a legal set
 abbrev pub LeavesAreLegalSets : Type 0
 LeavesAreLegalSets =
     (position : Position) (company : Company) (trains : List Kind) (reach : Reaching) (leaf : Node) →
     IsLawful position → IsReach position company reach → IsInTree position company trains reach leaf → IsLeaf leaf →
-    IsLegalSet position company trains leaf.settled
+    IsLegalSet position company trains leaf.assigned
 
 -- these are the same runs, and they earn as much
-pub record AreItsRuns (position : Position) (settled runs : List TrainRun) : Type 0 where
-  pub same : (run : TrainRun) → IsAmong run settled ↔ IsAmong run runs
-  pub earn_same : revenue_of position settled ≡ revenue_of position runs
+pub record AreItsRuns (position : Position) (assigned runs : List TrainRun) : Type 0 where
+  pub same : (run : TrainRun) → IsAmong run assigned ↔ IsAmong run runs
+  pub earn_same : revenue_of position assigned ≡ revenue_of position runs
 
--- each legal set is the settled runs of a leaf
+-- each legal set is the assigned runs of a leaf
 abbrev pub LegalSetsAreLeaves : Type 0
 LegalSetsAreLeaves =
     (position : Position) (company : Company) (trains : List Kind) (reach : Reaching) (runs : List TrainRun) →
     IsLawful position → IsReach position company reach → IsLegalSet position company trains runs →
-    (leaf : Node) × IsInTree position company trains reach leaf × IsLeaf leaf × AreItsRuns position leaf.settled runs
+    (leaf : Node) × IsInTree position company trains reach leaf × IsLeaf leaf × AreItsRuns position leaf.assigned runs

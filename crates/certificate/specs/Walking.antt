@@ -1,6 +1,6 @@
--- Where a walk over the choice tree is, by what it keeps in place: marks of the borders that were crossed and of
--- the stops that the run begun has visited, and a few numbers. `IsOnRun` joins these to the settled runs and the steps
--- of the run begun, which no code keeps.
+-- Where a walk over the choice tree is, by what it keeps in place: marks of the borders that were crossed and of the
+-- stops that the run begun has visited, and a few numbers. `IsOnRun` joins these to the assigned runs and the steps of
+-- the run begun, which no code keeps.
 use Rattle.std.specs.Prelude.{◌≡◌, ℕ, zero, suc, ◌+◌, ◌-◌, ◌*◌, ◌≤◌, nat_lt, ◌==◌, Bool, false, if◌then◌else◌, Option}
 use Rattle.std.specs.Prelude.{Some, None, option_map, List, [], ◌∷◌, ◌++◌, length, drop, get_or, replicate}
 use Rattle.std.specs.List.{list_any}
@@ -85,19 +85,19 @@ pub record IsTree (position : Position) (tree : Tree) : Type 0 where
   pub fits : length (trains_of_tree tree) ≤ 18446744073709551615
   pub ranking : tree.ranking ≡ ranked_of position (reached_in tree)
 
--- no run is begun, and the settled runs earn so much
-pub record IsBetweenRuns (position : Position) (tree : Tree) (value : ℕ) (settled : List TrainRun) : Type 0 where
+-- no run is begun, and the assigned runs earn this much
+pub record IsBetweenRuns (position : Position) (tree : Tree) (value : ℕ) (assigned : List TrainRun) : Type 0 where
   pub tree_is : IsTree position tree
-  pub earns : value ≡ capped (revenue_of position settled)
+  pub earns : value ≡ capped (revenue_of position assigned)
 
 -- a run is begun that has visited these stops, the first of them also before its first step
 pub record IsOnRun (position : Position) (tree : Tree) (begun : Begun) (used marks : List Bool)
-    (settled : List TrainRun) (steps : List Step) (stops : List Stop) : Type 0 where
+    (assigned : List TrainRun) (steps : List Step) (stops : List Stop) : Type 0 where
   pub tree_is : IsTree position tree
-  pub crossed : AreCrossed used (gone_over steps ++ run_borders settled)
+  pub crossed : AreCrossed used (gone_over steps ++ run_borders assigned)
   pub seen : AreVisited marks stops
   pub some : 1 ≤ length stops
-  pub value : begun.value ≡ capped (revenue_of position settled + worth position stops)
+  pub value : begun.value ≡ capped (revenue_of position assigned + worth position stops)
   pub later : begun.later ≡ capped (may_all_earn position (reached_in tree) (drop begun.next (trains_of_tree tree)))
   pub within : begun.next ≤ length (trains_of_tree tree)
   pub left : begun.left ≡ still_left (stops_of begun.kind) (length stops)
@@ -111,11 +111,11 @@ pub record Continues (steps : List Step) (stops : List Stop) (step : Step) : Typ
 
 -- the node there
 abbrev pub node_at : Tree → Begun → List TrainRun → List Step → Node
-node_at tree begun settled steps = node_of settled steps (begun.kind ∷ drop begun.next (trains_of_tree tree))
+node_at tree begun assigned steps = node_of assigned steps (begun.kind ∷ drop begun.next (trains_of_tree tree))
 
 -- the node at which the trains from a place on have not begun
 abbrev pub node_from : Tree → List TrainRun → ℕ → Node
-node_from tree settled place = node_of settled [] (drop place (trains_of_tree tree))
+node_from tree assigned place = node_of assigned [] (drop place (trains_of_tree tree))
 
 -- a step may be taken that is entered at an end: from a border or from a stop
 abbrev pub may_take : List Stop → Node → End → Step → Bool
@@ -124,10 +124,10 @@ may_take reached node (AtStop number) step = goes_over (taken_borders node) step
 
 -- the nodes at which the trains have set out from a place on, this many of them, the last train first
 abbrev pub set_outs : Position → Tree → List TrainRun → ℕ → ℕ → List Node
-set_outs position tree settled first zero = []
-set_outs position tree settled first (suc count) =
-    setting_out position tree.company (reached_in tree) (node_from tree settled (first + count))
-    ++ set_outs position tree settled first count
+set_outs position tree assigned first zero = []
+set_outs position tree assigned first (suc count) =
+    setting_out position tree.company (reached_in tree) (node_from tree assigned (first + count))
+    ++ set_outs position tree assigned first count
 
 module _ {S : Type 0} (decides : S → ℕ → Bool → Decision → S → Type 0) (position : Position) (tree : Tree) where
   -- a walk over nodes of the tree
@@ -139,7 +139,7 @@ module _ {S : Type 0} (decides : S → ℕ → Bool → Decision → S → Type 
 
   -- how far a walk comes over the nodes at which no run is begun, each the first child of the one before
   abbrev pub Descends : List TrainRun → ℕ → S → Option ℕ → S → Type 0
-  Descends settled first s None t = WalksOver s (node_from tree settled first ∷ []) false t
-  Descends settled first s (Some deepest) t =
+  Descends assigned first s None t = WalksOver s (node_from tree assigned first ∷ []) false t
+  Descends assigned first s (Some deepest) t =
       (first ≤ deepest) × (deepest ≤ length (trains_of_tree tree))
-      × LeavesOver s (node_from tree settled first ∷ []) t (set_outs position tree settled first (deepest - first))
+      × LeavesOver s (node_from tree assigned first ∷ []) t (set_outs position tree assigned first (deepest - first))

@@ -34,12 +34,12 @@ pub fn no_leaf_earns_more()
     ensures { NoLeafEarnsMore }
 {}
 
-/// The settled runs of each leaf are a legal set.
+/// The assigned runs of each leaf are a legal set.
 pub fn leaves_are_legal_sets()
     ensures { LeavesAreLegalSets }
 {}
 
-/// Each legal set is the settled runs of a leaf of the choice tree.
+/// Each legal set is the assigned runs of a leaf of the choice tree.
 pub fn legal_sets_are_leaves()
     ensures { LegalSetsAreLeaves }
 {}

@@ -12,7 +12,7 @@ ghost use Rattle.legal_runs.specs.Fault.{has_token, is_full};
 ghost use Rattle.legal_runs.specs.Legal.{listed, visited};
 ghost use Rattle.legal_runs.specs.Set.{TrainRun, revenue_of};
 ghost use Rattle.certificate.specs.Tree.{bound, from_stop, goes_over, leads_on, node_if, run_borders, setting_out};
-ghost use Rattle.certificate.specs.Tree.{taken_borders, with_step, with_steps, ways_at, ways_by, ways_from};
+ghost use Rattle.certificate.specs.Tree.{taken_borders, with_step, with_steps, steps_at, steps_by, steps_from};
 ghost use Rattle.certificate.specs.Walked.{capped};
 ghost use Rattle.certificate.specs.Walking.{AreCrossed, AreVisited, Continues, Descends, IsTree, is_none_left, IsOnRun};
 ghost use Rattle.certificate.specs.Walking.{IsBetweenRuns, WalksOver, may_take, node_at, node_from, reached_in};
@@ -34,7 +34,7 @@ pub(crate) struct Begun {
     pub(crate) next: usize,
     /// What the trains from there on may earn, in dollars.
     pub(crate) later: u64,
-    /// What the settled runs and the stops of this run earn, in dollars.
+    /// What the assigned runs and the stops of this run earn, in dollars.
     pub(crate) value: u64,
     /// How many stops the run may still visit; `None` for any number.
     pub(crate) left: Option<usize>,
@@ -79,7 +79,7 @@ impl Begun {
 
 /// The step that enters a link at an end.
 fn step_into(link: Link, end: End) -> Option<Step>
-    ensures { listed result ≡ ways_by end link }
+    ensures { listed result ≡ steps_by end link }
 {
     if link.a == end {
         return Some(Step {
@@ -95,10 +95,10 @@ fn step_into(link: Link, end: End) -> Option<Step>
 
 /// Asks at a node where a run is begun.
 fn ask<D: Decider>(tree: &Tree, begun: &Begun, seen: &StopMarks, decider: &mut D) -> Decision
-    ensures { (position : Position) (crossed : List Bool) (settled : List TrainRun)
+    ensures { (position : Position) (crossed : List Bool) (assigned : List TrainRun)
         (steps : List Step) →
-        IsOnRun position tree.now begun.now crossed seen.now settled steps (visited steps) →
-        let node = node_at tree.now begun.now settled steps in
+        IsOnRun position tree.now begun.now crossed seen.now assigned steps (visited steps) →
+        let node = node_at tree.now begun.now assigned steps in
         let amount = capped (bound position (reached_in tree.now) node) in
         D.decides decider.old amount false result decider.new }
 {
@@ -114,10 +114,10 @@ fn ask<D: Decider>(tree: &Tree, begun: &Begun, seen: &StopMarks, decider: &mut D
 /// the first child of the one before: down to the first that is not split, or to the leaf. The answer
 /// is how far it came: the trains before that place are to set out. It is `None` where the walk ends.
 fn descend<D: Decider>(tree: &Tree, value: u64, first: usize, decider: &mut D) -> Option<usize>
-    ensures { (position : Position) (settled : List TrainRun) →
-        IsBetweenRuns position tree.now value settled →
+    ensures { (position : Position) (assigned : List TrainRun) →
+        IsBetweenRuns position tree.now value assigned →
         first ≤ length (trains_of_tree tree.now) →
-        Descends D.decides position tree.now settled first decider.old result decider.new }
+        Descends D.decides position tree.now assigned first decider.old result decider.new }
 {
     for place in first..tree.count {
         let bound = value.saturating_add(tree.may_earn_from(place));
@@ -144,11 +144,11 @@ pub(crate) fn choose<N: Network, D: Decider>(
     used: &mut Used,
     decider: &mut D,
 ) -> bool
-    ensures walks { (settled : List TrainRun) →
-        IsBetweenRuns (N.position network.now) tree.now value settled →
-        AreCrossed used.old (run_borders settled) →
+    ensures walks { (assigned : List TrainRun) →
+        IsBetweenRuns (N.position network.now) tree.now value assigned →
+        AreCrossed used.old (run_borders assigned) →
         first ≤ length (trains_of_tree tree.now) →
-        let nodes = node_from tree.now settled first ∷ [] in
+        let nodes = node_from tree.now assigned first ∷ [] in
         WalksOver D.decides (N.position network.now) tree.now decider.old nodes result decider.new }
     ensures used { used.new ≡ used.old }
 {
@@ -175,12 +175,12 @@ fn set_out<N: Network, D: Decider>(
     used: &mut Used,
     decider: &mut D,
 ) -> bool
-    ensures walks { (settled : List TrainRun) →
-        IsBetweenRuns (N.position network.now) tree.now value settled →
-        AreCrossed used.old (run_borders settled) →
+    ensures walks { (assigned : List TrainRun) →
+        IsBetweenRuns (N.position network.now) tree.now value assigned →
+        AreCrossed used.old (run_borders assigned) →
         place < length (trains_of_tree tree.now) →
         let position = N.position network.now in
-        let node = node_from tree.now settled place in
+        let node = node_from tree.now assigned place in
         let nodes = setting_out position tree.now.company (reached_in tree.now) node in
         WalksOver D.decides position tree.now decider.old nodes result decider.new }
     ensures used { used.new ≡ used.old }
@@ -221,13 +221,13 @@ fn leave<N: Network, D: Decider>(
     seen: &mut StopMarks,
     decider: &mut D,
 ) -> bool
-    ensures walks { (settled : List TrainRun) (steps : List Step) (stops : List Stop) →
-        IsOnRun (N.position network.now) tree.now begun.now used.old seen.old settled steps stops →
+    ensures walks { (assigned : List TrainRun) (steps : List Step) (stops : List Stop) →
+        IsOnRun (N.position network.now) tree.now begun.now used.old seen.old assigned steps stops →
         ((step : Step) → stop_of (entered_at step) ≡ Some stop → Continues steps stops step) →
         joined_stop_of stop ≡ stop →
         let position = N.position network.now in
-        let node = node_at tree.now begun.now settled steps in
-        let nodes = with_steps (goes_over (taken_borders node)) node (ways_from position stop) in
+        let node = node_at tree.now begun.now assigned steps in
+        let nodes = with_steps (goes_over (taken_borders node)) node (steps_from position stop) in
         WalksOver D.decides position tree.now decider.old nodes result decider.new }
     ensures used { used.new ≡ used.old }
     ensures seen { seen.new ≡ seen.old }
@@ -255,13 +255,13 @@ fn follow<N: Network, D: Decider>(
     seen: &mut StopMarks,
     decider: &mut D,
 ) -> bool
-    ensures walks { (settled : List TrainRun) (steps : List Step) (stops : List Stop) →
-        IsOnRun (N.position network.now) tree.now begun.now used.old seen.old settled steps stops →
+    ensures walks { (assigned : List TrainRun) (steps : List Step) (stops : List Stop) →
+        IsOnRun (N.position network.now) tree.now begun.now used.old seen.old assigned steps stops →
         ((step : Step) → entered_at step ≡ at → Continues steps stops step) →
         let position = N.position network.now in
-        let node = node_at tree.now begun.now settled steps in
+        let node = node_at tree.now begun.now assigned steps in
         let test = may_take (reached_in tree.now) node at.end in
-        let nodes = with_steps test node (ways_at position at.hex at.end) in
+        let nodes = with_steps test node (steps_at position at.hex at.end) in
         WalksOver D.decides position tree.now decider.old nodes result decider.new }
     ensures used { used.new ≡ used.old }
     ensures seen { seen.new ≡ seen.old }
@@ -288,13 +288,13 @@ fn take<N: Network, D: Decider>(
     seen: &mut StopMarks,
     decider: &mut D,
 ) -> bool
-    ensures walks { (settled : List TrainRun) (steps : List Step) (stops : List Stop) →
-        IsOnRun (N.position network.now) tree.now begun.now used.old seen.old settled steps stops →
+    ensures walks { (assigned : List TrainRun) (steps : List Step) (stops : List Stop) →
+        IsOnRun (N.position network.now) tree.now begun.now used.old seen.old assigned steps stops →
         IsAmong link (links_of (N.position network.now) at.hex) →
         ((step : Step) → entered_at step ≡ at → Continues steps stops step) →
-        let node = node_at tree.now begun.now settled steps in
+        let node = node_at tree.now begun.now assigned steps in
         let test = may_take (reached_in tree.now) node at.end in
-        let nodes = with_steps test node (ways_by at.end link) in
+        let nodes = with_steps test node (steps_by at.end link) in
         WalksOver D.decides (N.position network.now) tree.now
         decider.old nodes result decider.new }
     ensures used { used.new ≡ used.old }
@@ -334,11 +334,11 @@ fn cross<N: Network, D: Decider>(
     seen: &mut StopMarks,
     decider: &mut D,
 ) -> bool
-    ensures walks { (settled : List TrainRun) (steps : List Step) (stops : List Stop) →
+    ensures walks { (assigned : List TrainRun) (steps : List Step) (stops : List Stop) →
         (step : Step) →
-        IsOnRun (N.position network.now) tree.now begun.now used.old seen.old settled steps stops →
+        IsOnRun (N.position network.now) tree.now begun.now used.old seen.old assigned steps stops →
         Continues steps stops step → left_at step ≡ head → stop_of head ≡ None →
-        let node = node_at tree.now begun.now settled steps in
+        let node = node_at tree.now begun.now assigned steps in
         let nodes = node_if (goes_over (taken_borders node) step) (with_step node step) in
         WalksOver D.decides (N.position network.now) tree.now
         decider.old nodes result decider.new }
@@ -372,11 +372,11 @@ fn at_border<N: Network, D: Decider>(
     seen: &mut StopMarks,
     decider: &mut D,
 ) -> bool
-    ensures walks { (settled : List TrainRun) (before : List Step) (step : Step) →
+    ensures walks { (assigned : List TrainRun) (before : List Step) (step : Step) →
         let steps = step ∷ before in let stops = visited steps in
-        IsOnRun (N.position network.now) tree.now begun.now used.old seen.old settled steps stops →
+        IsOnRun (N.position network.now) tree.now begun.now used.old seen.old assigned steps stops →
         stop_of (left_at step) ≡ None → across (left_at step) ≡ Some beyond →
-        let nodes = node_at tree.now begun.now settled steps ∷ [] in
+        let nodes = node_at tree.now begun.now assigned steps ∷ [] in
         WalksOver D.decides (N.position network.now) tree.now
         decider.old nodes result decider.new }
     ensures used { used.new ≡ used.old }
@@ -400,11 +400,11 @@ fn at_stop<N: Network, D: Decider>(
     seen: &mut StopMarks,
     decider: &mut D,
 ) -> bool
-    ensures walks { (settled : List TrainRun) (before : List Step) (step : Step) →
+    ensures walks { (assigned : List TrainRun) (before : List Step) (step : Step) →
         let steps = step ∷ before in let stops = visited steps in
-        IsOnRun (N.position network.now) tree.now begun.now used.old seen.old settled steps stops →
+        IsOnRun (N.position network.now) tree.now begun.now used.old seen.old assigned steps stops →
         2 ≤ length stops → stop_of (left_at step) ≡ Some stop →
-        let nodes = node_at tree.now begun.now settled steps ∷ [] in
+        let nodes = node_at tree.now begun.now assigned steps ∷ [] in
         WalksOver D.decides (N.position network.now) tree.now
         decider.old nodes result decider.new }
     ensures used { used.new ≡ used.old }
@@ -435,12 +435,12 @@ fn pass<N: Network, D: Decider>(
     seen: &mut StopMarks,
     decider: &mut D,
 ) -> bool
-    ensures walks { (settled : List TrainRun) (before : List Step) (step : Step) →
+    ensures walks { (assigned : List TrainRun) (before : List Step) (step : Step) →
         let steps = step ∷ before in let stops = visited steps in
-        IsOnRun (N.position network.now) tree.now begun.now used.old seen.old settled steps stops →
+        IsOnRun (N.position network.now) tree.now begun.now used.old seen.old assigned steps stops →
         stop_of (left_at step) ≡ Some stop →
         let position = N.position network.now in
-        let node = node_at tree.now begun.now settled steps in
+        let node = node_at tree.now begun.now assigned steps in
         let reached = reached_in tree.now in
         let nodes = from_stop position tree.now.company reached node begun.now.kind stop in
         WalksOver D.decides position tree.now decider.old nodes result decider.new }

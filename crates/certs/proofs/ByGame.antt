@@ -16,10 +16,10 @@ use Rattle.tables.specs.declared.seat.Seat.{Seat}
 use Rattle.tables.specs.declared.squares.Square.{Square}
 
 -- as many certificates count by the holdings of a game as it stood as by its events
-pub counted_at : (past : GameView) (holdings : Holdings) (seat : Seat) → AreHoldingsAt past holdings → seat.0 < 6
-    → counted_in holdings seat ≡ counted_of past.events.now seat
-counted_at past holdings seat are few =
-    let events = past.events.now in
+pub counted_at : (view : GameView) (holdings : Holdings) (seat : Seat) → AreHoldingsAt view holdings → seat.0 < 6
+    → counted_in holdings seat ≡ counted_of view.events.now seat
+counted_at view holdings seat are few =
+    let events = view.events.now in
     let by_table : Company → ℤ = λ company. certificates_of seat (square_in holdings company)
     (president_in holdings company) (shares_in holdings company (OfSeat seat)) in
     let by_list : Company → ℤ = λ company. certificates_of seat (square_of events company)

@@ -3,7 +3,7 @@ mod Moves
 mod Transfers
 pub mod Presidents
 mod Counts
-mod NoteLemmas
+mod CompanyTableLemmas
 pub mod ByGame
 mod ShareDeals
 pub mod PresidesByGame

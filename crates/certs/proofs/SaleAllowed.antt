@@ -154,12 +154,12 @@ still_may_sell seats before after seat sale same may =
 pub may_sell_after : (old new : Game) (event : Event) (seat : Seat) (sale : Sale) (operating : Option Company)
     → new ≡ with_event old event → IsQuiet event → sale_judgement old.seats old.events seat sale operating ≡ None
     → MaySell new.seats new.events seat sale
-may_sell_after old new event seat sale operating told quiet none =
-    subst (λ (game : Game). MaySell game.seats game.events seat sale) (sym told)
+may_sell_after old new event seat sale operating recorded quiet none =
+    subst (λ (game : Game). MaySell game.seats game.events seat sale) (sym recorded)
     (still_may_sell old.seats old.events (old.events ++ event ∷ []) seat sale (quiet_same old.events event quiet)
     (sale_allowed old.seats old.events seat sale operating none))
 
--- few shares come to a pool that has none too few and comes to at most five
+-- few shares go to a pool that has none too few and has at most five then
 few_come : (pooled : ℤ) (shares : ℕ) → pos 0 ≤ℤ pooled → lt_z (pos 5) (pooled +ℤ pos shares) ≡ false → shares ≤ 5
 few_come pooled shares some pool = grind (arith, ints, some, pool)
 

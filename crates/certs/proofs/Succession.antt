@@ -35,7 +35,7 @@ succession_sound game company old is sound =
 -- the presidency that follows from a change
 pub president_sound : (game new : Game) (company : Company) → new.seats ≡ game.seats
     → new.events ≡ with_president game.seats game.events company → IsSound game → IsSound new
-president_sound game new company seats told sound =
+president_sound game new company seats recorded sound =
     let after : IsSound (record { seats = game.seats; events = with_president game.seats game.events company }) =
     elim (president_of game.events company) as (λ (found : Option Seat). president_of game.events company ≡ found
     → IsSound (record { seats = game.seats; events = with_successor game.seats game.events company found })) [
@@ -44,4 +44,4 @@ president_sound game new company seats told sound =
     ]
     refl
     in
-    same_game new game.seats (with_president game.seats game.events company) seats told after
+    same_game new game.seats (with_president game.seats game.events company) seats recorded after

@@ -38,7 +38,7 @@ pub record AreHoldingsOf (game : Game) (holdings : Holdings) : Type 0 where
 
 -- the holdings are those of a game as it stood
 abbrev pub AreHoldingsAt : GameView → Holdings → Type 0
-AreHoldingsAt past holdings = AreHoldingsOf (record { seats = past.seats; events = past.events.now }) holdings
+AreHoldingsAt view holdings = AreHoldingsOf (record { seats = view.seats; events = view.events.now }) holdings
 
 -- a transfer moves its shares, and nothing else
 pub record MovesShares (old new : Holdings) (transfer : Transfer) : Type 0 where

@@ -1,5 +1,5 @@
 pub mod Rows
-pub mod Notes
+pub mod CompanyTables
 pub mod Holdings
 pub mod President
 pub mod Counted

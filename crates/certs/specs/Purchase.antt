@@ -30,7 +30,7 @@ use Rattle.tables.specs.declared.squares.Square.{Square}
 use Rattle.tables.specs.declared.squares.Zone.{Zone}
 use Rattle.tables.specs.declared.squares.Zone.TheVariants.{White, Yellow, Orange, Brown}
 
--- the company of which is bought
+-- the company whose share is bought
 abbrev pub company_of : Purchase → Company
 company_of (Par company price) = company
 company_of (Share company from) = company

@@ -34,7 +34,7 @@ impl Certificates for Holdings {
 
 /// By the events.
 impl Certificates for GameView<'_> {
-    ghost certificates = { λ past. certificates_now past.events.now };
+    ghost certificates = { λ view. certificates_now view.events.now };
 
     fn certificates_of(&self, seat: Seat, company: Company) -> ShareCount {
         let shares = self.shares(company, Shareholder::Seat(seat));
@@ -54,10 +54,10 @@ impl Holdings {
 }
 
 /// As many by the events of a game, of which the totals are read.
-pub(crate) fn counted_now(past: &GameView, seat: Seat) -> ShareCount
-    ensures { result ≡ counted_of past.now.events.now seat }
+pub(crate) fn counted_now(view: &GameView, seat: Seat) -> ShareCount
+    ensures { result ≡ counted_of view.now.events.now seat }
 {
-    counted(&past.owners(), past, seat)
+    counted(&view.owners(), view, seat)
 }
 
 /// How many certificates of a seat count: its privates, and those of each company.

@@ -15,7 +15,7 @@ pub enum Purchase {
 }
 
 impl Purchase {
-    /// The company of which is bought.
+    /// The company whose share is bought.
     pub fn company(self) -> Company
         ensures { result ≡ company_of self }
     {
@@ -38,7 +38,7 @@ impl Purchase {
 /// What a seat sells: this many shares of a company, as one block.
 #[derive(Clone, Copy, Debug, PartialEq, Eq)]
 pub struct Sale {
-    /// The company of which is sold.
+    /// The company whose shares are sold.
     pub company: Company,
     /// How many shares.
     pub shares: Amount,

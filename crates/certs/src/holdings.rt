@@ -3,7 +3,7 @@ ghost use Rattle.certs.specs.Rows.{AreBounded, HasPlace};
 ghost use Rattle.events.specs.declared.event.Shareholder.{Shareholder};
 ghost use Rattle.tables.specs.declared.roster.Company.{Company};
 
-use crate::notes::{Notes, notes_of};
+use crate::company_tables::{CompanyTables, company_tables_of};
 use crate::rows::{Row, index_of, moved};
 use history::{GameView, History, Owners, ShareCount, Shareholder, Transfer};
 use tables::{Company, Seat, Square};
@@ -30,20 +30,20 @@ impl Holdings {
     }
 
     /// The holdings of a game as it stood, read from the totals that it kept of its events.
-    pub fn at(past: &GameView) -> Holdings
-        ensures { AreHoldingsAt past.now result }
+    pub fn at(view: &GameView) -> Holdings
+        ensures { AreHoldingsAt view.now result }
     {
-        let Notes {
+        let CompanyTables {
             shares,
             presidents,
             squares,
-        } = notes_of(past);
+        } = company_tables_of(view);
         Holdings {
-            seats: past.seats,
+            seats: view.seats,
             shares,
             presidents,
             squares,
-            owners: past.owners(),
+            owners: view.owners(),
         }
     }
 

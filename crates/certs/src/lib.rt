@@ -6,7 +6,7 @@
 //! purchase and of a sale are looked at in the order of their numbers, and the first that is broken
 //! is the answer.
 //!
-//! Reading order: `holdings`, `notes` (the tables that they are made of), `rows` (the shares of one
+//! Reading order: `holdings`, `company_tables` (what they are made of), `rows` (the shares of one
 //! company), `president`, `counted` (the certificates that count), `deal` (what is bought and
 //! sold), `purchase`, `sale`, `sell` (what a sale brings), `laws` (what the presidency goes by, and
 //! that it and what counts are the same by the events of a game).
@@ -16,7 +16,7 @@ mod counted;
 mod deal;
 mod holdings;
 pub mod laws;
-mod notes;
+mod company_tables;
 mod president;
 mod purchase;
 mod rows;

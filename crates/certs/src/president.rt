@@ -26,7 +26,7 @@ impl SharesOfSeats for Holdings {
 
 /// By the events.
 impl SharesOfSeats for GameView<'_> {
-    ghost shares = { λ past. seat_shares_of past.events.now };
+    ghost shares = { λ view. seat_shares_of view.events.now };
 
     fn shares_of_seat(&self, company: Company, seat: Seat) -> ShareCount {
         self.shares(company, Shareholder::Seat(seat))
@@ -48,10 +48,10 @@ impl Holdings {
 /// Who presides over a company by the shares that the game tells, where this seat presided: it stays
 /// unless some seat has strictly more shares; then it is the seat with most, among equals the first
 /// to its left.
-pub fn successor(past: &GameView, company: Company, old: Seat) -> Seat
-    ensures { result ≡ successor_of past.now.seats past.now.events.now company old }
+pub fn successor(view: &GameView, company: Company, old: Seat) -> Seat
+    ensures { result ≡ successor_of view.now.seats view.now.events.now company old }
 {
-    with_most(past, company, past.seats, old)
+    with_most(view, company, view.seats, old)
 }
 
 /// The seat with most shares of a company at a table of this many seats, among equals the first from

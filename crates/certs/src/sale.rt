@@ -17,8 +17,8 @@ const POOL_MOST: ShareCount = 5;
 /// The shares of a president's certificate.
 const PRESIDENT_SHARES: ShareCount = 2;
 
-/// Whether a seat may sell. A sale to pay for a train of an operating company is
-/// told which that is. An `Err` is the first rule that the sale breaks, of S2 to S5 and S9.
+/// Whether a seat may sell. A sale to pay for a train of an operating company is given which that
+/// is. An `Err` is the first rule that the sale breaks, of S2 to S5 and S9.
 pub fn may_sell(
     history: &History,
     seat: Seat,

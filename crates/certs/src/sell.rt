@@ -54,8 +54,8 @@ fn pay_for_block(
     Ok(())
 }
 
-/// Tells who presides over a company, where the presidency has moved by a change of its shares. It
-/// fails only if memory is refused.
+/// Records who presides over a company, where the presidency has moved by a change of its shares.
+/// It fails only if memory is refused.
 pub fn record_president(history: &mut History, company: Company) -> Result<(), AllocError>
     ensures seats { OnOk result (history.new.seats ≡ history.old.seats) }
     ensures events { OnOk result (history.new.events
@@ -68,7 +68,7 @@ pub fn record_president(history: &mut History, company: Company) -> Result<(), A
     record_successor(history, company, old, new)
 }
 
-/// Tells that a seat presides in place of another, where it is another.
+/// Records that a seat presides in place of another, where it is another.
 fn record_successor(
     history: &mut History,
     company: Company,

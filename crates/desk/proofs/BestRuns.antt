@@ -1,4 +1,4 @@
--- The best runs by what lies on a board are those by what lies in the game that it is of.
+-- The best runs by the map state of a board are those by the map state of its game.
 use Rattle.std.proofs.Common.{◌≡◌, ℕ, List, subst}
 use Rattle.board_state.specs.MapState.{MapState, position_of}
 use Rattle.legal_runs.specs.Claim.{ClaimHolds}

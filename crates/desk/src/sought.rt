@@ -74,7 +74,7 @@ fn private_of(order: &Order) -> Option<Private> {
     }
 }
 
-/// The company of which an order buys or sells shares, if it does.
+/// The company whose shares an order buys or sells, if it does.
 fn company_of(order: &Order) -> Option<Company> {
     match order {
         Order::Par { company, .. }

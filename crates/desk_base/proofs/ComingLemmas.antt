@@ -111,7 +111,7 @@ sets_next awaited count was (Operating set number) in_set sold false events stil
       stays = λ is. absurd (true≢false (sym (still is)));
     })
 
--- a round that is ahead and stands within its set may come
+-- a round that is ahead and is within its set may come
 in_time : (set : ℕ) (broken : Bool) (its : ℕ) → (broken ≡ true → its ≡ set) → is_in_time set broken its ≡ true
 in_time set true its stays =
     let same : its ≡ set = stays refl in
@@ -137,11 +137,11 @@ both_hold false b first second = absurd (true≢false (sym first))
 comes_in : (awaited : Round) (count : ℕ) (broken : Bool) (round : Round) (in_set : ℕ)
     → InSets awaited count broken round in_set →
     IsInSet round in_set → may_come (set_of awaited) count broken round ≡ true
-comes_in awaited count broken (Opening number) in_set ahead stands = refl
-comes_in awaited count broken (Stock set) in_set ahead stands = in_time (set_of awaited) broken set ahead.stays
-comes_in awaited count broken (Operating set number) in_set ahead stands =
+comes_in awaited count broken (Opening number) in_set ahead within_set = refl
+comes_in awaited count broken (Stock set) in_set ahead within_set = in_time (set_of awaited) broken set ahead.stays
+comes_in awaited count broken (Operating set number) in_set ahead within_set =
     both_hold (nat_le number (most_in_set (set_of awaited) count set)) (is_in_time (set_of awaited) broken set)
-    (within_most (set_of awaited) count set in_set number ahead.number stands.within stands.few)
+    (within_most (set_of awaited) count set in_set number ahead.number within_set.within within_set.few)
     (in_time (set_of awaited) broken set ahead.stays)
 
 -- ahead of where a game stopped
@@ -150,7 +150,7 @@ record IsAhead (awaited : Round) (count : ℕ) (broken : Bool) (there : Between)
   sets : (round : Round) → there.next ≡ next.Round round → InSets awaited count broken round there.in_set
   opens : (round : Round) → there.next ≡ next.Round round → OpensWith round there.game.events there.in_set
   still : broken ≡ true → broken_in there.game.events ≡ true
-  stands : IsNextInSet there
+  within_set : IsNextInSet there
 
 -- a broken bank stays broken through a round
 broken_through : (round : Round) (old new : Game) → AddsRound round old new → broken_in old.events ≡ true
@@ -178,7 +178,7 @@ module _ (adds : RoundsOnlyAdd) (numbered : SheetsAreNumbered) (file : List ℕ)
             λ later comes.
             let before : rank_of awaited ≤ rank_of round.round = ahead.order round.round round.comes in
             let forward = played_forward numbered file round.round later old.in_set sold (broken_in events) some
-            (ahead.stands round.round round.comes) round.posted (follows file old new later round comes) in
+            (ahead.within_set round.round round.comes) round.posted (follows file old new later round comes) in
             omega (arith, before, forward);
         sets =
             λ later comes.
@@ -196,7 +196,7 @@ module _ (adds : RoundsOnlyAdd) (numbered : SheetsAreNumbered) (file : List ℕ)
             (following round.round old.in_set sold (broken_in events)) later (follows file old new later round comes)
             (opens_next round.round events old.in_set sold (broken_in events) opens));
         still = still;
-        stands = round_in_set file old new ahead.stands round;
+        within_set = round_in_set file old new ahead.within_set round;
       }
 
   -- so do all that follow
@@ -246,7 +246,7 @@ first_ahead file rounds last awaited reached comes =
           (record { later = omega arith; number = λ same. refl; stays = λ broken. refl });
       opens = game_opens file rounds last reached;
       still = λ is. is;
-      stands = comes_in_set file rounds last reached;
+      within_set = comes_in_set file rounds last reached;
     }
 
 -- once a game is over no round comes
@@ -279,7 +279,7 @@ module _ (adds : RoundsOnlyAdd) (numbered : SheetsAreNumbered) (few : ThreeToSix
         round)
         (not_before awaited round (ahead.order round comes))
         (comes_in awaited last.in_set (broken_in last.game.events) round there.in_set (ahead.sets round comes)
-        (ahead.stands round comes))
+        (ahead.within_set round comes))
 
     -- so it can come
     comes_so : (upcoming : Next) → last.next ≡ upcoming → can_come played.end played.game.events round ≡ true

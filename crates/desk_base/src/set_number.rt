@@ -69,7 +69,7 @@ pub(crate) fn number_after(history: &History, end: End) -> u8
     }
 }
 
-/// The phase and the set that a list of events has come to.
+/// The phase and the set that a list of events has reached.
 fn set_of(events: &[Event]) -> SetSoFar
     ensures { result ≡ set_of events.now }
 {

@@ -7,7 +7,7 @@ use tables::Company;
 /// The least byte that is printed as it is, and the greatest.
 const PRINTABLE: (u8, u8) = (b' ', b'~');
 
-/// Adds words as they stand.
+/// Adds words as they are.
 pub fn push_words(out: &mut Vec<u8>, words: &str) -> Result<(), AllocError> {
     out.extend_from_slice(words.as_bytes())
 }

@@ -3,4 +3,4 @@ pub mod HeadLemmas
 pub mod NameLemmas
 pub mod RoundLemmas
 pub mod SentLemmas
-pub mod Telling
+pub mod Adding

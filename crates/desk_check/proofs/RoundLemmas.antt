@@ -121,10 +121,10 @@ module _ (seats : ℕ) (heads : List HeadAt) where
       ∙ or_assoc (cond (same_round key round) (Some (by_then seats heads now (rounds ++ key ∷ []))) None)
       (ready_among seats heads now rounds round) here
 
--- an event that begins no round is noted
-pub none_noted : (heads : Heads) (rounds : Rounds) (events : List Event) (event : Event) → round_begun_by event ≡ None →
-    AreRoundsOf heads rounds events → AreRoundsOf heads rounds (events ++ event ∷ [])
-none_noted heads rounds events event none are =
+-- an event that begins no round is applied
+pub none_applied : (heads : Heads) (rounds : Rounds) (events : List Event) (event : Event)
+    → round_begun_by event ≡ None → AreRoundsOf heads rounds events → AreRoundsOf heads rounds (events ++ event ∷ [])
+none_applied heads rounds events event none are =
     let same : rounds_begun (events ++ event ∷ []) ≡ rounds_begun events =
     begun_with_one events event ∙ ap (λ o. rounds_begun events ++ with_round o []) none
     ∙ append-nil (rounds_begun events) in
@@ -134,14 +134,14 @@ none_noted heads rounds events event none are =
       by = are.by ∙ sym (ap (by_then heads.seats (came heads) 0) same);
     }
 
--- an event that begins a round is noted
-pub one_noted : (heads : Heads) (old new : Rounds) (events : List Event) (event : Event) (key : Round)
+-- an event that begins a round is applied
+pub one_applied : (heads : Heads) (old new : Rounds) (events : List Event) (event : Event) (key : Round)
     → round_begun_by event ≡ Some key →
     ((round : Round) → lookup (derived.eq-value.it round) new.lines.entries
     ≡ cond (derived.eq-value.it key round) (Some new.by) (lookup (derived.eq-value.it round) old.lines.entries)) →
     new.by ≡ by_with heads.seats (came heads) old.by key → AreRoundsOf heads old events
     → AreRoundsOf heads new (events ++ event ∷ [])
-one_noted heads old new events event key begins put by are =
+one_applied heads old new events event key begins put by are =
     let seats = heads.seats in
     let heads_came = came heads in
     let begun : rounds_begun (events ++ event ∷ []) ≡ rounds_begun events ++ key ∷ [] =

@@ -14,9 +14,9 @@ came heads = map head_at heads.heads.items
 abbrev pub FirstsAre : Heads → List HeadAt → Type 0
 FirstsAre kept heads = (sent : Sent) → get same_sent kept.first sent ≡ first_line (sheet_key_of sent) heads
 
--- a line that begins a sheet is noted, if it is the first that does
-abbrev pub NotesFirst : Heads → Sent → ℕ → Heads → Type 0
-NotesFirst old sent line new =
+-- a line that begins a sheet is recorded, if it is the first that does
+abbrev pub RecordsFirst : Heads → Sent → ℕ → Heads → Type 0
+RecordsFirst old sent line new =
     (heads : List HeadAt) → FirstsAre old heads → FirstsAre new
     (heads ++ record { line = line; sheet_key = sheet_key_of sent } ∷ [])
 

@@ -94,7 +94,7 @@ abbrev pub turned : Option Turn → ℕ → Standing → Option (Standing × Sta
 turned None line now = None
 turned (Some turn) line now = if turn.line == line then Some (turn.standing, now) else None
 
--- what is told of a line that begins a sheet in place of that of another
+-- what there is to say of a line that begins a sheet in place of that of another
 abbrev pub replacing : Heads → Rounds → Option Turn → Standing → Head → ℕ → Finding
 replacing heads rounds turn now head replaced =
     finding head.line
@@ -106,13 +106,13 @@ abbrev pub replacing_if : Heads → Rounds → Option Turn → Standing → Head
 replacing_if heads rounds turn now head None = []
 replacing_if heads rounds turn now head (Some replaced) = replacing heads rounds turn now head replaced ∷ []
 
--- what is told of a head
-abbrev pub told_of : Heads → Rounds → Option Turn → Standing → Head → List Finding
-told_of heads rounds turn now head = replacing_if heads rounds turn now head head.replaces
+-- what there is to say of a head
+abbrev pub findings_of : Heads → Rounds → Option Turn → Standing → Head → List Finding
+findings_of heads rounds turn now head = replacing_if heads rounds turn now head head.replaces
 
--- of each sheet that replaces another it is told that it does, and what that changes
-pub record TellsReplaced (file : List ℕ) (heads : Heads) (rounds : Rounds) (now : Standing)
+-- each sheet that replaces another is a finding, with what that changes
+pub record AddsReplaced (file : List ℕ) (heads : Heads) (rounds : Rounds) (now : Standing)
     (old new : List Finding) : Type 0 where
   pub turn : Option Turn
   pub turns : TurnsBefore file heads (turning_of heads rounds).head turn
-  pub told : new ≡ old ++ flat_map (told_of heads rounds turn now) heads.heads.items
+  pub added : new ≡ old ++ flat_map (findings_of heads rounds turn now) heads.heads.items

@@ -52,7 +52,7 @@ pub record AreRoundsOf (heads : Heads) (rounds : Rounds) (events : List Event) :
   pub ready : (round : Round) → line_kept rounds round ≡ ready_by heads events round
   pub by : rounds.by ≡ by_then heads.seats (came heads) 0 (rounds_begun events)
 
--- one more event is noted
-abbrev pub NotesEvent : Heads → Rounds → Event → Rounds → Type 0
-NotesEvent heads old event new =
+-- one more event is applied
+abbrev pub AppliesEvent : Heads → Rounds → Event → Rounds → Type 0
+AppliesEvent heads old event new =
     (events : List Event) → AreRoundsOf heads old events → AreRoundsOf heads new (events ++ event ∷ [])

@@ -3,7 +3,7 @@
 use Rattle.std.specs.Prelude.{Bool, true, false, if◌then◌else◌, Result, Ok, Err}
 use Rattle.desk_check.specs.declared.check_early.Look.{Look}
 use Rattle.desk_check.specs.declared.check_early.Look.TheVariants.{Head, Good, Bad}
-use Rattle.purchases.specs.Standing.{has_place_before as is_before_blocks}
+use Rattle.purchases.specs.Standing.{has_place_before as is_before_orders}
 use Rattle.order_grammar.specs.declared.fault.Fault.{Fault}
 use Rattle.order_grammar.specs.declared.fault.Fault.TheVariants.{OutOfPlace}
 use Rattle.order_grammar.specs.declared.order.Order.{Order}
@@ -18,24 +18,24 @@ use Rattle.turns.specs.Ruling.{has_place_in_turn}
 abbrev pub has_place_before : Round → Order → Bool
 has_place_before (Opening number) its = is_before_turns its
 has_place_before (Stock set) its = false
-has_place_before (Operating set number) its = is_before_blocks its
+has_place_before (Operating set number) its = is_before_orders its
 
--- the order has a place in a block, as `operating: OrderLeads` has it
-abbrev pub has_place_in_block : Order → Bool
-has_place_in_block (order.Lay lay) = true
-has_place_in_block (order.Token place) = true
-has_place_in_block (order.Run kind run) = true
-has_place_in_block order.RunBest = true
-has_place_in_block order.Pay = true
-has_place_in_block order.Withhold = true
-has_place_in_block (order.BuyTrain kind from) = true
-has_place_in_block (order.BuyOwnedPrivate private price) = true
-has_place_in_block (order.Raise company shares) = true
-has_place_in_block other = false
+-- the order has a place in a company's orders, as `operating: OrderLeads` has it
+abbrev pub has_place_in_orders : Order → Bool
+has_place_in_orders (order.Lay lay) = true
+has_place_in_orders (order.Token place) = true
+has_place_in_orders (order.Run kind run) = true
+has_place_in_orders order.RunBest = true
+has_place_in_orders order.Pay = true
+has_place_in_orders order.Withhold = true
+has_place_in_orders (order.BuyTrain kind from) = true
+has_place_in_orders (order.BuyOwnedPrivate private price) = true
+has_place_in_orders (order.Raise company shares) = true
+has_place_in_orders other = false
 
 -- the order has a place behind a head of a sheet for this round
 abbrev pub has_place_behind : Round → Order → Bool
-has_place_behind (Operating set number) its = has_place_in_block its
+has_place_behind (Operating set number) its = has_place_in_orders its
 has_place_behind round its = has_place_in_turn its
 
 -- the order has a place where it is, behind a head or before the first

@@ -1,7 +1,8 @@
 //! Sheets for rounds that are not played yet: whether the round can come, and the faults of their lines.
 ghost use Rattle.std.specs.Prelude.{◌≡◌, Ok};
 ghost use Rattle.desk_check.specs.Heads.{AreKept};
-ghost use Rattle.desk_check.specs.Unplayed.{has_place, has_place_before, has_place_behind, has_place_in_block, look_of};
+ghost use Rattle.desk_check.specs.Unplayed.{has_place, has_place_before, has_place_behind, has_place_in_orders};
+ghost use Rattle.desk_check.specs.Unplayed.{look_of};
 ghost use Rattle.sheets.specs.Part.{line_unread, opens_part};
 
 use crate::check_found::{Found, Matter};
@@ -31,13 +32,13 @@ pub(crate) fn find_unplayed<'a>(
             continue;
         }
         if !can_come(game, head.sent.round) {
-            found.tell(&head.line, Matter::Never(end))?;
+            found.add(&head.line, Matter::Never(end))?;
             continue;
         }
         if let End::Awaiting(awaited) = end
             && awaited != head.sent.round
         {
-            found.tell(&head.line, Matter::Early(awaited))?;
+            found.add(&head.line, Matter::Early(awaited))?;
         }
         find_faults(head, game.sheets().version(), found)?;
     }
@@ -73,7 +74,7 @@ fn find_faults<'a>(
             Look::Head => is_open = true,
             Look::Good => {}
             Look::Bad(_) if is_mail(line.text) => {}
-            Look::Bad(fault) => found.tell_line(&line, Matter::Faulty(fault))?,
+            Look::Bad(fault) => found.add_line(&line, Matter::Faulty(fault))?,
         }
     }
     Ok(())
@@ -82,7 +83,7 @@ fn find_faults<'a>(
 /// What a line of a sheet is that is not played yet.
 #[derive(Clone, Copy)]
 enum Look {
-    /// The head of a written turn or a block.
+    /// The head of a written turn or a company's orders.
     Head,
     /// A line that may be taken up.
     Good,
@@ -102,7 +103,7 @@ fn look_at(line: UnreadLine, round: Round, is_open: bool) -> Look
     }
 }
 
-/// Whether an order begins a written turn of a sheet for a round, or a block of it.
+/// Whether an order begins a written turn of a sheet for a round, or a company's orders.
 fn is_head(round: Round, order: &Order) -> bool
     ensures { result ≡ opens_part round (Ok order.now) }
 {
@@ -112,8 +113,8 @@ fn is_head(round: Round, order: &Order) -> bool
     }
 }
 
-/// Whether an order has a place in a sheet for a round, in a written turn or a block or before the
-/// first.
+/// Whether an order has a place in a sheet for a round, in a written turn or a company's orders or
+/// before the first.
 fn has_place(round: Round, order: &Order, is_open: bool) -> bool
     ensures { result ≡ has_place round is_open order.now }
 {
@@ -135,19 +136,19 @@ fn has_place_before(round: Round, order: &Order) -> bool
     }
 }
 
-/// Whether an order has a place in a written turn or a block of a sheet for a round.
+/// Whether an order has a place in a written turn or a company's orders of a sheet for a round.
 fn has_place_behind(round: Round, order: &Order) -> bool
     ensures { result ≡ has_place_behind round order.now }
 {
     match round {
         Round::Opening(_) | Round::Stock(_) => !is_of_file(order),
-        Round::Operating { .. } => has_place_in_block(order),
+        Round::Operating { .. } => has_place_in_orders(order),
     }
 }
 
-/// Whether an order has a place in a block.
-fn has_place_in_block(order: &Order) -> bool
-    ensures { result ≡ has_place_in_block order.now }
+/// Whether an order has a place in a company's orders.
+fn has_place_in_orders(order: &Order) -> bool
+    ensures { result ≡ has_place_in_orders order.now }
 {
     matches!(
         order,

@@ -1,10 +1,10 @@
 //! Sheets that replace others: whether the round was played, and how the game has changed since.
 ghost use Rattle.std.specs.Prelude.{◌≡◌, ℕ, ◌++◌, IfOk, List, OnOk, max, unwrap_or};
 ghost use Rattle.desk_check.specs.Heads.{AreKept};
-ghost use Rattle.desk_check.specs.Replaced.{IsTurn, TellsReplaced, TurnsAt, TurnsBefore, before, is_fresh_at, is_late};
-ghost use Rattle.desk_check.specs.Replaced.{lateness_of, line_in_turn, standing_of, told_of, turned, turning_of};
+ghost use Rattle.desk_check.specs.Replaced.{AddsReplaced, IsTurn, TurnsAt, TurnsBefore, before, is_fresh_at, is_late};
+ghost use Rattle.desk_check.specs.Replaced.{findings_of, lateness_of, line_in_turn, standing_of, turned, turning_of};
 ghost use Rattle.desk_check.specs.Replaced.{turning_then};
-ghost use Rattle.desk_check.specs.RoundsPlayed.{AreRoundsOf, NotesEvent, is_kept, line_kept};
+ghost use Rattle.desk_check.specs.RoundsPlayed.{AppliesEvent, AreRoundsOf, is_kept, line_kept};
 ghost use Rattle.desk_check.specs.SheetLines.{is_under};
 ghost use Rattle.std.specs.List.{flat_map};
 
@@ -38,15 +38,15 @@ impl Rounds {
             by: 0,
         };
         for event in game.history().events() {
-            rounds.note(heads, event)?;
+            rounds.apply(heads, event)?;
         }
         Ok(rounds)
     }
 
-    /// Notes the round that the next event begins, if it begins one.
-    fn note(&mut self, heads: &Heads, event: &Event) -> Result<(), AllocError>
+    /// Applies the round that the next event begins, if it begins one.
+    fn apply(&mut self, heads: &Heads, event: &Event) -> Result<(), AllocError>
         requires { AreKept heads.now }
-        ensures { OnOk result (NotesEvent heads.now self.old event.now self.new) }
+        ensures { OnOk result (AppliesEvent heads.now self.old event.now self.new) }
     {
         let round = match event.round() {
             Some(round) => round,
@@ -122,15 +122,15 @@ pub(crate) fn find_replaced<'a>(
     found: &mut Found<'a>,
 ) -> Result<(), AllocError>
     requires { AreKept heads.now }
-    ensures { OnOk result (TellsReplaced file.now heads.now rounds.now (standing_of game.now)
+    ensures { OnOk result (AddsReplaced file.now heads.now rounds.now (standing_of game.now)
         found.old.findings.items found.new.findings.items) }
 {
     let turn = turn_before(alloc, file, heads, turning_head(heads, rounds))?;
-    tell_replaced(heads, rounds, &turn, standing_of(game), found)
+    add_replaced(heads, rounds, &turn, standing_of(game), found)
 }
 
-/// Tells of each sheet that replaces another.
-fn tell_replaced<'a>(
+/// Adds each sheet that replaces another.
+fn add_replaced<'a>(
     heads: &Heads<'a>,
     rounds: &Rounds,
     turn: &Option<Turn>,
@@ -139,16 +139,16 @@ fn tell_replaced<'a>(
 ) -> Result<(), AllocError>
     requires { AreKept heads.now }
     ensures { OnOk result (found.new.findings.items ≡ found.old.findings.items
-        ++ flat_map (told_of heads.now rounds.now turn.now now) heads.now.heads.items) }
+        ++ flat_map (findings_of heads.now rounds.now turn.now now) heads.now.heads.items) }
 {
     for head in &heads.heads {
-        tell_head(heads, rounds, turn, now, head, found)?;
+        add_head(heads, rounds, turn, now, head, found)?;
     }
     Ok(())
 }
 
-/// Tells of a sheet that it replaces another, if it does.
-fn tell_head<'a>(
+/// Adds that a sheet replaces another, if it does.
+fn add_head<'a>(
     heads: &Heads<'a>,
     rounds: &Rounds,
     turn: &Option<Turn>,
@@ -158,7 +158,7 @@ fn tell_head<'a>(
 ) -> Result<(), AllocError>
     requires { AreKept heads.now }
     ensures { OnOk result (found.new.findings.items ≡ found.old.findings.items
-        ++ told_of heads.now rounds.now turn.now now head.now) }
+        ++ findings_of heads.now rounds.now turn.now now head.now) }
 {
     let Some(line) = head.replaces else {
         return Ok(());
@@ -169,7 +169,7 @@ fn tell_head<'a>(
         lateness: lateness_of(head, heads, rounds, turn),
         turn: turned(turn, head.line.number, now),
     };
-    found.tell(&head.line, matter)
+    found.add(&head.line, matter)
 }
 
 /// What was there of a round when a line replaced a sheet for it.

@@ -20,7 +20,7 @@ use tables::Seat;
 /// How many lines that are not blank are before the first sheet may begin: the header and the players.
 const PREAMBLE: usize = 2;
 
-/// What a pass over a file has come to.
+/// How far a pass over a file has come.
 #[derive(Drop)]
 struct Pass<'a> {
     /// The good SHEET lines.
@@ -91,7 +91,7 @@ impl<'a> Pass<'a> {
     {
         match self.open {
             None => self.take_loose(sheets, line),
-            Some(sheet) if is_mail(line.text) => self.found.tell_line(line, Matter::Mail(sheet)),
+            Some(sheet) if is_mail(line.text) => self.found.add_line(line, Matter::Mail(sheet)),
             Some(_) => Ok(()),
         }
     }
@@ -105,7 +105,7 @@ impl<'a> Pass<'a> {
         }
         if self.preamble >= PREAMBLE {
             let fault = unread_fault(sheets, line.text);
-            return self.found.tell_line(line, Matter::Unread(fault));
+            return self.found.add_line(line, Matter::Unread(fault));
         }
         self.preamble += 1;
         if self.preamble == PREAMBLE {
@@ -124,7 +124,7 @@ fn look_at_names<'a>(
     for number in 0..sheets.seats() {
         let seat = Seat::at(number);
         if let Some(likeness) = likeness_of(name(sheets, seat)) {
-            found.tell(line, Matter::Name { seat, likeness })?;
+            found.add(line, Matter::Name { seat, likeness })?;
         }
     }
     Ok(())

@@ -1,7 +1,7 @@
 //! The SHEET lines of a file: whose sheet for which round each begins, and which it replaces.
 ghost use Rattle.std.specs.Prelude.{◌≡◌, ◌≤◌, OnOk, [], false, option_map, slice_get};
 ghost use Rattle.std.specs.Option.{option_map_or};
-ghost use Rattle.desk_check.specs.Heads.{AreKept, NotesFirst, came, with_head};
+ghost use Rattle.desk_check.specs.Heads.{AreKept, RecordsFirst, came, with_head};
 ghost use Rattle.desk_check.specs.SheetLines.{Begins, complete_by, first_line, is_at, last_line, later_of};
 ghost use Rattle.desk_check.specs.SheetLines.{sheet_key_of};
 ghost use Rattle.order_grammar.specs.Line.{reading_of};
@@ -69,7 +69,7 @@ impl<'a> Heads<'a> {
         ensures seats { self.new.seats ≡ self.old.seats }
         ensures kept { OnOk result (AreKept self.new) }
     {
-        self.note_first(sent, line.number)?;
+        self.record_first(sent, line.number)?;
         let replaces = self.last.insert(sent, line.number)?;
         self.heads.push(Head {
             line,
@@ -79,9 +79,9 @@ impl<'a> Heads<'a> {
         Ok(())
     }
 
-    /// Notes the line with this number, which begins a sheet, if it is the first that does.
-    fn note_first(&mut self, sent: Sent, line: usize) -> Result<(), AllocError>
-        ensures first { OnOk result (NotesFirst self.old sent line self.new) }
+    /// Records the line with this number, which begins a sheet, if it is the first that does.
+    fn record_first(&mut self, sent: Sent, line: usize) -> Result<(), AllocError>
+        ensures first { OnOk result (RecordsFirst self.old sent line self.new) }
         ensures heads { self.new.heads ≡ self.old.heads }
         ensures seats { self.new.seats ≡ self.old.seats }
         ensures last { self.new.last ≡ self.old.last }

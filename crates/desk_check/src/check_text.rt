@@ -28,9 +28,9 @@ pub(crate) fn found_text(
     for finding in &found.findings {
         push_finding(&mut out, sheets, finding)?;
     }
-    if found.untold > 0 {
+    if found.unlisted > 0 {
         push_words(&mut out, "and of ")?;
-        print_number(&mut out, found.untold)?;
+        print_number(&mut out, found.unlisted)?;
         push_words(
             &mut out,
             " lines more: unread, like mail, or with a fault\n",

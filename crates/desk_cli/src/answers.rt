@@ -35,7 +35,7 @@ pub(crate) struct Answer {
 
 /// The answer to a task for an order file.
 pub(crate) fn answer_to(alloc: Global, file: &[u8], task: Task) -> Result<Answer, StreamFault> {
-    let told = match task {
+    let answer = match task {
         Task::Round {
             round: asked,
             why: false,
@@ -49,7 +49,7 @@ pub(crate) fn answer_to(alloc: Global, file: &[u8], task: Task) -> Result<Answer
         Task::State => return stated(alloc, file),
         Task::Runs { round: asked } => runs(alloc, file, asked),
     };
-    match told {
+    match answer {
         Ok(text) => Ok(written(text)),
         Err(DeskFault::File(fault)) => refused(alloc, fault),
         Err(DeskFault::Round) => Ok(not_played(alloc)),

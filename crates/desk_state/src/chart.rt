@@ -97,13 +97,13 @@ fn mark(zone: Zone) -> &'static str {
 
 /// Adds the tokens on the squares of a row that lie below this many others, as many as a line shows;
 /// no line where there are none.
-fn push_tokens(page: &mut Page, past: &GameView, row: u8, above: usize) -> Result<(), AllocError>
+fn push_tokens(page: &mut Page, view: &GameView, row: u8, above: usize) -> Result<(), AllocError>
     requires { above < 9 }
 {
     for column in 1..COLUMNS_END {
         if let Some(square) = square(row, column) {
             for place in above..above + SHOWN {
-                if let Some(company) = company_at(past, square, place) {
+                if let Some(company) = company_at(view, square, place) {
                     page.to(column_of(column))?;
                     page.put(letter(company))?;
                 }

@@ -20,7 +20,7 @@ const COLUMNS_END: u8 = 25;
 /// The width of a column, of which a hex takes two.
 const COLUMN: usize = 3;
 
-/// Adds the map: a row of hexes with what lies on each, and below it the tokens of its cities.
+/// Adds the map: a row of hexes with what is on each, and below it the tokens of its cities.
 pub(crate) fn push_map(page: &mut Page, history: &History) -> Result<(), AllocError> {
     page.heading("MAP")?;
     page.line("57/2 is a tile and its rotation, 59/2s one with its stops swapped. Without a")?;
@@ -44,7 +44,7 @@ fn column_of(column: u8) -> usize {
     (COLUMN * usize::from(column)).saturating_sub(1)
 }
 
-/// Adds what lies on the hexes of a row.
+/// Adds what is on the hexes of a row.
 fn push_tiles(page: &mut Page, history: &History, row: u8) -> Result<(), AllocError> {
     for column in 1..COLUMNS_END {
         if let Some(hex) = Hex::at(row, column) {

@@ -24,7 +24,7 @@ impl Page {
         }
     }
 
-    /// Adds words as they stand, which have no end of a line.
+    /// Adds words as they are, which have no end of a line.
     pub fn put(&mut self, words: &str) -> Result<(), AllocError> {
         push_words(&mut self.text, words)
     }

@@ -95,20 +95,20 @@ fn push_owner(page: &mut Page, game: &Game, private: Private) -> Result<(), Allo
 }
 
 /// The price of an unsold private: its face, but for SV, whose price falls.
-fn price_of(past: &GameView, private: Private) -> Amount
-    ensures { result ≡ price_of past.now.events.now private }
+fn price_of(view: &GameView, private: Private) -> Amount
+    ensures { result ≡ price_of view.now.events.now private }
 {
     match private {
-        Private::SchuylkillValley => past.sv_price(),
+        Private::SchuylkillValley => view.sv_price(),
         _ => face(private),
     }
 }
 
 /// Adds the bids that are on a private.
 fn push_bids(page: &mut Page, game: &Game, private: Private) -> Result<(), AllocError> {
-    let past = game.history().now();
+    let view = game.history().now();
     for seat in 0..game.sheets().seats() {
-        if let Some(bid) = past.bid(private, Seat::at(seat)) {
+        if let Some(bid) = view.bid(private, Seat::at(seat)) {
             page.to(BIDS)?;
             page.put(" ")?;
             push_name(&mut page.text, game.sheets(), Seat::at(seat))?;

@@ -1,4 +1,4 @@
-//! A game as it stands, told as text.
+//! A game as it stands, as text.
 //!
 //! Its facts come from the readers of the game's list, or from `purse`, `earnings`, `stack` and `stock_left`, whose
 //! contracts say what they are. The rest is layout.

@@ -1,4 +1,5 @@
-//! What is left: tokens of a company, trains of the bank, tiles; and what lies on the map.
+//! What is left: tokens of a company, trains of the bank, tiles; and the tiles and tokens on the
+//! map.
 ghost use Rattle.std.specs.Prelude.{◌≡◌};
 ghost use Rattle.board.specs.LayRules.{is_tile, on_map_of};
 ghost use Rattle.desk_state.specs.StockLeft.{tiles_left, tokens_left, trains_left};
@@ -12,18 +13,18 @@ use map_tables::{Hex, Lay, Place, Stop, TileNo, joined_stop, tile};
 use tables::{Company, Kind, tokens, train};
 
 /// How many tokens a company has not placed.
-pub(crate) fn tokens_left(past: &GameView, company: Company) -> usize
-    ensures { result ≡ tokens_left past.now.events.now company }
+pub(crate) fn tokens_left(view: &GameView, company: Company) -> usize
+    ensures { result ≡ tokens_left view.now.events.now company }
 {
-    tokens(company).saturating_sub(past.tokens_placed(company))
+    tokens(company).saturating_sub(view.tokens_placed(company))
 }
 
 /// How many trains of a kind the bank has not sold; `None` where their number has no limit.
-pub(crate) fn trains_left(past: &GameView, kind: Kind) -> Option<usize>
-    ensures { result ≡ trains_left past.now.events.now kind }
+pub(crate) fn trains_left(view: &GameView, kind: Kind) -> Option<usize>
+    ensures { result ≡ trains_left view.now.events.now kind }
 {
     let number = train(kind).number?;
-    Some(usize::from(number).saturating_sub(past.trains_sold(kind)))
+    Some(usize::from(number).saturating_sub(view.trains_sold(kind)))
 }
 
 /// How many tiles of a number do not lie on the map, by the tiles that were laid.

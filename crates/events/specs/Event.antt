@@ -215,8 +215,8 @@ operated_by (Runs company revenue) = Some company
 operated_by (Withheld company amount) = Some company
 operated_by other = None
 
--- the train that an event moves: one that is bought comes to the company, one that is traded in or discarded
--- goes from it to the pool, and one that rusts leaves play
+-- the train that an event moves: one that is bought goes to the company, one that is traded in or discarded goes from
+-- it to the pool, and one that rusts leaves play
 abbrev pub train_moved : Event → Option TrainMove
 train_moved (Train company kind from price) =
     Some (record { kind = kind; from = place_of_seller from; to = train_place.Company company })
@@ -307,7 +307,7 @@ abbrev pub actor_of : Event → Option Seat
 actor_of (Bought company seat shares from price) = Some seat
 actor_of other = actor_by (obeyed_of other)
 
--- an event says nothing of what parties have and own, of SV's price, or of what lies on the map
+-- an event says nothing of what parties have and own, of SV's price, or of the tiles and tokens on the map
 pub record IsQuiet (event : Event) : Type 0 where
   pub payment : payment_of event ≡ None
   pub ownership : ownership_of event ≡ None

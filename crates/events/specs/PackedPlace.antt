@@ -13,12 +13,12 @@ stop_in stop.None = None
 stop_in stop.First = Some First
 stop_in stop.Second = Some Second
 
--- how the stop that is named is kept
-abbrev pub kept_stop : Option StopNumber → PackedStop
-kept_stop None = stop.None
-kept_stop (Some First) = stop.First
-kept_stop (Some Second) = stop.Second
+-- how the stop that is named is packed
+abbrev pub packed_stop : Option StopNumber → PackedStop
+packed_stop None = stop.None
+packed_stop (Some First) = stop.First
+packed_stop (Some Second) = stop.Second
 
--- the place that is kept
+-- the place that is packed
 abbrev pub place_in : Hex → PackedStop → Place
 place_in hex stop = record { hex = hex; stop = stop_in stop }

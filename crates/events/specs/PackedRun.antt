@@ -4,7 +4,7 @@ use Rattle.events.specs.declared.packed_run.ShortRun.{ShortRun}
 use Rattle.events.specs.declared.packed_run.ShortRun.TheVariants as run
 use Rattle.map_tables.specs.declared.place.Place.{Place}
 
--- the places of a run that is kept without a box
+-- the places of a run that is packed without a box
 abbrev pub places_in : ShortRun → List Place
 places_in (run.Two places) = places
 places_in (run.Three places) = places

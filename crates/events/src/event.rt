@@ -7,7 +7,7 @@ ghost use Rattle.events.specs.Event.{transfer_of};
 ghost use Rattle.events.specs.declared.event.Party.TheVariants.{Bank};
 ghost use Rattle.tables.specs.Seat.{seat_at};
 
-use crate::kept::PackedRuling;
+use crate::packed::PackedRuling;
 use map_tables::{Lay, Place};
 use order_grammar::ShareSource;
 use tables::{Amount, Company, Kind, Private, Round, Seat, Square, par_square};
@@ -133,7 +133,7 @@ pub enum Event {
         shares: u8,
         price: Amount,
     },
-    /// MH goes for one share of NYC, which comes to its owner, and nobody owns it from then on.
+    /// MH goes for one share of NYC, which goes to its owner, and nobody owns it from then on.
     Exchanged {
         seat: Seat,
         from: ShareSource,
@@ -170,7 +170,7 @@ pub enum Event {
         company: Company,
         amount: Amount,
     },
-    /// A company runs trains, which earn so much.
+    /// A company runs trains, which earn this much.
     Runs {
         company: Company,
         revenue: Amount,
@@ -226,7 +226,7 @@ pub enum Event {
     },
     /// A president cannot pay what his company lacks for a train that it must buy. The game is over.
     Bankrupt(Seat),
-    /// The bank's cash came to 0 or less.
+    /// The bank's cash fell to 0 or less.
     Broken,
 }
 

@@ -1,4 +1,4 @@
-//! What happens in a game, an event at a time: what an event is, what it says, and how it keeps the
+//! What happens in a game, an event at a time: what an event is, what it says, and how it packs the
 //! ruling of a line in few bytes.
 //!
 //! An event has a few aspects: the payment that it makes, the shares that it moves, what it says of
@@ -9,11 +9,11 @@
 //! of this crate: `totals` looks back over lists, by these aspects alone.
 //!
 //! Reading order: `event` (events and their aspects), `ruling` (what became of a line),
-//! `packed_place`, `packed_run` and `kept` (how an event keeps that).
+//! `packed_place`, `packed_run` and `packed` (how an event packs that).
 #![tactic(auto)]
 
 mod event;
-mod kept;
+mod packed;
 mod packed_place;
 mod packed_run;
 mod ruling;
@@ -22,7 +22,7 @@ pub use event::{
     Bid, Bidding, Event, Holder, Office, Ownership, ParValue, Party, Payment, Placement, SUM_MOST,
     Shareholder, TrainMove, TrainPlace, TrainSeller, Transfer,
 };
-pub use kept::{PackedLine, PackedRuling, is_offer};
+pub use packed::{PackedLine, PackedRuling, is_offer};
 pub use ruling::{
     OpeningRule, PayRule, PrivateRule, Refusal, Ruling, StockRule, TrainRule, Verdict,
 };

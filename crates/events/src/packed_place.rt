@@ -20,18 +20,18 @@ pub(crate) enum PackedStop {
 }
 
 impl Model for PackedPlace {
-    ghost use Rattle.events.specs.PackedPlace.{place_in, kept_stop};
+    ghost use Rattle.events.specs.PackedPlace.{place_in, packed_stop};
     ghost use Rattle.map_tables.specs.declared.place.Place.{Place};
 
     ghost Value = { Place };
 
-    ghost view = { λ kept. place_in kept.hex kept.stop };
+    ghost view = { λ packed. place_in packed.hex packed.stop };
 
-    ghost inverse = { λ place. record { hex = place.hex; stop = kept_stop place.stop } };
+    ghost inverse = { λ place. record { hex = place.hex; stop = packed_stop place.stop } };
 }
 
 impl PackedPlace {
-    /// Keeps a place.
+    /// Packs a place.
     pub(crate) fn of(place: Place) -> PackedPlace
         ensures { result ≡ place }
     {
@@ -46,7 +46,7 @@ impl PackedPlace {
         }
     }
 
-    /// The place that is kept.
+    /// The place that is packed.
     pub(crate) fn place(self) -> Place
         ensures { result ≡ self }
     {

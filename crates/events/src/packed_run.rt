@@ -20,8 +20,8 @@ pub(crate) enum ShortRun {
 }
 
 impl ShortRun {
-    /// Keeps a copy of a run; `None` where it has more than five places.
-    pub(crate) fn keep(run: &Run) -> Option<ShortRun>
+    /// Packs a copy of a run; `None` where it has more than five places.
+    pub(crate) fn pack(run: &Run) -> Option<ShortRun>
         ensures { MatchOption result (5 < length run.now) (λ short. places_in short ≡ run.now) }
     {
         match *run.as_slice() {
@@ -48,7 +48,7 @@ impl ShortRun {
         }
     }
 
-    /// The run that is kept.
+    /// The run that is packed.
     pub(crate) fn run(&self) -> Run
         ensures { result ≡ places_in self.now }
     {
@@ -82,15 +82,16 @@ impl Model for LongRun {
 
     ghost Value = { List Place };
 
-    ghost view = { λ kept. kept.places.items };
+    ghost view = { λ packed. packed.places.items };
 
-    ghost invariant = { λ kept. (2 ≤ length kept.places.items) × (length kept.places.items ≤ 280) };
+    ghost invariant = { λ packed. (2 ≤ length packed.places.items)
+        × (length packed.places.items ≤ 280) };
 }
 
 impl LongRun {
-    /// Keeps a copy of a run. An `Err` comes only where its places get no memory.
-    pub(crate) fn keep(alloc: Global, run: &Run) -> Result<LongRun, AllocError>
-        ensures { IfOk result (λ kept. kept ≡ run.now) }
+    /// Packs a copy of a run. An `Err` comes only where its places get no memory.
+    pub(crate) fn pack(alloc: Global, run: &Run) -> Result<LongRun, AllocError>
+        ensures { IfOk result (λ packed. packed ≡ run.now) }
     {
         let mut places = Vec::new(alloc);
         places.reserve_exact(run.as_slice().len())?;
@@ -100,7 +101,7 @@ impl LongRun {
         Ok(LongRun { places })
     }
 
-    /// The run that is kept.
+    /// The run that is packed.
     pub(crate) fn run(&self) -> Run
         ensures { result ≡ self.now }
     {
@@ -118,13 +119,13 @@ impl LongRun {
 }
 
 /// The run of these places.
-fn run_of(kept: &[PackedPlace]) -> Run
-    requires least { 2 ≤ length kept.now }
-    requires most { length kept.now ≤ 280 }
-    ensures { result ≡ kept.now }
+fn run_of(packed: &[PackedPlace]) -> Run
+    requires least { 2 ≤ length packed.now }
+    requires most { length packed.now ≤ 280 }
+    ensures { result ≡ packed.now }
 {
     let mut places = ArrayVec::new();
-    for place in kept {
+    for place in packed {
         places.push(place.place());
     }
     Run::from_places(places).unwrap()

@@ -57,8 +57,8 @@ no_aid by game none =
 pub aid_recorded : (by : Operator) (game new : Game) (amount : ℕ) → amount ≡ at_least_zero (lack_of game by.company)
     → (amount ≡ 0 → ⊥) → new ≡ with_event game (event.Aid by.president by.company amount) → new ≡ with_aid by game
 unfolding with_aid
-aid_recorded by game new amount is some told =
-    told
+aid_recorded by game new amount is some recorded =
+    recorded
     ∙ ap (λ (n : ℕ). with_event game (event.Aid by.president by.company n)) is
     ∙ ap (λ (b : Bool). if b then with_event game (event.Aid by.president by.company
     (at_least_zero (lack_of game by.company))) else game)
@@ -73,8 +73,8 @@ pub aid_keeps_sound : (by : Operator) (game new : Game) (amount : ℕ) → amoun
     → by.president.0 < game.seats → falls_short by game ≡ false
     → new ≡ with_event game (event.Aid by.president by.company amount) → IsSound game → IsSound new
 unfolding falls_short
-aid_keeps_sound by game new amount is seated enough told sound =
-    subst IsSound (sym told)
+aid_keeps_sound by game new amount is seated enough recorded sound =
+    subst IsSound (sym recorded)
     (aid_sound game by.president by.company amount seated
     (subst (λ (n : ℕ). pos n ≤ℤ free_cash_of game.seats game.events by.president) (sym is)
     (has_it (free_cash_of game.seats game.events by.president) (lack_of game by.company)

@@ -197,7 +197,7 @@ module _ (company : Company) (own : Kind) where
       (of_privates Stays on (λ now private. by_other now (event.Closed private) refl) own rusted)
       (of_fold Stays with_limit_kept on by_limit closed companies)))
 
-  -- the train comes to a company that has none
+  -- the train goes to a company that has none
   by_train : (game : Game) (from : TrainSeller) (price : ℕ)
       → ((kind : Kind) → trains_held game.events (Some company) kind ≡ pos 0) →
       same_train_place (place_of_seller from) (train_owner_place (Some company)) ≡ false

@@ -31,7 +31,7 @@ ReadWhereSpelt =
 abbrev may_begin : List ℕ → Bool
 may_begin word = same_word word (codes "RAISE") || same_word word (codes "IF")
 
--- words of which the first is this begin with it
+-- words whose first is this begin with it
 begins_with : (first : List ℕ) (others : List (List ℕ) → Type 0) (words : List (List ℕ))
     → Then (IsWord first) others words →
     first_of_words words ≡ first

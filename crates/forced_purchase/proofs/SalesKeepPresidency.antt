@@ -76,26 +76,27 @@ module _ (game : Game) (seat : Seat) (sale : Sale) where
   abbrev company : Company
   company = sale.company
 
-  abbrev told : List Event
-  told = game.events ++ event.Sells company seat sale.shares (sale.shares * market_price_of game.events company) ∷ []
+  abbrev recorded : List Event
+  recorded = game.events ++ event.Sells company seat sale.shares (sale.shares * market_price_of game.events company) ∷
+      []
 
   abbrev paid : List Event
   paid = sold game.seats game.events seat company sale.shares
 
   -- a bank that breaks moves no shares and no presidency
-  same_shares : (other : Seat) → shares_of paid company (OfSeat other) ≡ shares_of told company (OfSeat other)
+  same_shares : (other : Seat) → shares_of paid company (OfSeat other) ≡ shares_of recorded company (OfSeat other)
   same_shares other =
-      elim (breaks game.seats told) as (λ (b : Bool). shares_of (if b then told ++ event.Broken ∷ [] else told)
-      company (OfSeat other) ≡ shares_of told company (OfSeat other)) [
-        | true ↦ shares_of_before told event.Broken company (OfSeat other) refl
+      elim (breaks game.seats recorded) as (λ (b : Bool). shares_of (if b then recorded
+      ++ event.Broken ∷ [] else recorded) company (OfSeat other) ≡ shares_of recorded company (OfSeat other)) [
+        | true ↦ shares_of_before recorded event.Broken company (OfSeat other) refl
         | false ↦ refl
       ]
 
   same_president : (its : Company) → president_of paid its ≡ president_of game.events its
   same_president its =
-      elim (breaks game.seats told) as (λ (b : Bool). president_of (if b then told ++ event.Broken ∷ [] else told) its
-      ≡ president_of told its) [
-        | true ↦ president_of_before told event.Broken its refl
+      elim (breaks game.seats recorded) as (λ (b : Bool). president_of (if b then recorded
+      ++ event.Broken ∷ [] else recorded) its ≡ president_of recorded its) [
+        | true ↦ president_of_before recorded event.Broken its refl
         | false ↦ refl
       ]
       ∙ president_of_before game.events (event.Sells company seat sale.shares
@@ -105,7 +106,7 @@ module _ (game : Game) (seat : Seat) (sale : Sale) where
   no_more_held : (other : Seat) → shares_of paid company (OfSeat other) ≤ℤ shares_of game.events company (OfSeat other)
   no_more_held other =
       subst (λ (held : ℤ). held ≤ℤ shares_of game.events company (OfSeat other)) (sym (same_shares other))
-      (fewer_then (shares_of game.events company (OfSeat other)) (shares_of told company (OfSeat other)) _ _
+      (fewer_then (shares_of game.events company (OfSeat other)) (shares_of recorded company (OfSeat other)) _ _
       (shares_of_at_end game.events (event.Sells company seat sale.shares
       (sale.shares * market_price_of game.events company)) company (OfSeat other))
       (none_brought (same_company company company) sale.shares))
@@ -114,8 +115,8 @@ module _ (game : Game) (seat : Seat) (sale : Sale) where
   keeps_rest : shares_of paid company (OfSeat seat) ≡ kept_after game.events seat sale
   keeps_rest =
       same_shares seat
-      ∙ rest_then (shares_of game.events company (OfSeat seat)) (shares_of told company (OfSeat seat)) _ _ sale.shares
-      (shares_of_at_end game.events (event.Sells company seat sale.shares
+      ∙ rest_then (shares_of game.events company (OfSeat seat)) (shares_of recorded company (OfSeat seat)) _ _
+      sale.shares (shares_of_at_end game.events (event.Sells company seat sale.shares
       (sale.shares * market_price_of game.events company)) company (OfSeat seat))
       (none_brought (same_company company company) sale.shares)
       (all_taken (same_company company company) (seat.0 == seat.0) sale.shares (company_itself company) (itself seat.0))

@@ -68,14 +68,14 @@ raise_obeyed due by game condition sale none =
     none
 
 -- and sells what it says
-pub raised : (due : Bool) (by : Operator) (old told new : Game) (line : Numbered) (sale : Sale)
+pub raised : (due : Bool) (by : Operator) (old recorded new : Game) (line : Numbered) (sale : Sale)
     → raise_rule due by old line.condition sale ≡ None
-    → told ≡ with_ruling by old line (Obeyed line.condition (order.Raise sale.company sale.shares))
-    → new.seats ≡ told.seats → new.events ≡ after_sale told.seats told.events by.president sale.company sale.shares
-    → new ≡ after_raise due by old line sale
-raised due by old told new line sale none is_told seats events =
-    made_of new told.seats (after_sale told.seats told.events by.president sale.company sale.shares) seats events
-    ∙ ap (λ (game : Game). with_sale by game sale) is_told
+    → recorded ≡ with_ruling by old line (Obeyed line.condition (order.Raise sale.company sale.shares))
+    → new.seats ≡ recorded.seats → new.events ≡ after_sale recorded.seats recorded.events by.president sale.company
+    sale.shares → new ≡ after_raise due by old line sale
+raised due by old recorded new line sale none is_recorded seats events =
+    made_of new recorded.seats (after_sale recorded.seats recorded.events by.president sale.company sale.shares) seats
+    events ∙ ap (λ (game : Game). with_sale by game sale) is_recorded
     ∙ ap (raise_ruled by old line sale) (sym none)
 
 -- a test of nothing
@@ -97,7 +97,7 @@ found_passes test (first ∷ others) company is =
     ]
     refl is
 
--- the share of the first company of which the president may sell can be sold
+-- the share of the first company that the president may sell one of can be sold
 pub may_sell_share : (by : Operator) (game : Game) (company : Company) (sale : Sale) → sale ≡ one_share company
     → next_to_sell by game ≡ Some company → MaySell game.seats game.events by.president sale
 unfolding next_to_sell sale_rule
@@ -185,9 +185,9 @@ none_needed by game enough = times_none by 40 game enough
 pub bankrupt_then : (by : Operator) (old new : Game) → falls_short by old ≡ true
     → new ≡ with_event old (event.Bankrupt by.president) → new ≡ concluded by old
 unfolding concluded
-bankrupt_then by old new short told =
-    told ∙ ap (λ (b : Bool). if b then with_event old (event.Bankrupt by.president) else after_train (with_aid by old)
-    by.company (cheapest old.events)) (sym short)
+bankrupt_then by old new short recorded =
+    recorded ∙ ap (λ (b : Bool). if b then with_event old (event.Bankrupt by.president) else after_train
+    (with_aid by old) by.company (cheapest old.events)) (sym short)
 
 -- or the company buys
 pub bought_then : (by : Operator) (old aided new : Game) (purchase : Purchase) → falls_short by old ≡ false
@@ -202,12 +202,12 @@ bought_then by old aided new purchase enough is_cheapest is_aided bought =
     by.company (cheapest old.events)) (sym enough)
 
 -- all of it
-pub forced_then : (by : Operator) (lines : List Numbered) (old told raised sold new : Game)
-    → told ≡ with_event old (event.Forced by.company) → raised ≡ after_raises true by told lines
+pub forced_then : (by : Operator) (lines : List Numbered) (old recorded raised sold new : Game)
+    → recorded ≡ with_event old (event.Forced by.company) → raised ≡ after_raises true by recorded lines
     → sold ≡ sold_singly by raised → new ≡ concluded by sold → new ≡ after_forced by lines old
 unfolding after_forced
-forced_then by lines old told raised sold new is_told is_raised is_sold is_new =
+forced_then by lines old recorded raised sold new is_recorded is_raised is_sold is_new =
     is_new
     ∙ ap (concluded by) is_sold
     ∙ ap (λ (game : Game). concluded by (sold_singly by game)) is_raised
-    ∙ ap (λ (game : Game). concluded by (sold_singly by (after_raises true by game lines))) is_told
+    ∙ ap (λ (game : Game). concluded by (sold_singly by (after_raises true by game lines))) is_recorded

@@ -79,13 +79,13 @@ module _ (owner : Option Company) where
   pub size_sale : (seats : ℕ) (events : List Event) (seat : Seat) (company : Company) (shares : ℕ)
       → size (after_sale seats events seat company shares) ≡ size events
   size_sale seats events seat company shares =
-      let told : List Event = events ++ event.Sells company seat shares (shares * market_price_of events company)
+      let recorded : List Event = events ++ event.Sells company seat shares (shares * market_price_of events company)
       ∷ [] in
       let paid : List Event = sold seats events seat company shares in
       let led : List Event = with_president seats paid company in
       size_move (fallen shares) led company (square_of led company)
       ∙ size_succession seats paid company (president_of paid company)
-      ∙ size_broken seats told
+      ∙ size_broken seats recorded
       ∙ size_before events (event.Sells company seat shares (shares * market_price_of events company)) owner refl
 
   size_raise_ruled : (by : Operator) (game : Game) (line : Numbered) (sale : Sale) (broken : Option Refusal)
@@ -106,7 +106,7 @@ module _ (owner : Option Company) where
       size_raise_ruled by game line sale (raise_rule due by game line.condition sale)
   size_raise_line due by game line other = refl
 
-  -- nor do the RAISE lines of a block
+  -- nor do the RAISE lines of a company's orders
   pub size_raises : (due : Bool) (by : Operator) (lines : List Numbered) (game : Game)
       → size (after_raises due by game lines).events ≡ size game.events
   size_raises due by [] game = refl
@@ -138,17 +138,17 @@ module _ (owner : Option Company) where
   size_singly by game = size_steps by 40 game
 
 -- so a company without a train still has none once the money is raised
-pub still_none : (by : Operator) (lines : List Numbered) (old told raised sold : Game)
-    → told ≡ with_event old (event.Forced by.company) → raised ≡ after_raises true by told lines
+pub still_none : (by : Operator) (lines : List Numbered) (old recorded raised sold : Game)
+    → recorded ≡ with_event old (event.Forced by.company) → raised ≡ after_raises true by recorded lines
     → sold ≡ sold_singly by raised → has_trains old.events by.company ≡ false
     → has_trains sold.events by.company ≡ false
-still_none by lines old told raised sold is_told is_raised is_sold none =
+still_none by lines old recorded raised sold is_recorded is_raised is_sold none =
     let owner : Option Company = Some by.company in
     ap (lt_z (pos 0))
     (ap (λ (game : Game). train_count game.events owner) is_sold
     ∙ size_singly owner by raised
     ∙ ap (λ (game : Game). train_count game.events owner) is_raised
-    ∙ size_raises owner true by lines told
-    ∙ ap (λ (game : Game). train_count game.events owner) is_told
+    ∙ size_raises owner true by lines recorded
+    ∙ ap (λ (game : Game). train_count game.events owner) is_recorded
     ∙ size_before old.events (event.Forced by.company) owner refl)
     ∙ none

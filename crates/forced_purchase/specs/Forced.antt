@@ -1,10 +1,10 @@
 -- The purchase that a company must make. It is due at the end of its turn where it has no train and could run a
 -- 2-train. It buys the cheapest train that the bank or the pool sells, the bank's where both sell it. What the company
 -- lacks its president pays, by his cash minus his standing bids. While he falls short he sells: the RAISE lines of the
--- block serve in order, each by its condition and then by the rules of a sale, of which none may move the presidency of
--- the company; a line is refused, whatever its condition, once he does not fall short, and where no purchase is due.
--- Then he sells one share at a time, of the first company in roster order of which he may. If he still falls short he
--- is bankrupt, and nothing is bought.
+-- company's orders serve in order, each by its condition and then by the rules of a sale, of which none may move the
+-- presidency of the company; a line is refused, whatever its condition, once he does not fall short, and where no
+-- purchase is due. Then he sells one share at a time, of the first company in roster order that he may sell one of. If
+-- he still falls short he is bankrupt, and nothing is bought.
 use Rattle.std.specs.Prelude.{ℕ, Bool, true, ◌&&◌, ◌||◌, if◌then◌else◌, List, [], ◌∷◌, Option, Some}
 use Rattle.std.specs.Prelude.{None, option_map, Result, Ok, is_none, find, codes, ℤ, pos, ◌-ℤ◌}
 use Rattle.std.specs.Int.Signed.{lt_z}
@@ -57,8 +57,8 @@ first_on_sale events (kind ∷ others) =
     then plain kind seller.BankPool
     else first_on_sale events others)
 
--- the cheapest train that is for sale: the kinds stand by their price, and the bank sells a D once it has none of the
--- others
+-- the cheapest train that is for sale: the kinds are in the order of their price, and the bank sells a D once it has
+-- none of the others
 unfoldable pub cheapest : List Event → Purchase
 cheapest events = first_on_sale events numbered_kinds
 
@@ -105,7 +105,7 @@ raise_ruled by game line sale broken =
 abbrev pub after_raise : Bool → Operator → Game → Numbered → Sale → Game
 after_raise due by game line sale = raise_ruled by game line sale (raise_rule due by game line.condition sale)
 
--- after this line of the block with this reading: others than RAISE were ruled at their place
+-- after this line of the company's orders with this reading: others than RAISE were ruled at their place
 abbrev pub after_raise_line : Bool → Operator → Game → Numbered → Result Order Fault → Game
 after_raise_line due by game line (Ok (order.Raise company shares)) =
     after_raise due by game line (record { company = company; shares = shares })
@@ -117,7 +117,7 @@ may_spell_raise text =
     same_word (first_of_words (words_of text)) (codes "RAISE")
     || same_word (first_of_words (words_of text)) (codes "IF")
 
--- after the RAISE lines of the block, in order
+-- after the RAISE lines of the company's orders, in order
 abbrev pub after_raises : Bool → Operator → Game → List Numbered → Game
 after_raises due by game [] = game
 after_raises due by game (line ∷ lines) =
@@ -127,11 +127,11 @@ after_raises due by game (line ∷ lines) =
 abbrev pub one_share : Company → Sale
 one_share company = record { company = company; shares = 1 }
 
--- the first of these companies of which the president may sell a share
+-- the first of these companies that the president may sell a share of
 abbrev pub first_to_sell : Operator → Game → List Company → Option Company
 first_to_sell by game among = find (λ company. is_none (sale_rule by game (one_share company))) among
 
--- the first company in roster order of which he may
+-- the first company in roster order that he may sell one of
 unfoldable pub next_to_sell : Operator → Game → Option Company
 next_to_sell by game = first_to_sell by game companies
 
@@ -166,7 +166,7 @@ concluded by game =
     then with_event game (event.Bankrupt by.president)
     else after_train (with_aid by game) by.company (cheapest game.events)
 
--- after a purchase that is due, where these are the lines of the block
+-- after a purchase that is due, where these are the company's orders
 unfoldable pub after_forced : Operator → List Numbered → Game → Game
 after_forced by lines game =
     concluded by (sold_singly by (after_raises true by (with_event game (event.Forced by.company)) lines))

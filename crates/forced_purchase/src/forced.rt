@@ -29,28 +29,28 @@ pub fn buy_by_force(
     alloc: Global,
     history: &mut History,
     by: Operator,
-    block: &mut PartsLeft,
+    orders: &mut PartsLeft,
 ) -> Result<(), AllocError>
     requires few { history.old.seats ≤ 6 }
     requires at_table { by.president.0 < history.old.seats }
     requires none { has_trains history.old.events by.company ≡ false }
     requires sound { IsSound history.old }
-    ensures after { OnOk result (history.new ≡ after_forced by block.old.before history.old) }
+    ensures after { OnOk result (history.new ≡ after_forced by orders.old.before history.old) }
     ensures sound { OnOk result (IsSound history.new) }
 {
     history.record_event(Event::Forced(by.company))?;
-    rule_raises(history, by, block, true)?;
+    rule_raises(history, by, orders, true)?;
     sell_singly(history, by)?;
     conclude(alloc, history, by)?;
     Ok(())
 }
 
-/// Rules the RAISE lines of a block, where a purchase is due, or is not. It fails only if memory is
-/// refused.
+/// Rules the RAISE lines of a company's orders, where a purchase is due, or is not. It fails only
+/// if memory is refused.
 pub fn rule_raises(
     history: &mut History,
     by: Operator,
-    block: &mut PartsLeft,
+    orders: &mut PartsLeft,
     due: bool,
 ) -> Result<(), AllocError>
     requires few { history.old.seats ≤ 6 }
@@ -58,16 +58,17 @@ pub fn rule_raises(
     requires sound { IsSound history.old }
     ensures seats { OnOk result (history.new.seats ≡ history.old.seats) }
     ensures after { OnOk result (history.new
-        ≡ after_raises due by history.old block.old.before) }
+        ≡ after_raises due by history.old orders.old.before) }
     ensures sound { OnOk result (IsSound history.new) }
 {
-    while let Some(line) = block.take_line() {
+    while let Some(line) = orders.take_line() {
         rule_if_raise(history, by, line, due)?;
     }
     Ok(())
 }
 
-/// Rules a line of a block if it is a RAISE. It is read only where its first word may begin one.
+/// Rules a line of a company's orders if it is a RAISE. It is read only where its first word may
+/// begin one.
 fn rule_if_raise(
     history: &mut History,
     by: Operator,
@@ -266,7 +267,7 @@ fn share_of(company: Company) -> Sale
     Sale { company, shares: 1 }
 }
 
-/// The first company in roster order of which the president may sell a share.
+/// The first company in roster order that the president may sell a share of.
 #[tactic(auto, unfolding(crate::specs::Forced::next_to_sell))]
 fn next_to_sell(history: &History, by: Operator) -> Option<Company>
     ensures { result ≡ next_to_sell by history.now }
@@ -274,7 +275,7 @@ fn next_to_sell(history: &History, by: Operator) -> Option<Company>
     first_to_sell(history, by, &Company::ALL)
 }
 
-/// The first of these companies of which the president may sell a share.
+/// The first of these companies that the president may sell a share of.
 fn first_to_sell(history: &History, by: Operator, among: &[Company]) -> Option<Company>
     ensures { result ≡ first_to_sell by history.now among.now }
 {
@@ -350,24 +351,24 @@ fn lack(history: &History, company: Company) -> Money
 
 /// The cheapest train that the bank or the pool sells, the bank's where both sell it.
 #[tactic(auto, unfolding(crate::specs::Forced::cheapest))]
-fn cheapest(past: &GameView) -> Purchase
-    ensures purchase { result ≡ cheapest past.now.events.now }
+fn cheapest(view: &GameView) -> Purchase
+    ensures purchase { result ≡ cheapest view.now.events.now }
     ensures small { IsSmallPurchase result }
 {
-    first_on_sale(past, &NUMBERED)
+    first_on_sale(view, &NUMBERED)
 }
 
 /// The first of these kinds that is for sale; a D of the bank where none is.
 #[tactic(auto, unfolding(crate::specs::Forced::first_on_sale))]
-fn first_on_sale(past: &GameView, kinds: &[Kind]) -> Purchase
-    ensures purchase { result ≡ first_on_sale past.now.events.now kinds.now }
+fn first_on_sale(view: &GameView, kinds: &[Kind]) -> Purchase
+    ensures purchase { result ≡ first_on_sale view.now.events.now kinds.now }
     ensures small { IsSmallPurchase result }
 {
     for kind in kinds {
-        if sells(past, *kind) {
+        if sells(view, *kind) {
             return plain(*kind, TrainSeller::Bank);
         }
-        if past.trains(None, *kind) > 0 {
+        if view.trains(None, *kind) > 0 {
             return plain(*kind, TrainSeller::BankPool);
         }
     }

@@ -14,7 +14,7 @@ use Rattle.history.proofs.Rolling.{trains_kept}
 use Rattle.totals.proofs.Choices.{new_word, nothing_there, old_word, same_company_is, truth}
 use Rattle.totals.proofs.EventAtEnd.{bids_of_before, cash_of_at_end, is_floated_before, last_said_at_end, par_of_before}
 use Rattle.totals.proofs.EventAtEnd.{president_of_before, shares_of_before, square_of_before}
-use Rattle.history.proofs.NearlySound.{IsNearlySound, nearly_sound_kept, nearly_sound_of, sound_of, told_same}
+use Rattle.history.proofs.NearlySound.{IsNearlySound, nearly_sound_kept, nearly_sound_of, recorded_same, sound_of}
 use Rattle.history.proofs.NearlySound.{nearly_sound_recorded}
 use Rattle.history.proofs.Soundness.{companies_kept, differ_kept, fit_kept, floated_kept, given_kept, held_kept}
 use Rattle.history.proofs.Soundness.{is_led_kept, least_offered_before, led_kept, offered_kept, price_kept, seated_kept}
@@ -83,21 +83,22 @@ module _ (game : Game) (company : Company) (seat : Seat) (shares price : ℕ) wh
 
   -- squares in the end
   squares_then : (other : Company) → square_of sold.events other ≡ square_of game.events other
-  squares_then other = (told_same paid).square other
+  squares_then other = (recorded_same paid).square other
       ∙ square_of_before game.events (Sells company seat shares price) other refl
 
   -- par values in the end
   pars_then : (other : Company) → par_of sold.events other ≡ par_of game.events other
-  pars_then other = (told_same paid).par other ∙ par_of_before game.events (Sells company seat shares price) other refl
+  pars_then other = (recorded_same paid).par other ∙ par_of_before game.events (Sells company seat shares price) other
+      refl
 
   -- presidents in the end
   presidents_then : (other : Company) → president_of sold.events other ≡ president_of game.events other
-  presidents_then other = (told_same paid).president other
+  presidents_then other = (recorded_same paid).president other
       ∙ president_of_before game.events (Sells company seat shares price) other refl
 
   -- who has floated in the end
   floats_then : (other : Company) → is_floated sold.events other ≡ is_floated game.events other
-  floats_then other = (told_same paid).floated other
+  floats_then other = (recorded_same paid).floated other
       ∙ is_floated_before game.events (Sells company seat shares price) other refl
 
   -- seats hold as many of another company
@@ -108,7 +109,7 @@ module _ (game : Game) (company : Company) (seat : Seat) (shares price : ℕ) wh
       let none : part (OfSeat seat) (OfSeat by) (moved other (block company seat shares))
       ≡ part (OfSeat seat) (OfSeat by) 0 = ap (part (OfSeat seat) (OfSeat by)) its in
       let nothing = nothing_there (seat.0 == by.0) in
-      (told_same paid).shares other (OfSeat by) ∙ omega (
+      (recorded_same paid).shares other (OfSeat by) ∙ omega (
         arith,
         ints,
         shares_after game.events (Sells company seat shares price) (block company seat shares) other
@@ -262,7 +263,7 @@ succession_sound game company old new presided more sound =
     (λ other floated. is_led_succeeded game.events company old new presided more other
     (sound.floated other (sym (is_floated_before game.events (President company new) other refl) ∙ floated)))
 
--- a company of which few shares are left in the initial offering is led
+-- a company with few shares left in the initial offering is led
 is_led_few : (game : Game) (company : Company) (at : Option Square) → square_of game.events company ≡ at
     → shares_of game.events company InitialOffering ≤ℤ pos 4 → IsSound game → IsLed game.events company
 is_led_few game company None unplaced few sound =
@@ -278,7 +279,7 @@ floated_after : (events : List Event) (company other : Company) (amount : ℕ)
 floated_after events company other amount =
     ap is_some (last_said_at_end (λ e. float_said other (floated_by e)) events (Floats company amount))
 
--- a float, of a company of which few shares are left
+-- a float, of a company with few shares left
 pub float_sound : FloatKeepsSound
 float_sound game company amount few sound =
     sound_of (with_event game (Floats company amount)) (record {

@@ -24,17 +24,17 @@ module _ (events : List Event) (price : Private → ℕ) where
   this_or_later true this first later most is low later_low = later_low is
 
   -- the first that is unsold comes before an unsold one, or is that one
-  first_before : (front : List Private) (other : Private) (rest : List Private) (first : Private)
-      → is_sold events other ≡ false → AllAtMost (price other) front
-      → first_unsold (is_sold events) (front ++ other ∷ rest) ≡ Some first → price first ≤ price other
+  first_before : (prefix : List Private) (other : Private) (rest : List Private) (first : Private)
+      → is_sold events other ≡ false → AllAtMost (price other) prefix
+      → first_unsold (is_sold events) (prefix ++ other ∷ rest) ≡ Some first → price first ≤ price other
   first_before [] other rest first unsold low is =
       let here : Some other ≡ Some first = subst (λ sold. cond sold (first_unsold (is_sold events) rest) (Some other)
       ≡ Some first) unsold is in
       let same : other ≡ first = cc in
       subst (λ private. price private ≤ price other) same (omega arith)
-  first_before (private ∷ front) other rest first unsold low is =
-      this_or_later (is_sold events private) private first (first_unsold (is_sold events) (front ++ other ∷ rest))
-      (price other) is low.0 (first_before front other rest first unsold low.1)
+  first_before (private ∷ prefix) other rest first unsold low is =
+      this_or_later (is_sold events private) private first (first_unsold (is_sold events) (prefix ++ other ∷ rest))
+      (price other) is low.0 (first_before prefix other rest first unsold low.1)
 
 -- SV costs no more than its face
 sv_low : (game : Game) → IsSound game → sv_price_of game.events ≤ 20

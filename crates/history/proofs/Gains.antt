@@ -153,7 +153,7 @@ offered_gained events event transfer moves no_owner no_square enough company unp
           event company no_owner,
     )
 
--- such an event keeps a list sound, where the bank has this many, enough are left and nobody comes to owe
+-- such an event keeps a list sound, where the bank has this many, enough are left and nobody is left owing
 pub gain_sound : (game : Game) (event : Event) (transfer : Transfer) → Gains game.seats event transfer
     → pos transfer.shares ≤ℤ shares_of game.events transfer.company transfer.from → EnoughAreLeft game.events transfer
     → SeatsAreSolvent (with_event game event) → CompaniesAreSolvent (with_event game event) → IsSound game

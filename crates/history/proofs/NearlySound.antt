@@ -144,8 +144,8 @@ same_itself events =
     }
 
 -- the word that the bank is broken changes nothing of what parties have and own
-pub told_same : (game : Game) → SaysTheSame game.events (broken_recorded game).events
-told_same game =
+pub recorded_same : (game : Game) → SaysTheSame game.events (broken_recorded game).events
+recorded_same game =
     elim (breaks game.seats game.events) as (λ b. SaysTheSame game.events
     (if b then game.events ++ Broken ∷ [] else game.events)) [
       | true ↦ quiet_same game.events Broken broken_quiet

@@ -57,7 +57,7 @@ CompaniesCanPay game event =
     (company : Company) → pos (paid_by (party_of_company company) (payment_of event)) ≤ℤ cash_of game.seats
     game.events (party_of_company company)
 
--- such an event keeps a list sound, where trains are held and what lies fits after it
+-- such an event keeps a list sound, where trains are held and the map state fits after it
 pub payment_sound : (game : Game) (event : Event) → OnlyPays event → NoSeatPays event → CompaniesCanPay game event
     → IsWithin game.seats (payment_of event) → TrainsAreHeld (game.events ++ event ∷ [])
     → LiesFit (game.events ++ event ∷ []) → IsSound game → IsSound (with_event game event)

@@ -7,40 +7,40 @@ use Rattle.events.specs.Event.{obeyed_of, round_begun_by}
 use Rattle.events.specs.Offers.{offered_in}
 use Rattle.events.specs.Orders.{said_by}
 use Rattle.events.specs.declared.event.Event.{Event}
-use Rattle.totals.proofs.Noted.{or_false, round_flag_applied}
+use Rattle.totals.proofs.Applied.{or_false, round_flag_applied}
 use Rattle.totals.specs.Totals.{flag_then}
-use Rattle.totals.specs.Offers.{AreOffersOf, is_among, is_that_offer, tells_offer}
+use Rattle.totals.specs.Offers.{AreOffersOf, is_among, is_that_offer, says_offer}
 use Rattle.order_grammar.specs.declared.order.Offer.{Offer}
 use Rattle.tables.specs.declared.seat.Seat.{Seat}
 
--- an offer that is told is the one among those that it adds
-one_told : (seat : Seat) (sale : Offer) (told : Option (Seat × Offer))
-    → is_among seat sale (cons_option told []) ≡ tells_offer seat sale told
-one_told seat sale None = refl
-one_told seat sale (Some offer) = or_false (is_that_offer seat sale offer)
+-- an offer that is said is the one among those that it adds
+one_said : (seat : Seat) (sale : Offer) (said : Option (Seat × Offer))
+    → is_among seat sale (cons_option said []) ≡ says_offer seat sale said
+one_said seat sale None = refl
+one_said seat sale (Some offer) = or_false (is_that_offer seat sale offer)
 
 -- the offers of a round, with that of an event
 pub offer_added :
-    (event : Event) (offers longer : List (Seat × Offer)) (told : Option (Seat × Offer)) (seat : Seat) (sale : Offer)
+    (event : Event) (offers longer : List (Seat × Offer)) (said : Option (Seat × Offer)) (seat : Seat) (sale : Offer)
     → is_some (round_begun_by event) ≡ false →
-    longer ≡ offers ++ cons_option told [] → tells_offer seat sale told
+    longer ≡ offers ++ cons_option said [] → says_offer seat sale said
     ≡ is_some (said_by seat (offered_in sale) (obeyed_of event)) →
     is_among seat sale longer ≡ flag_then event (is_some (said_by seat (offered_in sale) (obeyed_of event)))
     (is_among seat sale offers)
-offer_added event offers longer told seat sale quiet grows says =
+offer_added event offers longer said seat sale quiet grows says =
     ap (is_among seat sale) grows
-    ∙ list_any-append (is_that_offer seat sale) offers (cons_option told [])
-    ∙ ap (λ flag. is_among seat sale offers || flag) (one_told seat sale told ∙ says)
+    ∙ list_any-append (is_that_offer seat sale) offers (cons_option said [])
+    ∙ ap (λ flag. is_among seat sale offers || flag) (one_said seat sale said ∙ says)
     ∙ sym
     (ap (λ begins. if begins then false else (is_among seat sale offers
     || is_some (said_by seat (offered_in sale) (obeyed_of event)))) quiet)
 
--- and the offers that the round has had once it is told of
+-- and the offers that the round has had once it is recorded
 pub offers_applied :
     (events : List Event) (event : Event) (offers longer : List (Seat × Offer)) →
     ((seat : Seat) (sale : Offer) → is_among seat sale longer
     ≡ flag_then event (is_some (said_by seat (offered_in sale) (obeyed_of event))) (is_among seat sale offers)) →
     AreOffersOf offers events → AreOffersOf longer (events ++ event ∷ [])
-offers_applied events event offers longer noted before = λ seat sale.
-    round_flag_applied (λ e. said_by seat (offered_in sale) (obeyed_of e)) events event _ _ (noted seat sale)
+offers_applied events event offers longer applied before = λ seat sale.
+    round_flag_applied (λ e. said_by seat (offered_in sale) (obeyed_of e)) events event _ _ (applied seat sale)
     (before seat sale)

@@ -1,4 +1,4 @@
--- What becomes of the shares of the companies where an event moves some: they leave one place and come to another, and
+-- What becomes of the shares of the companies where an event moves some: they leave one place and go to another, and
 -- ten stay ten.
 use Rattle.std.proofs.Common.{◌≡◌, ◌≢◌, ℕ, zero, suc, ◌+◌, ◌≤◌, ◌<◌, inl, inr, Bool, true, if◌then◌else◌, List, [], ◌∷◌}
 use Rattle.std.proofs.Common.{◌++◌, Some, map, pos, ◌≤ℤ◌, ◌-ℤ◌, ◌+ℤ◌, refl, subst, ap, arith}
@@ -46,7 +46,7 @@ parts at shares (seat ∷ others) = part at (OfSeat seat) shares + parts at shar
 abbrev pub moved : Company → Transfer → ℕ
 moved company transfer = if same_company transfer.company company then transfer.shares else 0
 
--- the shares at a place: what comes to it is added, and what leaves it is taken off
+-- the shares at a place: what it gains is added, and what leaves it is taken off
 pub shares_after : (events : List Event) (event : Event) (transfer : Transfer) (company : Company)
     (place : Shareholder) → transfer_of event ≡ Some transfer
     → shares_of (events ++ event ∷ []) company place

@@ -177,7 +177,7 @@ pub within_kept : (seats : ℕ) (events : List Event) (event : Event) → paymen
 within_kept seats events event none within = within_after seats events event (subst (IsWithin seats) (sym none) tt)
     within
 
--- without a tile or a token what lies fits as before
+-- without a tile or a token the map state fits as before
 pub fit_kept : (events : List Event) (event : Event) → tile_laid event ≡ None → token_placed event ≡ None
     → LiesFit events → LiesFit (events ++ event ∷ [])
 unfolding LiesFit

@@ -222,7 +222,7 @@ least_eight events Erie = omega arith
 least_eight events NewHaven = omega arith
 least_eight events BostonMaine = omega arith
 
--- a company that has no square is started by a seat at the table, where nobody comes to owe
+-- a company that has no square is started by a seat at the table, where nobody is left owing
 pub start_sound_by : (game : Game) (company : Company) (seat : Seat) (price : ℕ) (event : Event)
     → Gains game.seats event (certificate company seat) → is_par_value price ≡ true
     → square_of game.events company ≡ None → SeatsAreSolvent (with_event (with_event game (Par company price)) event)

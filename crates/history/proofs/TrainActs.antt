@@ -52,7 +52,7 @@ dividend_sound game company paid amount party sound =
     (trains_kept game.events (Dividend company paid amount) refl sound.trains)
     (fit_kept game.events (Dividend company paid amount) refl refl sound.fit) sound
 
--- after a train that is there has come to the company that buys it
+-- after a train that is there has gone to the company that buys it
 pub came_held : (events : List Event) (company : Company) (kind : Kind) (from : TrainSeller) (price : ℕ)
     → IsThere events from kind → TrainsAreHeld events → TrainsAreHeld (events ++ Train company kind from price ∷ [])
 came_held events company kind seller.Bank price there held =

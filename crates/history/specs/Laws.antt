@@ -84,7 +84,7 @@ PriceKeepsSound =
     IsSvPrice price → (price ≡ 0 → is_sold game.events SchuylkillValley ≡ true) → IsSound game
     → IsSound (with_event game (Price price))
 
--- or it comes to 0, and SV is given away to a seat at the table
+-- or it falls to 0, and SV is given away to a seat at the table
 abbrev pub SvIsGivenAway : Type 0
 SvIsGivenAway =
     (game : Game) (seat : Seat) →
@@ -184,13 +184,13 @@ MoveKeepsSound =
     (game : Game) (company : Company) (from to : Square) →
     square_of game.events company ≡ Some from → IsSound game → IsSound (with_event game (Moves company to))
 
--- a company's home token keeps a list sound, where what lies fits with it
+-- a company's home token keeps a list sound, where the map state fits with it
 abbrev pub HomeKeepsSound : Type 0
 HomeKeepsSound =
     (game : Game) (company : Company) (place : Place) →
     LiesFit (game.events ++ Home company place ∷ []) → IsSound game → IsSound (with_event game (Home company place))
 
--- a token that a company can pay keeps a list sound, where what lies fits with it
+-- a token that a company can pay keeps a list sound, where the map state fits with it
 abbrev pub TokenKeepsSound : Type 0
 TokenKeepsSound =
     (game : Game) (company : Company) (place : Place) (cost : ℕ) →
@@ -198,7 +198,7 @@ TokenKeepsSound =
     → LiesFit (game.events ++ Token company place cost ∷ []) → IsSound game
     → IsSound (with_event game (Token company place cost))
 
--- a lay that a company can pay keeps a list sound, where what lies fits with it
+-- a lay that a company can pay keeps a list sound, where the map state fits with it
 abbrev pub LayKeepsSound : Type 0
 LayKeepsSound =
     (game : Game) (company : Company) (lay : Lay) (cost : ℕ) →

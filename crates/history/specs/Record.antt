@@ -12,7 +12,7 @@ use Rattle.tables.specs.Roster.{privates, revenue_of}
 use Rattle.tables.specs.declared.roster.Private.{Private}
 use Rattle.tables.specs.declared.seat.Seat.{Seat}
 
--- the bank's cash is 0 or less, and nothing has told so yet
+-- the bank's cash is 0 or less, and nothing has said so yet
 abbrev pub breaks : ℕ → List Event → Bool
 breaks seats events = le_z (cash_of seats events party.Bank) (pos 0) && not (broken_in events)
 
@@ -20,7 +20,7 @@ breaks seats events = le_z (cash_of seats events party.Bank) (pos 0) && not (bro
 abbrev pub with_broken : ℕ → List Event → List Event
 with_broken seats events = if breaks seats events then events ++ event.Broken ∷ [] else events
 
--- a game in which it is told that the bank is broken, where it is
+-- a game with a record that the bank is broken, where it is
 abbrev pub broken_recorded : Game → Game
 broken_recorded game = record { seats = game.seats; events = with_broken game.seats game.events }
 
@@ -49,6 +49,6 @@ revenues_recorded game = record { seats = game.seats; events = after_revenues ga
 abbrev pub with_left : Seat → ℕ → List Event → List Event
 with_left seat count events = if count == 0 then events else event.Left seat count ∷ events
 
--- a game in which this many lines are told of, if there are any
+-- a game with a record of this many lines left, if there are any
 abbrev pub left_recorded : Seat → ℕ → Game → Game
 left_recorded seat count game = record { seats = game.seats; events = game.events ++ with_left seat count [] }

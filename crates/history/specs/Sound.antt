@@ -97,7 +97,7 @@ AreLed events = (company : Company) (square : Square) → square_of events compa
 abbrev pub FloatedAreLed : List Event → Type 0
 FloatedAreLed events = (company : Company) → is_floated events company ≡ true → IsLed events company
 
--- what lies on the map fits there, with the home tokens to come
+-- the tiles and tokens on the map fit there, with the home tokens to come
 unfoldable pub LiesFit : List Event → Type 0
 LiesFit events = AreFitWithHomes (lays_of events) (tokens_of events)
 

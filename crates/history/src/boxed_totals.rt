@@ -34,8 +34,8 @@ impl BoxedTotals {
         }
     }
 
-    /// Makes the box, where there is none, so that an event can be noted. The totals stay those of
-    /// the same events, also where the box gets no memory.
+    /// Makes the box, where there is none, so that an event can be applied. The totals stay those
+    /// of the same events, also where the box gets no memory.
     pub(crate) fn reserve(&mut self, alloc: Global) -> Result<(), AllocError>
         ensures same { (events : List TheEvent) →
             HasTotalsOf self.old events → HasTotalsOf self.new events }
@@ -47,7 +47,7 @@ impl BoxedTotals {
         Ok(())
     }
 
-    /// Notes one more event.
+    /// Applies one more event.
     pub(crate) fn apply(&mut self, event: &Event)
         requires { HasBox self.old }
         ensures { (events : List TheEvent) →

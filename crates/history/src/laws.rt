@@ -44,8 +44,8 @@ pub fn money_of_sound_lists()
     ensures owners { OwnersAreParties }
 {}
 
-/// An event that says nothing of what parties have and own, of SV's price, or of what lies on the
-/// map, changes none of what they have and own, and leaves that price.
+/// An event that says nothing of what parties have and own, of SV's price, or of the tiles and
+/// tokens on the map, changes none of what they have and own, and leaves that price.
 pub fn quiet_says_the_same()
     ensures { QuietSaysTheSame }
 {}
@@ -127,12 +127,12 @@ pub fn move_keeps_sound()
     ensures { MoveKeepsSound }
 {}
 
-/// A lay that a company can pay keeps a list sound, where what lies fits with it.
+/// A lay that a company can pay keeps a list sound, where the map state fits with it.
 pub fn lay_keeps_sound()
     ensures { LayKeepsSound }
 {}
 
-/// A token with which what lies fits keeps a list sound: that of a home, and one that a company
+/// A token with which the map state fits keeps a list sound: that of a home, and one that a company
 /// can pay.
 pub fn token_keeps_sound()
     ensures home { HomeKeepsSound }

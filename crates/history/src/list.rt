@@ -3,7 +3,7 @@ ghost use Rattle.std.specs.Prelude.{slice_get, vec_capacity, vec_len, []};
 ghost use Rattle.std.specs.List.{cons_option};
 ghost use Rattle.std.specs.Option.{option_copied};
 ghost use Rattle.events.specs.Event.{sum_of};
-ghost use Rattle.events.specs.Kept.{TakesBox};
+ghost use Rattle.events.specs.Packed.{TakesBox};
 ghost use Rattle.totals.specs.Bids.{bid_of};
 ghost use Rattle.totals.specs.LookBack.{FitsMemory, IsModerate, broken_in, cash_of, owner_of, sv_price_of, with_event};
 ghost use Rattle.totals.specs.Operating.{lays_of, tokens_of};
@@ -157,19 +157,19 @@ impl History {
         self.now().broken()
     }
 
-    /// Keeps a copy of an order with its condition, if it has one, by the list's own allocator. An
+    /// Packs a copy of an order with its condition, if it has one, by the list's own allocator. An
     /// `Err` comes only where a box gets no memory; of the orders that are ruled, only one under a
     /// condition and a run of more than five places need one.
-    pub fn keep(
+    pub fn pack(
         &self,
         condition: Option<&Condition>,
         order: &Order,
     ) -> Result<PackedLine, AllocError>
         ensures { MatchResult result
-            (λ kept. kept ≡ ordered (option_copied condition.entry) order.now)
+            (λ packed. packed ≡ ordered (option_copied condition.entry) order.now)
             (λ _. TakesBox (option_copied condition.entry) order.now) }
     {
-        PackedLine::keep(*self.events.allocator(), condition, order)
+        PackedLine::pack(*self.events.allocator(), condition, order)
     }
 
     /// A seat's standing bid on a private, in dollars.

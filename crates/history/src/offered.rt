@@ -3,7 +3,7 @@ ghost use Rattle.std.specs.Prelude.{◌≡◌, ◌<◌, IsOk, is_some, vec_capac
 ghost use Rattle.events.specs.Event.{obeyed_of};
 ghost use Rattle.events.specs.Offers.{offered_in};
 ghost use Rattle.events.specs.Orders.{said_by};
-ghost use Rattle.totals.specs.Offers.{is_among, tells_offer};
+ghost use Rattle.totals.specs.Offers.{is_among, says_offer};
 ghost use Rattle.totals.specs.Totals.{flag_then};
 
 use crate::list::push_any;
@@ -14,7 +14,7 @@ use tables::Seat;
 
 /// The sale that the line that an event rules offers, with the seat that offers it.
 fn offer_in_event(event: &Event) -> Option<(Seat, Offer)>
-    ensures { (seat : Seat) (sale : Offer) → tells_offer seat sale result
+    ensures { (seat : Seat) (sale : Offer) → says_offer seat sale result
         ≡ is_some (said_by seat (offered_in sale) (obeyed_of event.now)) }
 {
     match event {
@@ -26,11 +26,11 @@ fn offer_in_event(event: &Event) -> Option<(Seat, Offer)>
     }
 }
 
-/// Notes the sale that is offered by an event in a list that has room for one more; one that begins
-/// a round empties the list.
+/// Applies the sale that is offered by an event in a list that has room for one more; one that
+/// begins a round empties the list.
 pub(crate) fn apply_offer(offers: &mut Vec<(Seat, Offer)>, event: &Event) -> Result<(), AllocError>
     requires { vec_len offers.old < vec_capacity offers.old }
-    ensures noted { (seat : Seat) (sale : Offer) → is_among seat sale offers.new.items
+    ensures applied { (seat : Seat) (sale : Offer) → is_among seat sale offers.new.items
         ≡ flag_then event.now (is_some (said_by seat (offered_in sale) (obeyed_of event.now)))
         (is_among seat sale offers.old.items) }
     ensures ok { IsOk result }

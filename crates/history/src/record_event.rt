@@ -25,8 +25,8 @@ impl History {
         Ok(())
     }
 
-    /// Tells that the bank is broken, once, where its cash has come to 0 or less. It belongs after
-    /// each payment of the bank. An `Err` leaves the list as it was.
+    /// Records that the bank is broken, once, where its cash is 0 or less. It belongs after each
+    /// payment of the bank. An `Err` leaves the list as it was.
     pub fn record_broken(&mut self) -> Result<(), AllocError>
         ensures ok { OnOk result (self.new ≡ broken_recorded self.old) }
         ensures err { OnErr result (self.new ≡ self.old) }
@@ -69,7 +69,7 @@ impl History {
         self.record_broken()
     }
 
-    /// Tells that this many lines of a seat's sheet were not taken up, if there are any. An `Err`
+    /// Records that this many lines of a seat's sheet were not taken up, if there are any. An `Err`
     /// leaves the list as it was.
     pub fn record_left(&mut self, seat: Seat, lines: u32) -> Result<(), AllocError>
         requires { IsSound self.old }

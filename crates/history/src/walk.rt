@@ -7,7 +7,7 @@ use events::Event;
 use totals::{GameView, Totals};
 
 /// A list of events, whose first ones were passed, and the totals of those. One who asks for a game
-/// as it stood, and later for the same game as it stood later, notes each event once.
+/// as it stood, and later for the same game as it stood later, applies each event once.
 #[derive(Clone, Copy, Debug)]
 pub struct Walk<'a> {
     /// All events.

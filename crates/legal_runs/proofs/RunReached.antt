@@ -72,7 +72,7 @@ module _ (position : Position) (lawful : IsLawful position) (company : Company) 
   abbrev IsOpen : Spot → Type 0
   IsOpen spot = IfSome (stop_of spot) (λ stop. ¬ IsFull position stop company)
 
-  -- a walk of the company comes to where a step may be entered
+  -- a walk of the company reaches where a step may be entered
   abbrev ComesTo : Spot → Type 0
   ComesTo spot =
       ((stop : Stop) × (stop_of spot ≡ Some stop) × HasToken position stop company)
@@ -162,7 +162,7 @@ module _ (position : Position) (lawful : IsLawful position) (company : Company) 
       at_joint (inr over) walked of_company is = absurd
           (no_stop_across (left_at earlier) (entered_at step) stop is over)
 
-  -- a run with an own token: all its stops are reached, and the company comes to where it goes on
+  -- a run with an own token: all its stops are reached, and the company reaches where it goes on
   pub record IsReached (step : Step) (before : List Step) : Type 0 where
     pub stops : (stop : Stop) → IsAmong stop (visited (step ∷ before)) → ReachesStop position company stop
     pub onward : (spot : Spot) → AreJoined (left_at step) spot → ComesTo spot

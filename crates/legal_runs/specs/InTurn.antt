@@ -24,7 +24,7 @@ abbrev pub has_enough : List Kind → List ClaimedRun → Kind → Bool
 has_enough trains claimed kind =
     nat_le (count_by (λ run. same_kind run.kind kind) claimed) (count_by (λ train. same_kind train kind) trains)
 
--- claimed runs are legal one after the other, where these borders are used, and earn so much together
+-- claimed runs are legal one after the other, where these borders are used, and earn this much together
 abbrev pub AreLegalInTurn : Position → Company → List Bool → ℕ → List ClaimedRun → Type 0
 AreLegalInTurn position company used left [] = left ≡ 0
 AreLegalInTurn position company used left (claimed ∷ later) =

@@ -56,7 +56,7 @@ abbrev pub revenue_of : Position → List TrainRun → ℕ
 revenue_of position [] = 0
 revenue_of position (run ∷ runs) = earned position run.steps + revenue_of position runs
 
--- some legal set earns so much
+-- some legal set earns this much
 abbrev pub IsEarned : Position → Company → List Kind → ℕ → Type 0
 IsEarned position company trains revenue =
     (runs : List TrainRun) × IsLegalSet position company trains runs × (revenue_of position runs ≡ revenue)

@@ -13,7 +13,7 @@ use map_tables::{End, Run, RunRule};
 use reach::{Network, Spot};
 use tables::{Company, Kind, Money};
 
-/// The first rule that a run breaks: one of those that ask what lies, R3 to R9.
+/// The first rule that a run breaks: one of those that ask for the map state, R3 to R9.
 pub type RunFault = RunRule;
 
 /// Rules a run of a company's train of a kind, as it is written out place by place. It is `Ok`

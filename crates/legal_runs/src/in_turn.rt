@@ -27,7 +27,7 @@ pub fn claim_holds<N: Network>(
     are_taken(trains, claimed) && are_legal_in_turn(network, company, claimed, claim.revenue)
 }
 
-/// Whether claimed runs are legal one after the other, and earn so much together.
+/// Whether claimed runs are legal one after the other, and earn this much together.
 fn are_legal_in_turn<N: Network>(
     network: &N,
     company: Company,

@@ -27,7 +27,7 @@ unfolding hexes index_of
 index_low A9 = lit< tt
 index_low hex = lit< tt
 
--- the position has in a hex what lies there
+-- the position has in a hex what is there
 pub in_hex_is : (hex : Hex) → in_hex four_stops hex ≡ on_map_in hex
 unfolding four_stops
 in_hex_is hex =

@@ -35,7 +35,7 @@ city value slots company = record { value = value; red = false; slots = slots; t
 abbrev pub red_area : ℕ → there.AtStop
 red_area value = record { value = value; red = true; slots = 0; tokens = [] }
 
--- what lies in a hex
+-- what is in a hex
 abbrev pub on_map_in : Hex → InHex
 on_map_in G11 =
     record {
@@ -64,8 +64,8 @@ listed None = []
 listed (Some company) = company ∷ []
 
 -- what the network tells of a stop
-abbrev pub told : Standing → there.AtStop
-told standing =
+abbrev pub at_stop_of : Standing → there.AtStop
+at_stop_of standing =
     record { value = standing.value; red = standing.red; slots = standing.slots; tokens = listed standing.token }
 
 -- what is at a stop, in the hex that names it

@@ -348,7 +348,7 @@ fn agrees_with_a_slow_search(rt: HostRuntime) -> Result<(), AllocError> {
 
 /// The same on a network that is no board, with what trains earn there, found by hand: H12 to G13 is worth
 /// 80, H12 to G11 70, and H10 to G11 60; one train comes by all four, from G11 over H10 and H12 to G13; and
-/// NYC, whose token lies in G11 alone, comes to G13 and no further, since it is red.
+/// NYC, whose token lies in G11 alone, reaches G13 and no further, since it is red.
 #[test]
 fn agrees_on_four_stops(rt: HostRuntime) -> Result<(), AllocError> {
     for company in [PRR, NYC, BM] {

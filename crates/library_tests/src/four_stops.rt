@@ -1,6 +1,6 @@
 //! A network of four stops, which no board is.
 ghost use Rattle.std.specs.Prelude.{◌≡◌, false, true};
-ghost use Rattle.library_tests.specs.FourStops.{four_stops, on_map_in, spoke, standing_in, told};
+ghost use Rattle.library_tests.specs.FourStops.{at_stop_of, four_stops, on_map_in, spoke, standing_in};
 ghost use Rattle.map_tables.specs.declared.place.StopNumber.TheVariants.{First};
 ghost use Rattle.reach.specs.Position.{at_stop};
 
@@ -57,7 +57,7 @@ fn red_area(value: Amount) -> Standing
 
 /// What is at the stop of a hex.
 fn stop_of(hex: Hex) -> Standing
-    ensures { told result ≡ standing_in hex First }
+    ensures { at_stop_of result ≡ standing_in hex First }
 {
     match hex {
         Hex::G11 => city(40, 1, Company::NewYorkCentral),
@@ -71,7 +71,7 @@ fn stop_of(hex: Hex) -> Standing
 
 /// What is at a stop.
 fn standing_at(stop: Stop) -> Standing
-    ensures { told result ≡ at_stop four_stops stop }
+    ensures { at_stop_of result ≡ at_stop four_stops stop }
 {
     let stop = joined_stop(stop);
     match stop.number {

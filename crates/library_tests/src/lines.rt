@@ -45,7 +45,7 @@ fn prints_an_order_under_a_condition(rt: HostRuntime) -> Result<(), Fail> {
     Ok(())
 }
 
-/// Whether a word has this text, and stands from one place to another.
+/// Whether a word has this text, and is from one place to another.
 fn stands(word: Option<Token>, text: &[u8], start: usize, end: usize) -> bool {
     match word {
         Some(word) => word.text == text && word.span.start == start && word.span.end == end,

@@ -88,9 +88,9 @@ fn marks_are_those_of_the_tree(rt: HostRuntime) -> Result<(), AllocError> {
     Ok(())
 }
 
-/// Whether the best of PRR's trains is accepted by its marks, and refused by any front of them and with a
-/// revenue of one less; and whether a claim of nothing, which holds, is refused by its marks and by those
-/// that are written for 0.
+/// Whether the best of PRR's trains is accepted by its marks, and refused by any prefix of them and with
+/// a revenue of one less; and whether a claim of nothing, which holds, is refused by its marks and by
+/// those that are written for 0.
 fn is_accepted_as_it_is<N: Network>(
     alloc: Global,
     network: &N,

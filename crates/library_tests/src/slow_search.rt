@@ -13,7 +13,7 @@ struct Walk {
     stops: Vec<Stop>,
     /// Both sides of each border that it crosses.
     sides: Vec<Spot>,
-    /// Where it has come to.
+    /// Where it is.
     end: Spot,
 }
 
@@ -69,7 +69,7 @@ fn begun(alloc: Global, steps: &[Step]) -> Result<Vec<Walk>, AllocError> {
     Ok(walks)
 }
 
-/// Whether a walk may go on from where it has come to: it passes no red stop and no full city.
+/// Whether a walk may go on from where it is: it passes no red stop and no full city.
 fn may_go_on<N: Network>(network: &N, company: Company, walk: &Walk) -> bool {
     match walk.end.stop() {
         Some(stop) => {
@@ -80,7 +80,7 @@ fn may_go_on<N: Network>(network: &N, company: Company, walk: &Walk) -> bool {
     }
 }
 
-/// Whether a step begins where a walk has come to, and leads over no border and to no stop of it.
+/// Whether a step begins where a walk is, and leads over no border and to no stop of it.
 fn can_take(walk: &Walk, step: Step) -> bool {
     let entered = step.entered();
     let joins = match walk.end.stop() {

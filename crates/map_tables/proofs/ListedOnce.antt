@@ -9,7 +9,7 @@ use Rattle.map_tables.specs.declared.tiles.TileNo.TheVariants.{T1}
 use Rattle.map_tables.specs.Hex.{hexes, index_of, same_hex}
 use Rattle.map_tables.specs.Tile.{tiles, tile_index_of, number_of_tile, tile_numbered}
 use Rattle.map_tables.specs.Print.{groups, plain_hexes, is_one_of}
-use Rattle.map_tables.specs.Laws.{HexStands, TileStands}
+use Rattle.map_tables.specs.Laws.{IsHexListed, IsTileListed}
 use Rattle.map_tables.proofs.HexAt.{hex_at-site}
 use Rattle.map_tables.proofs.HexTables.{same_hex-true, same_hex-same}
 
@@ -27,8 +27,8 @@ pub hexes_are_93 : length hexes ≡ 93
 unfolding hexes
 hexes_are_93 = refl
 
-pub hex_stands : (hex : Hex) → HexStands hex
-hex_stands hex = record {
+pub hex_is_listed : (hex : Hex) → IsHexListed hex
+hex_is_listed hex = record {
   below = ltb-true (index_of hex) 93 (hex_below hex);
   there = hex_there hex;
   found =
@@ -57,8 +57,8 @@ pub tiles_are_46 : length tiles ≡ 46
 unfolding tiles
 tiles_are_46 = refl
 
-pub tile_stands : (tile : TileNo) → TileStands tile
-tile_stands tile = record {
+pub tile_is_listed : (tile : TileNo) → IsTileListed tile
+tile_is_listed tile = record {
   below = ltb-true (tile_index_of tile) 46 (tile_below tile);
   there =
       tile_there tile;

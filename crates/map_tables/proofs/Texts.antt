@@ -25,7 +25,7 @@ use Rattle.map_tables.specs.Text.{short_number, hex_of_text, stop_of_text, place
 use Rattle.map_tables.specs.Text.{rotation_of_text, TextsAreRead}
 use Rattle.map_tables.specs.Tile.{tiles, number_of_tile, tile_numbered}
 use Rattle.map_tables.proofs.HexAt.{hex_at-is, hex_at-site}
-use Rattle.map_tables.proofs.ListedOnce.{tile_stands}
+use Rattle.map_tables.proofs.ListedOnce.{tile_is_listed}
 use Rattle.map_tables.proofs.Searches.{found_passes}
 
 -- the digit of a number under 10
@@ -129,9 +129,9 @@ pub hex_text-le : (hex : Hex) → length (text_of_hex hex) ≤ 3
 hex_text-le hex = omega (arith, digits-le (column_of hex) (column_short hex))
 
 -- as it is written
-pub hex_written : (hex : Hex) (row column : ℕ) (front middle whole : List ℕ) → front ≡ [] → row ≡ row_of hex
-    → column ≡ column_of hex → middle ≡ front ++ row ∷ [] → whole ≡ middle ++ decimal column → whole ≡ text_of_hex hex
-hex_written hex row column front middle whole none r c first rest = rw (rest, first, none, r, c) refl
+pub hex_written : (hex : Hex) (row column : ℕ) (prefix middle whole : List ℕ) → prefix ≡ [] → row ≡ row_of hex
+    → column ≡ column_of hex → middle ≡ prefix ++ row ∷ [] → whole ≡ middle ++ decimal column → whole ≡ text_of_hex hex
+hex_written hex row column prefix middle whole none r c first rest = rw (rest, first, none, r, c) refl
 
 -- a hex is read again
 pub hex_text : (hex : Hex) → hex_of_text (text_of_hex hex) ≡ Some hex
@@ -207,19 +207,19 @@ stop_of_hex_text hex number =
     ∙ ap (option_and_then (hex_at (row_of hex))) (long_number (decimal (column_of hex)) (48 + stop_index_of number)) in
     let size : length (text_of_hex hex ++ stop_text (Some number)) - 2 ≡ length (text_of_hex hex) =
     omega (arith, length-append (text_of_hex hex) (stop_text (Some number)), ap length digit) in
-    let front : take (length (text_of_hex hex ++ stop_text (Some number)) - 2)
+    let prefix : take (length (text_of_hex hex ++ stop_text (Some number)) - 2)
     (text_of_hex hex ++ stop_text (Some number)) ≡ text_of_hex hex =
     take_at (text_of_hex hex) (stop_text (Some number)) _ (sym size) in
     let back : drop (length (text_of_hex hex ++ stop_text (Some number)) - 2)
     (text_of_hex hex ++ stop_text (Some number)) ≡ stop_text (Some number) =
     drop_at (text_of_hex hex) (stop_text (Some number)) _ (sym size) in
-    place_by (text_of_hex hex ++ stop_text (Some number)) hex number none (ap hex_of_text front ∙ hex_text hex)
+    place_by (text_of_hex hex ++ stop_text (Some number)) hex number none (ap hex_of_text prefix ∙ hex_text hex)
     (ap stop_of_text back ∙ stop_read number) where
       place_by : (text : List ℕ) (hex : Hex) (number : StopNumber) → hex_of_text text ≡ None
           → hex_of_text (take (length text - 2) text) ≡ Some hex
           → stop_of_text (drop (length text - 2) text) ≡ Some number
           → place_of_text text ≡ Some (record { hex = hex; stop = Some number })
-      place_by text hex number none front back = rw (none, front, back, place_of_text) refl
+      place_by text hex number none prefix back = rw (none, prefix, back, place_of_text) refl
 
 place_text_from : (hex : Hex) (stop : Option StopNumber)
     → place_of_text (text_of_hex hex ++ stop_text stop) ≡ Some (record { hex = hex; stop = stop })
@@ -233,10 +233,10 @@ pub place_text : (place : Place) → place_of_text (text_of_place place) ≡ Som
 place_text place = place_text_from place.hex place.stop
 
 -- the text of a stop, as it is written
-pub stop_written : (place : Place) (number : StopNumber) (digit : ℕ) (front middle whole : List ℕ)
-    → front ≡ text_of_hex place.hex → place.stop ≡ Some number → digit ≡ 48 + stop_index_of number
-    → middle ≡ front ++ 46 ∷ [] → whole ≡ middle ++ digit ∷ [] → whole ≡ text_of_place place
-stop_written place number digit front middle whole hex stop is point end =
+pub stop_written : (place : Place) (number : StopNumber) (digit : ℕ) (prefix middle whole : List ℕ)
+    → prefix ≡ text_of_hex place.hex → place.stop ≡ Some number → digit ≡ 48 + stop_index_of number
+    → middle ≡ prefix ++ 46 ∷ [] → whole ≡ middle ++ digit ∷ [] → whole ≡ text_of_place place
+stop_written place number digit prefix middle whole hex stop is point end =
     let number_is : digit ∷ [] ≡ decimal (stop_index_of number) = ap (λ (d : ℕ). d ∷ []) is ∙ sym (stop_digit number) in
     end ∙ ap (λ (bytes : List ℕ). bytes ++ digit ∷ []) (point ∙ ap (λ (bytes : List ℕ). bytes ++ 46 ∷ []) hex)
     ∙ append_assoc (text_of_hex place.hex) (46 ∷ []) (digit ∷ [])
@@ -244,15 +244,15 @@ stop_written place number digit front middle whole hex stop is point end =
     ∙ ap (λ (s : Option StopNumber). text_of_hex place.hex ++ stop_text s) (sym stop)
 
 -- only its text is
-stop_place_named : (front back : List ℕ) (hex : Option Hex) (stop : Option StopNumber) (place : Place)
-    → hex_of_text front ≡ hex → stop_of_text back ≡ stop → place_from hex stop ≡ Some place
-    → front ++ back ≡ text_of_place place
-stop_place_named front back (Some hex) (Some number) place h s e =
+stop_place_named : (prefix back : List ℕ) (hex : Option Hex) (stop : Option StopNumber) (place : Place)
+    → hex_of_text prefix ≡ hex → stop_of_text back ≡ stop → place_from hex stop ≡ Some place
+    → prefix ++ back ≡ text_of_place place
+stop_place_named prefix back (Some hex) (Some number) place h s e =
     let is = same_Some (record { hex = hex; stop = Some number }) place e in
-    ap (λ (text : List ℕ). text ++ back) (hex_named front hex h)
+    ap (λ (text : List ℕ). text ++ back) (hex_named prefix hex h)
     ∙ ap (λ (text : List ℕ). text_of_hex hex ++ text) (stop_named back number s) ∙ ap text_of_place is
-stop_place_named front back (Some hex) None place h s e = absurd cc
-stop_place_named front back None stop place h s e = absurd cc
+stop_place_named prefix back (Some hex) None place h s e = absurd cc
+stop_place_named prefix back None stop place h s e = absurd cc
 
 place_named_by : (text : List ℕ) (found : Option Hex) (place : Place) → hex_of_text text ≡ found
     → place_of_text text ≡ Some place → text ≡ text_of_place place
@@ -286,7 +286,7 @@ tile_is number tile e = eqb-true (number_of_tile tile) number
 tile_text : (tile : TileNo) → tile_of_text (text_of_tile tile) ≡ Some tile
 tile_text tile =
     ap (option_and_then tile_numbered) (short_number-decimal (number_of_tile tile) (number_short tile))
-    ∙ (tile_stands tile).found
+    ∙ (tile_is_listed tile).found
 
 tile_named_by : (text : List ℕ) (found : Option ℕ) (tile : TileNo) → short_number text ≡ found
     → option_and_then tile_numbered found ≡ Some tile → text ≡ text_of_tile tile

@@ -1,8 +1,8 @@
--- What may lie on the map at all. A tile is of its hex's kind, and its stops are swapped only where there are
--- two; grey and red hexes take none. None of its track leads to a bad side: off the map, to a closed border,
--- or to a grey or red hex without track at the side that faces it. Each token has a slot of its own, in a
--- city. Colours, the stock and kept slots are no matter here. A slot of each company's home is kept until its
--- token lies there, so in a game what lies has to fit with the home tokens that are still to come.
+-- What may lie on the map at all. A tile is of its hex's kind, and its stops are swapped only where there are two; grey
+-- and red hexes take none. None of its track leads to a bad side: off the map, to a closed border, or to a grey or red
+-- hex without track at the side that faces it. Each token has a slot of its own, in a city. Colours, the stock and kept
+-- slots are no matter here. A slot of each company's home is kept until its token lies there, so in a game the map
+-- state has to fit with the home tokens that are still to come.
 use Rattle.std.specs.Prelude.{◌≡◌, ℕ, ◌==◌, ◌&&◌, ◌||◌, Bool, true, false, not, nat_lt, List, [], ◌++◌, map, Option}
 use Rattle.std.specs.Prelude.{Some, None}
 use Rattle.std.specs.List.{filter, list_any}
@@ -60,7 +60,7 @@ abbrev pub is_side : Side → End → Bool
 is_side side (AtSide other) = number_of other == number_of side
 is_side side (AtNumber number) = false
 
--- whether the print of a hex has track at a side
+-- whether a printed hex has track at a side
 abbrev pub has_print_at : Hex → Side → Bool
 has_print_at hex side = list_any (λ link. is_side side link.a || is_side side link.b) (printed_links_of hex)
 

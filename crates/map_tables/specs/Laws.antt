@@ -29,26 +29,26 @@ NeighboursPair =
     → neighbour_of other (facing_of side) ≡ Some hex
 
 -- the list of hexes has 93, each at its index, which is below 93; and each is the hex at its row and column
-pub record HexStands (hex : Hex) : Type 0 where
+pub record IsHexListed (hex : Hex) : Type 0 where
   pub below : index_of hex < 93
   pub there : slice_get hexes (index_of hex) ≡ Some hex
   pub found : hex_at (row_of hex) (column_of hex) ≡ Some hex
 
 abbrev pub HexesAreListedOnce : Type 0
-HexesAreListedOnce = (length hexes ≡ 93) × ((hex : Hex) → HexStands hex)
+HexesAreListedOnce = (length hexes ≡ 93) × ((hex : Hex) → IsHexListed hex)
 
 -- hexes pass for one exactly where they are one
 abbrev pub HexesAreToldApart : Type 0
 HexesAreToldApart = (a b : Hex) → (same_hex a b ≡ true) ↔ (a ≡ b)
 
 -- the list of tiles has 46, each at its index, which is below 46; and each is the tile of its number
-pub record TileStands (tile : TileNo) : Type 0 where
+pub record IsTileListed (tile : TileNo) : Type 0 where
   pub below : tile_index_of tile < 46
   pub there : slice_get tiles (tile_index_of tile) ≡ Some tile
   pub found : tile_numbered (number_of_tile tile) ≡ Some tile
 
 abbrev pub TilesAreListedOnce : Type 0
-TilesAreListedOnce = (length tiles ≡ 46) × ((tile : TileNo) → TileStands tile)
+TilesAreListedOnce = (length tiles ≡ 46) × ((tile : TileNo) → IsTileListed tile)
 
 -- each hex is in one group of the prints
 abbrev pub PrintsAreListedOnce : Type 0

@@ -110,7 +110,7 @@ use Rattle.map_tables.specs.Hex.{same_hex}
 use Rattle.map_tables.specs.Track.{in_order, through, city_track, two_city_track, links_in}
 use Rattle.map_tables.specs.Tile.{stops_of_kind}
 
--- the print of a hex
+-- the printed hex
 pub record Print : Type 0 where
   pub kind : HexKind
   pub cost : ℕ
@@ -265,7 +265,7 @@ abbrev pub is_one_of : Hex → List Hex → Bool
 is_one_of hex [] = false
 is_one_of hex (h ∷ hs) = same_hex h hex || is_one_of hex hs
 
--- the print of a hex: that of the group in which it stands
+-- the printed hex: that of the group that it is in
 abbrev pub print_among : List Group → Hex → Print
 print_among [] hex = white Plain 0
 print_among (g ∷ gs) hex = if is_one_of hex g.hexes then g.print else print_among gs hex

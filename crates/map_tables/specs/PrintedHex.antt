@@ -1,4 +1,4 @@
--- What the code keeps of the print of a hex.
+-- What the code keeps of the printed hex.
 use Rattle.map_tables.specs.declared.print.PrintedHex.{PrintedHex}
 use Rattle.map_tables.specs.Print.{Print}
 

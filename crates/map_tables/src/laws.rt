@@ -95,7 +95,7 @@ pub fn homes_take_tokens()
     ensures { HomesTakeTokens }
 {}
 
-/// Before anything is laid what lies fits: each home has a slot for its token.
+/// Before anything is laid the map state fits: each home has a slot for its token.
 pub fn nothing_fits()
     ensures { NothingFits }
 {}

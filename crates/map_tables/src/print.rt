@@ -164,7 +164,7 @@ macro_rules! white {
     };
 }
 
-/// The print of a hex.
+/// The printed hex.
 #[tactic(auto, unfolding(crate::specs::Hex::index_of, crate::specs::Print::groups, crate::specs::Print::plain_hexes, crate::specs::Print::print_of))]
 fn print(hex: Hex) -> &'static PrintedHex
     ensures { print_seen result.now ≡ print_of hex }

@@ -99,7 +99,7 @@ impl TokenRule {
 }
 
 /// A rule that the run of a train may break: the first two ask what the turn has done, the others
-/// what lies on the map.
+/// the tiles and tokens on the map.
 #[derive(Clone, Copy, Debug, PartialEq, Eq)]
 pub enum RunRule {
     /// R1: the turn is past its run.

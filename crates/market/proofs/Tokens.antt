@@ -32,7 +32,7 @@ token_sound game its from to is sound =
 -- the move of a token
 pub move_sound : (move : Square → Square) (game new : Game) (its : Company) → new.seats ≡ game.seats
     → new.events ≡ with_move move game.events its → IsSound game → IsSound new
-move_sound move game new its seats told sound =
+move_sound move game new its seats recorded sound =
     let after : IsSound (record { seats = game.seats; events = with_move move game.events its }) =
     elim (square_of game.events its) as (λ (found : Option Square). square_of game.events its ≡ found
     → IsSound (record { seats = game.seats; events = moved_from move game.events its found })) [
@@ -41,4 +41,4 @@ move_sound move game new its seats told sound =
     ]
     refl
     in
-    same_game new game.seats (with_move move game.events its) seats told after
+    same_game new game.seats (with_move move game.events its) seats recorded after

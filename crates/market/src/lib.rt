@@ -4,7 +4,7 @@
 //! A move answers the square to which a token comes. A move for which the chart has no square is
 //! not made: the token stays. The order is that of the floated companies by their squares.
 //!
-//! Reading order: `moves`, `token` (a company's token moves, which is told), `order`, `laws` (a
+//! Reading order: `moves`, `token` (a company's token moves, which is recorded), `order`, `laws` (a
 //! token on the chart stays on it; the order is one).
 #![tactic(auto)]
 

@@ -7,7 +7,7 @@ use history::{Event, History};
 use std::alloc::AllocError;
 use tables::{Company, Square};
 
-/// A company's token moves right, which is told where it reaches another square.
+/// A company's token moves right, which is recorded where it reaches another square.
 pub fn move_token_right(history: &mut History, company: Company) -> Result<(), AllocError>
     ensures seats { OnOk result (history.new.seats ≡ history.old.seats) }
     ensures events { OnOk result (history.new.events
@@ -19,7 +19,7 @@ pub fn move_token_right(history: &mut History, company: Company) -> Result<(), A
     }
 }
 
-/// A company's token moves left, which is told where it reaches another square.
+/// A company's token moves left, which is recorded where it reaches another square.
 pub fn move_token_left(history: &mut History, company: Company) -> Result<(), AllocError>
     ensures seats { OnOk result (history.new.seats ≡ history.old.seats) }
     ensures events { OnOk result (history.new.events
@@ -43,7 +43,8 @@ pub fn move_token_up(history: &mut History, company: Company) -> Result<(), Allo
     }
 }
 
-/// A company's token moves down this many squares, as far as there are squares; it is told once.
+/// A company's token moves down this many squares, as far as there are squares; it is recorded
+/// once.
 pub fn move_token_down(
     history: &mut History,
     company: Company,
@@ -59,7 +60,7 @@ pub fn move_token_down(
     }
 }
 
-/// A company's token comes from one square to another, which is told where it is another.
+/// A company's token comes from one square to another, which is recorded where it is another.
 fn move_token(
     history: &mut History,
     company: Company,

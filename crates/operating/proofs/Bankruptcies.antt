@@ -23,9 +23,9 @@ use Rattle.forced_purchase.specs.Forced.{after_forced, cheapest, concluded, fall
 use Rattle.purchases.specs.Trains.{has_trains}
 use Rattle.operating.specs.ForcedLaws.{BankruptcyEndsTurns, EndsBankrupt}
 use Rattle.purchases.specs.Phases.{after_train}
-use Rattle.operating.specs.Turn.{BlockEnds, withheld_if_unpaid}
+use Rattle.operating.specs.Turn.{CompanyOrdersEnd, withheld_if_unpaid}
 use Rattle.forced_purchase.specs.declared.operator.Operator.{Operator}
-use Rattle.sheets.specs.Block.{block_for}
+use Rattle.sheets.specs.CompanyOrders.{company_orders_for}
 use Rattle.sheets.specs.Part.{Numbered}
 use Rattle.tables.specs.declared.roster.Company.{Company}
 use Rattle.tables.specs.declared.round.Round.{Round}
@@ -77,13 +77,13 @@ module _ (by : Operator) (new : Game) (presides : president_of new.events by.com
       elim (falls_short by gained) as (λ (b : Bool). new
       ≡ (if b then with_event gained (event.Bankrupt by.president) else after_train (with_aid by gained)
       by.company (cheapest gained.events)) → EndsBankrupt new by.company) [
-        | true ↦ λ told. record {
+        | true ↦ λ recorded. record {
           before = gained.events;
           president = by.president;
           presides = presides;
-          last = ap (λ (game : Game). game.events) told;
+          last = ap (λ (game : Game). game.events) recorded;
           first = solvent;
-          none = ap (λ (game : Game). has_trains game.events by.company) told
+          none = ap (λ (game : Game). has_trains game.events by.company) recorded
               ∙ ap (lt_z (pos 0)) (size_before gained.events (event.Bankrupt by.president) (Some by.company) refl)
               ∙ none;
         }
@@ -107,20 +107,21 @@ module _ (by : Operator) (new : Game) (presides : president_of new.events by.com
       ∙ of_raises by Same (of_turn_events by.company) (of_sales by) false lines game in
       absurd (not_both game new same solvent bankrupt)
 
--- so it is with the block of the president
-of_block : (file : List ℕ) (round : Round) (company : Company) (game new : Game) (president : Option Seat)
+-- so it is with the orders of the president
+of_orders : (file : List ℕ) (round : Round) (company : Company) (game new : Game) (president : Option Seat)
     → president_of new.events company ≡ president →
-    BlockEnds file round company game president new → bankrupt_in game.events ≡ false → bankrupt_in new.events ≡ true
-    → EndsBankrupt new company
-of_block file round company game new None presides ends solvent bankrupt =
+    CompanyOrdersEnd file round company game president new → bankrupt_in game.events ≡ false
+    → bankrupt_in new.events ≡ true → EndsBankrupt new company
+of_orders file round company game new None presides ends solvent bankrupt =
     absurd (not_both game new (ap (λ (after : Game). bankrupt_in after.events) ends) solvent bankrupt)
-of_block file round company game new (Some seat) presides ends solvent bankrupt =
-    of_end (operator company seat) new presides bankrupt (block_for file round seat.0 company) game ends solvent
+of_orders file round company game new (Some seat) presides ends solvent bankrupt =
+    of_end (operator company seat) new presides bankrupt (company_orders_for file round seat.0 company) game ends
+    solvent
 
 -- and in each company's turn
 pub bankruptcy_ends : BankruptcyEndsTurns
 bankruptcy_ends file round company old new turn solvent bankrupt =
     let paid : Game = (withheld_if_unpaid company turn.last).game in
-    of_block file round company paid new (president_of old.events company)
+    of_orders file round company paid new (president_of old.events company)
     (president_stays file round company old new turn) turn.after
     (of_paid_turn company Same (of_turn_events company) file round old new turn ∙ solvent) bankrupt

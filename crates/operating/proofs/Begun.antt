@@ -10,44 +10,44 @@ use Rattle.operating.specs.Calls.{Earns, Makes}
 use Rattle.operating.specs.CompanyTurn.{state}
 use Rattle.operating.specs.Ending.{EndLeads}
 use Rattle.operating.specs.InTurn.{InTurn, at_start, in_turn}
-use Rattle.operating.specs.Turn.{BlockEnds, BlockLeads, IsCompanyTurn, OrdersLead, withheld_if_unpaid}
+use Rattle.operating.specs.Turn.{CompanyOrdersEnd, CompanyOrdersLead, IsCompanyTurn, OrdersLead, withheld_if_unpaid}
 use Rattle.operating.specs.TurnCalls.{OrdersCall, TurnCalls}
 use Rattle.operating.specs.declared.company_turn.CompanyTurn.{CompanyTurn}
 use Rattle.operating.specs.declared.progress.Progress.{Progress}
-use Rattle.sheets.specs.Block.{block_for}
+use Rattle.sheets.specs.CompanyOrders.{company_orders_for}
 use Rattle.sheets.specs.Part.{Numbered}
 use Rattle.tables.specs.declared.roster.Company.{Company}
 use Rattle.tables.specs.declared.round.Round.{Round}
 use Rattle.tables.specs.declared.seat.Seat.{Seat}
 
--- a turn has begun for a company of which this seat presides, with these lines
+-- a turn has begun for a company over which this seat presides, with these lines
 pub record HasBegun (file : List ℕ) (round : Round) (company : Company) (seat : Seat) (first : Game)
     (turn : CompanyTurn) (lines : List Numbered) : Type 0 where
   pub is_by : turn.by ≡ record { company = company; president = seat }
   pub is_round : turn.round ≡ round
   pub is_game : turn.history ≡ first
   pub is_start : turn.progress ≡ at_start
-  pub are_lines : lines ≡ block_for file round seat.0 company
+  pub are_lines : lines ≡ company_orders_for file round seat.0 company
 
 module _
     (file : List ℕ) (round : Round) (company : Company) (seat : Seat) (first : Game) (turn : CompanyTurn)
     (lines : List Numbered)
     (begun : HasBegun file round company seat first turn lines)
   where
-    -- it stands where the game does
-    stands : state turn ≡ in_turn first at_start
-    stands =
+    -- it is where the game is
+    is_at_start : state turn ≡ in_turn first at_start
+    is_at_start =
         ap (λ (game : Game). in_turn game turn.progress) begun.is_game
         ∙ ap (λ (progress : Progress). in_turn first progress) begun.is_start
 
     -- what its orders lead to is what those of the block do
     led : (new : Game) → OrdersLead turn.by lines (state turn) new
-        → OrdersLead (record { company = company; president = seat }) (block_for file round seat.0 company)
+        → OrdersLead (record { company = company; president = seat }) (company_orders_for file round seat.0 company)
         (in_turn first at_start) new
     led new leads =
         subst (λ (l : List Numbered). OrdersLead (record { company = company; president = seat }) l
         (in_turn first at_start) new) begun.are_lines
-        (subst (λ (t : InTurn). OrdersLead (record { company = company; president = seat }) lines t new) stands
+        (subst (λ (t : InTurn). OrdersLead (record { company = company; president = seat }) lines t new) is_at_start
         (subst (λ (by : Operator). OrdersLead by lines (state turn) new) begun.is_by leads))
 
     -- so they make the turn
@@ -57,11 +57,11 @@ module _
         let all = led new leads in
         record {
           last = all.0;
-          block = subst (λ (game : Game). BlockLeads file round company (in_turn game at_start)
+          orders = subst (λ (game : Game). CompanyOrdersLead file round company (in_turn game at_start)
               (president_of old.events company) all.0) is_first
-              (subst (λ (president : Option Seat). BlockLeads file round company (in_turn first at_start) president
-              all.0) presides all.1);
-          after = subst (λ (president : Option Seat). BlockEnds file round company
+              (subst (λ (president : Option Seat). CompanyOrdersLead file round company (in_turn first at_start)
+              president all.0) presides all.1);
+          after = subst (λ (president : Option Seat). CompanyOrdersEnd file round company
               (withheld_if_unpaid company all.0).game president new) presides all.2;
         }
 
@@ -78,7 +78,7 @@ module _
         (OrdersCall (record { company = company; president = seat }) round l (in_turn first at_start) outcome)
         after) begun.are_lines
         (subst (λ (t : InTurn). Makes earns before (OrdersCall (record { company = company; president = seat }) round
-        lines t outcome) after) stands
+        lines t outcome) after) is_at_start
         (subst (λ (r : Round). Makes earns before (OrdersCall (record { company = company; president = seat }) r
         lines (state turn) outcome) after) begun.is_round
         (subst (λ (by : Operator). Makes earns before (OrdersCall by turn.round lines (state turn) outcome) after)

@@ -32,8 +32,8 @@ module _ {Runner : Type 0} (earns : Earns Runner) where
       subst (λ (held : List Kind). earns before (position_now events) round company held answer after) are_trains
       (subst (λ (at : Position). earns before at round company trains answer after) is_position earned)
 
-  -- it told a revenue
-  pub told_revenue :
+  -- it answered a revenue
+  pub answered_revenue :
       (events : List Event) (position : Position) (round : Round) (company : Company) (trains : List Kind)
       (answer : Result ℤ RunnerFault) (revenue : ℕ)
       (before after : Runner) →
@@ -41,7 +41,7 @@ module _ {Runner : Type 0} (earns : Earns Runner) where
       IsGreatest (position_now events) company (trains_now events company) revenue →
       earns before position round company trains answer after
       → Makes earns before (Asks company round events (Ok revenue)) after
-  told_revenue events position round company trains answer revenue before after is_position are_trains is_answer
+  answered_revenue events position round company trains answer revenue before after is_position are_trains is_answer
       greatest earned = (
         asked company round events (Ok (pos revenue)) ∷ [],
         (greatest, refl),
@@ -54,15 +54,15 @@ module _ {Runner : Type 0} (earns : Earns Runner) where
         ),
       )
 
-  -- it told why it does not
-  pub told_fault :
+  -- it answered why it has none
+  pub answered_fault :
       (events : List Event) (position : Position) (round : Round) (company : Company) (trains : List Kind)
       (answer : Result ℤ RunnerFault)
       (fault : RunnerFault) (result : Result ℕ RunnerFault) (before after : Runner) →
       position ≡ position_now events → trains ≡ trains_now events company → answer ≡ Err fault → result ≡ Err fault →
       earns before position round company trains answer after
       → Makes earns before (Asks company round events result) after
-  told_fault events position round company trains answer fault result before after is_position are_trains is_answer
+  answered_fault events position round company trains answer fault result before after is_position are_trains is_answer
       is_result earned =
       subst (λ (met : Result ℕ RunnerFault). Makes earns before (Asks company round events met) after) (sym is_result) (
         asked company round events (Err fault) ∷ [],
@@ -105,13 +105,13 @@ module _ {Runner : Type 0} (earns : Earns Runner) where
       before after asked_it))
 
   -- and one where it tells a revenue, and memory is refused after that
-  pub best_untold :
+  pub best_unrecorded :
       (by : Operator) (round : Round) (line : Numbered) (turn : InTurn) (found : Option RunRule) (revenue : ℕ)
       (outcome : Result InTurn RunnerFault) (before after : Runner) →
       found ≡ best_judgement turn by.company → found ≡ None → outcome ≡ Err Memory →
       Makes earns before (Asks by.company round turn.game.events (Ok revenue)) after →
       Makes earns before (BestCalls by round line (best_judgement turn by.company) turn outcome) after
-  best_untold by round line turn found revenue outcome before after judged none is asked_it =
+  best_unrecorded by round line turn found revenue outcome before after judged none is asked_it =
       subst (λ (met : Result InTurn RunnerFault). Makes earns before
       (BestCalls by round line (best_judgement turn by.company) turn met) after) (sym is)
       (subst (λ (its : Option RunRule). Makes earns before (BestCalls by round line its turn (Err Memory)) after)

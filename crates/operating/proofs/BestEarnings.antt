@@ -33,7 +33,7 @@ use Rattle.operating.proofs.LegalRuns.{at_first}
 use Rattle.operating.proofs.NoRuns.{kind_low, none_counted, nothing_ran}
 use Rattle.operating.specs.Best.{BestRuled, trains_now, with_those_held}
 use Rattle.operating.specs.BestLaws.{BestEarnsNoLess, OrdersRun}
-use Rattle.operating.specs.InTurn.{InTurn, no_runs, told}
+use Rattle.operating.specs.InTurn.{InTurn, line_recorded, no_runs}
 use Rattle.operating.specs.Runs.{has_run, judged_run, position_now, run_ruled, steps_now}
 use Rattle.operating.specs.Turn.{AskedLeads, LineLeads, LinesLead, ReadingLeads, is_held}
 use Rattle.forced_purchase.specs.declared.operator.Operator.{Operator}
@@ -193,7 +193,7 @@ module _ (by : Operator) (first : InTurn) where
 
   -- after a ruling
   after_ruling : (runs : List TrainRun) (now : InTurn) (line : Numbered) (ruling : Ruling) → HaveRun runs now
-      → HaveRun runs (told by now line ruling)
+      → HaveRun runs (line_recorded by now line ruling)
   after_ruling runs now line ruling have =
       let its = event.Ruled by.president line.number ruling in
       record {
@@ -271,7 +271,7 @@ module _ (by : Operator) (first : InTurn) where
   after_obeyed runs now line its kind run ran judged have =
       let steps : List Step = steps_now now.game.events run in
       let done : Runs = now.progress.runs in
-      let ruled : InTurn = told by now line (Obeyed line.condition its) in
+      let ruled : InTurn = line_recorded by now line (Obeyed line.condition its) in
       let after : HaveRun runs ruled = after_ruling runs now line (Obeyed line.condition its) have in
       let earns : Event = event.Runs by.company (earned (position_now now.game.events) steps) in
       subst (λ (what : CompletedRun). HaveRun (with_run now kind run runs) (run_ruled by now line its (Ok what)))

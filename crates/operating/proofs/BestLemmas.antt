@@ -99,15 +99,15 @@ module _ (exists : AGreatestExists) (one : OneGreatest) where
       (subst (IsGreatest position company trains) amounts greatest.2, subst (λ (n : ℕ). n ≤ 50000) amounts small)
 
   -- so it is by the board and the trains that it was asked of
-  pub told_greatest :
+  pub answered_greatest :
       (laid map_state : MapState) (company : Company) (trains held : List Kind) (money : ℤ) (amount : ℕ)
       → laid ≡ map_state → trains ≡ held →
       IsLawful (position_of laid) → pos amount ≡ to_z w128 (of_z w128 money)
       → IsGreatestMoney (position_of laid) company trains money →
       IsGreatest (position_of map_state) company held amount × (amount ≤ 50000)
-  told_greatest laid map_state company trains held money amount is_laid are_held lawful kept greatest =
-      let told = as_amount (position_of laid) company trains money amount lawful kept greatest in (
+  answered_greatest laid map_state company trains held money amount is_laid are_held lawful kept greatest =
+      let recorded = as_amount (position_of laid) company trains money amount lawful kept greatest in (
         subst (λ (g : MapState). IsGreatest (position_of g) company held amount) is_laid
-            (subst (λ (all : List Kind). IsGreatest (position_of laid) company all amount) are_held told.0),
-        told.1,
+            (subst (λ (all : List Kind). IsGreatest (position_of laid) company all amount) are_held recorded.0),
+        recorded.1,
       )

@@ -4,7 +4,7 @@ use Rattle.events.specs.declared.event.Event.TheVariants.{Ruled}
 use Rattle.events.specs.declared.ruling.Ruling.TheVariants.{Obeyed}
 use Rattle.totals.specs.LookBack.{Game, with_event}
 use Rattle.forced_purchase.specs.declared.operator.Operator.{Operator}
-use Rattle.operating.specs.InTurn.{InTurn, in_turn, told}
+use Rattle.operating.specs.InTurn.{InTurn, in_turn, line_recorded}
 use Rattle.operating.specs.Turn.{after_buying, after_private, private_ruled, train_ruled}
 use Rattle.order_grammar.specs.declared.order.Order.{Order}
 use Rattle.order_grammar.specs.declared.order.Order.TheVariants.{BuyOwnedPrivate, BuyTrain}
@@ -29,7 +29,7 @@ bought_steps by turn line kind from purchase its ruled new is_purchase is_its no
     ap (train_judgement turn.game by.company) (sym is_purchase) ∙ none in
     ap (λ (game : Game). in_turn game turn.progress)
     (is_new ∙ ap (λ (game : Game). after_train game by.company purchase) is_ruled)
-    ∙ ap (λ (one : Order). in_turn (after_train (told by turn line (Obeyed line.condition one)).game by.company
+    ∙ ap (λ (one : Order). in_turn (after_train (line_recorded by turn line (Obeyed line.condition one)).game by.company
     purchase) turn.progress) is_its
     ∙ ap (λ (one : Purchase). train_ruled by turn line (BuyTrain kind from) one None) is_purchase
     ∙ ap (train_ruled by turn line (BuyTrain kind from) ordered) (sym allowed)
@@ -44,6 +44,6 @@ pub sold_steps : (by : Operator) (turn : InTurn) (line : Numbered) (private : Pr
 sold_steps by turn line private price its ruled new is_its none is_ruled is_new =
     ap (λ (game : Game). in_turn game turn.progress)
     (is_new ∙ ap (λ (game : Game). private_bought game by.company private price) is_ruled)
-    ∙ ap (λ (one : Order). in_turn (private_bought (told by turn line (Obeyed line.condition one)).game by.company
-    private price) turn.progress) is_its
+    ∙ ap (λ (one : Order). in_turn (private_bought (line_recorded by turn line (Obeyed line.condition one)).game
+    by.company private price) turn.progress) is_its
     ∙ ap (private_ruled by turn line private price) (sym none)

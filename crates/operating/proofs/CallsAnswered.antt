@@ -8,13 +8,13 @@ use Rattle.map_tables.specs.declared.rules.RunRule.{RunRule}
 use Rattle.operating.specs.Answered.{AreAnswered, IsAnswered}
 use Rattle.operating.specs.Best.{best_judgement}
 use Rattle.operating.specs.Calls.{Call, Course, Then, TimesThen, Unasked}
-use Rattle.operating.specs.TurnCalls.{AskedCalls, Asks, BestCalls, BlockCalls, EndCalls, IsCredited, LineCalls}
+use Rattle.operating.specs.TurnCalls.{AskedCalls, Asks, BestCalls, CompanyOrdersCall, EndCalls, IsCredited, LineCalls}
 use Rattle.operating.specs.TurnCalls.{LinesCall, OrderCalls, ReadingCalls, TurnCalls, asked}
 use Rattle.operating.specs.Turn.{is_held}
 use Rattle.forced_purchase.specs.declared.operator.Operator.{Operator}
 use Rattle.order_grammar.specs.declared.fault.Fault.{Fault}
 use Rattle.order_grammar.specs.declared.order.Order.{Order}
-use Rattle.sheets.specs.Block.{block_for}
+use Rattle.sheets.specs.CompanyOrders.{company_orders_for}
 use Rattle.sheets.specs.Part.{Numbered}
 use Rattle.tables.specs.declared.roster.Company.{Company}
 use Rattle.tables.specs.declared.round.Round.{Round}
@@ -96,13 +96,13 @@ lines_answered by round (line ∷ lines) turn to calls course =
     then_answered (LineCalls by round line) (LinesCall by round lines) (reading_answered by round line line.reading)
     (lines_answered by round lines) turn to calls course
 
--- those of a block
-block_answered : (file : List ℕ) (round : Round) (company : Company) (president : Option Seat)
-    → IsAnswered (BlockCalls file round company president)
-block_answered file round company None turn to calls course = none_answered calls course.1
-block_answered file round company (Some seat) turn to calls course =
-    lines_answered (record { company = company; president = seat }) round (block_for file round seat.0 company) turn
-    to calls course
+-- those of a company's orders
+orders_answered : (file : List ℕ) (round : Round) (company : Company) (president : Option Seat)
+    → IsAnswered (CompanyOrdersCall file round company president)
+orders_answered file round company None turn to calls course = none_answered calls course.1
+orders_answered file round company (Some seat) turn to calls course =
+    lines_answered (record { company = company; president = seat }) round (company_orders_for file round seat.0 company)
+    turn to calls course
 
 -- those of a turn
 pub turn_answered : (file : List ℕ) (round : Round) (company : Company) → IsAnswered (TurnCalls file round company)
@@ -113,8 +113,8 @@ turn_answered file round company old to calls course =
           let president : Option Seat = president_of old.events company in
           let first : AreAnswered joins.earlier = none_answered joins.earlier joins.leads.1 in
           let rest : AreAnswered joins.later =
-          then_answered (BlockCalls file round company president) (EndCalls file round company president)
-          (block_answered file round company president)
+          then_answered (CompanyOrdersCall file round company president) (EndCalls file round company president)
+          (orders_answered file round company president)
           (λ last new calls end. none_answered calls end.1) joins.between to joins.later joins.goes_on
           in
           subst AreAnswered (sym joins.all) (both_answered joins.earlier joins.later first rest)

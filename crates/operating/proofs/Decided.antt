@@ -36,7 +36,7 @@ tested : (P : Type 0) → Decided P → IsTested P
 tested P (inl is) = record { test = true; exact = (λ yes. is, λ yes. refl) }
 tested P (inr off) = record { test = false; exact = (λ (yes : false ≡ true). cc, λ is. absurd (off is)) }
 
--- a stop stands under its own name
+-- a stop is listed under its own name
 own_name : (stop : Stop) → Decided (joined_stop_of stop ≡ stop)
 own_name stop =
     elim (cases_eq (stop_order (joined_stop_of stop)) (stop_order stop)) [

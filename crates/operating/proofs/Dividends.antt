@@ -86,10 +86,10 @@ pub seats_go_on : (company : Company) (revenue : ℕ) (old new : Game) (seat : S
     → seat ≡ seat_at i → new ≡ paid_for company (holder.Seat seat) (OfSeat seat) revenue old
     → paid_to_seats company revenue new (map seat_at (range_with_len (i + 1) (seats - (i + 1))))
     ≡ paid_to_seats company revenue old (map seat_at (range_with_len i (seats - i)))
-seats_go_on company revenue old new seat i seats below is told =
+seats_go_on company revenue old new seat i seats below is recorded =
     let more : seats - i ≡ suc (seats - (i + 1)) = omega arith in
     ap (λ (game : Game). paid_to_seats company revenue game (map seat_at (range_with_len (i + 1) (seats - (i + 1)))))
-    (told ∙ ap (λ (one : Seat). paid_for company (holder.Seat one) (OfSeat one) revenue old) is)
+    (recorded ∙ ap (λ (one : Seat). paid_for company (holder.Seat one) (OfSeat one) revenue old) is)
     ∙ sym (ap (λ (k : ℕ). paid_to_seats company revenue old (map seat_at (range_with_len i k))) more)
 
 -- after the last seat the company is paid
@@ -97,9 +97,9 @@ pub all_are_paid : (company : Company) (revenue : ℕ) (old paid new : Game) (i 
     → seats ≤ i → paid_to_seats company revenue paid (map seat_at (range_with_len i (seats - i)))
     ≡ paid_to_seats company revenue old (all_seats seats)
     → new ≡ paid_for company (holder.Company company) BankPool revenue paid → new ≡ all_paid company revenue old
-all_are_paid company revenue old paid new i seats same over leads told =
+all_are_paid company revenue old paid new i seats same over leads recorded =
     let none : seats - i ≡ 0 = omega arith in
-    told
+    recorded
     ∙ ap (λ (game : Game). paid_for company (holder.Company company) BankPool revenue game)
     (sym (ap (λ (k : ℕ). paid_to_seats company revenue paid (map seat_at (range_with_len i k))) none)
     ∙ leads

@@ -65,12 +65,12 @@ same_map_state events event no_tile no_token no_phase =
     (tokens_before events event no_token)
     ∙ ap (map_state_of (lays_of events) (tokens_of events)) (same_phase events event no_phase)
 
--- what lies by a list fits, as it lies now
+-- the map state by a list fits, as it lies now
 fits_now : (events : List Event) → LiesFit events → Fits (map_state_now events)
 unfolding LiesFit
 fits_now events fit = fit
 
--- what lies fits after an event where the tiles and tokens are fit that lie then
+-- the map state fits after an event where the tiles and tokens are fit that lie then
 fit_then : (events : List Event) (event : Event)
     → AreFitWithHomes (lays_of events ++ lays_of (event ∷ [])) (tokens_of events ++ tokens_of (event ∷ []))
     → LiesFit (events ++ event ∷ [])
@@ -111,8 +111,8 @@ home_fits events company none fit =
 pub home_sound_after : (game new : Game) (company : Company) (stop : Stop) (place : Place) → stop ≡ home_of company
     → place ≡ place_of stop → new ≡ with_event game (event.Home company place)
     → has_home_token game.events company ≡ false → IsSound game → IsSound new
-home_sound_after game new company stop place is_home is_place told none sound =
-    subst IsSound (sym (told ∙ ap (λ (at : Place). with_event game (event.Home company at))
+home_sound_after game new company stop place is_home is_place recorded none sound =
+    subst IsSound (sym (recorded ∙ ap (λ (at : Place). with_event game (event.Home company at))
     (is_place ∙ ap place_of is_home)))
     (home_sound game company (place_of (home_of company)) (home_fits game.events company none sound.fit) sound)
 
@@ -129,17 +129,18 @@ broken_sound game sound =
 pub withheld_sound : (game new : Game) (company : Company) (amount : ℕ) → new ≡ withheld game company amount
     → IsSound game → IsSound new
 withheld_sound game new company amount is sound =
-    let told = broken_recorded (with_event game (event.Withheld company amount)) in
+    let recorded = broken_recorded (with_event game (event.Withheld company amount)) in
     subst IsSound (sym is)
-    (move_sound square_left_of told (withheld game company amount) company refl refl
+    (move_sound square_left_of recorded (withheld game company amount) company refl refl
     (broken_sound (with_event game (event.Withheld company amount)) (withholding_sound game company amount sound)))
 
 -- what a withholding brings, step by step
-pub withheld_steps : (game paid told new : Game) (company : Company) (amount : ℕ)
-    → paid ≡ with_event game (event.Withheld company amount) → told ≡ broken_recorded paid → new.seats ≡ told.seats
-    → new.events ≡ with_move square_left_of told.events company → new ≡ withheld game company amount
-withheld_steps game paid told new company amount is_paid is_told seats events =
+pub withheld_steps : (game paid recorded new : Game) (company : Company) (amount : ℕ)
+    → paid ≡ with_event game (event.Withheld company amount) → recorded ≡ broken_recorded paid
+    → new.seats ≡ recorded.seats → new.events ≡ with_move square_left_of recorded.events company
+    → new ≡ withheld game company amount
+withheld_steps game paid recorded new company amount is_paid is_recorded seats events =
     let made : ℕ → List Event → Game = λ seats events. record { seats = seats; events = events } in
     ap (λ (n : ℕ). made n new.events) seats
-    ∙ ap (made told.seats) events
-    ∙ ap (λ (game : Game). moved_left game company) (is_told ∙ ap broken_recorded is_paid)
+    ∙ ap (made recorded.seats) events
+    ∙ ap (λ (game : Game). moved_left game company) (is_recorded ∙ ap broken_recorded is_paid)

@@ -33,14 +33,14 @@ use Rattle.purchases.specs.Trains.{has_trains, train_judgement}
 use Rattle.purchases.specs.Phases.{after_train}
 use Rattle.purchases.specs.PrivateLaws.{names_owner}
 use Rattle.purchases.specs.SaleLaws.{sells_to_company}
-use Rattle.operating.specs.Turn.{BlockEnds, IsCompanyTurn, withheld_if_unpaid}
+use Rattle.operating.specs.Turn.{CompanyOrdersEnd, IsCompanyTurn, withheld_if_unpaid}
 use Rattle.forced_purchase.specs.declared.operator.Operator.{Operator}
 use Rattle.purchases.specs.declared.purchase.Purchase.{Purchase}
 use Rattle.order_grammar.specs.declared.fault.Fault.{Fault}
 use Rattle.order_grammar.specs.declared.order.Order.{Order}
 use Rattle.order_grammar.specs.declared.order.Order.TheVariants as order
 use Rattle.order_grammar.specs.declared.order.TrainSource.TheVariants as source
-use Rattle.sheets.specs.Block.{block_for}
+use Rattle.sheets.specs.CompanyOrders.{company_orders_for}
 use Rattle.sheets.specs.Part.{Numbered}
 use Rattle.tables.specs.Steps.{iterate}
 use Rattle.tables.specs.declared.roster.Company.{Company}
@@ -142,15 +142,15 @@ module _ (by : Operator) (R : Game → Game → Type 0) (of : OfEvents by.compan
       let company = sale.company in
       let sells : Event = event.Sells company by.president sale.shares
       (sale.shares * market_price_of game.events company) in
-      let told : Game = with_event game sells in
+      let recorded : Game = with_event game sells in
       let paid : Game = with_events game (sold game.seats game.events by.president company sale.shares) in
       let led : Game = with_events game (with_president game.seats paid.events company) in
-      let first : R game paid = of_break game told.events (of.others game sells tt refl refl refl) in
+      let first : R game paid = of_break game recorded.events (of.others game sells tt refl refl refl) in
       let second : R paid led = of_succession paid company (president_of paid.events company) in
       of.on.both game led (with_sale by game sale) (of.on.both game paid led first second)
       (of_token_moved (fallen sale.shares) led company (square_of led.events company))
 
--- once the purchase is told and the money is raised
+-- once the purchase is recorded and the money is raised
 abbrev pub gained_of : Operator → List Numbered → Game → Game
 gained_of by lines game = sold_singly by (after_raises true by (with_event game (event.Forced by.company)) lines)
 
@@ -158,9 +158,9 @@ gained_of by lines game = sold_singly by (after_raises true by (with_event game 
 pub gained_none : (by : Operator) (lines : List Numbered) (game : Game) → has_trains game.events by.company ≡ false →
     has_trains (gained_of by lines game).events by.company ≡ false
 gained_none by lines game none =
-    let told : Game = with_event game (event.Forced by.company) in
-    let raised : Game = after_raises true by told lines in
-    still_none by lines game told raised (sold_singly by raised) refl refl refl none
+    let recorded : Game = with_event game (event.Forced by.company) in
+    let raised : Game = after_raises true by recorded lines in
+    still_none by lines game recorded raised (sold_singly by raised) refl refl refl none
 
 module _ (by : Operator) (R : Game → Game → Type 0) (of : OfEvents by.company R) (sales : OfSales by R) where
   -- of a RAISE
@@ -213,13 +213,13 @@ module _ (by : Operator) (R : Game → Game → Type 0) (of : OfEvents by.compan
   unfolding sold_singly
   of_singly game = of_times 40 game
 
-  -- of all that raises money, once the purchase is told
+  -- of all that raises money, once the purchase is recorded
   pub of_gained : (lines : List Numbered) (game : Game) → R game (gained_of by lines game)
   of_gained lines game =
-      let told : Game = with_event game (event.Forced by.company) in
-      let raised : Game = after_raises true by told lines in
-      of.on.both game told (sold_singly by raised) (of.others game (event.Forced by.company) tt refl refl refl)
-      (of.on.both told raised (sold_singly by raised) (of_raises true lines told) (of_singly raised))
+      let recorded : Game = with_event game (event.Forced by.company) in
+      let raised : Game = after_raises true by recorded lines in
+      of.on.both game recorded (sold_singly by raised) (of.others game (event.Forced by.company) tt refl refl refl)
+      (of.on.both recorded raised (sold_singly by raised) (of_raises true lines recorded) (of_singly raised))
 
   -- of what the president pays
   of_aid : (game : Game) → R game (with_aid by game)
@@ -276,15 +276,15 @@ abbrev pub operator : Company → Seat → Operator
 operator company seat = record { company = company; president = seat }
 
 module _ (company : Company) (R : Game → Game → Type 0) (of : OfEvents company R) where
-  -- of what a block brings at the end of the turn, where a president sells and may be bankrupt
+  -- of what a company's orders bring at the end of the turn, where a president sells and may be bankrupt
   pub of_presided_end : (file : List ℕ) (round : Round) (game : Game) (president : Option Seat) (new : Game) →
       ((seat : Seat) → president ≡ Some seat → OfSales (operator company seat) R
       × OfBankruptcies (operator company seat) R) →
-      BlockEnds file round company game president new → R game new
+      CompanyOrdersEnd file round company game president new → R game new
   of_presided_end file round game None new presided ends = subst (R game) (sym ends) (of.on.same game)
   of_presided_end file round game (Some seat) new presided ends =
       let by = presided seat refl in
-      of_end (operator company seat) R of by.0 by.1 (block_for file round seat.0 company) game new ends
+      of_end (operator company seat) R of by.0 by.1 (company_orders_for file round seat.0 company) game new ends
 
   -- so of the whole turn
   pub of_presided_turn : (file : List ℕ) (round : Round) (old new : Game) →
@@ -305,9 +305,9 @@ module _ (company : Company) (R : Game → Game → Type 0) (of : OfEvents compa
   )
 
   -- so of the end of the turn
-  pub of_block_end : (file : List ℕ) (round : Round) (game : Game) (president : Option Seat) (new : Game) →
-      BlockEnds file round company game president new → R game new
-  of_block_end file round game president new ends =
+  pub of_orders_end : (file : List ℕ) (round : Round) (game : Game) (president : Option Seat) (new : Game) →
+      CompanyOrdersEnd file round company game president new → R game new
+  of_orders_end file round game president new ends =
       of_presided_end company R of file round game president new (λ seat is. of_president seat) ends
 
   -- and of the whole turn

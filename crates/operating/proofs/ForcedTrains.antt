@@ -17,7 +17,7 @@ use Rattle.operating.proofs.Fitting.{same_map_state}
 use Rattle.operating.proofs.ForcedGames.{gained_none, gained_of, of_gained, of_sale, operator}
 use Rattle.forced_purchase.proofs.TrainCounts.{size_before}
 use Rattle.operating.proofs.TurnGames.{of_paid_turn}
-use Rattle.operating.proofs.TurnLaws.{StillStand, more_stand, stands_by}
+use Rattle.operating.proofs.TurnLaws.{KeepsTrains, events_keep_trains, forced_keeps_trains}
 use Rattle.operating.specs.Ending.{EndLeads, IsDue}
 use Rattle.forced_purchase.specs.Forced.{after_forced, after_raise_line, after_raises, cheapest, concluded, falls_short}
 use Rattle.forced_purchase.specs.Forced.{raise_rule, with_aid, with_ruling}
@@ -26,12 +26,12 @@ use Rattle.operating.specs.ForcedLaws.{TurnsEndWithTrains}
 use Rattle.operating.specs.MapState.{map_state_now}
 use Rattle.purchases.specs.Phases.{after_train}
 use Rattle.purchases.specs.TrainLaws.{AllTrainsAreThere}
-use Rattle.operating.specs.Turn.{BlockEnds, withheld_if_unpaid}
+use Rattle.operating.specs.Turn.{CompanyOrdersEnd, withheld_if_unpaid}
 use Rattle.forced_purchase.specs.declared.operator.Operator.{Operator}
 use Rattle.order_grammar.specs.declared.fault.Fault.{Fault}
 use Rattle.order_grammar.specs.declared.order.Order.{Order}
 use Rattle.order_grammar.specs.declared.order.Order.TheVariants as order
-use Rattle.sheets.specs.Block.{block_for}
+use Rattle.sheets.specs.CompanyOrders.{company_orders_for}
 use Rattle.sheets.specs.Part.{Numbered}
 use Rattle.tables.specs.declared.roster.Company.{Company}
 use Rattle.tables.specs.declared.round.Round.{Round}
@@ -89,7 +89,7 @@ served_bought by gained new is held none =
     elim (falls_short by gained) as (λ (b : Bool). new
     ≡ (if b then with_event gained (event.Bankrupt by.president) else after_train (with_aid by gained) by.company
     (cheapest gained.events)) → Served by.company new) [
-      | true ↦ λ told. inr (inl (ap (λ (game : Game). bankrupt_in game.events) told
+      | true ↦ λ recorded. inr (inl (ap (λ (game : Game). bankrupt_in game.events) recorded
           ∙ now_bankrupt gained.events by.president))
       | false ↦ λ buys. inl (ap (λ (game : Game). has_trains game.events by.company) buys
           ∙ has_bought by gained held none)
@@ -115,24 +115,25 @@ served_free by lines game new is free =
 served : (by : Operator) (lines : List Numbered) (game new : Game) → EndLeads by lines game new
     → AllTrainsAreThere game.events → Served by.company new
 unfolding after_forced
-served by lines game new (inl due) stand =
+served by lines game new (inl due) are_there =
     let gained : Game = gained_of by lines game in
-    let sales = of_sale by StillStand (stands_by by.company)
-    (λ now company seat. more_stand now (event.President company seat) tt refl refl refl) in
-    let still : AllTrainsAreThere gained.events = of_gained by StillStand (stands_by by.company) sales lines game stand in
+    let sales = of_sale by KeepsTrains (events_keep_trains by.company)
+    (λ now company seat. forced_keeps_trains now (event.President company seat) tt refl refl refl) in
+    let still : AllTrainsAreThere gained.events = of_gained by KeepsTrains (events_keep_trains by.company) sales lines
+    game are_there in
     served_bought by gained new due.1 still.held (gained_none by lines game due.0.0)
-served by lines game new (inr none) stand = served_free by lines game new none.1 none.0
+served by lines game new (inr none) are_there = served_free by lines game new none.1 none.0
 
 -- so it is in each turn of a company that has a president
-of_block : (file : List ℕ) (round : Round) (company : Company) (game new : Game) (president : Option Seat)
+of_orders : (file : List ℕ) (round : Round) (company : Company) (game new : Game) (president : Option Seat)
     (seat : Seat) → president ≡ Some seat →
-    BlockEnds file round company game president new → AllTrainsAreThere game.events → Served company new
-of_block file round company game new None seat is ends stand = absurd cc
-of_block file round company game new (Some its) seat is ends stand =
-    served (operator company its) (block_for file round its.0 company) game new ends stand
+    CompanyOrdersEnd file round company game president new → AllTrainsAreThere game.events → Served company new
+of_orders file round company game new None seat is ends are_there = absurd cc
+of_orders file round company game new (Some its) seat is ends are_there =
+    served (operator company its) (company_orders_for file round its.0 company) game new ends are_there
 
 pub turns_end_with_trains : TurnsEndWithTrains
-turns_end_with_trains file round company old new president stand presides turn =
+turns_end_with_trains file round company old new president are_there presides turn =
     let paid : Game = (withheld_if_unpaid company turn.last).game in
-    of_block file round company paid new (president_of old.events company) president presides turn.after
-    (of_paid_turn company StillStand (stands_by company) file round old new turn stand)
+    of_orders file round company paid new (president_of old.events company) president presides turn.after
+    (of_paid_turn company KeepsTrains (events_keep_trains company) file round old new turn are_there)

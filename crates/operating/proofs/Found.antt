@@ -102,7 +102,7 @@ unmarked : (mark : Bool) → ¬ (mark ≡ true) → mark ≡ false
 unmarked true off = absurd (off refl)
 unmarked false off = refl
 
--- marks of all that walks of the company come to
+-- marks of all that walks of the company reach
 pub record Search (position : Position) (company : Company) : Type 0 where
   pub marks : List Bool
   pub arrive : AllArrive position company marks

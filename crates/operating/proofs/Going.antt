@@ -1,6 +1,6 @@
 -- A company's turn stays in order as it goes on.
 use Rattle.std.proofs.Common.{◌≡◌, Result, subst}
-use Rattle.operating.proofs.Prefixes.{prefix_on, line_adds, settled_adds}
+use Rattle.operating.proofs.Prefixes.{prefix_on, line_adds, withholding_adds}
 use Rattle.operating.specs.CompanyTurn.{GoesOn, IsInOrder, state}
 use Rattle.operating.proofs.Played.{train_leads}
 use Rattle.operating.specs.InTurn.{InTurn}
@@ -27,13 +27,13 @@ after_line old new line reading leads on =
     }
 
 -- and after what the company withholds by itself
-pub after_settling : (old new : CompanyTurn) → state new ≡ withheld_if_unpaid old.by.company (state old)
+pub after_withholding : (old new : CompanyTurn) → state new ≡ withheld_if_unpaid old.by.company (state old)
     → GoesOn old new → IsInOrder new
-after_settling old new is on =
+after_withholding old new is on =
     record {
       sound = on.sound;
       prefix = prefix_on new.board.value old.history new.history
-          (settled_adds old.by.company old.history new.history old.progress new.progress is) on.prefix;
+          (withholding_adds old.by.company old.history new.history old.progress new.progress is) on.prefix;
     }
 
 -- a TRAIN line, where what the company withholds by itself leaves whose turn it is

@@ -18,7 +18,7 @@ use Rattle.map_tables.specs.declared.place.Place.{Place}
 use Rattle.map_tables.specs.declared.place.Stop.{Stop}
 use Rattle.operating.proofs.TurnGames.{of_steps}
 use Rattle.operating.proofs.TurnLaws.{adds_by, more_adds}
-use Rattle.operating.proofs.ForcedGames.{of_block_end}
+use Rattle.operating.proofs.ForcedGames.{of_orders_end}
 use Rattle.operating.proofs.TurnSteps.{of_turn}
 use Rattle.operating.specs.Act.{has_home_token, with_home}
 use Rattle.operating.specs.Laws.{HomeTokenLies, OnlyAdds}
@@ -64,7 +64,7 @@ home_token_lies file round company old new turn more =
     let paid = (withheld_if_unpaid company turn.last).game in
     let before : OnlyAdds first paid = of_turn company _ (of_steps company OnlyAdds (adds_by company)) file round old
     new turn in
-    let ended : OnlyAdds paid new = of_block_end company OnlyAdds (adds_by company) more_adds file round paid
+    let ended : OnlyAdds paid new = of_orders_end company OnlyAdds (adds_by company) more_adds file round paid
     (president_of old.events company) new turn.after in
     let adds : OnlyAdds first new = (adds_by company).on.both first paid new before ended in
     ap (λ (game : Game). has_home_token (game.events ++ more) company) adds.added

@@ -16,7 +16,7 @@ pub mod BestCalls
 pub mod TurnCalled
 pub mod OneCourse
 mod OneTurnCalled
-pub mod Blocks
+pub mod CompanyOrders
 pub mod Bought
 pub mod TurnEvents
 pub mod TurnSteps

@@ -36,7 +36,7 @@ behind memory Tells fault earlier some all prefix =
       )
     ]
 
--- calls after those of which some are a prefix
+-- calls after those that have some as a prefix
 ahead :
     {Fault : Type 0} (memory : Fault) (Tells : Fault → RunnerFault → Call → Type 0) (fault : Fault)
     (some all more : List Call) →

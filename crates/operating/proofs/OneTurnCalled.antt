@@ -8,19 +8,19 @@ use Rattle.events.specs.declared.ruling.Ruling.TheVariants.{Faulty}
 use Rattle.totals.specs.Shares.{president_of}
 use Rattle.map_tables.specs.declared.rules.RunRule.{RunRule}
 use Rattle.operating.proofs.OneCourse.{Agree, none_first, then_agree, unasked_agrees}
-use Rattle.operating.proofs.Outcome.{AllLawful, block_end_once, order_once}
+use Rattle.operating.proofs.Outcome.{AllLawful, order_once, orders_end_once}
 use Rattle.operating.specs.Best.{BestRuled, best_judgement, trains_now}
 use Rattle.operating.specs.Calls.{Call, Course, Unasked}
-use Rattle.operating.specs.InTurn.{InTurn, told}
+use Rattle.operating.specs.InTurn.{InTurn, line_recorded}
 use Rattle.operating.specs.Runs.{position_now}
-use Rattle.operating.specs.Turn.{AskedLeads, BlockEnds, OrderLeads, begun, is_held, withheld_if_unpaid}
-use Rattle.operating.specs.TurnCalls.{AskedCalls, Asks, BegunCalls, BestCalls, BlockCalls, EndCalls, IsCredited}
+use Rattle.operating.specs.Turn.{AskedLeads, CompanyOrdersEnd, OrderLeads, begun, is_held, withheld_if_unpaid}
+use Rattle.operating.specs.TurnCalls.{AskedCalls, Asks, BegunCalls, BestCalls, CompanyOrdersCall, EndCalls, IsCredited}
 use Rattle.operating.specs.TurnCalls.{LineCalls, LinesCall, OneListOfTurnCalls, OrderCalls, ReadingCalls}
 use Rattle.operating.specs.TurnCalls.{RefusedTurnCallsAreAPrefix, TurnCalls, asked}
 use Rattle.forced_purchase.specs.declared.operator.Operator.{Operator}
 use Rattle.order_grammar.specs.declared.fault.Fault.{Fault}
 use Rattle.order_grammar.specs.declared.order.Order.{Order}
-use Rattle.sheets.specs.Block.{block_for}
+use Rattle.sheets.specs.CompanyOrders.{company_orders_for}
 use Rattle.sheets.specs.Part.{Numbered}
 use Rattle.tables.specs.declared.roster.Company.{Company}
 use Rattle.tables.specs.declared.round.Round.{Round}
@@ -136,7 +136,7 @@ module _ (all : AllLawful) (by : Operator) (round : Round) where
             let one = asked_once line its (is_held from.game.events line.condition its) in one.prefix from;
       }
   reading_called_once line (Err fault) =
-      unasked_agrees Memory (TellsOf round by.company) (λ turn new. new ≡ told by turn line (Faulty fault))
+      unasked_agrees Memory (TellsOf round by.company) (λ turn new. new ≡ line_recorded by turn line (Faulty fault))
       (λ from a b first second. first ∙ sym second)
 
   -- lines
@@ -149,23 +149,24 @@ module _ (all : AllLawful) (by : Operator) (round : Round) where
       (lines_called_once lines)
 
 module _ (all : AllLawful) (file : List ℕ) (round : Round) (company : Company) where
-  -- a block
-  block_called_once : (president : Option Seat) → IsOne round company (BlockCalls file round company president)
-  block_called_once None = unasked_agrees Memory (TellsOf round company) (λ turn new. new ≡ turn)
+  -- a company's orders
+  orders_called_once : (president : Option Seat) → IsOne round company (CompanyOrdersCall file round company president)
+  orders_called_once None = unasked_agrees Memory (TellsOf round company) (λ turn new. new ≡ turn)
       (λ from a b first second. first ∙ sym second)
-  block_called_once (Some seat) =
-      lines_called_once all (record { company = company; president = seat }) round (block_for file round seat.0 company)
+  orders_called_once (Some seat) =
+      lines_called_once all (record { company = company; president = seat }) round
+      (company_orders_for file round seat.0 company)
 
   -- a turn that has begun
   begun_called_once : (president : Option Seat) → IsOne round company (BegunCalls file round company president)
   begun_called_once president =
-      then_agree Memory (TellsOf round company) (BlockCalls file round company president)
-      (BlockCalls file round company president) (EndCalls file round company president)
+      then_agree Memory (TellsOf round company) (CompanyOrdersCall file round company president)
+      (CompanyOrdersCall file round company president) (EndCalls file round company president)
       (EndCalls file round company president)
-      (block_called_once president)
+      (orders_called_once president)
       (unasked_agrees Memory (TellsOf round company)
-      (λ last new. BlockEnds file round company (withheld_if_unpaid company last).game president new)
-      (λ from a b first second. block_end_once all file round company (withheld_if_unpaid company from).game president
+      (λ last new. CompanyOrdersEnd file round company (withheld_if_unpaid company last).game president new)
+      (λ from a b first second. orders_end_once all file round company (withheld_if_unpaid company from).game president
       a b first second))
 
   -- and a whole turn

@@ -13,7 +13,8 @@ use Rattle.totals.specs.LookBack.{Game, in_round, last_said, with_event}
 use Rattle.totals.specs.Shares.{president_of}
 use Rattle.totals.specs.Operating.{has_operated, turn_said}
 use Rattle.operating.proofs.TurnEvents.{begins_none, own_alone}
-use Rattle.operating.proofs.ForcedGames.{OfForced, forced_begins_none, forced_operates_none, of_block_end, of_game_turn}
+use Rattle.operating.proofs.ForcedGames.{OfForced, forced_begins_none, forced_operates_none, of_game_turn}
+use Rattle.operating.proofs.ForcedGames.{of_orders_end}
 use Rattle.operating.proofs.TurnGames.{OfEvents, after_withheld, by_each, of_steps}
 use Rattle.operating.proofs.TurnSteps.{OfSteps, of_turn}
 use Rattle.operating.specs.Act.{withheld}
@@ -145,8 +146,8 @@ has_steps company =
     }
 
 -- what the company has withheld by itself, where it was unpaid, is past its pay
-settled_past : (company : Company) (turn : InTurn) → is_unpaid (withheld_if_unpaid company turn).progress ≡ false
-settled_past company turn =
+withheld_is_paid : (company : Company) (turn : InTurn) → is_unpaid (withheld_if_unpaid company turn).progress ≡ false
+withheld_is_paid company turn =
     elim (is_unpaid turn.progress) as (λ (b : Bool). is_unpaid turn.progress ≡ b →
     is_unpaid (if b then in_turn (withheld turn.game company turn.progress.runs.revenue)
     (pay_done turn.progress) else turn).progress ≡ false) [
@@ -161,10 +162,10 @@ has_at_end : (company : Company) (file : List ℕ) (round : Round) (old new : Ga
     has_operated new.events company ≡ true
 has_at_end company file round old new turn =
     let last = withheld_if_unpaid company turn.last in
-    (of_block_end company (Operates company) (by_events company) (more_events company) file round last.game
+    (of_orders_end company (Operates company) (by_events company) (more_events company) file round last.game
     (president_of old.events company) new turn.after).still company
     (of_turn company _ (has_steps company) file round old new turn (λ none. cc)
-    (ap (λ (b : Bool). not b || not (last.progress.runs.revenue == 0)) (settled_past company turn.last)))
+    (ap (λ (b : Bool). not b || not (last.progress.runs.revenue == 0)) (withheld_is_paid company turn.last)))
 
 -- and no other that had not before
 pub company_operates : CompanyOperates

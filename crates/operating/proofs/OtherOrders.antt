@@ -56,8 +56,8 @@ after_pay :
 after_pay by turn line its None after = refl
 after_pay by turn line its (Some rule) after = refl
 
-after_settling : (company : Company) (turn : InTurn) → did (withheld_if_unpaid company turn) ≡ did turn
-after_settling company turn =
+after_withholding : (company : Company) (turn : InTurn) → did (withheld_if_unpaid company turn) ≡ did turn
+after_withholding company turn =
     elim (is_unpaid turn.progress) as
     (λ (b : Bool). did (if b then in_turn (withheld turn.game company turn.progress.runs.revenue)
     (pay_done turn.progress) else turn) ≡ did turn) [
@@ -100,7 +100,7 @@ after_other by turn line (order.BuyTrain kind from) new none leads =
     let purchase = purchase_of kind from in
     ap did leads
     ∙ after_train by paid line (order.BuyTrain kind from) purchase (train_judgement paid.game by.company purchase)
-    ∙ after_settling by.company turn
+    ∙ after_withholding by.company turn
 after_other by turn line (order.BuyOwnedPrivate private price) new none leads =
     ap did leads ∙ after_private by turn line private price (private_judgement turn.game by.company private price)
 after_other by turn line other new none leads = ap did leads

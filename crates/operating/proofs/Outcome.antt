@@ -26,7 +26,8 @@ use Rattle.operating.specs.Laws.{CompanyTurnEnds, OneCompanyTurn}
 use Rattle.operating.specs.Ending.{EndLeads, IsDue}
 use Rattle.forced_purchase.specs.Forced.{after_forced, after_raises}
 use Rattle.purchases.specs.Trains.{has_trains}
-use Rattle.operating.specs.Turn.{AskedLeads, BlockEnds, BlockLeads, IsCompanyTurn, LinesLead, OrderLeads, ReadingLeads}
+use Rattle.operating.specs.Turn.{AskedLeads, CompanyOrdersEnd, CompanyOrdersLead, IsCompanyTurn, LinesLead, OrderLeads}
+use Rattle.operating.specs.Turn.{ReadingLeads}
 use Rattle.operating.specs.Turn.{begun, is_held, lay_answered, withheld_if_unpaid, token_answered}
 use Rattle.forced_purchase.specs.declared.operator.Operator.{Operator}
 use Rattle.order_grammar.specs.declared.fault.Fault.{Fault}
@@ -35,7 +36,7 @@ use Rattle.order_grammar.specs.declared.order.Order.TheVariants as order
 use Rattle.reach.specs.Lawful.{IsLawful}
 use Rattle.reach.specs.Position.{Position}
 use Rattle.reach.proofs.Decided.{Decided}
-use Rattle.sheets.specs.Block.{block_for}
+use Rattle.sheets.specs.CompanyOrders.{company_orders_for}
 use Rattle.sheets.specs.Part.{Numbered}
 use Rattle.tables.specs.Rules.{Rule, first_broken}
 use Rattle.tables.specs.declared.rolling_stock.Kind.{Kind}
@@ -171,12 +172,12 @@ module _ (all : AllLawful) where
             (first.only leads.0 leads.1) leads.2);
       }
 
-  -- a block does
-  one_block : (file : List ℕ) (round : Round) (company : Company) (turn : InTurn) (president : Option Seat) →
-      IsOne (BlockLeads file round company turn president)
-  one_block file round company turn None = record { it = turn; so = refl; only = λ new leads. leads }
-  one_block file round company turn (Some seat) =
-      one_way (record { company = company; president = seat }) turn (block_for file round seat.0 company)
+  -- a company's orders do
+  orders_lead_to_one : (file : List ℕ) (round : Round) (company : Company) (turn : InTurn) (president : Option Seat) →
+      IsOne (CompanyOrdersLead file round company turn president)
+  orders_lead_to_one file round company turn None = record { it = turn; so = refl; only = λ new leads. leads }
+  orders_lead_to_one file round company turn (Some seat) =
+      one_way (record { company = company; president = seat }) turn (company_orders_for file round seat.0 company)
 
   -- it is known whether a company must buy a train
   due_decided : (game : Game) (company : Company) → Decided (IsDue game company)
@@ -208,33 +209,34 @@ module _ (all : AllLawful) where
         }
       ]
 
-  -- that of a block does
-  one_block_end : (file : List ℕ) (round : Round) (company : Company) (game : Game) (president : Option Seat) →
-      IsOne (BlockEnds file round company game president)
-  one_block_end file round company game None = record { it = game; so = refl; only = λ new ends. ends }
-  one_block_end file round company game (Some seat) =
-      one_end (record { company = company; president = seat }) (block_for file round seat.0 company) game
+  -- that of a company's orders does
+  orders_end_in_one : (file : List ℕ) (round : Round) (company : Company) (game : Game) (president : Option Seat) →
+      IsOne (CompanyOrdersEnd file round company game president)
+  orders_end_in_one file round company game None = record { it = game; so = refl; only = λ new ends. ends }
+  orders_end_in_one file round company game (Some seat) =
+      one_end (record { company = company; president = seat }) (company_orders_for file round seat.0 company) game
 
   -- two games to which that leads are the same
-  pub block_end_once : (file : List ℕ) (round : Round) (company : Company) (game : Game) (president : Option Seat)
+  pub orders_end_once : (file : List ℕ) (round : Round) (company : Company) (game : Game) (president : Option Seat)
       (a b : Game) →
-      BlockEnds file round company game president a → BlockEnds file round company game president b → a ≡ b
-  block_end_once file round company game president a b first second =
-      let one = one_block_end file round company game president in one.only a first ∙ sym (one.only b second)
+      CompanyOrdersEnd file round company game president a → CompanyOrdersEnd file round company game president b
+      → a ≡ b
+  orders_end_once file round company game president a b first second =
+      let one = orders_end_in_one file round company game president in one.only a first ∙ sym (one.only b second)
 
   -- and a turn
   outcome : (file : List ℕ) (round : Round) (company : Company) (old : Game)
       → IsOne (IsCompanyTurn file round company old)
   outcome file round company old =
       let president : Option Seat = president_of old.events company in
-      let block = one_block file round company (begun old company) president in
-      let paid : Game = (withheld_if_unpaid company block.it).game in
-      let end = one_block_end file round company paid president in
+      let orders = orders_lead_to_one file round company (begun old company) president in
+      let paid : Game = (withheld_if_unpaid company orders.it).game in
+      let end = orders_end_in_one file round company paid president in
       record {
         it = end.it;
-        so = record { last = block.it; block = block.so; after = end.so };
-        only = λ new turn. end.only new (subst (λ (last : InTurn). BlockEnds file round company
-            (withheld_if_unpaid company last).game president new) (block.only turn.last turn.block) turn.after);
+        so = record { last = orders.it; orders = orders.so; after = end.so };
+        only = λ new turn. end.only new (subst (λ (last : InTurn). CompanyOrdersEnd file round company
+            (withheld_if_unpaid company last).game president new) (orders.only turn.last turn.orders) turn.after);
       }
 
   -- it has at most one outcome

@@ -12,7 +12,7 @@ use Rattle.events.specs.declared.event.Party.TheVariants as party
 use Rattle.events.specs.declared.event.Shareholder.{Shareholder}
 use Rattle.events.specs.declared.event.Shareholder.TheVariants.{InitialOffering, BankPool, Seat as OfSeat}
 use Rattle.totals.proofs.EventAtEnd.{cash_of_at_end, shares_of_before}
-use Rattle.history.proofs.NearlySound.{told_same}
+use Rattle.history.proofs.NearlySound.{recorded_same}
 use Rattle.totals.specs.LookBack.{Game, cash_of, with_event}
 use Rattle.totals.specs.Shares.{held_by, shares_of}
 use Rattle.history.specs.Sound.{SharesAreHeld}
@@ -29,7 +29,7 @@ as_many (pos n) least = refl
 as_many (negsuc n) least = absurd (omega (arith, ints))
 
 module _ (company : Company) where
-  -- the bank has so much less after a dividend
+  -- the bank has this much less after a dividend
   paid_cash : (table : ℕ) (game : Game) (to : Holder) (amount : ℕ)
       → cash_of table (paid_to company to amount game).events party.Bank
       ≡ cash_of table game.events party.Bank -ℤ pos amount
@@ -42,7 +42,7 @@ module _ (company : Company) where
         | false ↦ λ some. omega (
           arith,
           ints,
-          (told_same paid).cash table party.Bank,
+          (recorded_same paid).cash table party.Bank,
           cash_of_at_end table game.events
               (event.Dividend company to amount) party.Bank,
         )
@@ -57,7 +57,7 @@ module _ (company : Company) where
       elim (amount == 0) as (λ (none : Bool). shares_of (if none then game else broken_recorded paid).events company
       place ≡ shares_of game.events company place) [
         | true ↦ refl
-        | false ↦ (told_same paid).shares company place
+        | false ↦ (recorded_same paid).shares company place
             ∙ shares_of_before game.events (event.Dividend company to amount) company place refl
       ]
 
@@ -110,7 +110,7 @@ module _ (company : Company) where
         seats_shares (paid_for company (holder.Seat seat) (OfSeat seat) revenue game) others place
         ∙ paid_shares game (holder.Seat seat) (dividend_of game.events company (OfSeat seat) revenue) place
 
-    -- and the bank has so much less
+    -- and the bank has this much less
     seats_cash : (table : ℕ) (game : Game) (seats : List Seat)
         → cash_of table (paid_to_seats company revenue game seats).events party.Bank
         ≡ cash_of table game.events party.Bank -ℤ pos (sum game.events seats)

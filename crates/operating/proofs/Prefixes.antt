@@ -1,4 +1,5 @@
--- A board that has the first of what was laid has them still when events are added, and has all once it was told the rest.
+-- A board that has the first of what was laid has them still when events are added, and has all once it was brought the
+-- rest.
 use Rattle.std.proofs.Common.{◌≡◌, ◌-◌, ◌<◌, List, [], ◌∷◌, ◌++◌, length, Some, None, refl, ap, sym, subst, ◌∙◌, arith}
 use Rattle.std.proofs.Common.{length-append}
 use Rattle.std.proofs.lemmas.List.{append_assoc, append-nil}
@@ -10,7 +11,7 @@ use Rattle.totals.specs.LookBack.{Game}
 use Rattle.totals.specs.Operating.{lays_of, tokens_of}
 use Rattle.operating.proofs.TurnGames.{of_steps}
 use Rattle.operating.proofs.TurnLaws.{adds_by}
-use Rattle.operating.proofs.TurnSteps.{of_line, of_settled}
+use Rattle.operating.proofs.TurnSteps.{of_line, of_withheld_if_unpaid}
 use Rattle.operating.specs.MapState.{BeginsWith, IsPrefix, map_state_now}
 use Rattle.operating.specs.InTurn.{InTurn, in_turn}
 use Rattle.operating.specs.Laws.{OnlyAdds}
@@ -49,24 +50,24 @@ none_in [] is = refl
 none_in (y ∷ ys) is = cc
 
 -- a prefix with none behind it is all
-pub all_told : {A : Type 0} (prefix all : List A) → BeginsWith prefix all → slice_get all (length prefix) ≡ None
+pub prefix_is_all : {A : Type 0} (prefix all : List A) → BeginsWith prefix all → slice_get all (length prefix) ≡ None
     → prefix ≡ all
-all_told prefix all begins is =
+prefix_is_all prefix all begins is =
     let none : begins.rest ≡ [] = none_in begins.rest
     (sym (behind prefix begins.rest) ∙ ap (λ xs. slice_get xs (length prefix)) (sym begins.is) ∙ is) in
     sym (begins.is ∙ ap (λ xs. prefix ++ xs) none ∙ append-nil prefix)
 
--- with each that is told fewer are left
-pub fewer_left : {A : Type 0} (prefix told all : List A) (x : A) → told ≡ prefix ++ x ∷ [] → BeginsWith told all
-    → length all - length told < length all - length prefix
-fewer_left prefix told all x is begins =
-    omega (arith, ap length is, ap length begins.is, length-append prefix (x ∷ []), length-append told begins.rest)
+-- with each that is brought fewer are left
+pub fewer_left : {A : Type 0} (prefix recorded all : List A) (x : A) → recorded ≡ prefix ++ x ∷ []
+    → BeginsWith recorded all → length all - length recorded < length all - length prefix
+fewer_left prefix recorded all x is begins =
+    omega (arith, ap length is, ap length begins.is, length-append prefix (x ∷ []), length-append recorded begins.rest)
 
 -- all are a prefix
 pub whole_prefix : {A : Type 0} (prefix all : List A) → prefix ≡ all → BeginsWith prefix all
 whole_prefix prefix all is = record { rest = []; is = sym is ∙ sym (append-nil prefix) }
 
--- what lies now is a prefix
+-- the map state now is a prefix
 pub now_prefix : (laid : MapState) (events : List Event) → laid ≡ map_state_now events → IsPrefix laid events
 now_prefix laid events is =
     record {
@@ -74,7 +75,7 @@ now_prefix laid events is =
       tokens = whole_prefix laid.tokens (tokens_of events) (ap (λ (g : MapState). g.tokens) is);
     }
 
--- before anything is told there is a prefix
+-- before anything is brought there is a prefix
 pub no_prefix : (laid : MapState) (phase : Kind) (events : List Event) → laid ≡ map_state_of [] [] phase
     → IsPrefix laid events
 no_prefix laid phase events is =
@@ -108,8 +109,8 @@ line_adds by turn line reading new leads =
     of_line by _ (of_steps by.company OnlyAdds (adds_by by.company)) turn line reading new leads
 
 -- and so does what a company withholds by itself
-pub settled_adds : (company : Company) (ruled paid : Game) (progress last : Progress)
+pub withholding_adds : (company : Company) (ruled paid : Game) (progress last : Progress)
     → in_turn paid last ≡ withheld_if_unpaid company (in_turn ruled progress) → OnlyAdds ruled paid
-settled_adds company ruled paid progress last is =
+withholding_adds company ruled paid progress last is =
     subst (λ (turn : InTurn). OnlyAdds ruled turn.game) (sym is)
-    (of_settled company _ (of_steps company OnlyAdds (adds_by company)) (in_turn ruled progress))
+    (of_withheld_if_unpaid company _ (of_steps company OnlyAdds (adds_by company)) (in_turn ruled progress))

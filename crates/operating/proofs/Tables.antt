@@ -23,7 +23,7 @@ pub home_prefix : (laid : MapState) (old first : Game) (company : Company) → f
     → IsPrefix laid old.events → IsPrefix laid first.events
 home_prefix laid old first company is prefix = prefix_on laid old first (home_adds old first company is) prefix
 
--- and after what a block brings at the end of the turn
+-- and after what a company's orders bring at the end of the turn
 pub end_prefix : (by : Operator) (lines : List Numbered) (laid : MapState) (paid new : Game)
     → EndLeads by lines paid new → IsPrefix laid paid.events → IsPrefix laid new.events
 end_prefix by lines laid paid new ends prefix =

@@ -144,7 +144,7 @@ others_keep_tiles events event none tiles =
     ∙ append-nil (lays_of events))
     (record { all = tiles.all; owes_none = tiles.owes_none })
 
--- the sums of a stock and of what lies
+-- the sums of a stock and of the tiles and tokens
 module _ (count on_map taken returned new old on_map_then taken_then returned_then : ℕ) where
   sums_stay : on_map_then + old ≡ on_map + new → taken_then ≡ taken + new → returned_then ≡ returned + old →
       pos on_map +ℤ ((pos count -ℤ pos taken) +ℤ pos returned) ≡ pos count →

@@ -13,15 +13,15 @@ use Rattle.operating.specs.Best.{BestRuled, best_judgement}
 use Rattle.operating.specs.Calls.{Call, Earns, Makes, Unasked}
 use Rattle.operating.specs.Ending.{EndLeads}
 use Rattle.operating.specs.InTurn.{InTurn, at_start, in_turn}
-use Rattle.operating.specs.Turn.{AskedLeads, BlockLeads, IsCompanyTurn, LinesLead, OrderLeads, ReadingLeads}
+use Rattle.operating.specs.Turn.{AskedLeads, CompanyOrdersLead, IsCompanyTurn, LinesLead, OrderLeads, ReadingLeads}
 use Rattle.operating.specs.Turn.{begun, is_held, withheld_if_unpaid}
-use Rattle.operating.specs.TurnCalls.{AskedCalls, BegunCalls, BestCalls, BlockCalls, LineCalls, LinesCall}
+use Rattle.operating.specs.TurnCalls.{AskedCalls, BegunCalls, BestCalls, CompanyOrdersCall, LineCalls, LinesCall}
 use Rattle.operating.specs.TurnCalls.{OrderCalls, OrdersCall, ReadingCalls, SomeTurnCalls, TurnCalls, asked}
 use Rattle.forced_purchase.specs.declared.operator.Operator.{Operator}
 use Rattle.order_grammar.specs.declared.fault.Fault.{Fault}
 use Rattle.order_grammar.specs.declared.order.Order.{Order}
 use Rattle.order_grammar.specs.declared.order.Order.TheVariants as order
-use Rattle.sheets.specs.Block.{block_for}
+use Rattle.sheets.specs.CompanyOrders.{company_orders_for}
 use Rattle.sheets.specs.Part.{Numbered}
 use Rattle.tables.specs.declared.roster.Company.{Company}
 use Rattle.tables.specs.declared.round.Round.{Round}
@@ -60,7 +60,7 @@ module _ {Runner : Type 0} (earns : Earns Runner) where
       subst (λ (these : List Numbered). Makes earns before (LinesCall by round these turn (Err fault)) after) (sym are)
       (broken_off earns (LineCalls by round line) (LinesCall by round lines) turn fault before after one)
 
-  -- once the home token lies, the calls of the block and of the end are those of the turn
+  -- once the home token lies, the calls of the orders and of the end are those of the turn
   pub of_begun :
       (file : List ℕ) (round : Round) (company : Company) (old placed : Game) (president : Option Seat)
       (outcome : Result Game RunnerFault) (before after : Runner) →
@@ -159,15 +159,16 @@ lines_lead by round (line ∷ lines) turn new calls course =
       )
     ]
 
--- so does a block
-block_leads :
+-- so do a company's orders
+orders_lead :
     (file : List ℕ) (round : Round) (company : Company) (president : Option Seat) (turn new : InTurn)
     (calls : List Call) →
-    BlockCalls file round company president turn (Ok new) calls → BlockLeads file round company turn president new
-block_leads file round company None turn new calls course = course.0
-block_leads file round company (Some seat) turn new calls course =
-    lines_lead (record { company = company; president = seat }) round (block_for file round seat.0 company) turn new
-    calls course
+    CompanyOrdersCall file round company president turn (Ok new) calls → CompanyOrdersLead file round company turn
+    president new
+orders_lead file round company None turn new calls course = course.0
+orders_lead file round company (Some seat) turn new calls course =
+    lines_lead (record { company = company; president = seat }) round (company_orders_for file round seat.0 company)
+    turn new calls course
 
 -- and so does a turn
 pub turn_leads :
@@ -180,10 +181,10 @@ turn_leads file round company old new calls course =
         | inl never ↦ absurd never
         | inr rest ↦ record {
           last = rest.between;
-          block =
-              subst (λ (turn : InTurn). BlockLeads file round company turn (president_of old.events company)
+          orders =
+              subst (λ (turn : InTurn). CompanyOrdersLead file round company turn (president_of old.events company)
               rest.between) first.leads.0
-              (block_leads file round company (president_of old.events company) first.between rest.between
+              (orders_lead file round company (president_of old.events company) first.between rest.between
               rest.earlier rest.leads);
           after = rest.goes_on.0;
         }
@@ -250,35 +251,35 @@ lines_called by round (line ∷ lines) turn new leads =
       }),
     )
 
--- so does a block
-block_called :
+-- so do a company's orders
+company_orders_called :
     (file : List ℕ) (round : Round) (company : Company) (president : Option Seat) (turn new : InTurn) →
-    BlockLeads file round company turn president new
-    → (calls : List Call) × BlockCalls file round company president turn (Ok new) calls
-block_called file round company None turn new leads = ([], (leads, refl))
-block_called file round company (Some seat) turn new leads =
-    lines_called (record { company = company; president = seat }) round (block_for file round seat.0 company) turn new
-    leads
+    CompanyOrdersLead file round company turn president new
+    → (calls : List Call) × CompanyOrdersCall file round company president turn (Ok new) calls
+company_orders_called file round company None turn new leads = ([], (leads, refl))
+company_orders_called file round company (Some seat) turn new leads =
+    lines_called (record { company = company; president = seat }) round (company_orders_for file round seat.0 company)
+    turn new leads
 
 -- and so does a turn
 pub turn_called : SomeTurnCalls
 turn_called file round company old new turn =
     let president : Option Seat = president_of old.events company in
-    let block = block_called file round company president (begun old company) turn.last turn.block in (
-      block.0,
+    let orders = company_orders_called file round company president (begun old company) turn.last turn.orders in (
+      orders.0,
       inr (record {
         between = begun old company;
         earlier = [];
-        later = block.0;
+        later = orders.0;
         leads = (refl, refl);
         goes_on = inr (record {
           between = turn.last;
-          earlier = block.0;
+          earlier = orders.0;
           later = [];
-          leads = block.1;
+          leads = orders.1;
           goes_on =
               (turn.after, refl);
-          all = sym (append-nil block.0);
+          all = sym (append-nil orders.0);
         });
         all = refl;
       }),

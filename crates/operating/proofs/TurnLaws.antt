@@ -1,5 +1,5 @@
--- Laws of a company's turn: it only adds events and begins no round, trains stand as they did, phases go on, and no
--- tile is lost.
+-- Laws of a company's turn: it only adds events and begins no round, trains are as they were, phases go on, and no tile
+-- is lost.
 use Rattle.std.proofs.Common.{◌≡◌, ◌≤◌, ◌||◌, Bool, false, List, [], ◌∷◌, ◌++◌, Result, is_some, refl, sym, ap, ◌∙◌}
 use Rattle.std.proofs.Common.{arith}
 use Rattle.std.proofs.lemmas.List.{append_assoc, append-nil}
@@ -83,28 +83,29 @@ line_seats by turn line reading new leads =
     reading new leads).added
 
 -- trains are in a later game if they did before
-abbrev pub StillStand : Game → Game → Type 0
-StillStand before after = AllTrainsAreThere before.events → AllTrainsAreThere after.events
+abbrev pub KeepsTrains : Game → Game → Type 0
+KeepsTrains before after = AllTrainsAreThere before.events → AllTrainsAreThere after.events
 
 -- so they do after each event of a turn, and after each of a forced purchase
-pub stands_by : (company : Company) → OfEvents company StillStand
-stands_by company =
+pub events_keep_trains : (company : Company) → OfEvents company KeepsTrains
+events_keep_trains company =
     record {
-      on = record { same = λ game stand. stand; both = λ a b c one two stand. two (one stand) };
-      others = λ game its is no_tile no_train no_phase stand. others_keep_standing game.events its no_train no_phase
-          stand;
-      lays = λ game asker lay cost rules stand. others_keep_standing game.events (event.Laid company lay cost) refl
-          refl stand;
+      on = record { same = λ game are_there. are_there; both = λ a b c one two are_there. two (one are_there) };
+      others = λ game its is no_tile no_train no_phase are_there. others_keep_standing game.events its no_train no_phase
+          are_there;
+      lays = λ game asker lay cost rules are_there. others_keep_standing game.events (event.Laid company lay cost) refl
+          refl are_there;
       purchases = λ game kind from rules. purchases_keep_all game company (purchase_of kind from) rules;
     }
 
-pub more_stand : OfForced StillStand
-more_stand game its is no_tile no_train no_phase stand = others_keep_standing game.events its no_train no_phase stand
+pub forced_keeps_trains : OfForced KeepsTrains
+forced_keeps_trains game its is no_tile no_train no_phase are_there = others_keep_standing game.events its no_train
+    no_phase are_there
 
 -- and in a turn
 pub turns_keep_all : TurnsKeepAll
 turns_keep_all file round company old new turn =
-    of_game_turn company StillStand (stands_by company) more_stand file round old new turn
+    of_game_turn company KeepsTrains (events_keep_trains company) forced_keeps_trains file round old new turn
 
 -- the phase is the same in a later game, or a later one
 abbrev GoesOn : Game → Game → Type 0

@@ -35,11 +35,12 @@ use Rattle.operating.specs.Act.{after_lay, after_token, withheld}
 use Rattle.operating.specs.Best.{BestRuled, best_done, best_earned, best_judgement}
 use Rattle.operating.specs.Dividend.{paid_out, pay_judgement, pay_ruled, withhold_judgement}
 use Rattle.operating.specs.MapState.{map_state_now}
-use Rattle.operating.specs.InTurn.{InTurn, in_turn, is_unpaid, lay_done, pay_done, token_done, told}
+use Rattle.operating.specs.InTurn.{InTurn, in_turn, is_unpaid, lay_done, line_recorded, pay_done, token_done}
 use Rattle.operating.specs.Judgement.{asker_of}
 use Rattle.purchases.specs.Phases.{after_train}
 use Rattle.purchases.specs.Privates.{private_judgement, sold_by}
-use Rattle.operating.specs.Turn.{AskedLeads, BlockLeads, IsCompanyTurn, LinesLead, OrderLeads, ReadingLeads, begun}
+use Rattle.operating.specs.Turn.{AskedLeads, CompanyOrdersLead, IsCompanyTurn, LinesLead, OrderLeads, ReadingLeads}
+use Rattle.operating.specs.Turn.{begun}
 use Rattle.operating.specs.Turn.{is_held, lay_answered, private_ruled, withheld_if_unpaid, token_answered, train_ruled}
 use Rattle.operating.specs.Runs.{judged_run, run_done, run_ruled}
 use Rattle.purchases.specs.Trains.{purchase_of, train_judgement}
@@ -50,7 +51,7 @@ use Rattle.order_grammar.specs.declared.fault.Fault.{Fault}
 use Rattle.order_grammar.specs.declared.order.Order.{Order}
 use Rattle.order_grammar.specs.declared.order.Order.TheVariants as order
 use Rattle.order_grammar.specs.declared.order.TrainSource.{TrainSource}
-use Rattle.sheets.specs.Block.{block_for}
+use Rattle.sheets.specs.CompanyOrders.{company_orders_for}
 use Rattle.sheets.specs.Part.{Numbered}
 use Rattle.tables.specs.Rules.{first_broken}
 use Rattle.tables.specs.declared.rolling_stock.Kind.{Kind}
@@ -86,8 +87,8 @@ pub record OfSteps (company : Company) (R : InTurn → InTurn → Type 0) : Type
 
 module _ (company : Company) (R : InTurn → InTurn → Type 0) (steps : OfSteps company R) where
   -- of what the company withholds by itself
-  pub of_settled : (turn : InTurn) → R turn (withheld_if_unpaid company turn)
-  of_settled turn =
+  pub of_withheld_if_unpaid : (turn : InTurn) → R turn (withheld_if_unpaid company turn)
+  of_withheld_if_unpaid turn =
       elim (is_unpaid turn.progress) as (λ (b : Bool). R turn
       (if b then in_turn (withheld turn.game company turn.progress.runs.revenue) (pay_done turn.progress) else turn)) [
         | true ↦ steps.kept turn
@@ -96,14 +97,14 @@ module _ (company : Company) (R : InTurn → InTurn → Type 0) (steps : OfSteps
 
 module _ (by : Operator) (R : InTurn → InTurn → Type 0) (steps : OfSteps by.company R) where
   -- of a ruling
-  of_ruling : (turn : InTurn) (line : Numbered) (ruling : Ruling) → R turn (told by turn line ruling)
+  of_ruling : (turn : InTurn) (line : Numbered) (ruling : Ruling) → R turn (line_recorded by turn line ruling)
   of_ruling turn line ruling = steps.more turn (event.Ruled by.president line.number ruling) tt refl refl refl
 
   -- of an obeyed line and what it brings
   after_ruling : (turn : InTurn) (line : Numbered) (its : Order) (new : InTurn)
-      → R (told by turn line (Obeyed line.condition its)) new → R turn new
+      → R (line_recorded by turn line (Obeyed line.condition its)) new → R turn new
   after_ruling turn line its new brings =
-      steps.both turn (told by turn line (Obeyed line.condition its)) new
+      steps.both turn (line_recorded by turn line (Obeyed line.condition its)) new
       (of_ruling turn line (Obeyed line.condition its)) brings
 
   -- of LAY
@@ -113,7 +114,7 @@ module _ (by : Operator) (R : InTurn → InTurn → Type 0) (steps : OfSteps by.
   of_lay turn line lay (Err rule) answered = of_ruling turn line _
   of_lay turn line lay (Ok cost) answered =
       let asker : Asker = asker_of turn.game by.company turn.progress in
-      let ruled = told by turn line (Obeyed line.condition (order.Lay lay)) in
+      let ruled = line_recorded by turn line (Obeyed line.condition (order.Lay lay)) in
       let same = same_after_ruling turn.game ruled.game by.president line (Obeyed line.condition (order.Lay lay))
       refl in
       after_ruling turn line (order.Lay lay) (lay_answered by turn line lay (Ok cost))
@@ -128,7 +129,7 @@ module _ (by : Operator) (R : InTurn → InTurn → Type 0) (steps : OfSteps by.
   of_token turn line at (Err rule) answered = of_ruling turn line _
   of_token turn line at (Ok cost) answered =
       let asker : Asker = asker_of turn.game by.company turn.progress in
-      let ruled = told by turn line (Obeyed line.condition (order.Token at)) in
+      let ruled = line_recorded by turn line (Obeyed line.condition (order.Token at)) in
       let same = same_after_ruling turn.game ruled.game by.president line (Obeyed line.condition (order.Token at))
       refl in
       after_ruling turn line (order.Token at) (token_answered by turn line at (Ok cost))
@@ -142,7 +143,7 @@ module _ (by : Operator) (R : InTurn → InTurn → Type 0) (steps : OfSteps by.
   of_run turn line its (Err rule) = of_ruling turn line _
   of_run turn line its (Ok ran) =
       after_ruling turn line its (run_ruled by turn line its (Ok ran))
-      (steps.ran (told by turn line (Obeyed line.condition its)) (run_done turn.progress ran) ran.earned)
+      (steps.ran (line_recorded by turn line (Obeyed line.condition its)) (run_done turn.progress ran) ran.earned)
 
   -- of RUN BEST
   of_best : (turn : InTurn) (line : Numbered) (rule : Option RunRule) (new : InTurn) → BestRuled by turn line rule new
@@ -151,12 +152,13 @@ module _ (by : Operator) (R : InTurn → InTurn → Type 0) (steps : OfSteps by.
   of_best turn line None new leads =
       subst (R turn) (sym leads.2)
       (after_ruling turn line order.RunBest (best_earned by turn line leads.0)
-      (steps.ran (told by turn line (Obeyed line.condition order.RunBest)) (best_done turn.progress leads.0) leads.0))
+      (steps.ran (line_recorded by turn line (Obeyed line.condition order.RunBest)) (best_done turn.progress leads.0)
+      leads.0))
 
   -- of PAY or WITHHOLD
   of_pay : (turn : InTurn) (line : Numbered) (its : Order) (rule : Option PayRule) (after : Game → Game) →
-      (rule ≡ None → R (told by turn line (Obeyed line.condition its))
-      (in_turn (after (told by turn line (Obeyed line.condition its)).game) (pay_done turn.progress))) →
+      (rule ≡ None → R (line_recorded by turn line (Obeyed line.condition its))
+      (in_turn (after (line_recorded by turn line (Obeyed line.condition its)).game) (pay_done turn.progress))) →
       R turn (pay_ruled by turn line its rule after)
   of_pay turn line its (Some rule) after brings = of_ruling turn line _
   of_pay turn line its None after brings =
@@ -170,7 +172,7 @@ module _ (by : Operator) (R : InTurn → InTurn → Type 0) (steps : OfSteps by.
   of_train turn line kind from None none =
       let its = order.BuyTrain kind from in
       let purchase = purchase_of kind from in
-      let ruled = told by turn line (Obeyed line.condition its) in
+      let ruled = line_recorded by turn line (Obeyed line.condition its) in
       after_ruling turn line its (train_ruled by turn line its purchase None)
       (steps.bought ruled kind from (same_judgement turn.game ruled.game by.president line kind from by.company
       purchase refl ∙ none))
@@ -191,7 +193,7 @@ module _ (by : Operator) (R : InTurn → InTurn → Type 0) (steps : OfSteps by.
       → R turn (private_ruled by turn line private price rule)
   of_private turn line private price (Some rule) broken = of_ruling turn line _
   of_private turn line private price None none =
-      let ruled = told by turn line (Obeyed line.condition (order.BuyOwnedPrivate private price)) in
+      let ruled = line_recorded by turn line (Obeyed line.condition (order.BuyOwnedPrivate private price)) in
       after_ruling turn line (order.BuyOwnedPrivate private price) (private_ruled by turn line private price None)
       (of_sale ruled private price (owner_of ruled.game.events private) refl
       (same_after_line turn.game ruled.game by.president line by.company private price refl ∙ none))
@@ -210,19 +212,19 @@ module _ (by : Operator) (R : InTurn → InTurn → Type 0) (steps : OfSteps by.
       subst (R turn) (sym leads)
       (of_pay turn line order.Pay (pay_judgement turn.progress)
       (λ game. paid_out game by.company turn.progress.runs.revenue)
-      (steps.paid (told by turn line (Obeyed line.condition order.Pay))))
+      (steps.paid (line_recorded by turn line (Obeyed line.condition order.Pay))))
   of_order turn line order.Withhold new leads =
       subst (R turn) (sym leads)
       (of_pay turn line order.Withhold (withhold_judgement turn.progress)
       (λ game. withheld game by.company turn.progress.runs.revenue)
-      (λ rules. steps.kept (told by turn line (Obeyed line.condition order.Withhold))))
+      (λ rules. steps.kept (line_recorded by turn line (Obeyed line.condition order.Withhold))))
   of_order turn line (order.BuyTrain kind from) new leads =
       let paid = withheld_if_unpaid by.company turn in
       let purchase = purchase_of kind from in
       let rule = train_judgement paid.game by.company purchase in
       subst (R turn) (sym leads)
       (steps.both turn paid (train_ruled by paid line (order.BuyTrain kind from) purchase rule)
-      (of_settled by.company R steps turn)
+      (of_withheld_if_unpaid by.company R steps turn)
       (of_train paid line kind from rule refl))
   of_order turn line (order.BuyOwnedPrivate private price) new leads =
       subst (R turn) (sym leads) (of_private turn line private price
@@ -249,18 +251,18 @@ module _ (by : Operator) (R : InTurn → InTurn → Type 0) (steps : OfSteps by.
       steps.both turn leads.0 new (of_line turn line line.reading leads.0 leads.1) (of_lines leads.0 lines new leads.2)
 
 module _ (company : Company) (R : InTurn → InTurn → Type 0) (steps : OfSteps company R) where
-  -- of a block
-  pub of_block : (file : List ℕ) (round : Round) (turn : InTurn) (president : Option Seat) (new : InTurn) →
-      BlockLeads file round company turn president new → R turn new
-  of_block file round turn None new leads = subst (R turn) (sym leads) (steps.same turn)
-  of_block file round turn (Some seat) new leads =
-      of_lines (record { company = company; president = seat }) R steps turn (block_for file round seat.0 company) new
-      leads
+  -- of a company's orders
+  pub of_orders : (file : List ℕ) (round : Round) (turn : InTurn) (president : Option Seat) (new : InTurn) →
+      CompanyOrdersLead file round company turn president new → R turn new
+  of_orders file round turn None new leads = subst (R turn) (sym leads) (steps.same turn)
+  of_orders file round turn (Some seat) new leads =
+      of_lines (record { company = company; president = seat }) R steps turn
+      (company_orders_for file round seat.0 company) new leads
 
   -- of a whole turn, from its home token on
   pub of_turn : (file : List ℕ) (round : Round) (old new : Game) (turn : IsCompanyTurn file round company old new) →
       R (begun old company) (withheld_if_unpaid company turn.last)
   of_turn file round old new turn =
       steps.both (begun old company) turn.last (withheld_if_unpaid company turn.last)
-      (of_block file round (begun old company) (president_of old.events company) turn.last turn.block)
-      (of_settled company R steps turn.last)
+      (of_orders file round (begun old company) (president_of old.events company) turn.last turn.orders)
+      (of_withheld_if_unpaid company R steps turn.last)

@@ -39,6 +39,6 @@ after_token game company place cost = with_event game (event.Token company place
 abbrev pub moved_left : Game → Company → Game
 moved_left game company = record { seats = game.seats; events = with_move square_left_of game.events company }
 
--- after the company has withheld so much
+-- after the company has withheld this much
 abbrev pub withheld : Game → Company → ℕ → Game
 withheld game company amount = moved_left (broken_recorded (with_event game (event.Withheld company amount))) company

@@ -1,6 +1,6 @@
--- The best runs of a company. A RUN BEST needs the step of runs or one before it, a train, and that no train has run
--- in the turn. The company is then credited the greatest revenue that any legal set of runs for its trains earns by
--- what lies: that is the revenue of the turn, which is past its token, and no train is left to run.
+-- The best runs of a company. A RUN BEST needs the step of runs or one before it, a train, and that no train has run in
+-- the turn. The company is then credited the greatest revenue that any legal set of runs for its trains earns by the
+-- map state: that is the revenue of the turn, which is past its token, and no train is left to run.
 use Rattle.std.specs.Prelude.{◌≡◌, ℕ, Bool, true, not, ◌||◌, List, [], ◌∷◌, ◌++◌, Option, Some, None, replicate}
 use Rattle.std.specs.List.{fold}
 use Rattle.board.specs.declared.asker.TurnStep.TheVariants as step
@@ -14,7 +14,7 @@ use Rattle.totals.specs.Trains.{at_least_zero, trains_held}
 use Rattle.map_tables.specs.declared.rules.RunRule.{RunRule}
 use Rattle.map_tables.specs.declared.rules.RunRule.TheVariants as run_rule
 use Rattle.purchases.specs.Trains.{has_trains}
-use Rattle.operating.specs.InTurn.{InTurn, in_turn, told}
+use Rattle.operating.specs.InTurn.{InTurn, in_turn, line_recorded}
 use Rattle.operating.specs.Runs.{has_any_run, is_past_runs, position_now, rule}
 use Rattle.forced_purchase.specs.declared.operator.Operator.{Operator}
 use Rattle.operating.specs.declared.progress.Progress.{Progress}
@@ -47,20 +47,20 @@ rules_of_best game company progress =
 abbrev pub best_judgement : InTurn → Company → Option RunRule
 best_judgement turn company = first_broken (rules_of_best turn.game company turn.progress)
 
--- how far the turn has come once the best has been run, which earned so much
+-- how far the turn has come once the best has been run, which earned this much
 abbrev pub best_done : Progress → ℕ → Progress
 best_done progress revenue =
     record progress { pointer = step.Run; best_run = true; runs = record progress.runs { revenue = revenue } }
 
--- after a RUN BEST in this line was obeyed, which earned so much
+-- after a RUN BEST in this line was obeyed, which earned this much
 abbrev pub best_earned : Operator → InTurn → Numbered → ℕ → InTurn
 best_earned by turn line revenue =
-    in_turn (with_event (told by turn line (Obeyed line.condition order.RunBest)).game
+    in_turn (with_event (line_recorded by turn line (Obeyed line.condition order.RunBest)).game
     (event.Runs by.company revenue)) (best_done turn.progress revenue)
 
 -- a RUN BEST in this line leads to new, where this rule refuses it, if one does
 abbrev pub BestRuled : Operator → InTurn → Numbered → Option RunRule → InTurn → Type 0
-BestRuled by turn line (Some rule) new = new ≡ told by turn line
+BestRuled by turn line (Some rule) new = new ≡ line_recorded by turn line
     (Refused (refusal.Run rule) line.condition order.RunBest)
 BestRuled by turn line None new =
     (revenue : ℕ) × IsGreatest (position_now turn.game.events) by.company (trains_now turn.game.events by.company)

@@ -55,11 +55,12 @@ abbrev pub in_turn : Game → Progress → InTurn
 in_turn game progress = record { game = game; progress = progress }
 
 -- after the ruling of this line
-abbrev pub told : Operator → InTurn → Numbered → Ruling → InTurn
-told by turn line ruling = in_turn (with_event turn.game (event.Ruled by.president line.number ruling)) turn.progress
+abbrev pub line_recorded : Operator → InTurn → Numbered → Ruling → InTurn
+line_recorded by turn line ruling = in_turn (with_event turn.game (event.Ruled by.president line.number ruling))
+    turn.progress
 
 -- after this line, whose order breaks this rule first, or none: it is done then
 abbrev pub ruled : Operator → InTurn → Numbered → Order → Option Refusal → (InTurn → InTurn) → InTurn
 ruled by turn line order broken act =
-    done (λ (after : InTurn) (its : Order). act after) (told by turn line (judged line.condition order broken))
+    done (λ (after : InTurn) (its : Order). act after) (line_recorded by turn line (judged line.condition order broken))
     (obeyed_by (judged line.condition order broken))

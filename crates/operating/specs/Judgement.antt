@@ -1,4 +1,4 @@
--- What the rules say to a lay and a token of a company's turn: those of the board, asked of what lies by the
+-- What the rules say to a lay and a token of a company's turn: those of the board, asked of the tiles and tokens by the
 -- list so far.
 use Rattle.std.specs.Prelude.{Bool, true, false, map, Option, Some, None}
 use Rattle.board.specs.declared.asker.Asker.{Asker}

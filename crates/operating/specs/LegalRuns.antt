@@ -39,8 +39,8 @@ abbrev pub walk_obeyed : Company → InTurn → Numbered → Result Order Fault 
 walk_obeyed company turn line (Ok its) = walk_asked company turn its (is_held turn.game.events line.condition its)
 walk_obeyed company turn line (Err fault) = []
 
--- lines of a block lead from a turn to new, one after another; to the walks before them those of their obeyed runs
--- come, which makes all
+-- lines of a company's orders lead from a turn to new, one after another; to the walks before them those of their
+-- obeyed runs come, which makes all
 abbrev pub LinesRun : Operator → InTurn → List (List Step) → List Numbered → InTurn → List (List Step) → Type 0
 LinesRun by turn before [] new all = (new ≡ turn) × (all ≡ before)
 LinesRun by turn before (line ∷ lines) new all =

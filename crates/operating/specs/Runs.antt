@@ -1,7 +1,7 @@
--- The runs of a company's turn. A RUN needs the step of runs or one before it, a train of its kind that has not run
--- in the turn, as all have once the best has been run, and a run that breaks no rule of runs, by what lies and by the
--- borders that the runs before it have used. It then earns what its stops are worth; the train has run, its borders
--- are used, and the turn is past its token. What all runs earn is the revenue of the turn.
+-- The runs of a company's turn. A RUN needs the step of runs or one before it, a train of its kind that has not run in
+-- the turn, as all have once the best has been run, and a run that breaks no rule of runs, by the map state and by the
+-- borders that the runs before it have used. It then earns what its stops are worth; the train has run, its borders are
+-- used, and the turn is past its token. What all runs earn is the revenue of the turn.
 use Rattle.std.specs.Prelude.{◌≡◌, ◌+◌, ◌-◌, ◌*◌, ◌≤◌, ◌^◌, Bool, ◌||◌, nat_lt, List, [], ◌∷◌, length, Option, Some}
 use Rattle.std.specs.Prelude.{None, Result, Ok, Err, ℤ, pos, ◌+ℤ◌, ◌≤ℤ◌, slice_index_or, slice_set}
 use Rattle.std.specs.List.{list_any}
@@ -24,7 +24,7 @@ use Rattle.map_tables.specs.declared.rules.RunRule.{RunRule}
 use Rattle.map_tables.specs.declared.rules.RunRule.TheVariants as run_rule
 use Rattle.map_tables.specs.declared.place.Place.{Place}
 use Rattle.operating.specs.MapState.{map_state_now}
-use Rattle.operating.specs.InTurn.{InTurn, in_turn, told}
+use Rattle.operating.specs.InTurn.{InTurn, in_turn, line_recorded}
 use Rattle.forced_purchase.specs.declared.operator.Operator.{Operator}
 use Rattle.operating.specs.declared.progress.Progress.{Progress}
 use Rattle.operating.specs.declared.runs.CompletedRun.{CompletedRun}
@@ -133,10 +133,10 @@ pub record IsCounted (runs : Runs) (ran : CompletedRun) : Type 0 where
 
 -- after the order of this line, by which a train has run or which broke a rule
 abbrev pub run_ruled : Operator → InTurn → Numbered → Order → Result CompletedRun RunRule → InTurn
-run_ruled by turn line order (Err rule) = told by turn line (Refused (refusal.Run rule) line.condition order)
+run_ruled by turn line order (Err rule) = line_recorded by turn line (Refused (refusal.Run rule) line.condition order)
 run_ruled by turn line order (Ok ran) =
-    in_turn (with_event (told by turn line (Obeyed line.condition order)).game (event.Runs by.company ran.earned))
-    (run_done turn.progress ran)
+    in_turn (with_event (line_recorded by turn line (Obeyed line.condition order)).game
+    (event.Runs by.company ran.earned)) (run_done turn.progress ran)
 
 -- after an order in this line that a train of a kind runs
 abbrev pub after_run : Operator → InTurn → Numbered → Order → Kind → List Place → InTurn

@@ -1,13 +1,13 @@
--- A company's turn. At its first one it places its home token. Then the block that its president's sheet has for it is
--- ruled, line by line, each on the list that the one before left: a line's own fault first, then an order without a
--- place in a block, and then the condition of the line, which is asked of that list. Where it is not met the line is
--- refused, and nothing else happens. The steps of the turn are lay, token, run, pay and trains, and a step goes over
--- them: a lay needs the first step and is made once; a token needs one of the first two, and the turn is then past
+-- A company's turn. At its first one it places its home token. Then the orders that its president's sheet has for it
+-- are ruled, line by line, each on the list that the one before left: a line's own fault first, then an order without a
+-- place in a company's orders, and then the condition of the line, which is asked of that list. Where it is not met the
+-- line is refused, and nothing else happens. The steps of the turn are lay, token, run, pay and trains, and a step goes
+-- over them: a lay needs the first step and is made once; a token needs one of the first two, and the turn is then past
 -- both; a run, or that of the best, needs one of the first three, and the turn is then past its token; to pay or to
 -- withhold needs one of the first four, and the turn is then past them. A company whose turn is not past its pay
--- withholds by itself before a TRAIN line is ruled whose condition is met, whatever becomes of that, and when the block
--- ends. It buys a private anywhere in the block, which leaves the step. The RAISE lines of the block are ruled last,
--- when the company buys the train that it must, or need not.
+-- withholds by itself before a TRAIN line is ruled whose condition is met, whatever becomes of that, and when the
+-- orders end. It buys a private anywhere in the orders, which leaves the step. The RAISE lines are ruled last, when the
+-- company buys the train that it must, or need not.
 use Rattle.std.specs.Prelude.{◌≡◌, ℕ, Bool, true, false, not, ◌&&◌, if◌then◌else◌, List, [], ◌∷◌, Option, Some, None}
 use Rattle.std.specs.Prelude.{option_map, Result, Ok, Err, ℤ}
 use Rattle.std.specs.Int.RustNames.{unsigned_abs}
@@ -31,7 +31,8 @@ use Rattle.operating.specs.Act.{after_lay, after_token, with_home, withheld}
 use Rattle.operating.specs.Dividend.{after_pay, after_withhold}
 use Rattle.operating.specs.Ending.{EndLeads}
 use Rattle.operating.specs.MapState.{map_state_now}
-use Rattle.operating.specs.InTurn.{InTurn, at_start, in_turn, is_unpaid, lay_done, pay_done, ruled, token_done, told}
+use Rattle.operating.specs.InTurn.{InTurn, at_start, in_turn, is_unpaid, lay_done, line_recorded, pay_done, ruled}
+use Rattle.operating.specs.InTurn.{token_done}
 use Rattle.operating.specs.Judgement.{asker_of}
 use Rattle.purchases.specs.Phases.{after_train}
 use Rattle.purchases.specs.Privates.{private_bought, private_judgement}
@@ -45,7 +46,7 @@ use Rattle.order_grammar.specs.declared.fault.Fault.TheVariants.{OutOfPlace}
 use Rattle.order_grammar.specs.declared.order.Order.{Order}
 use Rattle.order_grammar.specs.declared.order.Order.TheVariants as order
 use Rattle.order_grammar.specs.declared.order.TrainSource.{TrainSource}
-use Rattle.sheets.specs.Block.{block_for}
+use Rattle.sheets.specs.CompanyOrders.{company_orders_for}
 use Rattle.sheets.specs.Part.{Numbered}
 use Rattle.tables.specs.declared.rolling_stock.Kind.{Kind}
 use Rattle.tables.specs.declared.roster.Company.{Company}
@@ -57,20 +58,22 @@ use Rattle.tables.specs.declared.seat.Seat.{Seat}
 abbrev pub lay_answered : Operator → InTurn → Numbered → Lay → Result ℤ LayRule → InTurn
 lay_answered by turn line lay (Ok cost) =
     in_turn
-    (after_lay (told by turn line (Obeyed line.condition (order.Lay lay))).game by.company lay (unsigned_abs cost))
-    (lay_done (lays_of turn.game.events) (asker_of turn.game by.company turn.progress) lay turn.progress)
-lay_answered by turn line lay (Err rule) = told by turn line (Refused (refusal.Lay rule) line.condition (order.Lay lay))
+    (after_lay (line_recorded by turn line (Obeyed line.condition (order.Lay lay))).game by.company lay
+    (unsigned_abs cost)) (lay_done (lays_of turn.game.events) (asker_of turn.game by.company turn.progress) lay
+    turn.progress)
+lay_answered by turn line lay (Err rule) = line_recorded by turn line (Refused (refusal.Lay rule) line.condition
+    (order.Lay lay))
 
 -- after a token in this line was obeyed at this cost, or refused by this rule
 abbrev pub token_answered : Operator → InTurn → Numbered → Place → Result ℤ TokenRule → InTurn
 token_answered by turn line place (Ok cost) =
     in_turn
-    (after_token (told by turn line (Obeyed line.condition (order.Token place))).game by.company place
+    (after_token (line_recorded by turn line (Obeyed line.condition (order.Token place))).game by.company place
     (unsigned_abs cost)) (token_done turn.progress)
 token_answered by turn line place (Err rule) =
-    told by turn line (Refused (refusal.Token rule) line.condition (order.Token place))
+    line_recorded by turn line (Refused (refusal.Token rule) line.condition (order.Token place))
 
--- a LAY in this line leads to new: the rules of lays give an answer, by what lies
+-- a LAY in this line leads to new: the rules of lays give an answer, by the map state
 pub record LayLeads (by : Operator) (turn : InTurn) (line : Numbered) (lay : Lay) (new : InTurn) : Type 0 where
   pub answer : Result ℤ LayRule
   pub answered : IsLayAnswer (map_state_now turn.game.events) (asker_of turn.game by.company turn.progress) lay answer
@@ -112,7 +115,7 @@ abbrev pub after_private : Operator → InTurn → Numbered → Private → ℕ 
 after_private by turn line private price =
     private_ruled by turn line private price (private_judgement turn.game by.company private price)
 
--- an order in this line of the block leads to new; those that are not named here have no place in a block
+-- an order in this line of the company's orders leads to new; those that are not named here have no place there
 abbrev pub OrderLeads : Operator → InTurn → Numbered → Order → InTurn → Type 0
 OrderLeads by turn line (order.Lay lay) new = LayLeads by turn line lay new
 OrderLeads by turn line (order.Token place) new = TokenLeads by turn line place new
@@ -124,9 +127,9 @@ OrderLeads by turn line (order.BuyTrain kind from) new =
     new ≡ after_buying by (withheld_if_unpaid by.company turn) line kind from
 OrderLeads by turn line (order.BuyOwnedPrivate private price) new = new ≡ after_private by turn line private price
 OrderLeads by turn line (order.Raise company shares) new = new ≡ turn
-OrderLeads by turn line other new = new ≡ told by turn line (Faulty OutOfPlace)
+OrderLeads by turn line other new = new ≡ line_recorded by turn line (Faulty OutOfPlace)
 
--- the orders that are ruled where they are in the block: a RAISE waits for the end, and others have no place
+-- the orders that are ruled where they are: a RAISE waits for the end, and others have no place
 abbrev pub is_ruled_there : Order → Bool
 is_ruled_there (order.Lay lay) = true
 is_ruled_there (order.Token place) = true
@@ -142,36 +145,36 @@ is_ruled_there other = false
 abbrev pub is_held : List Event → Option Condition → Order → Bool
 is_held events condition its = is_ruled_there its && not (is_met events condition)
 
--- an order in this line of the block leads to new, where its condition holds it up, or does not
+-- an order in this line of the company's orders leads to new, where its condition holds it up, or does not
 abbrev pub AskedLeads : Operator → InTurn → Numbered → Order → Bool → InTurn → Type 0
-AskedLeads by turn line its true new = new ≡ told by turn line (Refused refusal.Condition line.condition its)
+AskedLeads by turn line its true new = new ≡ line_recorded by turn line (Refused refusal.Condition line.condition its)
 AskedLeads by turn line its false new = OrderLeads by turn line its new
 
--- this line of the block with this reading leads to new
+-- this line of the company's orders with this reading leads to new
 abbrev pub ReadingLeads : Operator → InTurn → Numbered → Result Order Fault → InTurn → Type 0
-ReadingLeads by turn line (Err fault) new = new ≡ told by turn line (Faulty fault)
+ReadingLeads by turn line (Err fault) new = new ≡ line_recorded by turn line (Faulty fault)
 ReadingLeads by turn line (Ok its) new = AskedLeads by turn line its (is_held turn.game.events line.condition its) new
 
--- a line of the block leads to new
+-- a line of the company's orders leads to new
 abbrev pub LineLeads : Operator → InTurn → Numbered → InTurn → Type 0
 LineLeads by turn line new = ReadingLeads by turn line line.reading new
 
--- lines of the block lead to new, one after another
+-- lines of the company's orders lead to new, one after another
 abbrev pub LinesLead : Operator → InTurn → List Numbered → InTurn → Type 0
 LinesLead by turn [] new = new ≡ turn
 LinesLead by turn (line ∷ lines) new = (next : InTurn) × LineLeads by turn line next × LinesLead by next lines new
 
--- the block for a company in the sheet of its president leads to new; without a president there is none
-abbrev pub BlockLeads : List ℕ → Round → Company → InTurn → Option Seat → InTurn → Type 0
-BlockLeads file round company turn None new = new ≡ turn
-BlockLeads file round company turn (Some seat) new =
-    LinesLead (record { company = company; president = seat }) turn (block_for file round seat.0 company) new
+-- the orders for a company in the sheet of its president lead to new; without a president there is none
+abbrev pub CompanyOrdersLead : List ℕ → Round → Company → InTurn → Option Seat → InTurn → Type 0
+CompanyOrdersLead file round company turn None new = new ≡ turn
+CompanyOrdersLead file round company turn (Some seat) new =
+    LinesLead (record { company = company; president = seat }) turn (company_orders_for file round seat.0 company) new
 
--- the end of a turn leads to new, by the block for a company in the sheet of its president
-abbrev pub BlockEnds : List ℕ → Round → Company → Game → Option Seat → Game → Type 0
-BlockEnds file round company game None new = new ≡ game
-BlockEnds file round company game (Some seat) new =
-    EndLeads (record { company = company; president = seat }) (block_for file round seat.0 company) game new
+-- the end of a turn leads to new, by the orders for a company in the sheet of its president
+abbrev pub CompanyOrdersEnd : List ℕ → Round → Company → Game → Option Seat → Game → Type 0
+CompanyOrdersEnd file round company game None new = new ≡ game
+CompanyOrdersEnd file round company game (Some seat) new =
+    EndLeads (record { company = company; president = seat }) (company_orders_for file round seat.0 company) game new
 
 -- the orders of a company, these lines of its block, lead to new: line by line, then by what it withholds by itself,
 -- and by the end of its turn
@@ -186,5 +189,6 @@ begun game company = in_turn (with_home game company) at_start
 -- new is old after the turn of a company in a round with the sheets of the file
 pub record IsCompanyTurn (file : List ℕ) (round : Round) (company : Company) (old new : Game) : Type 0 where
   pub last : InTurn
-  pub block : BlockLeads file round company (begun old company) (president_of old.events company) last
-  pub after : BlockEnds file round company (withheld_if_unpaid company last).game (president_of old.events company) new
+  pub orders : CompanyOrdersLead file round company (begun old company) (president_of old.events company) last
+  pub after : CompanyOrdersEnd file round company (withheld_if_unpaid company last).game
+      (president_of old.events company) new

@@ -14,14 +14,15 @@ use Rattle.map_tables.specs.declared.rules.RunRule.{RunRule}
 use Rattle.operating.specs.Best.{BestRuled, best_earned, best_judgement, trains_now}
 use Rattle.operating.specs.Calls.{Call, Course, IsPrefix, Then, Unasked}
 use Rattle.operating.specs.Ending.{EndLeads}
-use Rattle.operating.specs.InTurn.{InTurn, told}
+use Rattle.operating.specs.InTurn.{InTurn, line_recorded}
 use Rattle.operating.specs.Runs.{position_now}
-use Rattle.operating.specs.Turn.{AskedLeads, BlockEnds, IsCompanyTurn, OrderLeads, begun, is_held, withheld_if_unpaid}
+use Rattle.operating.specs.Turn.{AskedLeads, CompanyOrdersEnd, IsCompanyTurn, OrderLeads, begun, is_held}
+use Rattle.operating.specs.Turn.{withheld_if_unpaid}
 use Rattle.forced_purchase.specs.declared.operator.Operator.{Operator}
 use Rattle.order_grammar.specs.declared.fault.Fault.{Fault}
 use Rattle.order_grammar.specs.declared.order.Order.{Order}
 use Rattle.order_grammar.specs.declared.order.Order.TheVariants as order
-use Rattle.sheets.specs.Block.{block_for}
+use Rattle.sheets.specs.CompanyOrders.{company_orders_for}
 use Rattle.sheets.specs.Part.{Numbered}
 use Rattle.tables.specs.declared.roster.Company.{Company}
 use Rattle.tables.specs.declared.round.Round.{Round}
@@ -73,7 +74,8 @@ AskedCalls by round line its false = OrderCalls by round line its
 abbrev pub ReadingCalls : Operator → Round → Numbered → Result Order Fault → Course InTurn InTurn RunnerFault
 ReadingCalls by round line (Ok its) turn = AskedCalls by round line its (is_held turn.game.events line.condition its)
     turn
-ReadingCalls by round line (Err fault) turn = Unasked Memory (λ old new. new ≡ told by old line (Faulty fault)) turn
+ReadingCalls by round line (Err fault) turn = Unasked Memory (λ old new. new ≡ line_recorded by old line (Faulty fault))
+    turn
 
 -- that of a line
 abbrev pub LineCalls : Operator → Round → Numbered → Course InTurn InTurn RunnerFault
@@ -84,21 +86,22 @@ abbrev pub LinesCall : Operator → Round → List Numbered → Course InTurn In
 LinesCall by round [] = Unasked Memory (λ turn new. new ≡ turn)
 LinesCall by round (line ∷ lines) = Then (LineCalls by round line) (LinesCall by round lines)
 
--- that of the block for a company in the sheet of its president; without a president there is none
-abbrev pub BlockCalls : List ℕ → Round → Company → Option Seat → Course InTurn InTurn RunnerFault
-BlockCalls file round company None = Unasked Memory (λ turn new. new ≡ turn)
-BlockCalls file round company (Some seat) =
-    LinesCall (record { company = company; president = seat }) round (block_for file round seat.0 company)
+-- that of the orders for a company in the sheet of its president; without a president there is none
+abbrev pub CompanyOrdersCall : List ℕ → Round → Company → Option Seat → Course InTurn InTurn RunnerFault
+CompanyOrdersCall file round company None = Unasked Memory (λ turn new. new ≡ turn)
+CompanyOrdersCall file round company (Some seat) =
+    LinesCall (record { company = company; president = seat }) round (company_orders_for file round seat.0 company)
 
--- that of what follows the block in the turn of a company
+-- that of what follows the orders in the turn of a company
 abbrev pub EndCalls : List ℕ → Round → Company → Option Seat → Course InTurn Game RunnerFault
 EndCalls file round company president =
-    Unasked Memory (λ last new. BlockEnds file round company (withheld_if_unpaid company last).game president new)
+    Unasked Memory (λ last new. CompanyOrdersEnd file round company (withheld_if_unpaid company last).game president
+    new)
 
 -- that of a turn once its home token lies
 abbrev pub BegunCalls : List ℕ → Round → Company → Option Seat → Course InTurn Game RunnerFault
 BegunCalls file round company president =
-    Then (BlockCalls file round company president) (EndCalls file round company president)
+    Then (CompanyOrdersCall file round company president) (EndCalls file round company president)
 
 -- the course of the turn of a company in a round with the sheets of the file
 abbrev pub TurnCalls : List ℕ → Round → Company → Course Game Game RunnerFault

@@ -8,7 +8,7 @@ ghost use Rattle.totals.specs.Trains.{at_least_zero};
 ghost use Rattle.operating.specs.Best.{BestLeads, best_earned, best_judgement, has_none_to_run, trains_now};
 ghost use Rattle.operating.specs.Calls.{Makes};
 ghost use Rattle.operating.specs.CompanyTurn.{GoesOn, IsInOrder, state};
-ghost use Rattle.operating.specs.InTurn.{in_turn, told};
+ghost use Rattle.operating.specs.InTurn.{in_turn, line_recorded};
 ghost use Rattle.operating.specs.Runs.{position_now};
 ghost use Rattle.operating.specs.TurnCalls.{Asks, BestCalls, led_to};
 ghost use Rattle.order_grammar.specs.declared.order.Order.TheVariants as order;
@@ -64,10 +64,10 @@ impl CompanyTurn {
         Ok(())
     }
 
-    /// Tells that the order of this line to run the best breaks a rule.
+    /// Records that the order of this line to run the best breaks a rule.
     fn refuse_best(&mut self, line: ReadLine, rule: RunRule) -> Result<(), AllocError>
         requires { IsInOrder self.old }
-        ensures told { OnOk result (state self.new ≡ told self.old.by (state self.old)
+        ensures recorded { OnOk result (state self.new ≡ line_recorded self.old.by (state self.old)
             (line_with line order.RunBest)
             (Refused (refusal.Run rule) line.condition order.RunBest)) }
         ensures order { OnOk result (GoesOn self.old self.new) }
@@ -83,11 +83,11 @@ impl CompanyTurn {
         Ok(())
     }
 
-    /// Tells that the order of this line to run the best is obeyed, and what it earns.
+    /// Records that the order of this line to run the best is obeyed, and what it earns.
     fn obey_best(&mut self, line: ReadLine, revenue: Amount) -> Result<(), AllocError>
         requires order { IsInOrder self.old }
         requires small { revenue ≤ 50000 }
-        ensures told { OnOk result (state self.new
+        ensures recorded { OnOk result (state self.new
             ≡ best_earned self.old.by (state self.old) (line_with line order.RunBest) revenue) }
         ensures order { OnOk result (GoesOn self.old self.new) }
     {
@@ -98,8 +98,8 @@ impl CompanyTurn {
         Ok(())
     }
 
-    /// The greatest revenue of the company's trains by what lies, in dollars: at most 50,000. The
-    /// errors are the runner's, and refused memory.
+    /// The greatest revenue of the company's trains by the map state, in dollars: at most 50,000.
+    /// The errors are the runner's, and refused memory.
     fn best_revenue<R: Runner>(&mut self, runner: &mut R) -> Result<Amount, RunnerFault>
         requires { IsInOrder self.old }
         ensures greatest { let events = self.old.history.events in
@@ -139,10 +139,10 @@ fn best_rule(history: &History, company: Company, progress: &Progress) -> Option
 }
 
 /// Whether a company has no train, or some train of it has run in the turn.
-fn has_none_to_run(past: &GameView, company: Company, progress: &Progress) -> bool
-    ensures { result ≡ has_none_to_run past.now.events.now company progress.now }
+fn has_none_to_run(view: &GameView, company: Company, progress: &Progress) -> bool
+    ensures { result ≡ has_none_to_run view.now.events.now company progress.now }
 {
-    !has_trains(past, company) || progress.has_any_run()
+    !has_trains(view, company) || progress.has_any_run()
 }
 
 /// A sum of money that is none too great, in dollars.
@@ -155,12 +155,12 @@ fn amount(money: Money) -> Amount
 }
 
 /// The trains that a company has, kind by kind. It fails only if memory is refused.
-fn trains_of(alloc: Global, past: &GameView, company: Company) -> Result<CompanyTrains, AllocError>
-    ensures { IfOk result (λ trains. trains.items ≡ trains_now past.now.events.now company) }
+fn trains_of(alloc: Global, view: &GameView, company: Company) -> Result<CompanyTrains, AllocError>
+    ensures { IfOk result (λ trains. trains.items ≡ trains_now view.now.events.now company) }
 {
     let mut trains = CompanyTrains::new(alloc);
     for kind in Kind::ALL {
-        push_trains(&mut trains, kind, past.trains(Some(company), kind))?;
+        push_trains(&mut trains, kind, view.trains(Some(company), kind))?;
     }
     Ok(trains)
 }

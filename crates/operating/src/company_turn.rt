@@ -27,8 +27,8 @@ pub(crate) struct CompanyTurn {
 }
 
 impl CompanyTurn {
-    /// A turn that begins, once the company's home token lies, with a board that has the first of what
-    /// lies.
+    /// A turn that begins, once the company's home token lies, with a board that has the first of the
+    /// tiles and tokens.
     pub(crate) fn begin(
         alloc: Global,
         by: Operator,

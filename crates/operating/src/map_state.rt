@@ -1,5 +1,5 @@
-//! What lies on the map, as a board that is kept through a turn: before a line asks it, it is told
-//! what was laid since it was last asked.
+//! What lies on the map, as a board that is kept through a turn: before a line asks it, it is
+//! brought what was laid since it was last asked.
 ghost use Rattle.std.specs.Prelude.{◌≡◌, OnOk};
 ghost use Rattle.totals.specs.Operating.{lays_of, tokens_of};
 ghost use Rattle.operating.specs.MapState.{IsPrefix, BeginsWith, map_state_now};
@@ -8,8 +8,8 @@ use board::Board;
 use history::History;
 use std::alloc::AllocError;
 
-/// Tells a board, which has the first of the tiles and tokens that were laid, the others and the
-/// phase. It is what lies on the map then. It fails only if memory is refused.
+/// Brings a board, which has the first of the tiles and tokens that were laid, the others and the
+/// phase. It is the tiles and tokens on the map then. It fails only if memory is refused.
 pub(crate) fn update_map_state(board: &mut Board, history: &History) -> Result<(), AllocError>
     requires { IsPrefix board.old history.now.events }
     ensures map_state { OnOk result (board.new ≡ map_state_now history.now.events) }
@@ -21,7 +21,7 @@ pub(crate) fn update_map_state(board: &mut Board, history: &History) -> Result<(
     Ok(())
 }
 
-/// Lays the tiles that a board has not been told.
+/// Lays the tiles that a board lacks.
 fn put_lays(board: &mut Board, history: &History) -> Result<(), AllocError>
     requires { BeginsWith board.old.lays (lays_of history.now.events) }
     ensures lays { OnOk result (board.new.lays ≡ lays_of history.now.events) }
@@ -33,7 +33,7 @@ fn put_lays(board: &mut Board, history: &History) -> Result<(), AllocError>
     Ok(())
 }
 
-/// Places the tokens that it has not been told.
+/// Places the tokens that it lacks.
 fn put_tokens(board: &mut Board, history: &History) -> Result<(), AllocError>
     requires { BeginsWith board.old.tokens (tokens_of history.now.events) }
     ensures tokens { OnOk result (board.new.tokens ≡ tokens_of history.now.events) }

@@ -81,7 +81,7 @@ pub fn play_on<R: Runner>(
         return Ok(Table { history, board });
     };
     let by = Operator { company, president };
-    let orders = sheets.block(president, &round, company);
+    let orders = sheets.company_orders(president, &round, company);
     let mut turn = CompanyTurn::begin(alloc, by, round, history, board);
     turn.play(&orders, runner)?;
     Ok(Table {

@@ -71,7 +71,7 @@ impl Progress {
         }
     }
 
-    /// Once the company has run its best, for so much.
+    /// Once the company has run its best, for this much.
     pub(crate) fn with_best(self, revenue: Amount) -> Progress
         requires { revenue ≤ 50000 }
         ensures { result ≡ best_done self revenue }

@@ -99,8 +99,8 @@ impl CompanyTurn {
     }
 }
 
-/// What a run does by what lies, or the first rule of runs that it breaks. Few trains of its kind
-/// have run before.
+/// What a run does by the map state, or the first rule of runs that it breaks. Few trains of its
+/// kind have run before.
 fn run_on(
     board: &Board,
     company: Company,
@@ -154,7 +154,7 @@ fn has_run_all(history: &History, company: Company, kind: Kind, runs: &Runs) -> 
     history.now().trains(Some(company), kind) <= runs.of_kind(kind)
 }
 
-/// Tells what a run of a company earned.
+/// Records what a run of a company earned.
 pub(crate) fn record_runs(
     history: &mut History,
     company: Company,

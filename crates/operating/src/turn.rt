@@ -4,7 +4,7 @@ ghost use Rattle.legal_runs.specs.declared.runner.RunnerFault.TheVariants.{Refus
 ghost use Rattle.events.specs.declared.ruling.Ruling.TheVariants.{Faulty};
 ghost use Rattle.operating.specs.Calls.{Makes};
 ghost use Rattle.operating.specs.CompanyTurn.{GoesOn, IsInOrder, state};
-ghost use Rattle.operating.specs.InTurn.{told};
+ghost use Rattle.operating.specs.InTurn.{line_recorded};
 ghost use Rattle.operating.specs.Turn.{AskedLeads, LineLeads, LinesLead, OrderLeads, is_held, is_ruled_there};
 ghost use Rattle.operating.specs.TurnCalls.{AskedCalls, LineCalls, LinesCall, OrderCalls, led_to};
 ghost use Rattle.order_grammar.specs.declared.order.Order.TheVariants.{RunBest};
@@ -113,7 +113,7 @@ impl CompanyTurn {
     fn rule_faulty(&mut self, line: u32, fault: Fault) -> Result<(), AllocError>
         requires { IsInOrder self.old }
         ensures turn { OnOk result (state self.new
-            ≡ told self.old.by (state self.old) (faulty_line line fault) (Faulty fault)) }
+            ≡ line_recorded self.old.by (state self.old) (faulty_line line fault) (Faulty fault)) }
         ensures order { OnOk result (GoesOn self.old self.new) }
     {
         record_fault(&mut self.history, self.by.president, line, fault)
@@ -175,8 +175,9 @@ impl CompanyTurn {
     }
 }
 
-/// Whether an order that is to be ruled where it is in a block has a condition that is not met. A
-/// RAISE is asked for its condition at the end of the turn, and an order without a place never.
+/// Whether an order that is to be ruled where it is in a company's orders has a condition that is
+/// not met. A RAISE is asked for its condition at the end of the turn, and an order without a place
+/// never.
 fn is_held(history: &History, condition: Option<&Condition>, order: &Order) -> bool
     ensures { result
         ≡ is_held history.now.events (option_copied condition.entry) order.now }
@@ -184,8 +185,8 @@ fn is_held(history: &History, condition: Option<&Condition>, order: &Order) -> b
     is_ruled_there(order) && !history.is_met(condition)
 }
 
-/// Whether an order is ruled where it is in a block: a RAISE waits for the end of the turn, and
-/// others have no place.
+/// Whether an order is ruled where it is in a company's orders: a RAISE waits for the end of the
+/// turn, and others have no place.
 fn is_ruled_there(order: &Order) -> bool
     ensures { result ≡ is_ruled_there order.now }
 {

@@ -213,7 +213,7 @@ read_by_all text rows of words fault other e =
     other cc) in
     (known, sym (known_read text rows words of known) ∙ e)
 
--- words of which a number is too large would spell an order
+-- words with a number that is too large would spell an order
 pub large_spell : (words : List (List ℕ)) → all_reading words ≡ Err NumberTooLarge → (order : Order) ×
     AreWordsFor order words
 large_spell [] e = absurd cc

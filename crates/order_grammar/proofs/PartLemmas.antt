@@ -24,7 +24,7 @@ use Rattle.order_grammar.proofs.RowLemmas.{among_any, all_among}
 abbrev pub begins_form : List ℕ → Row → Bool
 begins_form first row = same_word first (text_of_keyword row.keyword)
 
--- the rows of a text: they stand together in the table, no other row begins with one of its first words, and these are
+-- the rows of a text: they are together in the table, no other row begins with one of its first words, and these are
 -- what its rows begin with
 pub record AreRowsOf (text : TextKind) (rows : List Row) : Type 0 where
   pub prefix : List Row

@@ -43,7 +43,7 @@ place_more so_far word rest words place known is room = record {
   few = omega (arith, length-append so_far (place ∷ []), room);
 }
 
--- no run has places of which one is none
+-- no run has a place that is none
 run_of_none : (words : List (List ℕ)) → places_reading words ≡ None → run_reading words ≡ None
 run_of_none words none =
     elim (cases_Bool (is_run_length (length words))) [

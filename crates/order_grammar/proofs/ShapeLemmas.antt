@@ -34,7 +34,7 @@ places_again (place ∷ run) =
     (texts_read.places (text_of_place place) place).1 refl in
     rw (first, places_again run) refl
 
--- words of which each names a place are those of the places
+-- words that each name a place are those of the places
 named_by : (word : List ℕ) (words : List (List ℕ)) (first : Option Place) (rest : Option (List Place))
     (run : List Place) → place_of_text word ≡ first →
     ((places : List Place) → rest ≡ Some places → words ≡ map text_of_place places) → with_place first rest ≡ Some run
@@ -107,7 +107,7 @@ values_read (c ∷ classes) r (v ∷ made) t (word ∷ words) of are =
           (sized-large made t (list_all is_small made))
     ]
 
--- values of the row, of which the words are texts
+-- values of the row, whose texts the words are
 pub record AreValuesOf (classes : List Class) (r : TrailingClass) (words : List (List ℕ)) (made : List values.Value)
     (t : Trailing) : Type 0 where
   pub of_classes : are_of_classes classes r made t ≡ true

@@ -193,7 +193,7 @@ large_value_read c (value.Number number) text of is large = absurd (false≢true
 large_value_read c (value.Round round) text of is large = absurd (false≢true of)
 large_value_read c v text of is large = absurd (false≢true (sym large))
 
--- a value of a class, of which the word is a text
+-- a value of a class, whose text the word is
 pub record IsValueOf (c : Class) (text : List ℕ) (v : values.Value) : Type 0 where
   pub of_class : is_of_class c v ≡ true
   pub text_of : IsTextOf v text

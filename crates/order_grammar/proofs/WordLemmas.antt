@@ -135,7 +135,7 @@ placed_from-word start word (byte ∷ bytes) =
           (drop (length (before 32 bytes)) bytes))) w)
     ]
 
--- what stands from a later place on stands from an earlier one on
+-- what is there from a later place on is there from an earlier one on
 LieFrom-sooner : (from later : ℕ) (line : List ℕ) (words : List Placed) → from ≤ later → LieFrom later line words
     → LieFrom from line words
 LieFrom-sooner from later line [] le h = tt

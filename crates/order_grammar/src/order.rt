@@ -31,7 +31,7 @@ pub enum Order {
         name: Name,
         round: Round,
     },
-    /// `TURN`: a group of lines for one turn begins.
+    /// `TURN`: the lines for one turn begin.
     Turn,
     /// `BUY p`: buy a private at its price.
     BuyPrivate(Private),
@@ -62,7 +62,7 @@ pub enum Order {
     },
     /// `EXCHANGE MH`: give up the private MH for one share of NYC.
     ExchangeMohawk,
-    /// `COMPANY co`: a group of lines for the turn of a company begins.
+    /// `COMPANY co`: a company's orders begin.
     Company(Company),
     /// `LAY tile hex rot` or `LAY tile hex rot SWAP`: lay a tile on a hex, turned by this many
     /// sixths, with its stops swapped or not.

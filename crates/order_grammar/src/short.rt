@@ -59,7 +59,7 @@ impl ShortOrder {
         Some(short)
     }
 
-    /// The order of which it is the short form.
+    /// The order whose short form it is.
     pub fn order(self) -> Order
         ensures { result ≡ order_in_short self }
     {

@@ -17,7 +17,7 @@ use Rattle.sheets.specs.Part.{Numbered}
 use Rattle.tables.specs.declared.roster.Private.{Private}
 use Rattle.tables.specs.declared.roster.Private.TheVariants as private
 use Rattle.tables.specs.declared.seat.Seat.{Seat}
-use Rattle.turns.proofs.Acted.{LineSaysWhoActed, in_both, nobody, nobody_in_steps, nobody_ruled, one_more, turns_tell}
+use Rattle.turns.proofs.Acted.{LineSaysWhoActed, in_both, nobody, nobody_in_steps, nobody_ruled, one_more, turns_say}
 use Rattle.turns.proofs.Ruled.{of_ruled}
 use Rattle.turns.specs.Acted.{SaysWhoActed, TurnsSayWhoActed}
 use Rattle.turns.specs.Ruling.{has_place_in_turn, recorded}
@@ -37,7 +37,7 @@ no_giver events private.MohawkHudson buyer = refl
 no_giver events private.CamdenAmboy buyer = refl
 no_giver events private.BaltimoreOhio buyer = refl
 
--- nor by the sale itself, since its line has told of it
+-- nor by the sale itself, since its line has recorded it
 in_sale : (seat : Seat) (events : List Event) (private : Private) (buyer : Seat) (price : ℕ) →
     SaysWhoActed seat false events (after_sale events private buyer price)
 in_sale seat events private buyer price =
@@ -68,15 +68,15 @@ in_settled seat seats events = nobody_in_steps seat (settle_auctions seats)
     (λ list. in_cheapest seat seats list (cheapest_of list)) 6 events
 
 -- by a line whose order is done
-order_tells : (seats : ℕ) (seat : Seat) (turn : InTurn) (number : ℕ) (condition : Option Condition) (done : Order)
+order_says : (seats : ℕ) (seat : Seat) (turn : InTurn) (number : ℕ) (condition : Option Condition) (done : Order)
     → refusal_of seats turn.events seat turn.actions done ≡ None →
     LineSaysWhoActed opening_rules seat turn (after_ruling seats seat turn number (Obeyed condition done))
-order_tells seats seat turn number condition (order.BuyPrivate private) kept =
+order_says seats seat turn number condition (order.BuyPrivate private) kept =
     let ruled : List Event = recorded seat number (Obeyed condition (order.BuyPrivate private)) turn.events in
     let sold : List Event = after_sale ruled private seat (price_of ruled private) in
     record {
       acts = true;
-      told =
+      said =
           in_both seat true false turn.events ruled (settled seats sold)
           (one_more seat true turn.events (event.Ruled seat number (Obeyed condition (order.BuyPrivate private)))
           refl)
@@ -84,25 +84,25 @@ order_tells seats seat turn number condition (order.BuyPrivate private) kept =
           (in_sale seat ruled private seat (price_of ruled private)) (in_settled seat seats sold));
       acted = now_acted turn.actions;
     }
-order_tells seats seat turn number condition (order.Bid private amount) kept =
+order_says seats seat turn number condition (order.Bid private amount) kept =
     let ruled : List Event = recorded seat number (Obeyed condition (order.Bid private amount)) turn.events in
     record {
       acts = true;
-      told =
+      said =
           in_both seat true false turn.events ruled (ruled ++ event.Bids private seat amount ∷ [])
           (one_more seat true turn.events (event.Ruled seat number (Obeyed condition (order.Bid private amount)))
           refl)
           (one_more seat false ruled (event.Bids private seat amount) refl);
       acted = now_acted turn.actions;
     }
-order_tells seats seat turn number condition other kept = absurd (cc)
+order_says seats seat turn number condition other kept = absurd (cc)
 
 -- so each turn of an opening round tells who acted in it
-pub opening_turns_tell : TurnsSayWhoActed opening_rules
-opening_turns_tell =
-    turns_tell opening_rules refl
+pub opening_turns_say : TurnsSayWhoActed opening_rules
+opening_turns_say =
+    turns_say opening_rules refl
     (λ (seats : ℕ) (seat : Seat) (turn : InTurn) (line : Numbered).
     of_ruled (acted seats seat) (refusal_of seats turn.events seat turn.actions) seat turn line.number
     (LineSaysWhoActed opening_rules seat turn)
-    (nobody_ruled opening_rules seat turn line.number) (order_tells seats seat turn line.number) has_place_in_turn
+    (nobody_ruled opening_rules seat turn line.number) (order_says seats seat turn line.number) has_place_in_turn
     turn.events line)

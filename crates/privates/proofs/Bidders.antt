@@ -10,7 +10,7 @@ use Rattle.totals.specs.Bids.{bid_of, bids_on, free_for}
 use Rattle.totals.specs.LookBack.{Game, cheapest_of}
 use Rattle.totals.specs.Orders.{bid_limit_of}
 use Rattle.privates.proofs.Auctions.{auction_won}
-use Rattle.privates.proofs.StandingBids.{AmountsDiffer, EachBid, Stands, bid_free, bids_differ, bids_stand}
+use Rattle.privates.proofs.StandingBids.{AmountsDiffer, EachBid, IsStandingBid, bid_free, bids_differ, bids_stand}
 use Rattle.privates.proofs.StandingBids.{cheapest_unsold}
 use Rattle.privates.specs.Act.{MayPay}
 use Rattle.privates.specs.Auction.{Bidder, BidsDiffer, EachBidder, IsAmong, LimitsHold, auction_of, bid_by, limit_by}
@@ -111,13 +111,13 @@ winner_pays game private bids are some cheapest underway =
     let won : Seat × ℤ = auction_of bidders in
     let is_won = auction_won bidders (omega (arith, length-map bids made))
     (limits_hold game.seats game.events private bids) in
-    let all : EachBid (Stands game.events private 0 game.seats) bids =
-    subst (EachBid (Stands game.events private 0 game.seats)) (sym are)
+    let all : EachBid (IsStandingBid game.events private 0 game.seats) bids =
+    subst (EachBid (IsStandingBid game.events private 0 game.seats)) (sym are)
     (bids_stand game.seats game.events private) in
-    let one = made_of (Stands game.events private 0 game.seats) made is_won.winner bids is_won.bids all in
+    let one = made_of (IsStandingBid game.events private 0 game.seats) made is_won.winner bids is_won.bids all in
     let its : Bid = one.bid in
     let free : pos its.amount ≤ℤ free_for game.seats game.events its.seat private =
-    bid_free game.seats game.events private its.seat its.amount one.so.stands (underway.sound.solvent its.seat) in
+    bid_free game.seats game.events private its.seat its.amount one.so.is_bid (underway.sound.solvent its.seat) in
     let least : pos its.amount ≤ℤ won.1 = subst (λ (b : Bidder). bid_by b ≤ℤ won.1) (sym one.is)
     (of_one (λ (other : Bidder). bid_by other ≤ℤ won.1) bidders is_won.winner is_won.bids
     is_won.at_least_each_bid) in
@@ -127,7 +127,7 @@ winner_pays game private bids are some cheapest underway =
     (free_for game.seats game.events its.seat private) free in
     let small = limit_is_small its.amount (bid_limit_of game.events private its.seat)
     (free_for game.seats game.events its.seat private)
-    (underway.sound.bids_small private its.seat its.amount one.so.stands)
+    (underway.sound.bids_small private its.seat its.amount one.so.is_bid)
     (underway.waiting.limits private its.seat) in
     let size = size_of won.1 its.amount least in
     let seat : its.seat ≡ won.0 = ap (λ (b : Bidder). b.0) one.is ∙ sym is_won.buys in

@@ -14,7 +14,7 @@ use Rattle.totals.proofs.Privates.{same_private_is}
 use Rattle.totals.specs.Bids.{bid_of, bid_said, bids_on}
 use Rattle.totals.specs.LookBack.{is_sold, last_said, owner_said}
 use Rattle.privates.proofs.Sales.{far_from_each, neither, of_seat}
-use Rattle.privates.proofs.StandingBids.{EachBid, Stands, bids_stand}
+use Rattle.privates.proofs.StandingBids.{EachBid, IsStandingBid, bids_stand}
 use Rattle.privates.specs.BidsRise.{BidsRise, StandingBidsSuffice, is_near_bid, is_near_earlier, is_near_ever}
 use Rattle.privates.specs.BidsRise.{some_later_is_near}
 use Rattle.privates.specs.Judgement.{is_near}
@@ -93,12 +93,12 @@ second_passes false b pass = pass
 standing_was_made : (events : List Event) (private : Private) (seat : Seat) (amount sum : ℕ)
     → bid_of events private seat ≡ Some amount →
     nat_lt sum (amount + 5) ≡ true → is_near_ever sum events private ≡ true
-standing_was_made [] private seat amount sum stands near = absurd (cc)
-standing_was_made (event ∷ events) private seat amount sum stands near =
+standing_was_made [] private seat amount sum is_bid near = absurd (cc)
+standing_was_made (event ∷ events) private seat amount sum is_bid near =
     let here : Bool = is_near_bid private sum (bidding_of event) in
     let rest : Bool = is_near_ever sum events private in
     elim (flatten_cases (last_said (λ e. bid_said private seat (bidding_of e)) events)
-    (bid_said private seat (bidding_of event)) amount stands) [
+    (bid_said private seat (bidding_of event)) amount is_bid) [
       | inl later ↦ second_passes here rest (standing_was_made events private seat amount sum later near)
       | inr now ↦ first_passes here rest (near_here private seat amount sum (bidding_of event) now near)
     ]
@@ -147,7 +147,7 @@ silent_after (event ∷ events) private seat bid sum far_later far_sum near unso
 record NearStanding (events : List Event) (private : Private) (sum : ℕ) : Type 0 where
   seat : Seat
   amount : ℕ
-  stands : bid_of events private seat ≡ Some amount
+  is_bid : bid_of events private seat ≡ Some amount
   near : nat_lt sum (amount + 5) ≡ true
 
 -- both tests pass
@@ -159,7 +159,7 @@ both false b pass = absurd (cc)
 record NearLast (events : List Event) (private : Private) (sum : ℕ) (word : Option Bidding) : Type 0 where
   seat : Seat
   amount : ℕ
-  stands : option_flatten (option_or (last_said (λ e. bid_said private seat (bidding_of e)) events)
+  is_bid : option_flatten (option_or (last_said (λ e. bid_said private seat (bidding_of e)) events)
       (bid_said private seat word)) ≡ Some amount
   near : nat_lt sum (amount + 5) ≡ true
 
@@ -185,7 +185,7 @@ near_last (Some (Made other bid)) events private sum far_later far_sum near unso
     record {
       seat = bid.seat;
       amount = bid.amount;
-      stands =
+      is_bid =
           earlier_holds (last_said (λ e. bid_said private bid.seat (bidding_of e)) events)
           (bid_said private bid.seat (Some (Made other bid))) silent
           ∙ said;
@@ -193,26 +193,26 @@ near_last (Some (Made other bid)) events private sum far_later far_sum near unso
     }
 
 -- a sum that is near some bid on an unsold private is near one that stands
-near_stands : (events : List Event) (private : Private) (sum : ℕ) → BidsRise events → is_sold events private ≡ false →
-    is_near_ever sum events private ≡ true → NearStanding events private sum
-near_stands [] private sum rise unsold near = absurd (cc)
-near_stands (event ∷ events) private sum rise unsold near =
+near_is_standing : (events : List Event) (private : Private) (sum : ℕ) → BidsRise events
+    → is_sold events private ≡ false → is_near_ever sum events private ≡ true → NearStanding events private sum
+near_is_standing [] private sum rise unsold near = absurd (cc)
+near_is_standing (event ∷ events) private sum rise unsold near =
     let still = (neither_said (last_said (λ e. owner_said private (ownership_of e)) events)
     (owner_said private (ownership_of event)) unsold).0 in
     elim (one_of (is_near_bid private sum (bidding_of event)) (is_near_ever sum events private) near) [
       | inl later ↦
-          let found = near_stands events private sum rise.1 still later in
+          let found = near_is_standing events private sum rise.1 still later in
           record {
             seat = found.seat;
             amount = found.amount;
-            stands =
+            is_bid =
                 later_holds (last_said (λ e. bid_said private found.seat (bidding_of e)) events)
-                (bid_said private found.seat (bidding_of event)) found.amount found.stands;
+                (bid_said private found.seat (bidding_of event)) found.amount found.is_bid;
             near = found.near;
           }
       | inr now ↦
           let found = near_last (bidding_of event) events private sum rise.0 now.1 now.0 still in
-          record { seat = found.seat; amount = found.amount; stands = found.stands; near = found.near }
+          record { seat = found.seat; amount = found.amount; is_bid = found.is_bid; near = found.near }
     ]
 
 -- a test fails that cannot pass
@@ -239,12 +239,12 @@ near_or_far sum amount near far = grind (arith, nat_tests)
 -- a sum that is near no bid is near none that stands
 far_from_standing : (events : List Event) (private : Private) (seats sum : ℕ) (bids : List Bid)
     → is_near_ever sum events private ≡ false →
-    EachBid (Stands events private 0 seats) bids → is_near sum bids ≡ false
+    EachBid (IsStandingBid events private 0 seats) bids → is_near sum bids ≡ false
 far_from_standing events private seats sum [] far stand = refl
 far_from_standing events private seats sum (bid ∷ bids) far stand =
     both_fail (nat_lt sum (bid.amount + 5)) (is_near sum bids)
     (denied (nat_lt sum (bid.amount + 5)) (λ near. sym
-    (standing_was_made events private bid.seat bid.amount sum stand.0.stands near) ∙ far))
+    (standing_was_made events private bid.seat bid.amount sum stand.0.is_bid near) ∙ far))
     (far_from_standing events private seats sum bids far stand.1)
 
 -- the standing bids suffice
@@ -256,11 +256,11 @@ standing_bids_suffice game private amount rise seated unsold =
     (λ far.
     denied (is_near_ever amount game.events private)
     (λ near.
-    let found = near_stands game.events private amount rise unsold near in
-    let under = seated private found.seat found.amount found.stands in
+    let found = near_is_standing game.events private amount rise unsold near in
+    let under = seated private found.seat found.amount found.is_bid in
     let over : found.amount + 5 ≤ amount =
     of_seat (λ bid. bid.amount + 5 ≤ amount) game.events private 0 game.seats found.seat found.amount (omega arith)
-    (omega arith) found.stands (far_from_each amount bids far)
+    (omega arith) found.is_bid (far_from_each amount bids far)
     in
     near_or_far amount found.amount found.near over))
     (λ far. far_from_standing game.events private game.seats amount bids far

@@ -94,7 +94,7 @@ still_may seats before after seat other same may = tt
 pub may_act_after : (old new : Game) (event : Event) (seat : Seat) (used : Bool) (order : Order)
     → new ≡ with_event old event → IsQuiet event → judgement_of old.seats old.events seat used order ≡ None
     → MayAct new.seats new.events seat order
-may_act_after old new event seat used order told quiet none =
-    subst (λ (game : Game). MayAct game.seats game.events seat order) (sym told)
+may_act_after old new event seat used order recorded quiet none =
+    subst (λ (game : Game). MayAct game.seats game.events seat order) (sym recorded)
     (still_may old.seats old.events (old.events ++ event ∷ []) seat order (quiet_same old.events event quiet)
     (may_act old.seats old.events seat used order none))

@@ -82,17 +82,17 @@ never_near (Some (Ended private)) (event ∷ events) none = never_near (Some (En
 -- a bid on a private that is or isn't ended was before, if it stands
 not_ended : (here : Bool) (before : Option ℕ) (amount : ℕ)
     → unwrap_or (if here then Some None else None) before ≡ Some amount → before ≡ Some amount
-not_ended true before amount stands = absurd (cc)
-not_ended false before amount stands = stands
+not_ended true before amount is_bid = absurd (cc)
+not_ended false before amount is_bid = is_bid
 
 -- a bid that is after what is no bid was before
 stood : (word : Option Bidding) (private : Private) (seat : Seat) (before : Option ℕ) (amount : ℕ)
     → is_no_bid word ≡ true →
     unwrap_or (bid_said private seat word) before ≡ Some amount → before ≡ Some amount
-stood None private seat before amount none stands = stands
-stood (Some (Made other bid)) private seat before amount none stands = absurd (cc)
-stood (Some (Ended other)) private seat before amount none stands =
-    not_ended (same_private other private) before amount stands
+stood None private seat before amount none is_bid = is_bid
+stood (Some (Made other bid)) private seat before amount none is_bid = absurd (cc)
+stood (Some (Ended other)) private seat before amount none is_bid =
+    not_ended (same_private other private) before amount is_bid
 
 -- bids rise with one more event that is no bid
 with_other : (seats : ℕ) (events : List Event) (event : Event) → is_no_bid (bidding_of event) ≡ true
@@ -100,10 +100,10 @@ with_other : (seats : ℕ) (events : List Event) (event : Event) → is_no_bid (
 with_other seats events event none before =
     record {
       rise = rise_more events event (never_near (bidding_of event) events none) before.rise;
-      seated = λ private seat amount stands.
+      seated = λ private seat amount is_bid.
           before.seated private seat amount
           (stood (bidding_of event) private seat (bid_of events private seat) amount none
-          (sym (bid_of_at_end events event private seat) ∙ stands));
+          (sym (bid_of_at_end events event private seat) ∙ is_bid));
     }
 
 -- with some events that are no bids
@@ -230,20 +230,21 @@ order_rise : (seats : ℕ) (seat : Seat) (turn : InTurn) (number : ℕ) → seat
     refusal_of seats turn.events seat turn.actions done ≡ None
     → RiseAt seats (after_ruling seats seat turn number (Obeyed condition done)).events
 order_rise seats seat turn number under before condition (order.BuyPrivate private) kept =
-    let told : Event = event.Ruled seat number (Obeyed condition (order.BuyPrivate private)) in
-    let ruled : List Event = turn.events ++ told ∷ [] in
+    let recorded : Event = event.Ruled seat number (Obeyed condition (order.BuyPrivate private)) in
+    let ruled : List Event = turn.events ++ recorded ∷ [] in
     settled_rise seats (after_sale ruled private seat (price_of ruled private))
-    (after_sale_rise seats ruled private seat (price_of ruled private) (with_other seats turn.events told refl before))
+    (after_sale_rise seats ruled private seat (price_of ruled private) (with_other seats turn.events recorded refl
+    before))
 order_rise seats seat turn number under before condition (order.Bid private amount) kept =
-    let told : Event = event.Ruled seat number (Obeyed condition (order.Bid private amount)) in
-    let ruled : List Event = turn.events ++ told ∷ [] in
+    let recorded : Event = event.Ruled seat number (Obeyed condition (order.Bid private amount)) in
+    let ruled : List Event = turn.events ++ recorded ∷ [] in
     let none = none_as_refusal Opening (judgement_of seats turn.events seat turn.actions (order.Bid private amount))
     kept in
     bid_rise seats ruled seat private amount
-    (may_act_after (record { seats = seats; events = turn.events }) (record { seats = seats; events = ruled }) told
+    (may_act_after (record { seats = seats; events = turn.events }) (record { seats = seats; events = ruled }) recorded
     seat turn.actions (order.Bid private amount) refl
     (ruling_quiet seat number (Obeyed condition (order.Bid private amount))) none)
-    under (with_other seats turn.events told refl before)
+    under (with_other seats turn.events recorded refl before)
 order_rise seats seat turn number under before condition other kept = absurd (cc)
 
 -- after a line

@@ -50,8 +50,8 @@ fallen_price before after fallen some price =
 -- the fall of SV's price, but not to 0
 pub price_underway : (game new : Game) (price : ℕ) → price ≡ sv_price_of game.events - 5 → price ≢ 0
     → new ≡ with_event game (event.Price price) → IsUnderway game → IsUnderway new
-price_underway game new price fallen some told before =
-    event_underway game new (event.Price price) refl (λ its seat. refl) told
+price_underway game new price fallen some recorded before =
+    event_underway game new (event.Price price) refl (λ its seat. refl) recorded
     (price_sound game price (fallen_price (sv_price_of game.events) price fallen some before.sound.price)
     (λ none. absurd (some none)) before.sound) before
 
@@ -66,12 +66,12 @@ four_more events a b c d =
     append_assoc ((events ++ a ∷ []) ++ b ∷ []) (c ∷ []) (d ∷ [])
     ∙ append_assoc (events ++ a ∷ []) (b ∷ []) (c ∷ d ∷ []) ∙ append_assoc events (a ∷ []) (b ∷ c ∷ d ∷ [])
 
--- SV's price comes to 0, and it is given away
+-- SV's price falls to 0, and it is given away
 pub gift_underway : (game new : Game) (seat : Seat) → is_sold game.events SchuylkillValley ≡ false
     → seat.0 < game.seats → new ≡ with_event (with_event game (event.Price 0)) (event.Sold SchuylkillValley seat 0)
     → IsUnderway game → IsUnderway new
-gift_underway game new seat unsold seated told before =
-    subst IsUnderway (sym told)
+gift_underway game new seat unsold seated recorded before =
+    subst IsUnderway (sym recorded)
     (record {
       sound = gift_sound game seat unsold seated before.sound;
       waiting = waiting_silent (game.events ++ event.Price 0 ∷ []) (event.Sold SchuylkillValley seat 0) refl
@@ -82,16 +82,16 @@ gift_underway game new seat unsold seated told before =
 pub sold_underway : (game new : Game) (private : Private) (buyer : Seat) (price : ℕ)
     → MayPay game.seats game.events buyer private price → buyer.0 < game.seats
     → new ≡ with_event game (event.Sold private buyer price) → IsUnderway game → IsUnderway new
-sold_underway game new private buyer price may seated told before =
-    event_underway game new (event.Sold private buyer price) refl (λ its seat. refl) told
+sold_underway game new private buyer price may seated recorded before =
+    event_underway game new (event.Sold private buyer price) refl (λ its seat. refl) recorded
     (sale_sound game private buyer price may.unsold seated may.free before.sound) before
 
 -- the sale of CA with its gift
 pub ca_underway : (game new : Game) (buyer : Seat) (price : ℕ) → MayPay game.seats game.events buyer CamdenAmboy price
     → buyer.0 < game.seats → new ≡ with_event (with_event game (event.Sold CamdenAmboy buyer price))
     (event.Given company.Pennsylvania buyer 1) → IsUnderway game → IsUnderway new
-ca_underway game new buyer price may seated told before =
-    subst IsUnderway (sym told)
+ca_underway game new buyer price may seated recorded before =
+    subst IsUnderway (sym recorded)
     (record {
       sound = ca_sound game buyer price may.unsold (before.waiting.pennsylvania may.unsold) seated may.free
           before.sound;
@@ -134,7 +134,7 @@ pub bop_underway : (game new : Game) (buyer : Seat) (price par : ℕ)
     (with_event (with_event (with_event game (event.Sold BaltimoreOhio buyer price))
     (event.Par company.BaltimoreOhio par)) (event.Given company.BaltimoreOhio buyer 2))
     (event.President company.BaltimoreOhio buyer) → IsUnderway game → IsUnderway new
-bop_underway game new buyer price par may seated is_par told before =
+bop_underway game new buyer price par may seated is_par recorded before =
     let sold : Game = with_event game (event.Sold BaltimoreOhio buyer price) in
     let unplaced : square_of sold.events company.BaltimoreOhio ≡ None =
     square_of_before game.events (event.Sold BaltimoreOhio buyer price) company.BaltimoreOhio refl
@@ -146,7 +146,7 @@ bop_underway game new buyer price par may seated is_par told before =
     par_waiting sold.events par (sold_now game.events buyer price) after_sold in
     let after_gift = waiting_silent (sold.events ++ event.Par company.BaltimoreOhio par ∷ [])
     (event.Given company.BaltimoreOhio buyer 2) refl (λ its other. refl) after_par in
-    subst IsUnderway (sym told)
+    subst IsUnderway (sym recorded)
     (record {
       sound = started_sound sold company.BaltimoreOhio buyer par
           (ap is_par_value is_par ∙ par_set_is_par game.events buyer) unplaced seated
@@ -217,7 +217,7 @@ no_other_bid game private seat amount may sound other is =
 pub bid_underway : (game new : Game) (private : Private) (seat : Seat) (amount : ℕ) → amount ≤ 99999
     → seat.0 < game.seats → MayBid game.seats game.events seat private amount
     → new ≡ with_event game (event.Bids private seat amount) → IsUnderway game → IsUnderway new
-bid_underway game new private seat amount small seated may told before =
-    event_underway game new (event.Bids private seat amount) refl (λ its other. refl) told
+bid_underway game new private seat amount small seated may recorded before =
+    event_underway game new (event.Bids private seat amount) refl (λ its other. refl) recorded
     (bid_sound game private seat amount small seated (no_other_bid game private seat amount may before.sound)
     may.pays.free before.sound) before

@@ -28,24 +28,24 @@ each_bid follows [] all = tt
 each_bid follows (bid ∷ bids) all = (follows bid all.0, each_bid follows bids all.1)
 
 -- a bid on a private that stands, of a seat from one number on and under another
-pub record Stands (events : List Event) (private : Private) (first last : ℕ) (bid : Bid) : Type 0 where
-  pub stands : bid_of events private bid.seat ≡ Some bid.amount
+pub record IsStandingBid (events : List Event) (private : Private) (first last : ℕ) (bid : Bid) : Type 0 where
+  pub is_bid : bid_of events private bid.seat ≡ Some bid.amount
   pub from : first ≤ bid.seat.0
   pub under : bid.seat.0 < last
 
 -- later seats are seats
 later : {events : List Event} {private : Private} (first last : ℕ) (bid : Bid)
-    → Stands events private (first + 1) last bid → Stands events private first last bid
-later first last bid is = let from = is.from in record { stands = is.stands; from = omega arith; under = is.under }
+    → IsStandingBid events private (first + 1) last bid → IsStandingBid events private first last bid
+later first last bid is = let from = is.from in record { is_bid = is.is_bid; from = omega arith; under = is.under }
 
 -- a seat's bid, if it has one, in front of those of later seats
 bid_first : (events : List Event) (private : Private) (first last : ℕ) (found : Option ℕ) (bids : List Bid)
     → bid_of events private (seat_at first) ≡ found → first < last
-    → EachBid (Stands events private (first + 1) last) bids
-    → EachBid (Stands events private first last) (as_bid (seat_at first) found ++ bids)
+    → EachBid (IsStandingBid events private (first + 1) last) bids
+    → EachBid (IsStandingBid events private first last) (as_bid (seat_at first) found ++ bids)
 bid_first events private first last None bids is within others = each_bid (later first last) bids others
 bid_first events private first last (Some amount) bids is within others =
-    (record { stands = is; from = omega arith; under = within }, each_bid (later first last) bids others)
+    (record { is_bid = is; from = omega arith; under = within }, each_bid (later first last) bids others)
 
 -- the bids of seats from one on
 abbrev pub bids_from : List Event → Private → ℕ → ℕ → List Bid
@@ -54,7 +54,7 @@ bids_from events private first count = flat_map (λ seat. as_bid seat (bid_of ev
 
 -- each stands
 all_stand : (events : List Event) (private : Private) (first count last : ℕ) → first + count ≤ last
-    → EachBid (Stands events private first last) (bids_from events private first count)
+    → EachBid (IsStandingBid events private first last) (bids_from events private first count)
 all_stand events private first zero last within = tt
 all_stand events private first (suc count) last within =
     bid_first events private first last (bid_of events private (seat_at first))
@@ -63,7 +63,7 @@ all_stand events private first (suc count) last within =
 
 -- each of the bids on a private stands
 pub bids_stand : (seats : ℕ) (events : List Event) (private : Private)
-    → EachBid (Stands events private 0 seats) (bids_on seats events private)
+    → EachBid (IsStandingBid events private 0 seats) (bids_on seats events private)
 bids_stand seats events private = all_stand events private 0 seats seats (omega arith)
 
 -- each is of another amount than those after it
@@ -79,10 +79,10 @@ SeatsDiffer last events private = (a b : Seat) (amount : ℕ) → a.0 < last →
 -- a seat's bid is another than those of later seats
 other_amount : (events : List Event) (private : Private) (first last amount : ℕ) → SeatsDiffer last events private
     → first < last → bid_of events private (seat_at first) ≡ Some amount → (bid : Bid)
-    → Stands events private (first + 1) last bid → bid.amount ≢ amount
+    → IsStandingBid events private (first + 1) last bid → bid.amount ≢ amount
 other_amount events private first last amount differ within mine bid is same =
     let one : bid.seat ≡ seat_at first = differ bid.seat (seat_at first) amount is.under within
-    (is.stands ∙ ap (λ (n : ℕ). Some n) same) mine in
+    (is.is_bid ∙ ap (λ (n : ℕ). Some n) same) mine in
     let number : bid.seat.0 ≡ first = ap (λ (s : Seat). s.0) one in
     let from = is.from in
     absurd (omega arith)
@@ -90,7 +90,7 @@ other_amount events private first last amount differ within mine bid is same =
 -- a seat's bid, if it has one, in front of others
 amount_first : (events : List Event) (private : Private) (first last : ℕ) (found : Option ℕ) (bids : List Bid)
     → SeatsDiffer last events private → first < last → bid_of events private (seat_at first) ≡ found
-    → EachBid (Stands events private (first + 1) last) bids → AmountsDiffer bids
+    → EachBid (IsStandingBid events private (first + 1) last) bids → AmountsDiffer bids
     → AmountsDiffer (as_bid (seat_at first) found ++ bids)
 amount_first events private first last None bids differ within is stand others = others
 amount_first events private first last (Some amount) bids differ within is stand others =
@@ -139,12 +139,12 @@ bid_free seats events private seat amount bids solvent =
 
 -- a bidder for the cheapest private can pay his bid
 pub may_pay_bid : (game : Game) (private : Private) (bid : Bid) → cheapest_of game.events ≡ Some private
-    → Stands game.events private 0 game.seats bid → IsSound game
+    → IsStandingBid game.events private 0 game.seats bid → IsSound game
     → MayPay game.seats game.events bid.seat private bid.amount
-may_pay_bid game private bid cheapest stands sound =
+may_pay_bid game private bid cheapest is_bid sound =
     record {
       unsold = cheapest_unsold game.events private cheapest;
-      free = bid_free game.seats game.events private bid.seat bid.amount stands.stands (sound.solvent bid.seat);
+      free = bid_free game.seats game.events private bid.seat bid.amount is_bid.is_bid (sound.solvent bid.seat);
     }
 
 -- what holds of each holds of the first
@@ -154,10 +154,10 @@ first_bid holds [] d some all = absurd (omega arith)
 first_bid holds (bid ∷ bids) d some all = all.0
 
 -- the first of the bids on a private stands
-pub first_stands : (game : Game) (private : Private) (bids : List Bid) (d : Bid)
+pub first_is_standing : (game : Game) (private : Private) (bids : List Bid) (d : Bid)
     → bids ≡ bids_on game.seats game.events private → 1 ≤ length bids
-    → Stands game.events private 0 game.seats (get_or bids 0 d)
-first_stands game private bids d are some =
-    first_bid (Stands game.events private 0 game.seats) bids d some
-    (subst (EachBid (Stands game.events private 0 game.seats)) (sym are)
+    → IsStandingBid game.events private 0 game.seats (get_or bids 0 d)
+first_is_standing game private bids d are some =
+    first_bid (IsStandingBid game.events private 0 game.seats) bids d some
+    (subst (EachBid (IsStandingBid game.events private 0 game.seats)) (sym are)
     (bids_stand game.seats game.events private))

@@ -15,11 +15,11 @@ use Rattle.tables.specs.declared.seat.Seat.{Seat}
 abbrev pub all_sold : List Event → Bool
 all_sold events = is_none (cheapest_of events)
 
--- after SV's price has come to 0, and SV has gone to a seat for nothing
+-- after SV's price has fallen to 0, and SV has gone to a seat for nothing
 abbrev pub given_away : List Event → Seat → List Event
 given_away events seat = after_sale (events ++ event.Price 0 ∷ []) SchuylkillValley seat 0
 
--- after SV's price has come to this; at 0 SV goes to this holder of priority, with the sales that follow
+-- after SV's price has fallen to this; at 0 SV goes to this holder of priority, with the sales that follow
 abbrev pub after_fall : ℕ → List Event → ℕ → Seat → List Event
 after_fall seats events price holder =
     if price == 0 then settled seats (given_away events holder) else events ++ event.Price price ∷ []

@@ -57,10 +57,10 @@ waiting_silent events event no_square silent before =
 pub ruling_underway : (game new : Game) (seat : Seat) (line : ℕ) (ruling : Ruling)
     → new ≡ with_event game (event.Ruled seat line ruling) → IsSmallRuling ruling → IsSound new → IsUnderway game
     → IsUnderway new
-ruling_underway game new seat line ruling told small sound before =
-    subst IsUnderway (sym told)
+ruling_underway game new seat line ruling recorded small sound before =
+    subst IsUnderway (sym recorded)
     (record {
-      sound = subst IsSound told sound;
+      sound = subst IsSound recorded sound;
       waiting = waiting_kept game.events (event.Ruled seat line ruling) refl
           (limits_ruled game.events seat line ruling small before.waiting.limits) before.waiting;
     })
@@ -68,10 +68,10 @@ ruling_underway game new seat line ruling told small sound before =
 -- a round begins
 pub begun_underway : (game new : Game) (round : Round) → new ≡ with_event game (event.Round round)
     → PennsylvaniaWaits game.events → BaltimoreWaits game.events → IsSound new → IsUnderway new
-begun_underway game new round told pennsylvania baltimore sound =
-    subst IsUnderway (sym told)
+begun_underway game new round recorded pennsylvania baltimore sound =
+    subst IsUnderway (sym recorded)
     (record {
-      sound = subst IsSound told sound;
+      sound = subst IsSound recorded sound;
       waiting = record {
         pennsylvania = λ unsold. square_of_before game.events (event.Round round) Pennsylvania refl
             ∙ pennsylvania (unsold_before game.events (event.Round round) private.CamdenAmboy unsold);
@@ -85,8 +85,8 @@ begun_underway game new round told pennsylvania baltimore sound =
 pub event_underway : (game new : Game) (event : Event) → square_set event ≡ None
     → ((its : Private) (seat : Seat) → limit_said its seat event ≡ None) → new ≡ with_event game event
     → IsSound (with_event game event) → IsUnderway game → IsUnderway new
-event_underway game new event no_square silent told sound before =
-    subst IsUnderway (sym told) (record {
+event_underway game new event no_square silent recorded sound before =
+    subst IsUnderway (sym recorded) (record {
       sound = sound;
       waiting =
           waiting_silent game.events event no_square silent before.waiting;
@@ -110,8 +110,8 @@ left_cases false game seat lines sound before =
 pub left_underway : (game new : Game) (seat : Seat) (lines : ℕ)
     → new ≡ record { seats = game.seats; events = game.events ++ with_left seat lines [] } → IsSound new
     → IsUnderway game → IsUnderway new
-left_underway game new seat lines told sound before =
-    subst IsUnderway (sym told) (left_cases (lines == 0) game seat lines (subst IsSound told sound) before)
+left_underway game new seat lines recorded sound before =
+    subst IsUnderway (sym recorded) (left_cases (lines == 0) game seat lines (subst IsSound recorded sound) before)
 
 -- that the bank is broken, or not
 waiting_broken : (seats : ℕ) (events : List Event) → IsWaiting events → IsWaiting (with_broken seats events)
@@ -140,9 +140,9 @@ waiting_revenues seats events (its ∷ others) before =
 -- the revenues of all
 pub revenues_underway : (game new : Game) → new ≡ revenues_recorded game → IsSound new → IsUnderway game
     → IsUnderway new
-revenues_underway game new told sound before =
+revenues_underway game new recorded sound before =
     record {
       sound = sound;
-      waiting = subst (λ (after : Game). IsWaiting after.events) (sym told)
+      waiting = subst (λ (after : Game). IsWaiting after.events) (sym recorded)
           (waiting_revenues game.seats game.events privates before.waiting);
     }

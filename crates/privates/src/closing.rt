@@ -56,7 +56,7 @@ fn lower_price(history: &mut History) -> Result<(), AllocError>
     set_price(history, price)
 }
 
-/// SV's price comes to a sum over 0.
+/// SV's price falls to a sum over 0.
 fn set_price(history: &mut History, price: Amount) -> Result<(), AllocError>
     requires fallen { price ≡ sv_price_of history.old.events - 5 }
     requires some { price ≢ 0 }
@@ -68,7 +68,7 @@ fn set_price(history: &mut History, price: Amount) -> Result<(), AllocError>
     Ok(())
 }
 
-/// SV's price comes to 0, and SV goes to a seat at the table for nothing.
+/// SV's price falls to 0, and SV goes to a seat at the table for nothing.
 fn give_away(history: &mut History, seat: Seat) -> Result<(), AllocError>
     requires unsold { is_sold history.old.events SchuylkillValley ≡ false }
     requires at_table { seat.0 < history.old.seats }

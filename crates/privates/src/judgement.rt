@@ -14,11 +14,11 @@ use tables::{Amount, Money, Private, Seat, face};
 const STEP: u64 = 5;
 
 /// What the bank asks for a private: SV's price may have fallen, the others' is their face.
-pub(crate) fn price_of(past: &GameView, private: Private) -> Amount
-    ensures { result ≡ price_of past.now.events.now private }
+pub(crate) fn price_of(view: &GameView, private: Private) -> Amount
+    ensures { result ≡ price_of view.now.events.now private }
 {
     match private {
-        Private::SchuylkillValley => past.sv_price(),
+        Private::SchuylkillValley => view.sv_price(),
         _ => face(private),
     }
 }
@@ -39,22 +39,22 @@ pub fn judge(history: &History, seat: Seat, order: &Order, turn_used: bool) -> O
 
 /// The first rule that a purchase breaks.
 fn judge_purchase(
-    past: &GameView,
+    view: &GameView,
     seat: Seat,
     private: Private,
     turn_used: bool,
 ) -> Option<OpeningRule>
     ensures { result ≡ first_broken
-        (private_purchase_rules past.now.seats past.now.events.now seat turn_used private) }
+        (private_purchase_rules view.now.seats view.now.events.now seat turn_used private) }
 {
-    let owners = past.owners();
+    let owners = view.owners();
     if owners.is_sold(private) {
         return Some(OpeningRule::Sold);
     }
     if !is_cheapest(&owners, private) {
         return Some(OpeningRule::NotCheapest);
     }
-    if is_short(past, seat, private, price_of(past, private)) {
+    if is_short(view, seat, private, price_of(view, private)) {
         return Some(OpeningRule::CashTooSmall);
     }
     if turn_used {
@@ -65,24 +65,24 @@ fn judge_purchase(
 
 /// The first rule that a bid breaks.
 fn judge_bid(
-    past: &GameView,
+    view: &GameView,
     seat: Seat,
     private: Private,
     amount: Amount,
     turn_used: bool,
 ) -> Option<OpeningRule>
-    requires { past.now.seats ≤ 6 }
+    requires { view.now.seats ≤ 6 }
     ensures { result ≡ first_broken
-        (bid_rules past.now.seats past.now.events.now seat turn_used private amount) }
+        (bid_rules view.now.seats view.now.events.now seat turn_used private amount) }
 {
-    let owners = past.owners();
+    let owners = view.owners();
     if owners.is_sold(private) {
         return Some(OpeningRule::Sold);
     }
-    if is_too_low(past, private, amount) {
+    if is_too_low(view, private, amount) {
         return Some(OpeningRule::BidTooLow);
     }
-    if is_short(past, seat, private, amount) {
+    if is_short(view, seat, private, amount) {
         return Some(OpeningRule::CashTooSmall);
     }
     if turn_used {
@@ -102,21 +102,21 @@ fn is_cheapest(owners: &Owners, private: Private) -> bool
 }
 
 /// Whether a sum is over what a seat can spend on a private.
-fn is_short(past: &GameView, seat: Seat, private: Private, sum: Amount) -> bool
-    ensures { result ≡ lt_z (free_for past.now.seats past.now.events.now seat private) (pos sum) }
+fn is_short(view: &GameView, seat: Seat, private: Private, sum: Amount) -> bool
+    ensures { result ≡ lt_z (free_for view.now.seats view.now.events.now seat private) (pos sum) }
 {
-    past.free_for(seat, private) < Money::from(sum)
+    view.free_for(seat, private) < Money::from(sum)
 }
 
 /// Whether a bid on a private is too low.
-fn is_too_low(past: &GameView, private: Private, amount: Amount) -> bool
-    requires { past.now.seats ≤ 6 }
-    ensures { result ≡ is_too_low past.now.seats past.now.events.now private amount }
+fn is_too_low(view: &GameView, private: Private, amount: Amount) -> bool
+    requires { view.now.seats ≤ 6 }
+    ensures { result ≡ is_too_low view.now.seats view.now.events.now private amount }
 {
     if u64::from(amount) < u64::from(face(private)) + STEP {
         return true;
     }
-    is_near(amount, past.bids_on(private).as_slice())
+    is_near(amount, view.bids_on(private).as_slice())
 }
 
 /// Whether a sum is less than the step over one of these bids.

@@ -125,11 +125,11 @@ fn sell_baltimore(history: &mut History, buyer: Seat, price: Amount) -> Result<(
 }
 
 /// The par value that a buyer of BOP sets for BO: that of his last obeyed PAR line, else 67.
-fn par_set_by(past: &GameView, buyer: Seat) -> Amount
-    ensures par { result ≡ par_set_by past.now.events.now buyer }
+fn par_set_by(view: &GameView, buyer: Seat) -> Amount
+    ensures par { result ≡ par_set_by view.now.events.now buyer }
     ensures small { result ≤ 1000000 }
 {
-    past.par_ordered(buyer).unwrap_or(PAR_UNLESS_ORDERED)
+    view.par_ordered(buyer).unwrap_or(PAR_UNLESS_ORDERED)
 }
 
 /// The sales that follow from a sale: as long as there are bids on the cheapest private, it is
@@ -210,28 +210,28 @@ fn price_paid(won: (Seat, Money)) -> Amount
 
 /// Those who bid on a private, each with his bid and his limit.
 fn bidders_of(
-    past: &GameView,
+    view: &GameView,
     private: Private,
     bids: &[Bid],
 ) -> ArrayVec<(Seat, Money, Money), PLAYERS_MOST>
     requires { length bids.now ≤ 6 }
-    ensures { result.items ≡ map (bidder_of past.now.seats past.now.events.now private)
+    ensures { result.items ≡ map (bidder_of view.now.seats view.now.events.now private)
         bids.now }
 {
     let mut bidders = ArrayVec::new();
     for bid in bids {
-        bidders.push(bidder_of(past, private, *bid));
+        bidders.push(bidder_of(view, private, *bid));
     }
     bidders
 }
 
 /// A bidder with his bid and his limit.
-fn bidder_of(past: &GameView, private: Private, bid: Bid) -> (Seat, Money, Money)
-    ensures { result ≡ bidder_of past.now.seats past.now.events.now private bid }
+fn bidder_of(view: &GameView, private: Private, bid: Bid) -> (Seat, Money, Money)
+    ensures { result ≡ bidder_of view.now.seats view.now.events.now private bid }
 {
     let amount = Money::from(bid.amount);
-    let limit = match past.limit(private, bid.seat) {
-        Some(ordered) => amount.max(Money::from(ordered).min(past.free_for(bid.seat, private))),
+    let limit = match view.limit(private, bid.seat) {
+        Some(ordered) => amount.max(Money::from(ordered).min(view.free_for(bid.seat, private))),
         None => amount,
     };
     (bid.seat, amount, limit)

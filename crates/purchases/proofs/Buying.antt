@@ -209,7 +209,7 @@ cash_traded : (game : Game) (company : Company) (trade_in : Option Kind) (party 
 cash_traded game company None party = refl
 cash_traded game company (Some old) party = cash_of_before game.seats game.events (event.Traded company old) party refl
 
--- so the list is sound once the train has come to the company
+-- so the list is sound once the train has gone to the company
 pub train_sound : (game : Game) (company : Company) (purchase : Purchase)
     → train_judgement game company purchase ≡ None → IsSound game
     → IsSound (with_event (with_trade game company purchase.trade_in)

@@ -147,8 +147,8 @@ others_keep_all events event none no_phase all =
 
 -- and nobody has fewer than none then
 pub others_keep_standing : OthersKeepStanding
-others_keep_standing events event none no_phase stand =
+others_keep_standing events event none no_phase are_there =
     record {
-      held = trains_kept events event none stand.held;
-      all = others_keep_all events event none no_phase stand.all;
+      held = trains_kept events event none are_there.held;
+      all = others_keep_all events event none no_phase are_there.all;
     }

@@ -133,7 +133,7 @@ phase_gone game phase kind rusts held =
       trains_stay rusted.events kind,
     )
 
--- what is known of a purchase by the rules where all trains stand
+-- what is known of a purchase by the rules where all trains are there
 record IsFair (game : Game) (buyer : Company) (purchase : Purchase) : Type 0 where
   none : train_judgement game buyer purchase ≡ None
   held : TrainsAreHeld game.events
@@ -161,7 +161,7 @@ left_by events seller.Bank of kind number bank is has there =
 left_by events seller.BankPool of kind number bank is has there = absurd (cc)
 left_by events (seller.Company owner) of kind number bank is has there = absurd (cc)
 
--- a kind of which one is sold had one left
+-- where one of a kind is sold, one was left
 had_left : (game : Game) (buyer : Company) (purchase : Purchase) (kind : Kind) (number : ℕ)
     → IsFair game buyer purchase → purchase.from ≡ seller.Bank → purchase.kind ≡ kind
     → (trains_of kind).number ≡ Some number → trains_sold game.events kind < number
@@ -397,9 +397,9 @@ by_phase game buyer purchase false begins fair = no_phase game buyer purchase be
 
 -- after each purchase by the rules
 pub purchases_keep_all : PurchasesKeepAll
-purchases_keep_all game buyer purchase none stand =
+purchases_keep_all game buyer purchase none are_there =
     record {
-      held = purchase_held game buyer purchase none stand.held;
+      held = purchase_held game buyer purchase none are_there.held;
       all = by_phase game buyer purchase (begins_phase game.events purchase.from purchase.kind) refl
-          (record { none = none; held = stand.held; all = stand.all });
+          (record { none = none; held = are_there.held; all = are_there.all });
     }

@@ -1,5 +1,5 @@
 pub mod Folding
-pub mod Told
+pub mod Recorded
 pub mod PhaseLemmas
 pub mod DiscardLemmas
 pub mod Buying

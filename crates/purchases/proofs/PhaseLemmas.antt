@@ -26,13 +26,13 @@ use Rattle.tables.specs.declared.rolling_stock.Kind.TheVariants.{Two, Three, Fou
 use Rattle.tables.specs.declared.roster.Company.{Company}
 
 -- what a phase brings, step by step
-pub phase_begins : (game told rusted closed new : Game) (phase : Kind) → told ≡ with_event game (event.Phase phase)
-    → rusted ≡ with_rusted phase told → closed ≡ with_privates_closed phase rusted → new ≡ with_limits_kept closed
-    → new ≡ with_phase game phase
-phase_begins game told rusted closed new phase is_told is_rusted is_closed is_new =
+pub phase_begins : (game recorded rusted closed new : Game) (phase : Kind)
+    → recorded ≡ with_event game (event.Phase phase) → rusted ≡ with_rusted phase recorded
+    → closed ≡ with_privates_closed phase rusted → new ≡ with_limits_kept closed → new ≡ with_phase game phase
+phase_begins game recorded rusted closed new phase is_recorded is_rusted is_closed is_new =
     is_new
     ∙ ap with_limits_kept
-    (is_closed ∙ ap (with_privates_closed phase) (is_rusted ∙ ap (with_rusted phase) is_told))
+    (is_closed ∙ ap (with_privates_closed phase) (is_rusted ∙ ap (with_rusted phase) is_recorded))
 
 -- a train that is the first of a phase
 pub train_begins : (game has new : Game) (company : Company) (purchase : Purchase)
@@ -59,7 +59,7 @@ leaves None Six = refl
 leaves None Diesel = refl
 leaves (Some company) kind = leaves_company company kind
 
--- and comes to no other that is in play
+-- and goes to no other that is in play
 comes_nowhere : (owner : Option Company) (kind : Kind)
     → train_comes (train_owner_place owner) kind (train_moved (event.Rusted owner kind)) ≡ false
 comes_nowhere None kind = grind arith

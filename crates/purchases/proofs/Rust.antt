@@ -29,7 +29,7 @@ none_goes : (kind : Kind) (owner other : Option Company)
     → train_goes (train_owner_place other) kind (train_moved (event.Rusted owner kind)) ≡ false
 none_goes kind owner other apart = ap (λ (b : Bool). same_kind kind kind && b) apart ∙ grind arith
 
--- and none comes to one
+-- and none goes to one
 none_comes : (kind : Kind) (owner other : Option Company)
     → train_comes (train_owner_place other) kind (train_moved (event.Rusted owner kind)) ≡ false
 none_comes kind owner None = grind arith

@@ -155,7 +155,7 @@ gone false false false false true Diesel kind first before = let at =
 gone false false false false false Six kind first before = refl
 gone false false false false false Diesel kind first before = absurd (cc)
 
--- of a kind of which none is left all are sold
+-- of a kind with none left all are sold
 all_sold : (number : Option ℕ) (sold n : ℕ) → are_left number sold ≡ false → number ≡ Some n → n ≤ sold
 all_sold None sold n none is = absurd (cc)
 all_sold (Some m) sold n none is =

@@ -17,7 +17,7 @@ use Rattle.tables.specs.declared.roster.Company.{Company}
 use Rattle.tables.specs.declared.roster.Private.{Private}
 use Rattle.tables.specs.declared.seat.Seat.{Seat}
 
--- the president of a company agrees that it sells a train to another for so much
+-- the president of a company agrees that it sells a train to another for this much
 pub record CompanyAgrees (game : Game) (seller buyer : Company) (kind : Kind) (price : ℕ) : Type 0 where
   pub giver : Seat
   pub taker : Seat
@@ -34,7 +34,7 @@ CompaniesAgree =
     train_judgement game buyer (purchase_of kind (OfCompany seller price)) ≡ None
     → CompanyAgrees game seller buyer kind price
 
--- the player who owns a private agrees that it is sold to a company for so much
+-- the player who owns a private agrees that it is sold to a company for this much
 pub record OwnerAgrees (game : Game) (buyer : Company) (private : Private) (price : ℕ) : Type 0 where
   pub giver : Seat
   pub taker : Seat

@@ -46,7 +46,7 @@ discard_rules events seat company kind = record { code = NoDiscard; broken = is_
 abbrev pub discard_judgement : List Event → Seat → Company → Kind → Option TrainRule
 discard_judgement events seat company kind = first_broken (discard_rules events seat company kind)
 
--- the kind of which an order says that a company is to discard
+-- the kind that a company is to discard by an order
 abbrev pub discard_in : Company → Order → Option Kind
 discard_in company (order.Discard other kind) = if same_company other company then Some kind else None
 discard_in company other = None
@@ -76,7 +76,7 @@ abbrev pub without : List Kind → Option Kind → List Kind
 without lines None = lines
 without lines (Some kind) = without_first kind lines
 
--- the kind of which a company discards by an event
+-- the kind that a company discards by an event
 abbrev pub discarded_by : Company → Event → Option Kind
 discarded_by company (Discarded other kind) = if same_company other company then Some kind else None
 discarded_by company other = None
@@ -109,13 +109,13 @@ lines_of events company None = []
 lines_of events company (Some seat) =
     (fold (lines_then seat company) (record { presides = false; kinds = [] }) events).kinds
 
--- the first of these kinds of which the company has a train
+-- the first of these kinds that the company has a train of
 abbrev pub first_held : List Event → Company → List Kind → Option Kind
 first_held events company [] = None
 first_held events company (kind ∷ others) = if has_train events company kind then Some kind else first_held events
     company others
 
--- the kind of which the company discards next: by a line of its president, or else the least that it has
+-- the kind that the company discards next: by a line of its president, or else the least that it has
 abbrev pub next_discard : List Event → Company → Option Kind
 next_discard events company =
     option_or (first_held events company (lines_of events company (president_of events company)))

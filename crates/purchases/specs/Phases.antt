@@ -1,8 +1,8 @@
 -- What the purchase of a train brings, event by event, each on the list that the one before left. A train that is
--- traded in goes to the pool, and then the train comes to the company. BOP closes once BO buys. The first train
--- of a later kind from the bank begins its phase: the trains that it rusts leave play, company by company and
--- then those of the pool; with the first 5 all privates close; and then each company with more trains than
--- the new phase allows discards those that are too many to the pool.
+-- traded in goes to the pool, and then the train goes to the company. BOP closes once BO buys. The first train of a
+-- later kind from the bank begins its phase: the trains that it rusts leave play, company by company and then those of
+-- the pool; with the first 5 all privates close; and then each company with more trains than the new phase allows
+-- discards those that are too many to the pool.
 use Rattle.std.specs.Prelude.{ℕ, ◌==◌, Bool, false, ◌&&◌, nat_lt, if◌then◌else◌, List, Option, Some, None, is_some, pos}
 use Rattle.std.specs.Prelude.{◌-ℤ◌}
 use Rattle.std.specs.List.{fold}
@@ -111,7 +111,7 @@ begins_phase events seller.Bank kind =
 begins_phase events seller.BankPool kind = false
 begins_phase events (seller.Company company) kind = false
 
--- after the train has come to the company
+-- after the train has gone to the company
 abbrev pub bought : Game → Company → Purchase → Game
 bought game company purchase =
     with_bop_closed

@@ -11,7 +11,7 @@ use Rattle.tables.specs.declared.roster.Company.{Company}
 use Rattle.tables.specs.declared.roster.Private.{Private}
 use Rattle.tables.specs.declared.seat.Seat.{Seat}
 
--- by a list of events a seat owns a private, and agrees that it is sold to a company for so much
+-- by a list of events a seat owns a private, and agrees that it is sold to a company for this much
 pub record IsGiven (events : List Event) (giver : Seat) (buyer : Company) (private : Private) (price : ℕ) : Type 0 where
   pub owns : owner_of events private ≡ Some (holder.Seat giver)
   pub agreed : (seats : ℕ) → OwnerAgrees (record { seats = seats; events = events }) buyer private price

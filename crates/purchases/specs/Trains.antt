@@ -1,7 +1,7 @@
--- The purchase of a train. The bank sells the least kind of 2 to 6 of which some are left, and from the first 6
--- that it has sold also a D, of which there is any number; the bank pool sells what lies in it. A 4, 5 or 6 that
--- the company has may be traded in for a D of the bank, which is cheaper then. Another company sells a train that
--- it has, at the price that the order names, which is at least 1, where its president consents.
+-- The purchase of a train. The bank sells the least kind of 2 to 6 of which some are left, and from the first 6 that it
+-- has sold also a D, of which there is any number; the bank pool sells what is in it. A 4, 5 or 6 that the company has
+-- may be traded in for a D of the bank, which is cheaper then. Another company sells a train that it has, at the price
+-- that the order names, which is at least 1, where its president consents.
 use Rattle.std.specs.Prelude.{ℕ, ◌==◌, ◌≤◌, unwrap_or, Bool, true, false, not, ◌&&◌, ◌||◌, nat_lt, if◌then◌else◌, List}
 use Rattle.std.specs.Prelude.{[], ◌∷◌, Option, Some, None, pos, ◌-ℤ◌}
 use Rattle.std.specs.Int.Signed.{lt_z}
@@ -39,16 +39,16 @@ are_left (Some number) sold = nat_lt sold number
 abbrev pub is_left : List Event → Kind → Bool
 is_left events kind = are_left (trains_of kind).number (trains_sold events kind)
 
--- the first of these kinds of which the bank has some left
+-- the first of these kinds that the bank has some left of
 abbrev pub first_left_of : List Event → List Kind → Option Kind
 first_left_of events [] = None
 first_left_of events (kind ∷ others) = if is_left events kind then Some kind else first_left_of events others
 
--- the kinds of which the bank sells only the least that is left
+-- the kinds among which the bank sells only the least that is left
 abbrev pub numbered_kinds : List Kind
 numbered_kinds = Two ∷ Three ∷ Four ∷ Five ∷ Six ∷ []
 
--- the least of them of which some are left
+-- the least of them that has some left
 abbrev pub first_left : List Event → Option Kind
 first_left events = first_left_of events numbered_kinds
 

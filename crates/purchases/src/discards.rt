@@ -28,10 +28,10 @@ pub(crate) fn judge_discard(
 }
 
 /// Whether the seat is not president of the company, or the company has no such train.
-fn is_no_discard(past: &GameView, seat: Seat, company: Company, kind: Kind) -> bool
-    ensures { result ≡ is_no_discard past.now.events.now seat company kind }
+fn is_no_discard(view: &GameView, seat: Seat, company: Company, kind: Kind) -> bool
+    ensures { result ≡ is_no_discard view.now.events.now seat company kind }
 {
-    !is_president(past.president(company), seat) || !has_train(past, company, kind)
+    !is_president(view.president(company), seat) || !has_train(view, company, kind)
 }
 
 /// Whether a seat presides.
@@ -42,13 +42,13 @@ pub(crate) fn is_president(president: Option<Seat>, seat: Seat) -> bool
 }
 
 /// Whether a company has a train of a kind.
-pub(crate) fn has_train(past: &GameView, company: Company, kind: Kind) -> bool
-    ensures { result ≡ has_train past.now.events.now company kind }
+pub(crate) fn has_train(view: &GameView, company: Company, kind: Kind) -> bool
+    ensures { result ≡ has_train view.now.events.now company kind }
 {
-    past.trains(Some(company), kind) > 0
+    view.trains(Some(company), kind) > 0
 }
 
-/// The kind of which a company discards next: by a line of its president, or else the least that it
+/// The kind that a company discards next: by a line of its president, or else the least that it
 /// has. `None` where it has no train.
 pub(crate) fn next_discard(
     alloc: Global,
@@ -65,12 +65,12 @@ pub(crate) fn next_discard(
     }
 }
 
-/// The first of these kinds of which a company has a train.
-fn first_held(past: &GameView, company: Company, kinds: &[Kind]) -> Option<Kind>
-    ensures { result ≡ first_held past.now.events.now company kinds.now }
+/// The first of these kinds that a company has a train of.
+fn first_held(view: &GameView, company: Company, kinds: &[Kind]) -> Option<Kind>
+    ensures { result ≡ first_held view.now.events.now company kinds.now }
 {
     for kind in kinds {
-        if has_train(past, company, *kind) {
+        if has_train(view, company, *kind) {
             return Some(*kind);
         }
     }
@@ -80,15 +80,15 @@ fn first_held(past: &GameView, company: Company, kinds: &[Kind]) -> Option<Kind>
 /// The kinds of a president's lines for a company that are still to serve in this round, in order.
 fn lines_of(
     alloc: Global,
-    past: &GameView,
+    view: &GameView,
     company: Company,
     president: Option<Seat>,
 ) -> Result<Vec<Kind>, AllocError>
     ensures { IfOk result (λ lines. lines.items
-        ≡ lines_of past.now.events.now company president) }
+        ≡ lines_of view.now.events.now company president) }
 {
     match president {
-        Some(seat) => lines_in(alloc, past.events, company, seat),
+        Some(seat) => lines_in(alloc, view.events, company, seat),
         None => Ok(Vec::new(alloc)),
     }
 }
@@ -105,15 +105,15 @@ fn lines_in(
     let mut lines = Vec::new(alloc);
     let mut presides = false;
     for event in events {
-        note(&mut lines, event, seat, company, presides)?;
+        apply(&mut lines, event, seat, company, presides)?;
         presides = presides_after(presides, event, seat, company);
     }
     Ok(lines)
 }
 
-/// Notes what an event does to the lines of a seat for a company that are still to serve, where the
-/// seat presides or not.
-fn note(
+/// Applies what an event does to the lines of a seat for a company that are still to serve, where
+/// the seat presides or not.
+fn apply(
     lines: &mut Vec<Kind>,
     event: &Event,
     seat: Seat,
@@ -148,7 +148,7 @@ fn presides_after(presides: bool, event: &Event, seat: Seat, company: Company) -
     }
 }
 
-/// The kind of which a company is to discard by a line of a seat that an event obeys.
+/// The kind that a company is to discard by a line of a seat that an event obeys.
 fn kind_ordered(event: &Event, seat: Seat, company: Company) -> Option<Kind>
     ensures { result ≡ line_of seat company (obeyed_of event.now) }
 {
@@ -165,7 +165,7 @@ fn kind_ordered(event: &Event, seat: Seat, company: Company) -> Option<Kind>
     }
 }
 
-/// The kind of which an order says that a company is to discard.
+/// The kind that a company is to discard by an order.
 fn discard_in(order: &Order, company: Company) -> Option<Kind>
     ensures { result ≡ discard_in company order.now }
 {
@@ -178,7 +178,7 @@ fn discard_in(order: &Order, company: Company) -> Option<Kind>
     }
 }
 
-/// The kind of which a company discards by an event.
+/// The kind that a company discards by an event.
 fn discarded_by(event: &Event, company: Company) -> Option<Kind>
     ensures { result ≡ discarded_by company event.now }
 {

@@ -8,8 +8,9 @@
 //!
 //! Nothing here asks the board, or how far a company's turn has come.
 //!
-//! Reading order: `purchase` (the rules of trains), `discards`, `phases` (what a train brings),
-//! `private` (the rules of privates), `standing` (the lines before the first block) with `offers`, `laws`.
+//! Reading order: `purchase` (the rules of trains), `discards`, `phases` (what a train brings), `private`
+//! (the rules of privates), `standing` (the lines before the first company's orders) with `offers`,
+//! `laws`.
 #![tactic(auto)]
 
 mod discards;

@@ -50,7 +50,7 @@ fn begins_phase(history: &History, from: TrainSeller, kind: Kind) -> bool
     }
 }
 
-/// A train comes to a company, for its price and the train that is traded in.
+/// A train goes to a company, for its price and the train that is traded in.
 fn take_train(history: &mut History, company: Company, purchase: Purchase) -> Result<(), AllocError>
     requires small { IsSmallPurchase purchase }
     requires may { train_judgement history.old company purchase ≡ None }

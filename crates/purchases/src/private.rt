@@ -71,45 +71,45 @@ pub fn judge_private(
 
 /// The first rule that the purchase of a private breaks.
 fn broken_by(
-    past: &GameView,
+    view: &GameView,
     company: Company,
     private: Private,
     price: Amount,
 ) -> Option<PrivateRule>
     ensures { result ≡ private_judgement
-        (record { seats = past.now.seats; events = past.now.events.now }) company private price }
+        (record { seats = view.now.seats; events = view.now.events.now }) company private price }
 {
-    if is_too_early(past) {
+    if is_too_early(view) {
         return Some(PrivateRule::TooEarly);
     }
     if is_wrong_price(private, price) {
         return Some(PrivateRule::WrongPrice);
     }
-    if !is_given(past, company, private, price) {
+    if !is_given(view, company, private, price) {
         return Some(PrivateRule::NoConsent);
     }
     if private == Private::BaltimoreOhio {
         return Some(PrivateRule::NeverSold);
     }
-    if is_too_dear(past, company, price) {
+    if is_too_dear(view, company, price) {
         return Some(PrivateRule::CashTooSmall);
     }
     None
 }
 
 /// Whether a company has less than a price.
-fn is_too_dear(past: &GameView, company: Company, price: Amount) -> bool
+fn is_too_dear(view: &GameView, company: Company, price: Amount) -> bool
     ensures { result ≡ is_too_dear
-        (record { seats = past.now.seats; events = past.now.events.now }) company price }
+        (record { seats = view.now.seats; events = view.now.events.now }) company price }
 {
-    past.cash(Party::of_company(company)) < Money::from(price)
+    view.cash(Party::of_company(company)) < Money::from(price)
 }
 
 /// Whether phase 3 has not begun.
-fn is_too_early(past: &GameView) -> bool
-    ensures { result ≡ is_too_early past.now.events.now }
+fn is_too_early(view: &GameView) -> bool
+    ensures { result ≡ is_too_early view.now.events.now }
 {
-    past.phase().place() < Kind::Three.place()
+    view.phase().place() < Kind::Three.place()
 }
 
 /// Whether a price is under half of the face value, or over twice that.
@@ -121,23 +121,23 @@ fn is_wrong_price(private: Private, price: Amount) -> bool
 }
 
 /// Whether a player owns a private, and consents to its sale to a company at a price.
-fn is_given(past: &GameView, buyer: Company, private: Private, price: Amount) -> bool
-    ensures { result ≡ is_given past.now.events.now buyer private price }
+fn is_given(view: &GameView, buyer: Company, private: Private, price: Amount) -> bool
+    ensures { result ≡ is_given view.now.events.now buyer private price }
 {
     let sale = Offer::Private {
         private,
         buyer,
         price,
     };
-    is_given_by(past, past.owner(private), past.president(buyer), sale)
+    is_given_by(view, view.owner(private), view.president(buyer), sale)
 }
 
 /// Whether this owner is a player, and consents to a sale where this seat takes.
-fn is_given_by(past: &GameView, owner: Option<Holder>, taker: Option<Seat>, sale: Offer) -> bool
-    ensures { result ≡ is_given_by past.now.events.now owner taker sale }
+fn is_given_by(view: &GameView, owner: Option<Holder>, taker: Option<Seat>, sale: Offer) -> bool
+    ensures { result ≡ is_given_by view.now.events.now owner taker sale }
 {
     match (owner, taker) {
-        (Some(Holder::Seat(giver)), Some(taker)) => past.has_consent(giver, taker, sale),
+        (Some(Holder::Seat(giver)), Some(taker)) => view.has_consent(giver, taker, sale),
         _ => false,
     }
 }

@@ -61,10 +61,10 @@ pub fn purchase_of(kind: Kind, from: TrainSource) -> Purchase
 }
 
 /// Whether a company has a train.
-pub fn has_trains(past: &GameView, company: Company) -> bool
-    ensures { result ≡ has_trains past.now.events.now company }
+pub fn has_trains(view: &GameView, company: Company) -> bool
+    ensures { result ≡ has_trains view.now.events.now company }
 {
-    past.train_count(Some(company)) > 0
+    view.train_count(Some(company)) > 0
 }
 
 /// What a train of the bank or the pool costs.
@@ -78,7 +78,7 @@ fn price_of_train(kind: Kind, trade_in: Option<Kind>) -> Amount
     }
 }
 
-/// The kinds of which the bank sells only the least that is left.
+/// The kinds among which the bank sells only the least that is left.
 pub const NUMBERED: [Kind; 5] = [Kind::Two, Kind::Three, Kind::Four, Kind::Five, Kind::Six];
 
 /// The first rule that a purchase by a company breaks; `None` if it breaks none.
@@ -90,70 +90,70 @@ pub fn judge_purchase(history: &History, company: Company, purchase: Purchase) -
 }
 
 /// The first rule that a purchase breaks.
-fn broken_by(past: &GameView, company: Company, purchase: Purchase) -> Option<TrainRule>
+fn broken_by(view: &GameView, company: Company, purchase: Purchase) -> Option<TrainRule>
     requires { IsSmallPurchase purchase }
     ensures { result ≡ train_judgement
-        (record { seats = past.now.seats; events = past.now.events.now }) company purchase }
+        (record { seats = view.now.seats; events = view.now.events.now }) company purchase }
 {
-    if !is_on_sale(past, purchase.from, purchase.kind) {
+    if !is_on_sale(view, purchase.from, purchase.kind) {
         return Some(TrainRule::NotOnSale);
     }
-    if is_full(past, company, purchase.trade_in) {
+    if is_full(view, company, purchase.trade_in) {
         return Some(TrainRule::TrainLimit);
     }
-    if is_too_dear(past, company, purchase) {
+    if is_too_dear(view, company, purchase) {
         return Some(TrainRule::CashTooSmall);
     }
-    if lacks_consent(past, company, purchase) {
+    if lacks_consent(view, company, purchase) {
         return Some(TrainRule::NoConsent);
     }
-    if is_not_sellers(past, company, purchase.kind, purchase.from) {
+    if is_not_sellers(view, company, purchase.kind, purchase.from) {
         return Some(TrainRule::NotSellers);
     }
-    if is_no_trade_in(past, company, purchase.kind, purchase.trade_in) {
+    if is_no_trade_in(view, company, purchase.kind, purchase.trade_in) {
         return Some(TrainRule::NoTradeIn);
     }
     None
 }
 
 /// Whether such a train is on sale there.
-fn is_on_sale(past: &GameView, from: TrainSeller, kind: Kind) -> bool
-    ensures { result ≡ is_on_sale past.now.events.now from kind }
+fn is_on_sale(view: &GameView, from: TrainSeller, kind: Kind) -> bool
+    ensures { result ≡ is_on_sale view.now.events.now from kind }
 {
     match from {
-        TrainSeller::Bank => sells(past, kind),
-        TrainSeller::BankPool => past.trains(None, kind) > 0,
+        TrainSeller::Bank => sells(view, kind),
+        TrainSeller::BankPool => view.trains(None, kind) > 0,
         TrainSeller::Company(_) => true,
     }
 }
 
 /// Whether the bank sells trains of a kind.
-pub fn sells(past: &GameView, kind: Kind) -> bool
-    ensures { result ≡ sells past.now.events.now kind }
+pub fn sells(view: &GameView, kind: Kind) -> bool
+    ensures { result ≡ sells view.now.events.now kind }
 {
-    first_left(past) == Some(kind) || (kind == Kind::Diesel && sells_diesels(past))
+    first_left(view) == Some(kind) || (kind == Kind::Diesel && sells_diesels(view))
 }
 
 /// Whether the bank sells a D: it has sold a 6.
-fn sells_diesels(past: &GameView) -> bool
-    ensures { result ≡ sells_diesels past.now.events.now }
+fn sells_diesels(view: &GameView) -> bool
+    ensures { result ≡ sells_diesels view.now.events.now }
 {
-    past.trains_sold(Kind::Six) > 0
+    view.trains_sold(Kind::Six) > 0
 }
 
-/// The least kind of 2 to 6 of which the bank has some left.
-fn first_left(past: &GameView) -> Option<Kind>
-    ensures { result ≡ first_left past.now.events.now }
+/// The least kind of 2 to 6 that the bank has some left of.
+fn first_left(view: &GameView) -> Option<Kind>
+    ensures { result ≡ first_left view.now.events.now }
 {
-    first_of(past, &NUMBERED)
+    first_of(view, &NUMBERED)
 }
 
-/// The first of these kinds of which the bank has some left.
-fn first_of(past: &GameView, kinds: &[Kind]) -> Option<Kind>
-    ensures { result ≡ first_left_of past.now.events.now kinds.now }
+/// The first of these kinds that the bank has some left of.
+fn first_of(view: &GameView, kinds: &[Kind]) -> Option<Kind>
+    ensures { result ≡ first_left_of view.now.events.now kinds.now }
 {
     for kind in kinds {
-        if is_left(past, *kind) {
+        if is_left(view, *kind) {
             return Some(*kind);
         }
     }
@@ -161,22 +161,22 @@ fn first_of(past: &GameView, kinds: &[Kind]) -> Option<Kind>
 }
 
 /// Whether the bank has trains of a kind left.
-fn is_left(past: &GameView, kind: Kind) -> bool
-    ensures { result ≡ is_left past.now.events.now kind }
+fn is_left(view: &GameView, kind: Kind) -> bool
+    ensures { result ≡ is_left view.now.events.now kind }
 {
     match train(kind).number {
         None => true,
-        Some(number) => past.trains_sold(kind) < usize::from(number),
+        Some(number) => view.trains_sold(kind) < usize::from(number),
     }
 }
 
 /// Whether a company would have more trains than the phase allows. One that is to be traded in is
 /// not counted, whether the company has it or not.
-fn is_full(past: &GameView, company: Company, trade_in: Option<Kind>) -> bool
-    ensures { result ≡ is_at_train_limit past.now.events.now company trade_in }
+fn is_full(view: &GameView, company: Company, trade_in: Option<Kind>) -> bool
+    ensures { result ≡ is_at_train_limit view.now.events.now company trade_in }
 {
-    let kept = Money::from(past.train_count(Some(company))) - traded_count(trade_in);
-    kept >= limit(past.phase()) as Money
+    let kept = Money::from(view.train_count(Some(company))) - traded_count(trade_in);
+    kept >= limit(view.phase()) as Money
 }
 
 /// What a train of a kind costs a company that trades a train in: a D is cheaper then.
@@ -208,18 +208,18 @@ fn traded_count(trade_in: Option<Kind>) -> Money
 }
 
 /// Whether a train costs more than the company has.
-fn is_too_dear(past: &GameView, company: Company, purchase: Purchase) -> bool
+fn is_too_dear(view: &GameView, company: Company, purchase: Purchase) -> bool
     requires { IsSmallPurchase purchase }
     ensures { result ≡ is_too_dear
-        (record { seats = past.now.seats; events = past.now.events.now }) company purchase }
+        (record { seats = view.now.seats; events = view.now.events.now }) company purchase }
 {
-    past.cash(Party::of_company(company)) < Money::from(purchase.price())
+    view.cash(Party::of_company(company)) < Money::from(purchase.price())
 }
 
 /// Whether a company that is to sell a train has not consented, or the price is 0.
-fn lacks_consent(past: &GameView, buyer: Company, purchase: Purchase) -> bool
+fn lacks_consent(view: &GameView, buyer: Company, purchase: Purchase) -> bool
     requires { IsSmallPurchase purchase }
-    ensures { result ≡ lacks_consent past.now.events.now buyer purchase }
+    ensures { result ≡ lacks_consent view.now.events.now buyer purchase }
 {
     let TrainSeller::Company(seller) = purchase.from else {
         return false;
@@ -231,42 +231,42 @@ fn lacks_consent(past: &GameView, buyer: Company, purchase: Purchase) -> bool
         buyer,
         price,
     };
-    price == 0 || !presidents_agree(past, past.president(seller), past.president(buyer), sale)
+    price == 0 || !presidents_agree(view, view.president(seller), view.president(buyer), sale)
 }
 
 /// Whether the one president consents to what the other takes; not where there are not both.
-fn presidents_agree(past: &GameView, giver: Option<Seat>, taker: Option<Seat>, sale: Offer) -> bool
-    ensures { result ≡ presidents_agree past.now.events.now giver taker sale }
+fn presidents_agree(view: &GameView, giver: Option<Seat>, taker: Option<Seat>, sale: Offer) -> bool
+    ensures { result ≡ presidents_agree view.now.events.now giver taker sale }
 {
     match (giver, taker) {
-        (Some(giver), Some(taker)) => past.has_consent(giver, taker, sale),
+        (Some(giver), Some(taker)) => view.has_consent(giver, taker, sale),
         _ => false,
     }
 }
 
 /// Whether a company that is to sell a train has none of the kind, or is the buyer.
-fn is_not_sellers(past: &GameView, buyer: Company, kind: Kind, from: TrainSeller) -> bool
-    ensures { result ≡ is_not_sellers past.now.events.now buyer kind from }
+fn is_not_sellers(view: &GameView, buyer: Company, kind: Kind, from: TrainSeller) -> bool
+    ensures { result ≡ is_not_sellers view.now.events.now buyer kind from }
 {
     match from {
-        TrainSeller::Company(seller) => !has_train(past, seller, kind) || buyer == seller,
+        TrainSeller::Company(seller) => !has_train(view, seller, kind) || buyer == seller,
         TrainSeller::Bank | TrainSeller::BankPool => false,
     }
 }
 
 /// Whether a train is to be traded in that is not there, or that may not be.
-fn is_no_trade_in(past: &GameView, company: Company, kind: Kind, trade_in: Option<Kind>) -> bool
-    ensures { result ≡ is_no_trade_in past.now.events.now company kind trade_in }
+fn is_no_trade_in(view: &GameView, company: Company, kind: Kind, trade_in: Option<Kind>) -> bool
+    ensures { result ≡ is_no_trade_in view.now.events.now company kind trade_in }
 {
     match trade_in {
         None => false,
-        Some(old) => !may_trade(past, company, kind, old),
+        Some(old) => !may_trade(view, company, kind, old),
     }
 }
 
 /// Whether a train that the company has may be traded in for one of this kind.
-fn may_trade(past: &GameView, company: Company, kind: Kind, trade_in: Kind) -> bool
-    ensures { result ≡ may_trade past.now.events.now company kind trade_in }
+fn may_trade(view: &GameView, company: Company, kind: Kind, trade_in: Kind) -> bool
+    ensures { result ≡ may_trade view.now.events.now company kind trade_in }
 {
-    kind == Kind::Diesel && may_be_traded(trade_in) && past.trains(Some(company), trade_in) > 0
+    kind == Kind::Diesel && may_be_traded(trade_in) && view.trains(Some(company), trade_in) > 0
 }

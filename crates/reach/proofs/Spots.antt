@@ -1,4 +1,4 @@
--- Spots by their numbers, and what lies across a border.
+-- Spots by their numbers, and what is across a border.
 use Rattle.std.proofs.Common.{◌≡◌, ℕ, ◌+◌, ◌*◌, ◌<◌, Option, Some, None, refl, ap, ◌∙◌, subst, arith, option_map}
 use Rattle.map_tables.specs.Border.{neighbour_of}
 use Rattle.map_tables.specs.Hex.{index_of}
@@ -129,7 +129,7 @@ same_order a b same =
 pub order_low : (stop : Stop) → stop_order stop < 186
 order_low stop = omega (arith, index_low stop.hex, stop_index_low stop.number)
 
--- the other side of a border, which is a side, and what lies across from there
+-- the other side of a border, which is a side, and what is across from there
 crossed : (other : Hex) (side : Side) (hex : Hex) (back : Option Hex) → back ≡ Some hex
     → option_map (λ h. spot_at h (AtSide (facing_of (facing_of side)))) back ≡ Some (spot_at hex (AtSide side))
 crossed other side hex back is =

@@ -82,7 +82,7 @@ all_each P [] thing all among = absurd among
 all_each P (first ∷ things) thing all (inl same) = subst P same all.0
 all_each P (first ∷ things) thing all (inr later) = all_each P things thing all.1 later
 
--- two stops of which each is the other, or comes after it
+-- two stops, each of which is the other, or comes after it
 first_same : (stop other : Stop) → (other ≡ stop) ⊎ (stop_order other < stop_order stop)
     → (stop ≡ other) ⊎ (stop_order stop < stop_order other) → stop ≡ other
 first_same stop other (inl same) back = sym same

@@ -1,5 +1,5 @@
--- What holds of every position: how its links stand, how borders pair, what stops are worth. A hex that is
--- a part of another hex's stop has that stop alone.
+-- What holds of every position: the order of its links, how borders pair, what stops are worth. A hex that is a part of
+-- another hex's stop has that stop alone.
 use Rattle.std.specs.Prelude.{◌≡◌, ◌≤◌, true}
 use Rattle.map_tables.specs.Laws.{AreLinksOf, NeighboursPair}
 use Rattle.map_tables.specs.declared.hex.Hex.{Hex}

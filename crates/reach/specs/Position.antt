@@ -1,7 +1,6 @@
--- A position: what lies on the map at one moment. For each hex, in the order of the map, it has the
--- links of the hex and its stops, by their numbers; for each stop its value in dollars, whether it is
--- red, how many slots for tokens it has, and whose tokens lie there. A stop that lies in two hexes is
--- kept in the hex that names it.
+-- A position: the tiles and tokens on the map at one moment. For each hex, in the order of the map, it has the links of
+-- the hex and its stops, by their numbers; for each stop its value in dollars, whether it is red, how many slots for
+-- tokens it has, and whose tokens lie there. A stop that lies in two hexes is kept in the hex that names it.
 use Rattle.std.specs.Prelude.{◌≡◌, ℕ, ◌<◌, ◌≤◌, Bool, false, ◌⊎◌, List, [], ◌∷◌, length, get_or}
 use Rattle.map_tables.specs.Hex.{index_of}
 use Rattle.map_tables.specs.Place.{joined_stop_of, stop_index_of}
@@ -10,19 +9,19 @@ use Rattle.map_tables.specs.declared.place.Stop.{Stop}
 use Rattle.map_tables.specs.declared.track.Link.{Link}
 use Rattle.tables.specs.declared.roster.Company.{Company}
 
--- what lies at a stop: a city, a town or a red area
+-- what is at a stop: a city, a town or a red area
 pub record AtStop : Type 0 where
   pub value : ℕ
   pub red : Bool
   pub slots : ℕ
   pub tokens : List Company
 
--- what lies in a hex
+-- what is in a hex
 pub record InHex : Type 0 where
   pub links : List Link
   pub stops : List AtStop
 
--- what lies in the hexes of the map, in order
+-- what is in the hexes of the map, in order
 pub record Position : Type 0 where
   pub hexes : List InHex
 
@@ -30,11 +29,11 @@ pub record Position : Type 0 where
 abbrev pub empty_hex : InHex
 empty_hex = record { links = []; stops = [] }
 
--- what lies where there is no stop
+-- what is where there is no stop
 abbrev pub no_stop : AtStop
 no_stop = record { value = 0; red = false; slots = 0; tokens = [] }
 
--- what lies in a hex
+-- what is in a hex
 abbrev pub in_hex : Position → Hex → InHex
 in_hex position hex = get_or position.hexes (index_of hex) empty_hex
 
@@ -42,7 +41,7 @@ in_hex position hex = get_or position.hexes (index_of hex) empty_hex
 abbrev pub links_of : Position → Hex → List Link
 links_of position hex = (in_hex position hex).links
 
--- what lies at a stop
+-- what is at a stop
 abbrev pub at_stop : Position → Stop → AtStop
 at_stop position stop =
     let joined = joined_stop_of stop in get_or (in_hex position joined.hex).stops (stop_index_of joined.number) no_stop

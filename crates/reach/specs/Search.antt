@@ -32,7 +32,7 @@ spot_number spot = number_at spot.hex spot.end
 abbrev pub IsMarked : List Bool → Spot → Type 0
 IsMarked marks spot = get_or marks (spot_number spot) false ≡ true
 
--- a stop stands under its own name, and is marked
+-- a stop is listed under its own name, and is marked
 abbrev pub IsMarkedStop : List Bool → Stop → Type 0
 IsMarkedStop marks stop =
     (joined_stop_of stop ≡ stop) × IsMarked marks (spot_at stop.hex (AtStop stop.number))
@@ -135,7 +135,7 @@ IsTokenMarked position company stop old waited new waiting =
     × IsMarking (spot_at stop.hex (AtStop stop.number)) old waited new waiting)
     ⊎ ((¬ HasToken position (joined_stop_of stop) company) × (new ≡ old) × (waiting ≡ waited))
 
--- a stop is appended if it is marked and stands under its own name
+-- a stop is appended if it is marked and is listed under its own name
 abbrev pub IsPushed : List Bool → Stop → List Stop → List Stop → Type 0
 IsPushed marks stop old new =
     (IsMarkedStop marks stop × (new ≡ old ++ stop ∷ [])) ⊎ ((¬ IsMarkedStop marks stop) × (new ≡ old))

@@ -1,10 +1,10 @@
 //! What a company of 1830 can reach over the track that lies.
 //!
-//! A position says what lies on the map: the links of each hex, and of each stop its value,
-//! whether it is red, its slots and its tokens. `Network` is any value that keeps a position; to
-//! a contract it is that position and nothing else. `reached` answers what the walks of a company
-//! touch, exactly: whatever a walk touches is in the answer, and whatever is in the answer is
-//! touched by a walk. `reached_stops` answers the stops alone, and takes no memory.
+//! A position says the tiles and tokens on the map: the links of each hex, and of each stop its
+//! value, whether it is red, its slots and its tokens. `Network` is any value that keeps a
+//! position; to a contract it is that position and nothing else. `reached` answers what the walks
+//! of a company touch, exactly: whatever a walk touches is in the answer, and whatever is in the
+//! answer is touched by a walk. `reached_stops` answers the stops alone, and takes no memory.
 //!
 //! The definitions, in `specs/`: `Position` and its laws, `Lawful`; `Walk`, which knows nothing
 //! of a company or a search and serves legal runs too; `Reached`. `Search` is what the search

@@ -46,7 +46,7 @@ impl Marks {
         self.marks[number]
     }
 
-    /// Whether a walk has arrived at a stop, and it stands under its own name.
+    /// Whether a walk has arrived at a stop, and it is listed under its own name.
     pub(crate) fn has_stop(&self, stop: Stop) -> bool
         ensures { IsTrue result ↔ IsMarkedStop self.now.marks stop }
     {

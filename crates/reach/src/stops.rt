@@ -113,7 +113,7 @@ pub(crate) fn marked_stops(marks: &Marks) -> ReachedStops
     stops
 }
 
-/// Appends a stop if it is marked and stands under its own name.
+/// Appends a stop if it is marked and is listed under its own name.
 fn push_marked(marks: &Marks, stop: Stop, stops: &mut ReachedStops)
     requires { length stops.old < 186 }
     ensures pushed { IsPushed marks.now.marks stop stops.old stops.new }

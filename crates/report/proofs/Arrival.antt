@@ -201,8 +201,8 @@ behind_same f g seats events end same unread =
 -- a first text of five is before the rest
 first_of_five : (a b c d e : List ℕ) → a ++ b ++ c ++ d ++ e ≡ a ++ (b ++ c ++ d ++ e)
 first_of_five a b c d e =
-    ap (λ (front : List ℕ). front ++ d ++ e) (append_assoc a b c)
-    ∙ ap (λ (front : List ℕ). front ++ e) (append_assoc a (b ++ c) d)
+    ap (λ (prefix : List ℕ). prefix ++ d ++ e) (append_assoc a b c)
+    ∙ ap (λ (prefix : List ℕ). prefix ++ e) (append_assoc a (b ++ c) d)
     ∙ append_assoc a (b ++ c ++ d) e
 
 -- the report is the first line and that

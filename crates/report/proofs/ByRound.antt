@@ -116,18 +116,18 @@ module _ (file : List ℕ) (seats : ℕ) where
       (all_later before first rounds begun rounds is different.2 ∙ texts (before ++ first) rounds different.3))
 
 -- the first of the rounds with an event in front begins what that event begins
-front_begins : (event : Event) (ended : Bool) (rounds : List (List Event))
+first_of_rounds_begins : (event : Event) (ended : Bool) (rounds : List (List Event))
     → FirstBegins (round_begun_by event) (with_event_in_round event ended rounds)
-front_begins event true rounds = refl
-front_begins event false [] = refl
-front_begins event false (round ∷ rounds) = refl
+first_of_rounds_begins event true rounds = refl
+first_of_rounds_begins event false [] = refl
+first_of_rounds_begins event false (round ∷ rounds) = refl
 
 -- the first of the rounds of events begins what they begin
 first_begins : (events : List Event) → FirstBegins (round_begun events) (rounds_in events)
 first_begins [] = tt
-first_begins (event ∷ events) = front_begins event (ends_round events) (rounds_in events)
+first_begins (event ∷ events) = first_of_rounds_begins event (ends_round events) (rounds_in events)
 
--- nothing stands where nothing is found
+-- nothing is there where nothing is found
 none_found : (one : Option Round) → is_some one ≡ false → one ≡ None
 none_found None goes = refl
 none_found (Some round) goes = absurd cc
@@ -229,16 +229,16 @@ texts_in_order : (file : List ℕ) (seats : ℕ) (events : List Event)
     → BeginWithRound events × AreInOrder (rounds_begun events)
     → texts_of_rounds file seats [] (rounds_in events)
     ≡ flat_map (λ round. text_of_one file seats round [] (rounds_in events)) (rounds_begun events)
-texts_in_order file seats events told =
-    let order : AreInOrder (rounds_of (rounds_in events)) = subst AreInOrder (sym (all_begun events)) told.1 in
-    sym (texts file seats [] (rounds_in events) (all_differ (rounds_in events) (each_begins events told.0) order))
+texts_in_order file seats events written =
+    let order : AreInOrder (rounds_of (rounds_in events)) = subst AreInOrder (sym (all_begun events)) written.1 in
+    sym (texts file seats [] (rounds_in events) (all_differ (rounds_in events) (each_begins events written.0) order))
     ∙ ap (flat_map (λ round. text_of_one file seats round [] (rounds_in events))) (all_begun events)
 
 -- a report is its parts
 pub parts_of_report : RoundsFollowInOrder → ReportIsItsParts
 parts_of_report follow played accepted is_game =
-    let told : BeginWithRound played.game.events × AreInOrder (rounds_begun played.game.events) =
+    let written : BeginWithRound played.game.events × AreInOrder (rounds_begun played.game.events) =
     subst (λ (game : Game). BeginWithRound game.events × AreInOrder (rounds_begun game.events)) (sym is_game.game)
     (follow played.file is_game.last accepted is_game.plays) in
     ap (λ text. header played.file ++ text ++ unread_lines 0 (unread_of played.file) ++ end_of_play played)
-    (texts_in_order played.file played.game.seats played.game.events told)
+    (texts_in_order played.file played.game.seats played.game.events written)

@@ -19,24 +19,24 @@ abbrev begins : Event → Bool
 begins event = is_some (round_begun_by event)
 
 -- some event of a list does that has one which does
-some_begins : (front more : List Event) (event : Event) → begins event ≡ true
-    → list_any begins (front ++ event ∷ more) ≡ true
+some_begins : (prefix more : List Event) (event : Event) → begins event ≡ true
+    → list_any begins (prefix ++ event ∷ more) ≡ true
 some_begins [] more event is = ap (λ (b : Bool). b || list_any begins more) is
-some_begins (other ∷ front) more event is =
-    elim (begins other) as (λ (b : Bool). (b || list_any begins (front ++ event ∷ more)) ≡ true) [
+some_begins (other ∷ prefix) more event is =
+    elim (begins other) as (λ (b : Bool). (b || list_any begins (prefix ++ event ∷ more)) ≡ true) [
       | true ↦ refl
-      | false ↦ some_begins front more event is
+      | false ↦ some_begins prefix more event is
     ]
 
 -- the round that began last begins with the last event that begins one
 pub begins_last :
-    (front more : List Event) (event : Event) → begins event ≡ true → list_any begins more ≡ false →
-    last_round (front ++ event ∷ more) ≡ event ∷ more
+    (prefix more : List Event) (event : Event) → begins event ≡ true → list_any begins more ≡ false →
+    last_round (prefix ++ event ∷ more) ≡ event ∷ more
 begins_last [] more event is none = ap (λ (b : Bool). if b then last_round more else event ∷ more) none
-begins_last (other ∷ front) more event is none =
-    ap (λ (b : Bool). if b then last_round (front ++ event ∷ more) else other ∷ front ++ event ∷ more)
-    (some_begins front more event is)
-    ∙ begins_last front more event is none
+begins_last (other ∷ prefix) more event is none =
+    ap (λ (b : Bool). if b then last_round (prefix ++ event ∷ more) else other ∷ prefix ++ event ∷ more)
+    (some_begins prefix more event is)
+    ∙ begins_last prefix more event is none
 
 -- where no event begins a round, all are of it
 pub begins_nowhere : (events : List Event) → list_any begins events ≡ false → last_round events ≡ events
@@ -49,21 +49,21 @@ begins_nowhere (event ∷ events) none =
     ]
     none
 
--- some rounds are told in order, and the last of them after the others
-told_last :
+-- some rounds are written in order, and the last of them after the others
+last_written :
     (file : List ℕ) (seats : ℕ) (before all last : List Event) (rounds : List (List Event))
     → all ≡ before ++ flat_map (λ round. round) rounds →
     texts_of_rounds file seats before (rounds ++ last ∷ [])
     ≡ texts_of_rounds file seats before rounds ++ lines_of_round file seats all last
-told_last file seats before all last [] is =
+last_written file seats before all last [] is =
     let same : all ≡ before = is ∙ append-nil before in
     append-nil (lines_of_round file seats before last)
     ∙ ap (λ (list : List Event). lines_of_round file seats list last) (sym same)
-told_last file seats before all last (round ∷ rounds) is =
+last_written file seats before all last (round ∷ rounds) is =
     let later : all ≡ (before ++ round) ++ flat_map (λ other. other) rounds =
     is ∙ sym (append_assoc before round (flat_map (λ other. other) rounds)) in
     ap (λ (text : List ℕ). lines_of_round file seats before round ++ text)
-    (told_last file seats (before ++ round) all last rounds later)
+    (last_written file seats (before ++ round) all last rounds later)
     ∙ sym (append_assoc (lines_of_round file seats before round) (texts_of_rounds file seats (before ++ round) rounds)
     (lines_of_round file seats all last))
 
@@ -97,7 +97,7 @@ one_more_in_front event true rounds others first last is = refl
 one_more_in_front event false [] others first last is = absurd cc
 one_more_in_front event false (round ∷ rounds) others first last is = refl
 
--- a round of which no later event begins one is one
+-- a round where no later event begins one is one
 one_round : (event : Event) (more : List Event) → list_any begins more ≡ false
     → rounds_in (event ∷ more) ≡ (event ∷ more) ∷ []
 one_round event [] none = refl
@@ -130,7 +130,7 @@ texts_grow :
     ++ lines_of_round file seats old (event ∷ more)
 texts_grow file seats old more event is none =
     ap (texts_of_rounds file seats []) (cut_before old more event is none)
-    ∙ told_last file seats [] old (event ∷ more) (rounds_in old) (all_rounds old)
+    ∙ last_written file seats [] old (event ∷ more) (rounds_in old) (all_rounds old)
 
 -- the text of the round that began last, where there is an event
 some_last : (file : List ℕ) (seats : ℕ) (old more : List Event) (event : Event)

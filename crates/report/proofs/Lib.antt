@@ -4,6 +4,6 @@ pub mod Seats
 pub mod Rounds
 pub mod ByRound
 pub mod LastRound
-pub mod Told
+pub mod StepTexts
 pub mod Worths
 pub mod PlainReports

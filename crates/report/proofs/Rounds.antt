@@ -16,17 +16,19 @@ with_events events false (round ∷ rounds) = (events ++ round) ∷ rounds
 with_events events ended rounds = events ∷ rounds
 
 -- an event between them is the last of those in front
-between : (front : List Event) (event : Event) (ended : Bool) (rounds : List (List Event))
-    → with_events front false (with_event_in_round event ended rounds) ≡ with_events (front ++ event ∷ []) ended rounds
-between front event true rounds = refl
-between front event false [] = refl
-between front event false (round ∷ rounds) = ap (λ first. first ∷ rounds) (sym (append_assoc front (event ∷ []) round))
+between : (prefix : List Event) (event : Event) (ended : Bool) (rounds : List (List Event))
+    → with_events prefix false (with_event_in_round event ended rounds) ≡ with_events (prefix ++ event ∷ []) ended
+    rounds
+between prefix event true rounds = refl
+between prefix event false [] = refl
+between prefix event false (round ∷ rounds) = ap (λ first. first ∷ rounds)
+    (sym (append_assoc prefix (event ∷ []) round))
 
 -- so one that begins no round goes to those in front
-pub one_event_more : (front : List Event) (event : Event) (rest : List Event) → ends_round (event ∷ rest) ≡ false
-    → with_events front (ends_round (event ∷ rest)) (rounds_in (event ∷ rest))
-    ≡ with_events (front ++ event ∷ []) (ends_round rest) (rounds_in rest)
-one_event_more front event rest goes_on = rw goes_on (between front event (ends_round rest) (rounds_in rest))
+pub one_event_more : (prefix : List Event) (event : Event) (rest : List Event) → ends_round (event ∷ rest) ≡ false
+    → with_events prefix (ends_round (event ∷ rest)) (rounds_in (event ∷ rest))
+    ≡ with_events (prefix ++ event ∷ []) (ends_round rest) (rounds_in rest)
+one_event_more prefix event rest goes_on = rw goes_on (between prefix event (ends_round rest) (rounds_in rest))
 
 -- an event by itself in front
 alone : (event : Event) (ended : Bool) (rounds : List (List Event))
@@ -58,9 +60,9 @@ one_more_of events (event ∷ rest) n within is goes_on first =
     sym is ∙ drop_more events n event (omega arith) in
     let here : get_or events n event ≡ event = cc in
     let later : drop (n + 1) events ≡ rest = cc in
-    let front : take (n + 1) events ≡ take n events ++ event ∷ [] =
+    let prefix : take (n + 1) events ≡ take n events ++ event ∷ [] =
     take_more events n event (omega arith) ∙ ap (λ one. take n events ++ one ∷ []) here in
-    (below, rw (front, later) (first ∙ one_event_more (take n events) event rest goes_on))
+    (below, rw (prefix, later) (first ∙ one_event_more (take n events) event rest goes_on))
 
 -- one event more is of the first round, where it does not end here
 pub one_more : (events : List Event) (n : ℕ) → n ≤ length events → ends_round (drop n events) ≡ false
@@ -77,8 +79,8 @@ up_to_the_end events begun end ordered within =
     let part : drop begun (take end events) ≡ slice_range events begun end =
     subst (λ e. drop begun (take e events) ≡ slice_range events begun end) (sym split)
     (drop-take begun (end - begun) events) in
-    let front : take begun (take end events) ≡ take begun events = grind (arith, common_steps) in
-    rw (← front, ← part) (take-append-drop begun (take end events))
+    let prefix : take begun (take end events) ≡ take begun events = grind (arith, common_steps) in
+    rw (← prefix, ← part) (take-append-drop begun (take end events))
 
 -- the first of the rounds from a place on, by its place in the whole list
 pub first_from : (events : List Event) (begun count : ℕ) → begun + count ≤ length events

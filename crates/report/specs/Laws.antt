@@ -1,6 +1,6 @@
--- Laws of reports: files whose sheets are read alike have reports that differ in the version alone; in which order
--- the sheets of different players arrive changes nothing in the report; and the report is its parts, one after the
--- other, also as they are told while the game is played.
+-- Laws of reports: files whose sheets are read alike have reports that differ in the version alone; in which order the
+-- sheets of different players arrive changes nothing in the report; and the report is its parts, one after the other,
+-- also as they are written while the game is played.
 use Rattle.std.specs.Prelude.{◌≡◌, ℕ, List, [], ◌∷◌, ◌++◌, codes, decimal, None, Ok, ⊤}
 use Rattle.std.specs.List.{AllByRecursion, flat_map}
 use Rattle.events.specs.Event.{code_of_refusal}
@@ -97,7 +97,7 @@ ReportIsItsParts =
     ≡ header played.file ++ flat_map (round_text_of played) (rounds_begun played.game.events)
     ++ unread_lines 0 (unread_of played.file) ++ end_of_play played
 
--- what was told so far as a file is played is the prefix of its report, and the rest is still to come
+-- what was written so far as a file is played is the prefix of its report, and the rest is still to come
 pub record IsPrefix (file text whole : List ℕ) : Type 0 where
   pub rest : List ℕ
   pub is : whole ≡ header file ++ text ++ rest

@@ -1,5 +1,5 @@
--- The parts of a report as they are told while the game is played: the header; after each step that plays a round the
--- text of that round; and at last what follows the rounds.
+-- The parts of a report as they are written while the game is played: the header; after each step that plays a round
+-- the text of that round; and at last what follows the rounds.
 use Rattle.std.specs.Prelude.{◌≡◌, ℕ, zero, suc, if◌then◌else◌, List, [], ◌∷◌, ◌++◌, Option, Some, None, Bool, is_some}
 use Rattle.std.specs.List.{flat_map, list_any}
 use Rattle.events.specs.Event.{round_begun_by}
@@ -35,14 +35,14 @@ abbrev pub next_text_of : Underway → List ℕ
 next_text_of play = text_of_last play.file (game_so_far play)
 
 -- why play of a game stopped, where that is known
-abbrev pub end_told : List ℕ → Option Game → Option End → List ℕ
-end_told file (Some game) (Some end) = end_text file game.seats game.events end
-end_told file (Some game) None = []
-end_told file None end = []
+abbrev pub end_text_if : List ℕ → Option Game → Option End → List ℕ
+end_text_if file (Some game) (Some end) = end_text file game.seats game.events end
+end_text_if file (Some game) None = []
+end_text_if file None end = []
 
 -- why play stopped; nothing before it has, and once it was broken off
 abbrev pub outcome_text_of : Underway → List ℕ
-outcome_text_of play = end_told play.file (game_so_far play) play.outcome
+outcome_text_of play = end_text_if play.file (game_so_far play) play.outcome
 
 -- what follows the rounds: the unread lines, and why play stopped
 abbrev pub end_text_of : Underway → List ℕ

@@ -108,7 +108,7 @@ text_of_one file seats round before (events ∷ rounds) =
 abbrev pub round_text_of : Played → round.Round → List ℕ
 round_text_of played round = text_of_one played.file played.game.seats round [] (rounds_in played.game.events)
 
--- the unread lines, of which this many came before
+-- the unread lines, after this many others
 abbrev pub unread_lines : ℕ → List Fault → List ℕ
 unread_lines count [] = []
 unread_lines count (fault ∷ faults) =

@@ -56,7 +56,7 @@ cash_column seats events party = at_right 6 (signed_decimal (cash_of seats event
 
 -- the same, as a game stood
 abbrev pub cash_column_at : GameView → Party → List ℕ
-cash_column_at past party = cash_column past.seats past.events.now party
+cash_column_at view party = cash_column view.seats view.events.now party
 
 -- how many of a seat's certificates count, in their column
 unfoldable pub counted_column : List Event → Seat → List ℕ
@@ -75,7 +75,7 @@ player_line file seats events seat =
 
 -- the same, as a game stood
 abbrev pub player_line_at : List ℕ → GameView → Seat → List ℕ
-player_line_at file past seat = player_line file past.seats past.events.now seat
+player_line_at file view seat = player_line file view.seats view.events.now seat
 
 -- the name of a company's president
 abbrev pub president_name : List ℕ → Option Seat → List ℕ
@@ -93,7 +93,7 @@ company_figures seats events company square =
 
 -- the same, as a game stood
 abbrev pub company_figures_at : GameView → Company → Square → List ℕ
-company_figures_at past company square = company_figures past.seats past.events.now company square
+company_figures_at view company square = company_figures view.seats view.events.now company square
 
 -- a kind after a space, this many times
 abbrev pub codes_of_kind : Kind → ℕ → List ℕ
@@ -116,7 +116,7 @@ company_line file seats events company square =
 
 -- the same, as a game stood
 abbrev pub company_line_at : List ℕ → GameView → Company → Square → List ℕ
-company_line_at file past company square = company_line file past.seats past.events.now company square
+company_line_at file view company square = company_line file view.seats view.events.now company square
 
 -- the line of a company on a square, if it is on one
 abbrev pub line_on_square : List ℕ → ℕ → List Event → Company → Option Square → List ℕ
@@ -129,7 +129,7 @@ started_line file seats events company = line_on_square file seats events compan
 
 -- the same, as a game stood
 abbrev pub started_line_at : List ℕ → GameView → Company → List ℕ
-started_line_at file past company = started_line file past.seats past.events.now company
+started_line_at file view company = started_line file view.seats view.events.now company
 
 -- the lines of the started companies, in roster order
 unfoldable pub company_lines : List ℕ → ℕ → List Event → List ℕ
@@ -137,7 +137,7 @@ company_lines file seats events = flat_map (λ company. started_line file seats 
 
 -- the same, as a game stood
 abbrev pub company_lines_at : List ℕ → GameView → List ℕ
-company_lines_at file past = company_lines file past.seats past.events.now
+company_lines_at file view = company_lines file view.seats view.events.now
 
 -- the bank's line
 unfoldable pub bank_line : ℕ → List Event → List ℕ
@@ -145,7 +145,7 @@ bank_line seats events = codes "BANK " ++ cash_column seats events party.Bank ++
 
 -- the same, as a game stood
 abbrev pub bank_line_at : GameView → List ℕ
-bank_line_at past = bank_line past.seats past.events.now
+bank_line_at view = bank_line view.seats view.events.now
 
 -- the players' lines
 unfoldable pub player_lines : List ℕ → ℕ → List Event → List ℕ
@@ -154,7 +154,7 @@ player_lines file seats events = flat_map (λ seat. player_line file seats event
 
 -- the same, as a game stood
 abbrev pub player_lines_at : List ℕ → GameView → List ℕ
-player_lines_at file past = player_lines file past.seats past.events.now
+player_lines_at file view = player_lines file view.seats view.events.now
 
 -- the statement of a list of events
 abbrev pub statement : List ℕ → ℕ → List Event → List ℕ
@@ -163,4 +163,4 @@ statement file seats events =
 
 -- the same, as a game stood
 abbrev pub statement_at : List ℕ → GameView → List ℕ
-statement_at file past = statement file past.seats past.events.now
+statement_at file view = statement file view.seats view.events.now

@@ -46,7 +46,7 @@ worth_line file seats events seat = line_of (codes "WORTH")
 
 -- the same, as a game stood
 abbrev pub worth_line_at : List ℕ → GameView → Seat → List ℕ
-worth_line_at file past seat = worth_line file past.seats past.events.now seat
+worth_line_at file view seat = worth_line file view.seats view.events.now seat
 
 -- the lines of all players, in the order of their seats
 unfoldable pub worth_lines : List ℕ → ℕ → List Event → List ℕ
@@ -55,4 +55,4 @@ worth_lines file seats events = flat_map (λ seat. worth_line file seats events 
 
 -- the same, as a game stood
 abbrev pub worth_lines_at : List ℕ → GameView → List ℕ
-worth_lines_at file past = worth_lines file past.seats past.events.now
+worth_lines_at file view = worth_lines file view.seats view.events.now

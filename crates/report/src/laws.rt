@@ -55,11 +55,11 @@ pub fn report_is_its_parts()
     rounds::laws::rounds_follow_in_order()
 }
 
-/// The parts that are told while a game is played are its report: the header, the text of each
+/// The parts that are written while a game is played are its report: the header, the text of each
 /// round as it was played, and, once play has stopped, what follows them. Until then they are a
 /// prefix of the report.
 pub fn parts_are_the_report()
-    ensures front { PartsAreAPrefix }
+    ensures prefix { PartsAreAPrefix }
     ensures whole { PartsAreTheReport }
 {
     rounds::laws::one_game();

@@ -43,9 +43,9 @@ pub fn end_text(alloc: Global, play: &Play) -> Result<Vec<u8>, AllocError>
     Ok(out)
 }
 
-/// The lines for some of the lines that are in no sheet, by their faults, of which `before` came
-/// earlier in the file: so `end_text` can be told a few lines at a time. An error where memory is
-/// refused.
+/// The lines for some of the lines that are in no sheet, by their faults, after `before` others
+/// that came earlier in the file: so `end_text` can be written a few lines at a time. An error
+/// where memory is refused.
 pub fn unread_text(alloc: Global, before: usize, unread: &[Fault]) -> Result<Vec<u8>, AllocError>
     requires { before + length unread.now ≤ usize.MAX }
     ensures { IfOk result (λ text. text.items ≡ unread_lines before unread.now) }

@@ -43,40 +43,40 @@ const TOKEN_WIDTH: usize = 2;
 /// A game as it stood, with who owns and holds what in it and what each party has, read once.
 #[derive(Clone, Copy)]
 pub(crate) struct Snapshot<'a> {
-    past: GameView<'a>,
+    view: GameView<'a>,
     owners: Owners,
     accounts: Accounts,
     holdings: Holdings,
-    ghost owned: { AreOwnersIn past.events.now owners },
-    ghost kept: { AreAccountsAt past accounts },
-    ghost held: { AreHoldingsAt past holdings },
+    ghost owned: { AreOwnersIn view.events.now owners },
+    ghost kept: { AreAccountsAt view accounts },
+    ghost held: { AreHoldingsAt view holdings },
 }
 
 impl<'a> Snapshot<'a> {
     /// A game as it stands.
     pub(crate) fn of(history: &'a History) -> Snapshot<'a>
-        ensures seats { result.past.seats ≡ history.now.seats }
-        ensures events { result.past.events.now ≡ history.now.events }
+        ensures seats { result.view.seats ≡ history.now.seats }
+        ensures events { result.view.events.now ≡ history.now.events }
     {
-        let past = history.now();
+        let view = history.now();
         Snapshot {
-            past,
-            owners: past.owners(),
+            view,
+            owners: view.owners(),
             accounts: Accounts::of(history),
             holdings: Holdings::of(history),
         }
     }
 
     /// A game as it stood.
-    pub(crate) fn at(past: GameView<'a>) -> Snapshot<'a>
-        ensures seats { result.past.seats ≡ past.entry.seats }
-        ensures events { result.past.events.now ≡ past.entry.events.now }
+    pub(crate) fn at(view: GameView<'a>) -> Snapshot<'a>
+        ensures seats { result.view.seats ≡ view.entry.seats }
+        ensures events { result.view.events.now ≡ view.entry.events.now }
     {
         Snapshot {
-            past,
-            owners: past.owners(),
-            accounts: Accounts::at(&past),
-            holdings: Holdings::at(&past),
+            view,
+            owners: view.owners(),
+            accounts: Accounts::at(&view),
+            holdings: Holdings::at(&view),
         }
     }
 }
@@ -87,8 +87,8 @@ pub(crate) fn push_statement(
     sheets: &Sheets,
     snapshot: &Snapshot,
 ) -> Result<(), AllocError>
-    requires { snapshot.now.past.seats ≡ length (players_of sheets.now) }
-    ensures { OnOk result (Adds out.old out.new (statement_at sheets.now snapshot.now.past)) }
+    requires { snapshot.now.view.seats ≡ length (players_of sheets.now) }
+    ensures { OnOk result (Adds out.old out.new (statement_at sheets.now snapshot.now.view)) }
 {
     push_players(out, sheets, snapshot)?;
     push_companies(out, sheets, snapshot)?;
@@ -98,8 +98,8 @@ pub(crate) fn push_statement(
 /// Adds the players' lines.
 #[tactic(auto, unfolding(crate::specs::Statement::player_lines))]
 fn push_players(out: &mut Vec<u8>, sheets: &Sheets, snapshot: &Snapshot) -> Result<(), AllocError>
-    requires { snapshot.now.past.seats ≡ length (players_of sheets.now) }
-    ensures { OnOk result (Adds out.old out.new (player_lines_at sheets.now snapshot.now.past)) }
+    requires { snapshot.now.view.seats ≡ length (players_of sheets.now) }
+    ensures { OnOk result (Adds out.old out.new (player_lines_at sheets.now snapshot.now.view)) }
 {
     for seat in 0..sheets.seats() {
         push_player(out, sheets, snapshot, Seat(seat as u8))?;
@@ -110,7 +110,7 @@ fn push_players(out: &mut Vec<u8>, sheets: &Sheets, snapshot: &Snapshot) -> Resu
 /// Adds the lines of the started companies.
 #[tactic(auto, unfolding(crate::specs::Statement::company_lines))]
 fn push_companies(out: &mut Vec<u8>, sheets: &Sheets, snapshot: &Snapshot) -> Result<(), AllocError>
-    ensures { OnOk result (Adds out.old out.new (company_lines_at sheets.now snapshot.now.past)) }
+    ensures { OnOk result (Adds out.old out.new (company_lines_at sheets.now snapshot.now.view)) }
 {
     for company in &Company::ALL {
         push_company(out, sheets, snapshot, *company)?;
@@ -121,7 +121,7 @@ fn push_companies(out: &mut Vec<u8>, sheets: &Sheets, snapshot: &Snapshot) -> Re
 /// Adds the bank's line.
 #[tactic(auto, unfolding(crate::specs::Statement::bank_line))]
 fn push_bank(out: &mut Vec<u8>, snapshot: &Snapshot) -> Result<(), AllocError>
-    ensures { OnOk result (Adds out.old out.new (bank_line_at snapshot.now.past)) }
+    ensures { OnOk result (Adds out.old out.new (bank_line_at snapshot.now.view)) }
 {
     out.extend_from_slice(b"BANK ")?;
     push_cash(out, snapshot, Party::Bank)?;
@@ -140,7 +140,7 @@ fn push_player(
 ) -> Result<(), AllocError>
     requires { seat.0 < 6 }
     ensures { OnOk result
-        (Adds out.old out.new (player_line_at sheets.now snapshot.now.past seat)) }
+        (Adds out.old out.new (player_line_at sheets.now snapshot.now.view seat)) }
 {
     out.extend_from_slice(b"PLAYER ")?;
     push_left(out, name(sheets, seat), NAME_WIDTH)?;
@@ -156,7 +156,7 @@ fn push_player(
 #[tactic(auto, unfolding(crate::specs::Statement::holdings))]
 fn push_holdings(out: &mut Vec<u8>, snapshot: &Snapshot, seat: Seat) -> Result<(), AllocError>
     requires { seat.0 < 6 }
-    ensures { OnOk result (Adds out.old out.new (holdings snapshot.now.past.events.now seat)) }
+    ensures { OnOk result (Adds out.old out.new (holdings snapshot.now.view.events.now seat)) }
 {
     for company in &Company::ALL {
         push_shares(out, snapshot, *company, Shareholder::Seat(seat))?;
@@ -167,7 +167,7 @@ fn push_holdings(out: &mut Vec<u8>, snapshot: &Snapshot, seat: Seat) -> Result<(
 /// Adds the codes of a seat's privates, each after a space.
 #[tactic(auto, unfolding(crate::specs::Statement::codes_owned))]
 fn push_privates(out: &mut Vec<u8>, snapshot: &Snapshot, seat: Seat) -> Result<(), AllocError>
-    ensures { OnOk result (Adds out.old out.new (codes_owned snapshot.now.past.events.now seat)) }
+    ensures { OnOk result (Adds out.old out.new (codes_owned snapshot.now.view.events.now seat)) }
 {
     for private in &Private::ALL {
         push_private(out, snapshot, seat, *private)?;
@@ -183,7 +183,7 @@ fn push_private(
     private: Private,
 ) -> Result<(), AllocError>
     ensures { OnOk result
-        (Adds out.old out.new (code_owned snapshot.now.past.events.now seat private)) }
+        (Adds out.old out.new (code_owned snapshot.now.view.events.now seat private)) }
 {
     if owns(&snapshot.owners, seat, private) {
         out.push(b' ')?;
@@ -211,9 +211,9 @@ fn push_company(
     company: Company,
 ) -> Result<(), AllocError>
     ensures { OnOk result
-        (Adds out.old out.new (started_line_at sheets.now snapshot.now.past company)) }
+        (Adds out.old out.new (started_line_at sheets.now snapshot.now.view company)) }
 {
-    match snapshot.past.square(company) {
+    match snapshot.view.square(company) {
         None => Ok(()),
         Some(square) => push_started(out, sheets, snapshot, company, square),
     }
@@ -229,12 +229,12 @@ fn push_started(
     square: Square,
 ) -> Result<(), AllocError>
     ensures { OnOk result
-        (Adds out.old out.new (company_line_at sheets.now snapshot.now.past company square)) }
+        (Adds out.old out.new (company_line_at sheets.now snapshot.now.view company square)) }
 {
     out.extend_from_slice(b"COMPANY ")?;
     push_left(out, company.code().as_bytes(), CODE_WIDTH)?;
     push_figures(out, snapshot, company, square)?;
-    push_president(out, sheets, snapshot.past.president(company))?;
+    push_president(out, sheets, snapshot.view.president(company))?;
     push_trains(out, snapshot, company)?;
     out.push(b'\n')?;
     Ok(())
@@ -250,20 +250,20 @@ fn push_figures(
     square: Square,
 ) -> Result<(), AllocError>
     ensures { OnOk result
-        (Adds out.old out.new (company_figures_at snapshot.now.past company square)) }
+        (Adds out.old out.new (company_figures_at snapshot.now.view company square)) }
 {
     push_cash(out, snapshot, Party::of_company(company))?;
     push_right(out, price(square), PRICE_WIDTH)?;
     push_shares(out, snapshot, company, Shareholder::InitialOffering)?;
     push_shares(out, snapshot, company, Shareholder::BankPool)?;
-    push_right(out, snapshot.past.tokens_placed(company), TOKEN_WIDTH)
+    push_right(out, snapshot.view.tokens_placed(company), TOKEN_WIDTH)
 }
 
 /// Adds the cash of a party in its column. A seat is one of six.
 #[tactic(auto, unfolding(crate::specs::Statement::cash_column))]
 fn push_cash(out: &mut Vec<u8>, snapshot: &Snapshot, party: Party) -> Result<(), AllocError>
     requires { HasAccount party }
-    ensures { OnOk result (Adds out.old out.new (cash_column_at snapshot.now.past party)) }
+    ensures { OnOk result (Adds out.old out.new (cash_column_at snapshot.now.view party)) }
 {
     push_right(out, snapshot.accounts.cash(party), CASH_WIDTH)
 }
@@ -278,7 +278,7 @@ fn push_shares(
 ) -> Result<(), AllocError>
     requires { HasPlace place }
     ensures { OnOk result
-        (Adds out.old out.new (shares_column snapshot.now.past.events.now company place)) }
+        (Adds out.old out.new (shares_column snapshot.now.view.events.now company place)) }
 {
     push_right(out, snapshot.holdings.shares(company, place), COUNT_WIDTH)
 }
@@ -288,7 +288,7 @@ fn push_shares(
 fn push_counted(out: &mut Vec<u8>, snapshot: &Snapshot, seat: Seat) -> Result<(), AllocError>
     requires { seat.0 < 6 }
     ensures { OnOk result
-        (Adds out.old out.new (counted_column snapshot.now.past.events.now seat)) }
+        (Adds out.old out.new (counted_column snapshot.now.view.events.now seat)) }
 {
     push_right(out, certificates(snapshot, seat), COUNT_WIDTH)
 }
@@ -296,7 +296,7 @@ fn push_counted(out: &mut Vec<u8>, snapshot: &Snapshot, seat: Seat) -> Result<()
 /// How many certificates of a seat count against the limit. The seat is one of six.
 fn certificates(snapshot: &Snapshot, seat: Seat) -> ShareCount
     requires { seat.0 < 6 }
-    ensures { result ≡ counted_of snapshot.now.past.events.now seat }
+    ensures { result ≡ counted_of snapshot.now.view.events.now seat }
 {
     // A law, which does nothing when it runs: the tables count what the events say.
     certs::laws::counted_by_the_game();
@@ -322,7 +322,7 @@ fn push_president(
 #[tactic(auto, unfolding(crate::specs::Statement::trains_text))]
 fn push_trains(out: &mut Vec<u8>, snapshot: &Snapshot, company: Company) -> Result<(), AllocError>
     ensures { OnOk result
-        (Adds out.old out.new (trains_text snapshot.now.past.events.now company)) }
+        (Adds out.old out.new (trains_text snapshot.now.view.events.now company)) }
 {
     for kind in &Kind::ALL {
         push_trains_of_kind(out, snapshot, company, *kind)?;
@@ -338,12 +338,12 @@ fn push_trains_of_kind(
     kind: Kind,
 ) -> Result<(), AllocError>
     ensures { OnOk result
-        (Adds out.old out.new (codes_of_trains snapshot.now.past.events.now company kind)) }
+        (Adds out.old out.new (codes_of_trains snapshot.now.view.events.now company kind)) }
 {
     push_kind(
         out,
         kind,
-        at_least_zero(Money::from(snapshot.past.trains(Some(company), kind))),
+        at_least_zero(Money::from(snapshot.view.trains(Some(company), kind))),
     )
 }
 

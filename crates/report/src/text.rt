@@ -100,7 +100,7 @@ fn push_rounds(out: &mut Vec<u8>, game: &Game) -> Result<(), AllocError>
     Ok(())
 }
 
-/// Adds the text of the round whose events stand from `begun` up to `end`: their lines, and the
+/// Adds the text of the round whose events are those from `begun` up to `end`: their lines, and the
 /// statement after them, to which the walk along the events goes.
 fn push_round(
     out: &mut Vec<u8>,
@@ -194,7 +194,7 @@ fn ends_round(later: &[Event]) -> bool
     later.first().is_none_or(|event| event.round().is_some())
 }
 
-/// Adds the lines for unread lines, of which this many came before.
+/// Adds the lines for unread lines, after this many others.
 pub(crate) fn push_unread(
     out: &mut Vec<u8>,
     before: usize,

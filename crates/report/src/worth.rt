@@ -20,13 +20,13 @@ use tables::{Amount, Company, Money, Private, Seat, face};
 pub(crate) fn push_worths(
     out: &mut Vec<u8>,
     sheets: &Sheets,
-    past: &GameView,
+    view: &GameView,
 ) -> Result<(), AllocError>
-    requires { past.now.seats ≡ length (players_of sheets.now) }
-    ensures { OnOk result (Adds out.old out.new (worth_lines_at sheets.now past.now)) }
+    requires { view.now.seats ≡ length (players_of sheets.now) }
+    ensures { OnOk result (Adds out.old out.new (worth_lines_at sheets.now view.now)) }
 {
     for seat in 0..sheets.seats() {
-        push_worth(out, sheets, past, Seat(seat as u8))?;
+        push_worth(out, sheets, view, Seat(seat as u8))?;
     }
     Ok(())
 }
@@ -35,67 +35,67 @@ pub(crate) fn push_worths(
 fn push_worth(
     out: &mut Vec<u8>,
     sheets: &Sheets,
-    past: &GameView,
+    view: &GameView,
     seat: Seat,
 ) -> Result<(), AllocError>
-    ensures { OnOk result (Adds out.old out.new (worth_line_at sheets.now past.now seat)) }
+    ensures { OnOk result (Adds out.old out.new (worth_line_at sheets.now view.now seat)) }
 {
     out.extend_from_slice(b"WORTH ")?;
     push_name(out, sheets, seat)?;
     out.push(b' ')?;
-    print_number(out, player_worth(past, seat))?;
+    print_number(out, player_worth(view, seat))?;
     out.push(b'\n')?;
     Ok(())
 }
 
 /// What a seat is worth, in dollars: its cash, its shares at the market price, and its privates at
 /// their face value.
-pub fn player_worth(past: &GameView, seat: Seat) -> Money
-    ensures { result ≡ worth_of past.now.seats past.now.events.now seat }
+pub fn player_worth(view: &GameView, seat: Seat) -> Money
+    ensures { result ≡ worth_of view.now.seats view.now.events.now seat }
 {
-    let owned = shares_worth(past, seat) + u128::from(privates_worth(past, seat));
-    past.cash(Party::of_seat(seat)) + owned as Money
+    let owned = shares_worth(view, seat) + u128::from(privates_worth(view, seat));
+    view.cash(Party::of_seat(seat)) + owned as Money
 }
 
 /// What all shares that a seat has are worth, in dollars.
-fn shares_worth(past: &GameView, seat: Seat) -> u128
-    ensures sum { result ≡ worth_of_all_shares past.now.events.now seat }
+fn shares_worth(view: &GameView, seat: Seat) -> u128
+    ensures sum { result ≡ worth_of_all_shares view.now.events.now seat }
     ensures small { result ≤ 2 ^ 112 }
 {
     let mut sum = 0;
     for company in Company::ALL {
-        sum += company_worth(past, seat, company);
+        sum += company_worth(view, seat, company);
     }
     sum
 }
 
 /// What the shares of a company that a seat has are worth, in dollars: nothing where the company has
 /// no market price.
-fn company_worth(past: &GameView, seat: Seat, company: Company) -> u128
-    ensures worth { result ≡ worth_of_shares past.now.events.now seat company }
+fn company_worth(view: &GameView, seat: Seat, company: Company) -> u128
+    ensures worth { result ≡ worth_of_shares view.now.events.now seat company }
     ensures small { result ≤ 2 ^ 109 }
 {
-    let shares = at_least_zero(past.shares(company, Shareholder::Seat(seat)));
-    shares * u128::from(market_price(past, company))
+    let shares = at_least_zero(view.shares(company, Shareholder::Seat(seat)));
+    shares * u128::from(market_price(view, company))
 }
 
 /// What all privates are worth that a seat owns, in dollars.
-fn privates_worth(past: &GameView, seat: Seat) -> Amount
-    ensures sum { result ≡ worth_of_privates past.now.events.now seat }
+fn privates_worth(view: &GameView, seat: Seat) -> Amount
+    ensures sum { result ≡ worth_of_privates view.now.events.now seat }
     ensures small { result ≤ 1320 }
 {
-    let owners = past.owners();
+    let owners = view.owners();
     let mut sum = 0;
     for private in Private::ALL {
-        sum += private_worth(past, &owners, seat, private);
+        sum += private_worth(view, &owners, seat, private);
     }
     sum
 }
 
 /// What a private is worth to a seat, in dollars: nothing where another owns it.
-fn private_worth(past: &GameView, owners: &Owners, seat: Seat, private: Private) -> Amount
-    requires { AreOwnersIn past.now.events.now owners.now }
-    ensures worth { result ≡ worth_of_private past.now.events.now seat private }
+fn private_worth(view: &GameView, owners: &Owners, seat: Seat, private: Private) -> Amount
+    requires { AreOwnersIn view.now.events.now owners.now }
+    ensures worth { result ≡ worth_of_private view.now.events.now seat private }
     ensures small { result ≤ 220 }
 {
     if owns(owners, seat, private) {

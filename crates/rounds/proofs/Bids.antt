@@ -13,7 +13,7 @@ use Rattle.totals.specs.LookBack.{Game}
 use Rattle.history.specs.Sound.{BiddersAreSeated}
 use Rattle.operating.specs.BidLaws.{TurnsSayNoBid}
 use Rattle.privates.specs.BidsRise.{BidsRise, OpeningBidsRise, is_near_earlier}
-use Rattle.rounds.proofs.Growing.{GrowsBy, further, stays, told}
+use Rattle.rounds.proofs.Growing.{GrowsBy, by_one_event, further, stays}
 use Rattle.rounds.proofs.OpeningSeats.{opening_seated, others_seated}
 use Rattle.rounds.proofs.RoundSteps.{IsPassedStill, of_operating, of_stock}
 use Rattle.rounds.specs.Play.{AreRounds, Between, IsPlayed, before_play}
@@ -91,7 +91,7 @@ grows_on turns =
     record {
       same = stays;
       both = further;
-      still = λ events its says. told events its (is_nothing (bidding_of its) says.bids);
+      still = λ events its says. by_one_event events its (is_nothing (bidding_of its) says.bids);
       turns = λ file round company old new turn.
           let says = turns file round company old new turn in
           record { more = says.more; longer = ap (λ (game : Game). game.events) says.added; aside = says.no_bid };
@@ -137,7 +137,7 @@ module _ (opening : OpeningBidsRise) (turns : TurnsSayNoBid) (file : List ℕ) (
 
 -- nobody has bid at first
 none_first : (seats : ℕ) → RiseAt seats []
-none_first seats = record { rise = tt; seated = λ private seat amount stands. absurd (cc) }
+none_first seats = record { rise = tt; seated = λ private seat amount is_bid. absurd (cc) }
 
 -- so they rise in each game
 rise_so_far : OpeningBidsRise → TurnsSayNoBid → (file : List ℕ) → 0 < length (players_of file) →

@@ -10,14 +10,14 @@ use Rattle.map_tables.specs.declared.rules.RunRule.{RunRule}
 use Rattle.operating.specs.Best.{best_judgement}
 use Rattle.operating.specs.Calls.{Call, Course, Then, TimesThen, Unasked}
 use Rattle.operating.specs.Turn.{is_held}
-use Rattle.operating.specs.TurnCalls.{AskedCalls, Asks, BestCalls, BlockCalls, EndCalls, IsCredited, LineCalls}
+use Rattle.operating.specs.TurnCalls.{AskedCalls, Asks, BestCalls, CompanyOrdersCall, EndCalls, IsCredited, LineCalls}
 use Rattle.operating.specs.TurnCalls.{LinesCall, OrderCalls, ReadingCalls, TurnCalls, asked}
 use Rattle.order_grammar.specs.declared.fault.Fault.{Fault}
 use Rattle.order_grammar.specs.declared.order.Order.{Order}
 use Rattle.privates.specs.Turn.{all_sold}
 use Rattle.rounds.proofs.Coming.{OfNext, after_operating, comes_in_sequence, comes_once, of_coming}
 use Rattle.rounds.proofs.Forward.{posted_small}
-use Rattle.rounds.proofs.InSet.{IsInSet, IsNextInSet, coming_in_set, first_stands, in_any_set}
+use Rattle.rounds.proofs.InSet.{IsInSet, IsNextInSet, coming_in_set, first_is_in_set, in_any_set}
 use Rattle.rounds.specs.CallsNamed.{CallsAreNamed}
 use Rattle.rounds.specs.GameCalls.{AreOver, IsFinished, IsOpened, NextCalls, OperatingCalls, PlayedCalls, RoundCalls}
 use Rattle.rounds.specs.GameCalls.{Stops, TurnsCall, between_after}
@@ -27,7 +27,7 @@ use Rattle.rounds.specs.declared.fault.PlayFault.{PlayFault}
 use Rattle.rounds.specs.declared.fault.PlayFault.TheVariants.{Memory}
 use Rattle.rounds.specs.declared.following.Next.{Next}
 use Rattle.rounds.specs.declared.following.Next.TheVariants as next
-use Rattle.sheets.specs.Block.{block_for}
+use Rattle.sheets.specs.CompanyOrders.{company_orders_for}
 use Rattle.sheets.specs.File.{players_of}
 use Rattle.sheets.specs.Laws.{SheetsAreNumbered, ThreeToSixPlay, number_of}
 use Rattle.sheets.specs.Part.{Numbered}
@@ -120,12 +120,12 @@ lines_for by round (line ∷ lines) turn to calls course =
     of_then (IsFor round) (LineCalls by round line) (LinesCall by round lines) (reading_for by round line line.reading)
     (lines_for by round lines) turn to calls course
 
-block_for_round : (file : List ℕ) (round : Round) (company : Company) (president : Option Seat)
-    → AreFor round (BlockCalls file round company president)
-block_for_round file round company None turn to calls course = of_none (IsFor round) calls course.1
-block_for_round file round company (Some seat) turn to calls course =
-    lines_for (record { company = company; president = seat }) round (block_for file round seat.0 company) turn to
-    calls course
+orders_for_round : (file : List ℕ) (round : Round) (company : Company) (president : Option Seat)
+    → AreFor round (CompanyOrdersCall file round company president)
+orders_for_round file round company None turn to calls course = of_none (IsFor round) calls course.1
+orders_for_round file round company (Some seat) turn to calls course =
+    lines_for (record { company = company; president = seat }) round (company_orders_for file round seat.0 company) turn
+    to calls course
 
 -- those of a turn in a round are for that round
 turn_for : (file : List ℕ) (round : Round) (company : Company) → AreFor round (TurnCalls file round company)
@@ -136,8 +136,8 @@ turn_for file round company old to calls course =
           let president : Option Seat = president_of old.events company in
           let first : AllByRecursion (IsFor round) joins.earlier = of_none (IsFor round) joins.earlier joins.leads.1 in
           let rest : AllByRecursion (IsFor round) joins.later =
-          of_then (IsFor round) (BlockCalls file round company president) (EndCalls file round company president)
-          (block_for_round file round company president)
+          of_then (IsFor round) (CompanyOrdersCall file round company president) (EndCalls file round company president)
+          (orders_for_round file round company president)
           (λ last new calls end. of_none (IsFor round) calls end.1) joins.between to joins.later joins.goes_on
           in
           subst (AllByRecursion (IsFor round)) (sym joins.all)
@@ -195,7 +195,7 @@ ComesFromOne there = (round : Round) → there.next ≡ next.Round round → Are
 first_from_one : (file : List ℕ) → ComesFromOne (before_play file)
 first_from_one file round comes = subst AreFromOne (comes_once (Opening 1) round comes) (omega arith)
 
--- and after each that was played; so the next stands within its set
+-- and after each that was played; so the next is within its set
 module _ (old new : Between) (round : Round) (game : Game) (after : new ≡ between_after round old.in_set game)
     (comes : old.next ≡ next.Round round) where
   comes_then : (later : Round) → new.next ≡ next.Round later → coming round old.in_set game.events ≡ next.Round later
@@ -211,14 +211,14 @@ module _ (old new : Between) (round : Round) (game : Game) (after : new ≡ betw
       (follows_then later is)
       (next_from_one round old.in_set (all_sold game.events) (broken_in game.events) (from round comes))
 
-  stands_then : IsNextInSet old → IsNextInSet new
-  stands_then stands later is =
+  stays_in_set : IsNextInSet old → IsNextInSet new
+  stays_in_set within_set later is =
       let count : new.in_set ≡ in_set_before (next.Round later) game.events old.in_set =
       ap (λ (there : Between). there.in_set) after ∙ ap (λ (it : Next). in_set_before it game.events old.in_set)
       (comes_then later is) in
       subst (λ (in_set : ℕ). IsInSet later in_set) (sym count)
       (coming_in_set round later old.in_set (all_sold game.events) (broken_in game.events) game.events
-      (stands round comes) (follows_then later is))
+      (within_set round comes) (follows_then later is))
 
 -- a call is for a round that a line can name
 abbrev IsForNamed : Call → Type 0
@@ -247,10 +247,10 @@ module _ (numbered : SheetsAreNumbered) (file : List ℕ) (some : 0 < length (pl
   round_named :
       (old new : Between) (calls : List Call) → ComesFromOne old → IsNextInSet old → RoundCalls file old (Ok new) calls →
       AllByRecursion IsForNamed calls
-  round_named old new calls from stands course =
+  round_named old new calls from within_set course =
       let round : Round = course.0 in
       let small : number_of round ≤ number_most = posted_small numbered file round some course.1.posted in
-      let turn : turn_in_set round ≤ operating_most = in_any_set round old.in_set (stands round course.1.comes) in
+      let turn : turn_in_set round ≤ operating_most = in_any_set round old.in_set (within_set round course.1.comes) in
       all_named round calls (named round (from round course.1.comes) small turn)
       (of_then (IsFor round) (PlayedCalls file round) (After round old.in_set) (played_for file round)
       (of_unasked (IsFor round) Memory (λ (game : Game) (there : Between). there
@@ -261,8 +261,8 @@ module _ (numbered : SheetsAreNumbered) (file : List ℕ) (some : 0 < length (pl
       (times : ℕ) (old : Between) (played : Played) (calls : List Call) → ComesFromOne old → IsNextInSet old →
       TimesThen times (RoundCalls file) (Unasked Memory (Stops file)) old (Ok played) calls
       → AllByRecursion IsForNamed calls
-  times_named zero old played calls from stands course = of_none IsForNamed calls course.1
-  times_named (suc times) old played calls from stands course =
+  times_named zero old played calls from within_set course = of_none IsForNamed calls course.1
+  times_named (suc times) old played calls from within_set course =
       elim course [
         | inl never ↦ absurd never
         | inr joins ↦
@@ -270,11 +270,11 @@ module _ (numbered : SheetsAreNumbered) (file : List ℕ) (some : 0 < length (pl
             let round : Round = joins.leads.0 in
             let comes : old.next ≡ next.Round round = joins.leads.1.comes in
             subst (AllByRecursion IsForNamed) (sym joins.all)
-            (of_both IsForNamed joins.earlier joins.later (round_named old joins.between joins.earlier from stands
+            (of_both IsForNamed joins.earlier joins.later (round_named old joins.between joins.earlier from within_set
             joins.leads)
             (times_named times joins.between played joins.later
             (from_one_then old joins.between round led.0 led.1 comes from)
-            (stands_then old joins.between round led.0 led.1 comes stands) joins.goes_on))
+            (stays_in_set old joins.between round led.0 led.1 comes within_set) joins.goes_on))
       ]
 
 -- so are all calls of a game
@@ -282,4 +282,4 @@ pub calls_named : SheetsAreNumbered → ThreeToSixPlay → CallsAreNamed
 calls_named numbered players file played calls accepted course =
     let many = (players file accepted).0 in
     times_named numbered file (omega (arith, many)) course.0 (before_play file) played calls (first_from_one file)
-    (first_stands file) course.1
+    (first_is_in_set file) course.1

@@ -21,10 +21,10 @@ module _ (numbered : SheetsAreNumbered) (last : Round) (first second : List ℕ)
   forward : (old new : Between) (later : Round) → IsNextInSet old → (round : IsRound first old new)
       → new.next ≡ next.Round later →
       rank_of round.round < rank_of later
-  forward old new later stands round comes =
+  forward old new later within_set round comes =
       played_forward numbered first round.round later old.in_set (all_sold new.game.events)
       (broken_in new.game.events) some
-      (stands round.round round.comes) round.posted (follows first old new later round comes)
+      (within_set round.round round.comes) round.posted (follows first old new later round comes)
 
   -- a round up to the last is played alike
   alike : (old new : Between) (round : IsRound first old new) → rank_of round.round ≤ rank_of last

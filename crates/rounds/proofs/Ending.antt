@@ -5,7 +5,7 @@ use Rattle.std.proofs.lemmas.Bool.{cases_Bool}
 use Rattle.totals.specs.LookBack.{Game}
 use Rattle.privates.specs.Opening as opening
 use Rattle.rounds.proofs.Forward.{fewer_to_come}
-use Rattle.rounds.proofs.InSet.{IsNextInSet, first_stands, round_in_set}
+use Rattle.rounds.proofs.InSet.{IsNextInSet, first_is_in_set, round_in_set}
 use Rattle.rounds.specs.OperatingRound as operating
 use Rattle.rounds.specs.Play.{AreRounds, Between, IsPlayed, IsRound, Plays, SomeGame, all_posted, before_play, coming}
 use Rattle.rounds.specs.Play.{goes_on, in_set_before}
@@ -76,13 +76,13 @@ module _ (opening_ends : EachOpeningEnds) (stock_ends : EachStockRoundEnds) (ope
   plays_within : SheetsAreNumbered → (bound done : ℕ) (old : Between) → 0 < length (players_of file) →
       IsNextInSet old → AreRounds file done (before_play file) old →
       places_to_come old.next < bound → (last : Between) × Plays file last
-  plays_within numbered zero done old some stands rounds few = absurd (omega arith)
-  plays_within numbered (suc bound) done old some stands rounds few =
+  plays_within numbered zero done old some within_set rounds few = absurd (omega arith)
+  plays_within numbered (suc bound) done old some within_set rounds few =
       elim (goes_or_stops file old.next) [
         | inl goes ↦
             let new = one_more old goes.0 goes.1 goes.2 in
-            let fewer = fewer_to_come numbered file old new.0 some stands new.1 in
-            plays_within numbered bound (suc done) new.0 some (round_in_set file old new.0 stands new.1)
+            let fewer = fewer_to_come numbered file old new.0 some within_set new.1 in
+            plays_within numbered bound (suc done) new.0 some (round_in_set file old new.0 within_set new.1)
             (old, rounds, new.1) (omega (arith, few, fewer))
         | inr stopped ↦ (old, record { rounds = done; reached = rounds; stopped = stopped })
       ]
@@ -93,4 +93,4 @@ pub some_game_accepted : SheetsAreNumbered → ThreeToSixPlay → EachOpeningEnd
 some_game_accepted numbered players opening_ends stock_ends operating_ends file accepted =
     let three = (players file accepted).0 in
     plays_within opening_ends stock_ends operating_ends file numbered (places_to_come (before_play file).next + 1)
-    zero (before_play file) (omega arith) (first_stands file) refl (omega arith)
+    zero (before_play file) (omega arith) (first_is_in_set file) refl (omega arith)

@@ -63,17 +63,17 @@ module _ (numbered : SheetsAreNumbered) (file : List ℕ) (round later : Round) 
   -- what follows a round that is played comes later
   pub played_forward : 0 < length (players_of file) → IsInSet round in_set → all_posted file round ≡ true →
       following round in_set all_sold broken ≡ next.Round later → rank_of round < rank_of later
-  played_forward some stands posted comes =
+  played_forward some within_set posted comes =
       later_than round later in_set all_sold broken (posted_small numbered file round some posted)
-      (in_any_set round in_set stands) comes
+      (in_any_set round in_set within_set) comes
 
   -- and leaves fewer places
   pub fewer_places : 0 < length (players_of file) → IsInSet round in_set → all_posted file round ≡ true →
       following round in_set all_sold broken ≡ next.Round later → places_left later < places_left round
-  fewer_places some stands posted comes =
+  fewer_places some within_set posted comes =
       let small = posted_small numbered file round some posted in
-      let within = before_the_last round small (in_any_set round in_set stands) in
-      let forward = played_forward some stands posted comes in
+      let within = before_the_last round small (in_any_set round in_set within_set) in
+      let forward = played_forward some within_set posted comes in
       omega arith
 
 module _ (numbered : SheetsAreNumbered) (file : List ℕ) (old new : Between) (some : 0 < length (players_of file))
@@ -93,9 +93,9 @@ module _ (numbered : SheetsAreNumbered) (file : List ℕ) (old new : Between) (s
 pub fewer_to_come : SheetsAreNumbered → (file : List ℕ) (old new : Between) → 0 < length (players_of file)
     → IsNextInSet old →
     IsRound file old new → places_to_come new.next < places_to_come old.next
-fewer_to_come numbered file old new some stands round =
+fewer_to_come numbered file old new some within_set round =
     let is : places_to_come old.next ≡ places_left round.round = ap places_to_come round.comes in
-    let fewer = fewer_than_before numbered file old new some round (stands round.round round.comes) new.next refl in
+    let fewer = fewer_than_before numbered file old new some round (within_set round.round round.comes) new.next refl in
     omega (arith, is, fewer)
 
 -- what a round asks holds before the next, if it holds after the one that was played

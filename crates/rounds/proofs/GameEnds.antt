@@ -73,9 +73,9 @@ bankruptcy_ends file old new round bankrupt =
     )
 
 -- a broken bank stays broken
-stays_broken : (front back : List Event) → broken_in front ≡ true → broken_in (front ++ back) ≡ true
-stays_broken front back broken =
-    list_any-append says_broken front back ∙ ap (λ (b : Bool). b || broken_in back) broken
+stays_broken : (prefix back : List Event) → broken_in prefix ≡ true → broken_in (prefix ++ back) ≡ true
+stays_broken prefix back broken =
+    list_any-append says_broken prefix back ∙ ap (λ (b : Bool). b || broken_in back) broken
 
 -- through a round
 broken_through : TurnOnlyAdds → (file : List ℕ) (old new : Between) → IsRound file old new
@@ -167,10 +167,10 @@ broken_ends file set old new round comes broken =
 ends_with_set : (round : Round) (in_set : ℕ) (sold broken : Bool) → IsInSet round in_set
     → following round in_set sold broken ≡ next.Ended →
     (broken ≡ true) × (set : ℕ) × (round ≡ Operating set in_set)
-ends_with_set (Opening number) in_set sold broken stands over = absurd (no_round _ (sym over))
-ends_with_set (Stock set) in_set sold broken stands over = absurd (no_round _ (sym over))
-ends_with_set (Operating set number) in_set sold true stands over =
-    let within : number ≤ in_set = stands.within in
+ends_with_set (Opening number) in_set sold broken within_set over = absurd (no_round _ (sym over))
+ends_with_set (Stock set) in_set sold broken within_set over = absurd (no_round _ (sym over))
+ends_with_set (Operating set number) in_set sold true within_set over =
+    let within : number ≤ in_set = within_set.within in
     elim (nat_lt number in_set) as (λ (more : Bool). nat_lt number in_set ≡ more →
     (if more then next.Round (Operating set (number + 1)) else next.Ended) ≡ next.Ended →
     (true ≡ true) × (its : ℕ) × (Operating set number ≡ Operating its in_set)) [
@@ -181,7 +181,7 @@ ends_with_set (Operating set number) in_set sold true stands over =
           (refl, set, ap (λ (n : ℕ). Operating set n) last)
     ]
     refl over
-ends_with_set (Operating set number) in_set sold false stands over =
+ends_with_set (Operating set number) in_set sold false within_set over =
     let later = some_comes (Operating set number) in_set sold in
     absurd (no_round later.0 (sym over ∙ later.1))
 
@@ -195,12 +195,12 @@ sequence_ends false says solvent over = over
 pub nothing_else : NothingElseEndsGames
 nothing_else file rounds old new reached round over =
     let events = new.game.events in
-    let stands : IsInSet round.round old.in_set = comes_in_set file rounds old reached round.round round.comes in
+    let within_set : IsInSet round.round old.in_set = comes_in_set file rounds old reached round.round round.comes in
     elim (cases_Bool (bankrupt_in events)) [
       | inl bankrupt ↦ inl bankrupt
       | inr solvent ↦
           let says = sequence_ends (bankrupt_in events) (following round.round old.in_set (all_sold events)
           (broken_in events)) solvent (sym round.next_then ∙ over) in
-          let ends = ends_with_set round.round old.in_set (all_sold events) (broken_in events) stands says in
+          let ends = ends_with_set round.round old.in_set (all_sold events) (broken_in events) within_set says in
           inr (ends.0, ends.1, round.comes ∙ ap next.Round ends.2)
     ]

@@ -20,17 +20,18 @@ pub record GoesOn (old new : List Event) : Type 0 where
   pub quiet : rounds_begun more ≡ []
 
 -- a round in front of rounds of two lists
-round_in_front : (round : Option Round) (front back : List Round)
-    → with_round round (front ++ back) ≡ with_round round front ++ back
-round_in_front None front back = refl
-round_in_front (Some round) front back = refl
+round_in_front : (round : Option Round) (prefix back : List Round)
+    → with_round round (prefix ++ back) ≡ with_round round prefix ++ back
+round_in_front None prefix back = refl
+round_in_front (Some round) prefix back = refl
 
 -- rounds of one list after those of another
-pub begun_in_both : (front back : List Event) → rounds_begun (front ++ back) ≡ rounds_begun front ++ rounds_begun back
+pub begun_in_both : (prefix back : List Event) → rounds_begun (prefix ++ back) ≡ rounds_begun prefix
+    ++ rounds_begun back
 begun_in_both [] back = refl
-begun_in_both (event ∷ front) back =
-    ap (with_round (round_begun_by event)) (begun_in_both front back)
-    ∙ round_in_front (round_begun_by event) (rounds_begun front) (rounds_begun back)
+begun_in_both (event ∷ prefix) back =
+    ap (with_round (round_begun_by event)) (begun_in_both prefix back)
+    ∙ round_in_front (round_begun_by event) (rounds_begun prefix) (rounds_begun back)
 
 -- it goes on further
 goes_further : (a b c : List Event) → GoesOn a b → GoesOn b c → GoesOn a c

@@ -78,8 +78,8 @@ grows_too test other each old new grows =
     record { more = grows.more; longer = grows.longer; aside = pass_too test other each grows.more grows.aside }
 
 -- what is still stands aside
-pub stands_aside : (old new : List Event) → GrowsStill old new → Grows old new
-stands_aside =
+pub still_is_aside : (old new : List Event) → GrowsStill old new → Grows old new
+still_is_aside =
     grows_too is_still is_aside
     (λ event still. (and_parts (is_aside event)
     (is_none (bidding_of event) && not (names_owner (ownership_of event))) still).0)
@@ -95,8 +95,8 @@ passes_plain test =
     grows_too (and_plain test) is_plain (λ event both. (and_parts (test event) (is_plain event) both).1)
 
 -- what is still and plain stands aside and is plain
-pub stands_plainly : (old new : List Event) → GrowsPlainly is_still old new → GrowsPlainly is_aside old new
-stands_plainly =
+pub still_is_plain : (old new : List Event) → GrowsPlainly is_still old new → GrowsPlainly is_aside old new
+still_is_plain =
     grows_too (and_plain is_still) (and_plain is_aside)
     (λ event both.
     let parts = and_parts (is_still event) (is_plain event) both in
@@ -109,11 +109,11 @@ pub stays : {test : Event → Bool} (events : List Event) → GrowsBy test event
 stays events = record { more = []; longer = sym (append-nil events); aside = refl }
 
 -- what stands aside, and more that does
-pub both_aside : (test : Event → Bool) (front back : List Event) → list_all test front ≡ true →
+pub both_aside : (test : Event → Bool) (prefix back : List Event) → list_all test prefix ≡ true →
     list_all test back ≡ true →
-    list_all test (front ++ back) ≡ true
-both_aside test front back first second =
-    list_all-append test front back ∙ ap (λ (b : Bool). b && list_all test back) first ∙ second
+    list_all test (prefix ++ back) ≡ true
+both_aside test prefix back first second =
+    list_all-append test prefix back ∙ ap (λ (b : Bool). b && list_all test back) first ∙ second
 
 -- it grows further
 pub further : {test : Event → Bool} (a b c : List Event) → GrowsBy test a b → GrowsBy test b c → GrowsBy test a c
@@ -142,14 +142,15 @@ by_steps step each (suc n) events =
     (each (iterate step n events))
 
 -- by one event that stands aside
-pub told : {test : Event → Bool} (events : List Event) (event : Event) → test event ≡ true →
+pub by_one_event : {test : Event → Bool} (events : List Event) (event : Event) → test event ≡ true →
     GrowsBy test events (events ++ event ∷ [])
-told events event aside = record { more = event ∷ []; longer = refl; aside = ap (λ (b : Bool). b && true) aside }
+by_one_event events event aside = record { more = event ∷ []; longer = refl; aside = ap (λ (b : Bool). b && true) aside
+    }
 
 -- by BROKEN, where the bank breaks
 pub broken_grows : (seats : ℕ) (events : List Event) → GrowsPlainly is_still events (with_broken seats events)
 broken_grows seats events =
-    in_either events (events ++ event.Broken ∷ []) events (breaks seats events) (told events event.Broken refl)
+    in_either events (events ++ event.Broken ∷ []) events (breaks seats events) (by_one_event events event.Broken refl)
     (stays events)
 
 -- by a revenue
@@ -158,7 +159,7 @@ owner_grows : (seats : ℕ) (events : List Event) (private : Private) (owner : O
 owner_grows seats events private None = stays events
 owner_grows seats events private (Some owner) =
     let paid : List Event = events ++ event.Revenue private owner (revenue_of private) ∷ [] in
-    further events paid _ (told events (event.Revenue private owner (revenue_of private)) refl)
+    further events paid _ (by_one_event events (event.Revenue private owner (revenue_of private)) refl)
     (broken_grows seats paid)
 
 -- by the revenues of some privates

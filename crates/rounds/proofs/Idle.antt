@@ -75,8 +75,8 @@ module _ (company : Company) (before after : Company → Bool) (too : OperatedTo
   -- and fewer are, where it was among them
   fewer_idle_in : (them : List Company) → 1 ≤ times company them → before company ≡ false
       → idle_in after them < idle_in before them
-  fewer_idle_in [] stands idle = absurd (omega arith)
-  fewer_idle_in (other ∷ others) stands idle =
+  fewer_idle_in [] is_among idle = absurd (omega arith)
+  fewer_idle_in (other ∷ others) is_among idle =
       elim (same_company other company) as (λ (b : Bool). same_company other company ≡ b
       → idle_in after (other ∷ others) < idle_in before (other ∷ others)) [
         | true ↦ λ same.
@@ -93,7 +93,7 @@ module _ (company : Company) (before after : Company → Bool) (too : OperatedTo
             subst (λ (b : Bool). (if b then 0 else 1) ≤ (if before other then 0 else 1)) (sym (too other))
             (one_no_more (same_company company other) (before other))
             in
-            omega (arith, one, fewer_idle_in others (omega (arith, stands, count)) idle)
+            omega (arith, one, fewer_idle_in others (omega (arith, is_among, count)) idle)
       ]
       refl
 
@@ -143,8 +143,8 @@ found_passes test (first ∷ others) company found =
 -- where nothing is found, all in the list fail
 none_passes : (test : Company → Bool) (them : List Company) (company : Company) → find test them ≡ None
     → 1 ≤ times company them → test company ≡ false
-none_passes test [] company none stands = absurd (omega arith)
-none_passes test (first ∷ others) company none stands =
+none_passes test [] company none is_among = absurd (omega arith)
+none_passes test (first ∷ others) company none is_among =
     elim (test first) as (λ (b : Bool). test first ≡ b → (if b then Some first else find test others) ≡ None
     → test company ≡ false) [
       | true ↦ λ passes is. absurd (cc)
@@ -154,7 +154,7 @@ none_passes test (first ∷ others) company none stands =
             | false ↦ λ apart.
                 let count : times company (first ∷ others) ≡ 0 + times company others =
                 ap (λ (b : Bool). (if b then 1 else 0) + times company others) apart in
-                none_passes test others company is (omega (arith, stands, count))
+                none_passes test others company is (omega (arith, is_among, count))
           ]
           refl
     ]

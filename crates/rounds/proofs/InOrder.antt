@@ -64,11 +64,11 @@ record TellsInOrder (there : Between) : Type 0 where
 begun_then : (events new : List Event) (round : Round) → GoesOn (events ++ event.Round round ∷ []) new
     → rounds_begun new ≡ rounds_begun events ++ round ∷ []
 begun_then events new round grows =
-    let told : List Event = events ++ event.Round round ∷ [] in
+    let recorded : List Event = events ++ event.Round round ∷ [] in
     ap rounds_begun grows.longer
-    ∙ begun_in_both told grows.more
-    ∙ ap (λ (list : List Round). rounds_begun told ++ list) grows.quiet
-    ∙ append-nil (rounds_begun told)
+    ∙ begun_in_both recorded grows.more
+    ∙ ap (λ (list : List Round). rounds_begun recorded ++ list) grows.quiet
+    ∙ append-nil (rounds_begun recorded)
     ∙ begun_in_both events (event.Round round ∷ [])
 
 module _ (adds : TurnOnlyAdds) (numbered : SheetsAreNumbered) (file : List ℕ)
@@ -77,14 +77,14 @@ module _ (adds : TurnOnlyAdds) (numbered : SheetsAreNumbered) (file : List ℕ)
   forward : (old new : Between) (later : Round) → IsNextInSet old → (round : IsRound file old new)
       → new.next ≡ next.Round later →
       rank_of round.round < rank_of later
-  forward old new later stands round comes =
+  forward old new later within_set round comes =
       played_forward numbered file round.round later old.in_set (all_sold new.game.events) (broken_in new.game.events)
       some
-      (stands round.round round.comes) round.posted (follows file old new later round comes)
+      (within_set round.round round.comes) round.posted (follows file old new later round comes)
 
   -- so the order goes on
   round_in_order : (old new : Between) → TellsInOrder old → IsNextInSet old → IsRound file old new → TellsInOrder new
-  round_in_order old new tells stands round =
+  round_in_order old new tells within_set round =
       let it : Round = round.round in
       let grows = round_goes_on adds file it old.game new.game round.played in
       let begun : rounds_begun new.game.events ≡ rounds_begun old.game.events ++ it ∷ [] =
@@ -96,7 +96,8 @@ module _ (adds : TurnOnlyAdds) (numbered : SheetsAreNumbered) (file : List ℕ)
         before =
             λ later comes.
             subst (λ (rounds : List Round). AreBefore rounds later) (sym begun)
-            (all_before_next (rounds_begun old.game.events) it later before (forward old new later stands round comes));
+            (all_before_next (rounds_begun old.game.events) it later before
+            (forward old new later within_set round comes));
       }
 
   -- from the beginning

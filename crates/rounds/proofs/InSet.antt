@@ -1,4 +1,4 @@
--- Each round that comes stands within its set.
+-- Each round that comes is within its set.
 use Rattle.std.proofs.Common.{◌≡◌, ℕ, zero, suc, ◌+◌, ◌<◌, ◌≤◌, Bool, true, false, List, [], length, sym, ap, subst}
 use Rattle.std.proofs.Common.{◌∙◌, arith}
 use Rattle.std.proofs.lemmas.Bool.{ltb-true}
@@ -24,9 +24,10 @@ pub record IsInSet (round : Round) (in_set : ℕ) : Type 0 where
   pub few : in_set ≤ operating_most
   pub within : turn_in_set round ≤ in_set
 
--- a round stands within its set, and so within the most that a set has
+-- a round is within its set, and so within the most that a set has
 pub in_any_set : (round : Round) (in_set : ℕ) → IsInSet round in_set → turn_in_set round ≤ operating_most
-in_any_set round in_set stands = let few = stands.few in let within = stands.within in omega (arith, few, within)
+in_any_set round in_set within_set = let few = within_set.few in let within = within_set.within in omega
+    (arith, few, within)
 
 -- the first round does
 first_in_set : (file : List ℕ) → IsInSet (Opening 1) (before_play file).in_set
@@ -41,7 +42,7 @@ new_set_few Five = (omega arith, omega arith)
 new_set_few Six = (omega arith, omega arith)
 new_set_few Diesel = (omega arith, omega arith)
 
--- its stock round stands within it
+-- its stock round is within it
 new_set : (set : ℕ) (events : List Event) → IsInSet (Stock set) (rounds_of_new_set events)
 new_set set events =
     let few = new_set_few (phase_of events) in record { some = few.0; few = few.1; within = omega arith }
@@ -51,48 +52,48 @@ next_in_set : (round : Round) (in_set : ℕ) (all_sold broken : Bool) (events : 
     IsInSet round in_set →
     OfNext (λ later. IsInSet later (in_set_before (next.Round later) events in_set))
     (following round in_set all_sold broken)
-next_in_set (Opening number) in_set true broken events stands = new_set 1 events
-next_in_set (Opening number) in_set false broken events stands =
-    record { some = stands.some; few = stands.few; within = stands.within }
-next_in_set (Stock set) in_set all_sold broken events stands =
-    let some = stands.some in record { some = stands.some; few = stands.few; within = omega (arith, some) }
-next_in_set (Operating set number) in_set all_sold broken events stands =
+next_in_set (Opening number) in_set true broken events within_set = new_set 1 events
+next_in_set (Opening number) in_set false broken events within_set =
+    record { some = within_set.some; few = within_set.few; within = within_set.within }
+next_in_set (Stock set) in_set all_sold broken events within_set =
+    let some = within_set.some in record { some = within_set.some; few = within_set.few; within = omega (arith, some) }
+next_in_set (Operating set number) in_set all_sold broken events within_set =
     after_operating (λ (later : Round). IsInSet later (in_set_before (next.Round later) events in_set)) set number
     in_set all_sold broken
     (λ less. let before : number < in_set = ltb-true number in_set less in record
-    { some = stands.some; few = stands.few; within = omega (arith, before) })
+    { some = within_set.some; few = within_set.few; within = omega (arith, before) })
     (λ past. new_set (set + 1) events)
 
 -- so does a round that comes
 pub coming_in_set : (round later : Round) (in_set : ℕ) (all_sold broken : Bool) (events : List Event) →
     IsInSet round in_set → following round in_set all_sold broken ≡ next.Round later →
     IsInSet later (in_set_before (next.Round later) events in_set)
-coming_in_set round later in_set all_sold broken events stands comes =
+coming_in_set round later in_set all_sold broken events within_set comes =
     of_coming (λ (later : Round). IsInSet later (in_set_before (next.Round later) events in_set))
     (following round in_set all_sold broken) later comes
-    (next_in_set round in_set all_sold broken events stands)
+    (next_in_set round in_set all_sold broken events within_set)
 
--- the round that comes next, if one does, stands within its set
+-- the round that comes next, if one does, is within its set
 abbrev pub IsNextInSet : Between → Type 0
 IsNextInSet there = (round : Round) → there.next ≡ next.Round round → IsInSet round there.in_set
 
 -- so it is after a round that was played
 pub round_in_set : (file : List ℕ) (old new : Between) → IsNextInSet old → IsRound file old new → IsNextInSet new
-round_in_set file old new stands round later comes =
+round_in_set file old new within_set round later comes =
     subst (λ (count : ℕ). IsInSet later count) (sym (in_set_then file old new later round comes))
     (coming_in_set round.round later old.in_set (all_sold new.game.events) (broken_in new.game.events) new.game.events
-    (stands round.round round.comes) (follows file old new later round comes))
+    (within_set round.round round.comes) (follows file old new later round comes))
 
 -- before the first
-pub first_stands : (file : List ℕ) → IsNextInSet (before_play file)
-first_stands file round comes =
+pub first_is_in_set : (file : List ℕ) → IsNextInSet (before_play file)
+first_is_in_set file round comes =
     subst (λ (at : Round). IsInSet at (before_play file).in_set) (comes_once (Opening 1) round comes)
     (first_in_set file)
 
 -- and wherever a game comes
 pub comes_in_set : (file : List ℕ) (rounds : ℕ) (there : Between) → AreRounds file rounds (before_play file) there
     → IsNextInSet there
-comes_in_set file zero there played = subst IsNextInSet played (first_stands file)
+comes_in_set file zero there played = subst IsNextInSet played (first_is_in_set file)
 comes_in_set file (suc rounds) there played =
     round_in_set file played.0 there (comes_in_set file rounds played.0 played.1) played.2
 

@@ -20,7 +20,7 @@ use Rattle.privates.specs.Sale.{after_sale, gifts, settle_auctions, settled, set
 use Rattle.privates.specs.Standing.{has_place_before, standing_refusal, standing_ruling}
 use Rattle.privates.specs.Turn.{InTurn, acted, after_act, after_opening_line, after_ruling, opening_rules, ruling_in}
 use Rattle.rounds.proofs.Growing.{Grows, GrowsPlainly, and_plain, by_steps, further, in_either, is_aside, passes_plain}
-use Rattle.rounds.proofs.Growing.{passes_test, revenues_grow, stands_plainly, stays, told}
+use Rattle.rounds.proofs.Growing.{by_one_event, passes_test, revenues_grow, stays, still_is_plain}
 use Rattle.rounds.proofs.PlainLines.{recorded_plain, ruled_plain, ruling_plain}
 use Rattle.rounds.proofs.PlainTurns.{AddsPlain}
 use Rattle.sheets.specs.Part.{Numbered}
@@ -84,7 +84,7 @@ done_grows : (seats : ℕ) (seat : Seat) (turn : InTurn) (number : ℕ) (conditi
 done_grows seats seat turn number condition done =
     let ruled : List Event = recorded seat number (ruling.Obeyed condition done) turn.events in
     further turn.events ruled (after_act seats seat ruled done)
-    (told turn.events (event.Ruled seat number (ruling.Obeyed condition done)) refl)
+    (by_one_event turn.events (event.Ruled seat number (ruling.Obeyed condition done)) refl)
     (passes_test is_aside ruled (after_act seats seat ruled done) (act_grows seats seat ruled done))
 
 -- by a line of a turn
@@ -93,8 +93,8 @@ line_grows : (seats : ℕ) (seat : Seat) (turn : InTurn) (line : Numbered) →
 line_grows seats seat turn line =
     of_ruled (acted seats seat) (refusal_of seats turn.events seat turn.actions) seat turn line.number
     (λ (after : InTurn). Grows turn.events after.events)
-    (λ (ruled : Ruling) (none : obeyed_by ruled ≡ None). told turn.events (event.Ruled seat line.number ruled) refl)
-    (λ (condition : Option Condition) (done : Order)
+    (λ (ruled : Ruling) (none : obeyed_by ruled ≡ None). by_one_event turn.events (event.Ruled seat line.number ruled)
+    refl) (λ (condition : Option Condition) (done : Order)
     (kept : refusal_of seats turn.events seat turn.actions done ≡ None).
     done_grows seats seat turn line.number condition done)
     has_place_in_turn turn.events line
@@ -115,7 +115,7 @@ close_grows seats events =
     in_either events events (after_passing seats events) (all_sold events) (stays events)
     (in_either events (after_revenues seats events privates)
     (after_fall seats events (sv_price_of events - 5) (priority_of seats events))
-    (is_sold events private.SchuylkillValley) (stands_plainly events (after_revenues seats events privates)
+    (is_sold events private.SchuylkillValley) (still_is_plain events (after_revenues seats events privates)
     (revenues_grow seats events privates)) (fall_grows seats events (sv_price_of events - 5)
     (priority_of seats events)))
 
@@ -127,11 +127,12 @@ opening_grows =
     (record {
       stays = stays;
       further = further;
-      standing = λ seat events line. told events (event.Ruled seat line.number (standing_ruling events line)) refl;
+      standing = λ seat events line. by_one_event events (event.Ruled seat line.number (standing_ruling events line))
+          refl;
       line = line_grows;
-      passes = λ events seat. told events (event.Passes seat) refl;
+      passes = λ events seat. by_one_event events (event.Passes seat) refl;
       closed = λ seats events. passes_test is_aside events (closed seats events) (close_grows seats events);
-      leaves = λ events seat lines. told events (event.Left seat lines) refl;
+      leaves = λ events seat lines. by_one_event events (event.Left seat lines) refl;
     })
 
 -- a line without a condition adds but plain events, and so does the close

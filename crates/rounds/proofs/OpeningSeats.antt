@@ -29,22 +29,22 @@ StillSeated seats before after = BiddersAreSeated seats before → BiddersAreSea
 -- an event that says nothing of bids keeps it so
 pub others_seated : (seats : ℕ) (events : List Event) (its : Event) → bidding_of its ≡ None →
     StillSeated seats events (events ++ its ∷ [])
-others_seated seats events its none seated private seat amount stands =
-    seated private seat amount (sym (bid_of_before events its private seat none) ∙ stands)
+others_seated seats events its none seated private seat amount is_bid =
+    seated private seat amount (sym (bid_of_before events its private seat none) ∙ is_bid)
 
 -- a bid that is once those on a private are ended was before
 not_ended : (here : Bool) (before : Option ℕ) (amount : ℕ) →
     unwrap_or (if here then Some None else None) before ≡ Some amount → before ≡ Some amount
-not_ended true before amount stands = absurd (cc)
-not_ended false before amount stands = stands
+not_ended true before amount is_bid = absurd (cc)
+not_ended false before amount is_bid = is_bid
 
 -- so does a sale
 sale_seated : (seats : ℕ) (events : List Event) (sold : Private) (buyer : Seat) (price : ℕ) →
     StillSeated seats events (events ++ event.Sold sold buyer price ∷ [])
-sale_seated seats events sold buyer price seated private seat amount stands =
+sale_seated seats events sold buyer price seated private seat amount is_bid =
     seated private seat amount
     (not_ended (same_private sold private) (bid_of events private seat) amount
-    (sym (bid_of_at_end events (event.Sold sold buyer price) private seat) ∙ stands))
+    (sym (bid_of_at_end events (event.Sold sold buyer price) private seat) ∙ is_bid))
 
 -- the seats of a table
 abbrev AtTable : ℕ → Seat → Type 0

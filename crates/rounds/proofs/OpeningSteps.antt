@@ -1,5 +1,5 @@
 -- An opening round, event by event: a private is sold while it is unsold, a bid is made by a seat that takes a turn,
--- and what else is told is still. What holds of each such event, and of one after the other, holds of the round.
+-- and what else is recorded is still. What holds of each such event, and of one after the other, holds of the round.
 use Rattle.std.proofs.Common.{◌≡◌, ℕ, zero, suc, ◌-◌, ◌==◌, Bool, true, false, if◌then◌else◌, List, [], ◌∷◌, ◌++◌}
 use Rattle.std.proofs.Common.{Option, Some, None, refl, sym, subst, ◌∙◌}
 use Rattle.std.proofs.lemmas.Bool.{and_parts}
@@ -138,20 +138,20 @@ module _ (Sits : Seat → Type 0) (R : List Event → List Event → Type 0) (of
       refusal_of seats turn.events seat turn.actions done ≡ None →
       R turn.events (after_ruling seats seat turn number (Obeyed condition done)).events
   of_order seats seat turn number sits condition (order.BuyPrivate private) kept =
-      let told : Event = event.Ruled seat number (Obeyed condition (order.BuyPrivate private)) in
-      let ruled : List Event = turn.events ++ told ∷ [] in
+      let recorded : Event = event.Ruled seat number (Obeyed condition (order.BuyPrivate private)) in
+      let ruled : List Event = turn.events ++ recorded ∷ [] in
       let none = none_as_refusal Opening
       (judgement_of seats turn.events seat turn.actions (order.BuyPrivate private)) kept in
       let may = may_act_after (record { seats = seats; events = turn.events })
-      (record { seats = seats; events = ruled }) told seat turn.actions (order.BuyPrivate private) refl
+      (record { seats = seats; events = ruled }) recorded seat turn.actions (order.BuyPrivate private) refl
       (ruling_quiet seat number (Obeyed condition (order.BuyPrivate private))) none in
       of.both turn.events ruled (settled seats (after_sale ruled private seat (price_of ruled private)))
-      (of.still turn.events told refl)
+      (of.still turn.events recorded refl)
       (of_sales seats ruled private seat (price_of ruled private) may.unsold)
   of_order seats seat turn number sits condition (order.Bid private amount) kept =
-      let told : Event = event.Ruled seat number (Obeyed condition (order.Bid private amount)) in
-      let ruled : List Event = turn.events ++ told ∷ [] in
-      of.both turn.events ruled (ruled ++ event.Bids private seat amount ∷ []) (of.still turn.events told refl)
+      let recorded : Event = event.Ruled seat number (Obeyed condition (order.Bid private amount)) in
+      let ruled : List Event = turn.events ++ recorded ∷ [] in
+      of.both turn.events ruled (ruled ++ event.Bids private seat amount ∷ []) (of.still turn.events recorded refl)
       (of.bids ruled private seat amount sits)
   of_order seats seat turn number sits condition other kept = absurd (cc)
 

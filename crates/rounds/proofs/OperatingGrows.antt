@@ -7,9 +7,9 @@ use Rattle.totals.specs.LookBack.{Game}
 use Rattle.purchases.specs.Standing.{after_standing, after_standing_line, has_place_before, standing_judgement}
 use Rattle.purchases.specs.Standing.{standing_ruling}
 use Rattle.rounds.proofs.Growing.{Grows, GrowsPlainly, GrowsStill, and_plain, count_aside, further, is_still}
-use Rattle.rounds.proofs.Growing.{passes_plain, passes_test, revenues_grow, stands_aside, stays}
+use Rattle.rounds.proofs.Growing.{passes_plain, passes_test, revenues_grow, stays, still_is_aside}
 use Rattle.rounds.proofs.PlainLines.{GrowsPlain, SheetsArePlain, recorded_plain, ruling_plain, standing_plain}
-use Rattle.rounds.specs.OperatingRound.{finished, lines_left, opened, told_left}
+use Rattle.rounds.specs.OperatingRound.{finished, left_events, lines_left, opened}
 use Rattle.sheets.specs.Part.{Numbered, parts_for}
 use Rattle.sheets.specs.Taken.{after_all_before, after_each, after_lines_before}
 use Rattle.tables.specs.Roster.{privates}
@@ -45,11 +45,11 @@ opened_still file round old =
 
 -- the counts of lines that were left are still and plain
 left_aside : (file : List ℕ) (round : Round) (events : List Event) (seats : List ℕ) →
-    list_all (and_plain is_still) (told_left file round events seats) ≡ true
+    list_all (and_plain is_still) (left_events file round events seats) ≡ true
 left_aside file round events [] = refl
 left_aside file round events (seat ∷ seats) =
     let count : ℕ = lines_left file round events (seat_at seat) in
-    count_aside (seat_at seat) count (count == 0) (told_left file round events seats)
+    count_aside (seat_at seat) count (count == 0) (left_events file round events seats)
     (left_aside file round events seats)
 
 -- by those counts
@@ -68,7 +68,7 @@ finished_still file round seats events =
 pub opened_grows : (file : List ℕ) (round : Round) (old : Game) →
     Grows (old.events ++ event.Round round ∷ []) (opened file round old).events
 opened_grows file round old =
-    stands_aside (old.events ++ event.Round round ∷ []) (opened file round old).events (opened_still file round old)
+    still_is_aside (old.events ++ event.Round round ∷ []) (opened file round old).events (opened_still file round old)
 
 -- where no sheet has a condition, the events before the first company are plain
 pub opened_adds : (file : List ℕ) (round : Round) (old : Game) → SheetsArePlain file round →

@@ -1,4 +1,4 @@
--- A company's turn adds but plain events, where no line of its block has a condition.
+-- A company's turn adds but plain events, where none of its orders has a condition.
 use Rattle.std.proofs.Common.{◌≡◌, ℕ, ◌==◌, Bool, true, false, if◌then◌else◌, List, [], ◌∷◌, Option, Some, None}
 use Rattle.std.proofs.Common.{is_none, option_map, Result, Ok, Err, inl, inr, pos, refl, sym, subst, ap}
 use Rattle.std.specs.Int.RustNames.{unsigned_abs}
@@ -36,12 +36,13 @@ use Rattle.operating.specs.Ending.{EndLeads}
 use Rattle.forced_purchase.specs.Forced.{after_forced, after_raise_line, after_raises, cheapest, concluded, falls_short}
 use Rattle.forced_purchase.specs.Forced.{lack_of, next_to_sell, one_share, raise_rule, raise_ruled, sold_further}
 use Rattle.forced_purchase.specs.Forced.{sold_singly, with_aid, with_one_sold, with_ruling, with_sale}
-use Rattle.operating.specs.InTurn.{InTurn, in_turn, is_unpaid, pay_done, ruled, told}
+use Rattle.operating.specs.InTurn.{InTurn, in_turn, is_unpaid, line_recorded, pay_done, ruled}
 use Rattle.purchases.specs.Phases.{after_train, begins_phase, bought, with_phase, with_trade}
 use Rattle.purchases.specs.Privates.{private_bought, private_judgement, sold_by}
 use Rattle.operating.specs.Runs.{after_run, judged_run, run_ruled}
 use Rattle.purchases.specs.Trains.{cost_of, purchase_of, train_judgement}
-use Rattle.operating.specs.Turn.{AskedLeads, BlockEnds, BlockLeads, IsCompanyTurn, LayLeads, LinesLead, OrderLeads}
+use Rattle.operating.specs.Turn.{AskedLeads, CompanyOrdersEnd, CompanyOrdersLead, IsCompanyTurn, LayLeads, LinesLead}
+use Rattle.operating.specs.Turn.{OrderLeads}
 use Rattle.operating.specs.Turn.{ReadingLeads, TokenLeads, begun, is_held, lay_answered, withheld_if_unpaid}
 use Rattle.operating.specs.Turn.{token_answered}
 use Rattle.order_grammar.specs.declared.condition.Condition.{Condition}
@@ -53,10 +54,10 @@ use Rattle.order_grammar.specs.declared.order.TrainSource.{TrainSource}
 use Rattle.order_grammar.specs.declared.order.TrainSource.TheVariants as source
 use Rattle.rounds.proofs.Growing.{broken_grows, further, is_still, passes_plain, stays}
 use Rattle.rounds.proofs.Growing as growing
-use Rattle.rounds.proofs.PlainLines.{ArePlain, GrowsPlain, IsPlain, SheetsArePlain, block_for_plain}
+use Rattle.rounds.proofs.PlainLines.{ArePlain, GrowsPlain, IsPlain, SheetsArePlain, company_orders_plain}
 use Rattle.rounds.proofs.StockGrows.{sale_grows, token_grows}
 use Rattle.rounds.specs.Plain.{condition_ruled, is_plain}
-use Rattle.sheets.specs.Block.{block_for}
+use Rattle.sheets.specs.CompanyOrders.{company_orders_for}
 use Rattle.sheets.specs.Part.{Numbered}
 use Rattle.tables.specs.Seat.{all_seats}
 use Rattle.tables.specs.declared.rolling_stock.Kind.{Kind}
@@ -83,7 +84,7 @@ on = record {
 
 -- by one event that is plain
 by_event : (game : Game) (its : Event) → is_plain its ≡ true → AddsPlainly game (with_event game its)
-by_event game its is = growing.told game.events its is
+by_event game its is = growing.by_one_event game.events its is
 
 -- by BROKEN, where the bank breaks
 by_broken : (game : Game) → AddsPlainly game (broken_recorded game)
@@ -118,8 +119,8 @@ module _ (company : Company) where
       let paid : Game = broken_recorded (with_event game its) in
       on.both game paid (withheld game company amount) (by_payment game its refl) (by_move square_left_of paid company)
 
-  by_settled : (turn : InTurn) → TurnAdds turn (withheld_if_unpaid company turn)
-  by_settled turn =
+  by_withholding : (turn : InTurn) → TurnAdds turn (withheld_if_unpaid company turn)
+  by_withholding turn =
       let kept : Game = withheld turn.game company turn.progress.runs.revenue in
       elim (is_unpaid turn.progress) as (λ (b : Bool). TurnAdds turn
       (if b then in_turn kept (pay_done turn.progress) else turn)) [
@@ -197,17 +198,17 @@ module _ (company : Company) where
 module _ (company : Company) (seat : Seat) (line : Numbered) (plain : IsPlain line) where
   -- by a ruling of the line
   by_ruling : (turn : InTurn) (ruling : Ruling) → condition_ruled ruling ≡ None →
-      TurnAdds turn (told (operator company seat) turn line ruling)
+      TurnAdds turn (line_recorded (operator company seat) turn line ruling)
   by_ruling turn ruling none =
       by_event turn.game (event.Ruled seat line.number ruling)
       (ap (λ (condition : Option Condition). is_none condition) none)
 
   -- by that it is obeyed, and what this brings
   by_obeyed : (turn : InTurn) (its : Order) (new : Game) →
-      AddsPlainly (told (operator company seat) turn line (Obeyed line.condition its)).game new →
+      AddsPlainly (line_recorded (operator company seat) turn line (Obeyed line.condition its)).game new →
       AddsPlainly turn.game new
   by_obeyed turn its new brings =
-      on.both turn.game (told (operator company seat) turn line (Obeyed line.condition its)).game new
+      on.both turn.game (line_recorded (operator company seat) turn line (Obeyed line.condition its)).game new
       (by_ruling turn (Obeyed line.condition its) plain) brings
 
   -- by that it breaks this rule first, or none
@@ -216,14 +217,14 @@ module _ (company : Company) (seat : Seat) (line : Numbered) (plain : IsPlain li
       TurnAdds turn (ruled (operator company seat) turn line its broken act)
   by_ruled turn its (Some rule) act acts = by_ruling turn (Refused rule line.condition its) plain
   by_ruled turn its None act acts =
-      let obeyed : InTurn = told (operator company seat) turn line (Obeyed line.condition its) in
+      let obeyed : InTurn = line_recorded (operator company seat) turn line (Obeyed line.condition its) in
       by_obeyed turn its (act obeyed).game (acts obeyed)
 
   -- LAY
   by_lay : (turn : InTurn) (lay : Lay) (new : InTurn) → LayLeads (operator company seat) turn line lay new →
       TurnAdds turn new
   by_lay turn lay new leads =
-      let obeyed : InTurn = told (operator company seat) turn line (Obeyed line.condition (order.Lay lay)) in
+      let obeyed : InTurn = line_recorded (operator company seat) turn line (Obeyed line.condition (order.Lay lay)) in
       subst (TurnAdds turn) (sym leads.after)
       (elim (leads.answer) as (λ answer. TurnAdds turn (lay_answered (operator company seat) turn line lay answer)) [
         | Err rule ↦ by_ruling turn (Refused (refusal.Lay rule) line.condition (order.Lay lay)) plain
@@ -236,7 +237,7 @@ module _ (company : Company) (seat : Seat) (line : Numbered) (plain : IsPlain li
   by_token : (turn : InTurn) (at : Place) (new : InTurn) → TokenLeads (operator company seat) turn line at new →
       TurnAdds turn new
   by_token turn at new leads =
-      let obeyed : InTurn = told (operator company seat) turn line (Obeyed line.condition (order.Token at)) in
+      let obeyed : InTurn = line_recorded (operator company seat) turn line (Obeyed line.condition (order.Token at)) in
       subst (TurnAdds turn) (sym leads.after)
       (elim (leads.answer) as (λ answer. TurnAdds turn (token_answered (operator company seat) turn line at answer)) [
         | Err rule ↦ by_ruling turn (Refused (refusal.Token rule) line.condition (order.Token at)) plain
@@ -249,7 +250,8 @@ module _ (company : Company) (seat : Seat) (line : Numbered) (plain : IsPlain li
   by_run : (turn : InTurn) (kind : Kind) (run : List Place) →
       TurnAdds turn (after_run (operator company seat) turn line (order.Run kind run) kind run)
   by_run turn kind run =
-      let obeyed : InTurn = told (operator company seat) turn line (Obeyed line.condition (order.Run kind run)) in
+      let obeyed : InTurn = line_recorded (operator company seat) turn line
+      (Obeyed line.condition (order.Run kind run)) in
       elim (judged_run turn company kind run) as (λ judged. TurnAdds turn
       (run_ruled (operator company seat) turn line (order.Run kind run) judged)) [
         | Err rule ↦ by_ruling turn (Refused (refusal.Run rule) line.condition (order.Run kind run)) plain
@@ -268,7 +270,7 @@ module _ (company : Company) (seat : Seat) (line : Numbered) (plain : IsPlain li
   by_best turn None new leads =
       subst (TurnAdds turn) (sym leads.2)
       (by_obeyed turn order.RunBest (best_earned (operator company seat) turn line leads.0).game
-      (by_event (told (operator company seat) turn line (Obeyed line.condition order.RunBest)).game
+      (by_event (line_recorded (operator company seat) turn line (Obeyed line.condition order.RunBest)).game
       (event.Runs company leads.0) refl))
 
   -- an order in this line
@@ -297,7 +299,7 @@ module _ (company : Company) (seat : Seat) (line : Numbered) (plain : IsPlain li
       let act : InTurn → InTurn = λ after. in_turn (after_train after.game company purchase) after.progress in
       subst (TurnAdds turn) (sym leads)
       (on.both turn.game paid.game (ruled (operator company seat) paid line (order.BuyTrain kind from) rule act).game
-      (by_settled company turn)
+      (by_withholding company turn)
       (by_ruled paid (order.BuyTrain kind from) rule act (λ after. by_train company after.game kind from)))
   by_order turn (order.BuyOwnedPrivate private price) new leads =
       let rule : Option Refusal = option_map refusal.Private (private_judgement turn.game company private price) in
@@ -348,7 +350,7 @@ module _ (company : Company) (seat : Seat) (line : Numbered) (plain : IsPlain li
   by_raise due game other = on.same game
 
 module _ (company : Company) (seat : Seat) where
-  -- lines of the block
+  -- a company's orders
   by_lines : (turn : InTurn) (lines : List Numbered) (new : InTurn) → ArePlain lines →
       LinesLead (operator company seat) turn lines new →
       TurnAdds turn new
@@ -358,7 +360,7 @@ module _ (company : Company) (seat : Seat) where
       on.both turn.game leads.0.game new.game (by_line company seat line are.0 turn line.reading leads.0 leads.1)
       (by_lines leads.0 lines new are.1 leads.2)
 
-  -- the RAISE lines of the block
+  -- the RAISE lines of the company's orders
   by_raises : (due : Bool) (lines : List Numbered) (game : Game) → ArePlain lines →
       AddsPlainly game (after_raises due (operator company seat) game lines)
   by_raises due [] game are = on.same game
@@ -436,24 +438,24 @@ module _ (company : Company) (seat : Seat) where
   by_end lines game new are (inr none) = subst (AddsPlainly game) (sym none.1) (by_raises false lines game are)
 
 module _ (file : List ℕ) (round : Round) (sheets : SheetsArePlain file round) (company : Company) where
-  -- a block
-  by_block : (turn : InTurn) (president : Option Seat) (new : InTurn) →
-      BlockLeads file round company turn president new →
+  -- a company's orders
+  by_orders : (turn : InTurn) (president : Option Seat) (new : InTurn) →
+      CompanyOrdersLead file round company turn president new →
       TurnAdds turn new
-  by_block turn None new leads =
+  by_orders turn None new leads =
       subst (TurnAdds turn) (sym leads) (on.same turn.game)
-  by_block turn (Some seat) new leads =
-      by_lines company seat turn (block_for file round seat.0 company) new
-      (block_for_plain file round sheets seat.0 company) leads
+  by_orders turn (Some seat) new leads =
+      by_lines company seat turn (company_orders_for file round seat.0 company) new
+      (company_orders_plain file round sheets seat.0 company) leads
 
   -- what it brings at the end of the turn
-  by_block_end : (game : Game) (president : Option Seat) (new : Game) →
-      BlockEnds file round company game president new →
+  by_orders_end : (game : Game) (president : Option Seat) (new : Game) →
+      CompanyOrdersEnd file round company game president new →
       AddsPlainly game new
-  by_block_end game None new ends = subst (AddsPlainly game) (sym ends) (on.same game)
-  by_block_end game (Some seat) new ends =
-      by_end company seat (block_for file round seat.0 company) game new
-      (block_for_plain file round sheets seat.0 company) ends
+  by_orders_end game None new ends = subst (AddsPlainly game) (sym ends) (on.same game)
+  by_orders_end game (Some seat) new ends =
+      by_end company seat (company_orders_for file round seat.0 company) game new
+      (company_orders_plain file round sheets seat.0 company) ends
 
   -- the whole turn
   pub by_company_turn : (old new : Game) → IsCompanyTurn file round company old new → AddsPlainly old new
@@ -462,6 +464,6 @@ module _ (file : List ℕ) (round : Round) (sheets : SheetsArePlain file round) 
       let paid : Game = (withheld_if_unpaid company turn.last).game in
       let president : Option Seat = president_of old.events company in
       on.both old home new (by_home company old)
-      (on.both home turn.last.game new (by_block (begun old company) president turn.last turn.block)
-      (on.both turn.last.game paid new (by_settled company turn.last)
-      (by_block_end paid president new turn.after)))
+      (on.both home turn.last.game new (by_orders (begun old company) president turn.last turn.orders)
+      (on.both turn.last.game paid new (by_withholding company turn.last)
+      (by_orders_end paid president new turn.after)))

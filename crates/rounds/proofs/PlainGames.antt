@@ -6,7 +6,7 @@ use Rattle.events.specs.declared.event.Event.{Event}
 use Rattle.events.specs.declared.event.Event.TheVariants as event
 use Rattle.totals.specs.LookBack.{Game}
 use Rattle.privates.specs.Turn.{opening_rules}
-use Rattle.rounds.proofs.Growing.{further, stays, told}
+use Rattle.rounds.proofs.Growing.{by_one_event, further, stays}
 use Rattle.rounds.proofs.OpeningGrows.{opening_adds}
 use Rattle.rounds.proofs.OperatingGrows.{finished_adds, opened_adds}
 use Rattle.rounds.proofs.PlainCompany.{by_company_turn}
@@ -73,5 +73,5 @@ ruled_plainly law file (suc rounds) there one played =
     let begun : List Event = old.events ++ event.Round round ∷ [] in
     still_plain begun there.game.events
     (round_adds file round old there.game (sheets_plain law file round one) played.2.played)
-    (still_plain old.events begun (told old.events (event.Round round) refl)
+    (still_plain old.events begun (by_one_event old.events (event.Round round) refl)
     (ruled_plainly law file rounds played.0 one played.1))

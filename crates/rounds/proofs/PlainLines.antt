@@ -11,9 +11,9 @@ use Rattle.order_grammar.specs.declared.condition.Version.TheVariants.{One}
 use Rattle.order_grammar.specs.declared.fault.Fault.{Fault}
 use Rattle.order_grammar.specs.declared.fault.Fault.TheVariants.{OutOfPlace}
 use Rattle.order_grammar.specs.declared.order.Order.{Order}
-use Rattle.rounds.proofs.Growing.{GrowsBy, further, stays, told}
+use Rattle.rounds.proofs.Growing.{GrowsBy, by_one_event, further, stays}
 use Rattle.rounds.specs.Plain.{condition_ruled, is_plain}
-use Rattle.sheets.specs.Block.{block_for, block_in, opens_block_of}
+use Rattle.sheets.specs.CompanyOrders.{company_orders_for, company_orders_in, opens_orders_of}
 use Rattle.sheets.specs.File.{sheet_of, version_of}
 use Rattle.sheets.specs.Laws.{VersionOneIsPlain, plain, plain_parts}
 use Rattle.sheets.specs.Part.{Numbered, Part, Parts, after_head, after_line, written_turns_of, opens_part, parts_for}
@@ -38,7 +38,7 @@ IsPlain line = line.condition ≡ None
 abbrev pub ArePlain : List Numbered → Type 0
 ArePlain lines = AllByRecursion IsPlain lines
 
--- nor does each line of these written turns or blocks
+-- nor does each line of these written turns or companies' orders
 abbrev pub WrittenTurnsArePlain : List (List Numbered) → Type 0
 WrittenTurnsArePlain written_turns = AllByRecursion ArePlain written_turns
 
@@ -71,25 +71,25 @@ sheets_plain law file round one seat =
     subst PartsArePlain (sym (law file round seat one))
     (parts_plain (opens_part round) (unwrap_or (sheet_of file seat round) []) 0)
 
--- the lines of one of two blocks
+-- the lines of one of two parts
 either_plain : (test : Bool) (some others : List Numbered) → ArePlain some → ArePlain others →
     ArePlain (if test then some else others)
 either_plain true some others first second = first
 either_plain false some others first second = second
 
--- of the block of a company among these
-block_plain : (company : Company) (parts : List Part) → WrittenTurnsArePlain (map (λ part. part.lines) parts) →
-    ArePlain (block_in company parts)
-block_plain company [] are = tt
-block_plain company (part ∷ parts) are =
-    either_plain (opens_block_of company part.head.reading) part.lines (block_in company parts) are.0
-    (block_plain company parts are.1)
+-- a company's orders among these
+orders_plain : (company : Company) (parts : List Part) → WrittenTurnsArePlain (map (λ part. part.lines) parts) →
+    ArePlain (company_orders_in company parts)
+orders_plain company [] are = tt
+orders_plain company (part ∷ parts) are =
+    either_plain (opens_orders_of company part.head.reading) part.lines (company_orders_in company parts) are.0
+    (orders_plain company parts are.1)
 
 -- and in a sheet
-pub block_for_plain : (file : List ℕ) (round : Round) → SheetsArePlain file round → (seat : ℕ) (company : Company) →
-    ArePlain (block_for file round seat company)
-block_for_plain file round sheets seat company =
-    block_plain company (parts_for file round seat).opened (sheets seat).1
+pub company_orders_plain : (file : List ℕ) (round : Round) → SheetsArePlain file round
+    → (seat : ℕ) (company : Company) → ArePlain (company_orders_for file round seat company)
+company_orders_plain file round sheets seat company =
+    orders_plain company (parts_for file round seat).opened (sheets seat).1
 
 -- an order without a condition is ruled without one
 judged_plain : (condition : Option Condition) (order : Order) (broken : Option Refusal) → condition ≡ None →
@@ -123,7 +123,7 @@ pub recorded_plain : (seat : Seat) (number : ℕ) (ruling : Ruling) (events : Li
     condition_ruled ruling ≡ None →
     GrowsPlain events (recorded seat number ruling events)
 recorded_plain seat number ruling events is =
-    told events (event.Ruled seat number ruling) (ap (λ (condition : Option Condition). is_none condition) is)
+    by_one_event events (event.Ruled seat number ruling) (ap (λ (condition : Option Condition). is_none condition) is)
 
 module _ {TurnActions : Type 0} (act : InTurn TurnActions → Order → InTurn TurnActions)
     (acts : (turn : InTurn TurnActions) (order : Order) → GrowsPlain turn.events (act turn order).events) where

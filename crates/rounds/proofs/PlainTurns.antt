@@ -6,7 +6,7 @@ use Rattle.std.specs.List.{AllByRecursion, list_all, range_with_len}
 use Rattle.events.specs.declared.event.Event.{Event}
 use Rattle.events.specs.declared.event.Event.TheVariants as event
 use Rattle.totals.specs.LookBack.{Game}
-use Rattle.rounds.proofs.Growing.{further, in_either, stays, told}
+use Rattle.rounds.proofs.Growing.{by_one_event, further, in_either, stays}
 use Rattle.rounds.proofs.PlainLines.{ArePlain, WrittenTurnsArePlain, GrowsPlain, IsPlain, SheetsArePlain}
 use Rattle.rounds.proofs.PlainLines.{standing_plain}
 use Rattle.rounds.specs.Plain.{is_plain}
@@ -96,7 +96,7 @@ module _ {TurnActions : Type 0} (rules : RoundRules TurnActions) (adds : AddsPla
       (by_lines seats seat (in_turn at.now rules.nothing) lines
       (next_plain (written_turns_at at.written_turns at.seat) (at_plain at.written_turns at.seat are)))
       (in_either turn.events turn.events (turn.events ++ event.Passes seat ∷ []) (rules.has_acted turn.actions)
-      (stays turn.events) (told turn.events (event.Passes seat) refl))
+      (stays turn.events) (by_one_event turn.events (event.Passes seat) refl))
 
   -- the written turns that are left after some turns have no condition
   left_so_far : (seats n : ℕ) (start : InPlay (List Event) Numbered) → AllArePlain start.written_turns →

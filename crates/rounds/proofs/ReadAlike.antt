@@ -12,7 +12,8 @@ use Rattle.history.specs.Record.{revenues_recorded, with_left}
 use Rattle.operating.specs.InTurn.{InTurn}
 use Rattle.purchases.specs.Standing as rules
 use Rattle.operating.specs.Ending.{EndLeads}
-use Rattle.operating.specs.Turn.{BlockEnds, BlockLeads, IsCompanyTurn, LinesLead, begun, withheld_if_unpaid}
+use Rattle.operating.specs.Turn.{CompanyOrdersEnd, CompanyOrdersLead, IsCompanyTurn, LinesLead, begun}
+use Rattle.operating.specs.Turn.{withheld_if_unpaid}
 use Rattle.privates.specs.Opening.{IsOpeningRound, written_turns_for, in_play, opened}
 use Rattle.privates.specs.Standing as opening
 use Rattle.privates.specs.Turn.{opening_turns}
@@ -21,7 +22,7 @@ use Rattle.rounds.specs.Play.{Between, IsPlayed, IsRound, all_posted, before_pla
 use Rattle.rounds.specs.ReadAlike.{ReadAlikeFor}
 use Rattle.rounds.specs.declared.following.Next.{Next}
 use Rattle.rounds.specs.declared.following.Next.TheVariants as next
-use Rattle.sheets.specs.Block.{block_in}
+use Rattle.sheets.specs.CompanyOrders.{company_orders_in}
 use Rattle.sheets.specs.File.{players_of}
 use Rattle.sheets.specs.Part.{Numbered, Parts, written_turns_of, lines_in}
 use Rattle.sheets.specs.Taken.{after_all_before, after_each, after_lines_before}
@@ -99,24 +100,24 @@ module _ (first second : List ℕ) where
       (same_standing rules.after_standing_line round (old.events ++ event.Round round ∷ [])
       (range_with_len 0 old.seats) same)
 
-  -- the block of a company leads to the same
-  same_block : (round : Round) (company : Company) (turn new : InTurn) (president : Option Seat)
-      → ReadAlikeFor round first second → BlockLeads first round company turn president new
-      → BlockLeads second round company turn president new
-  same_block round company turn new None same leads = leads
-  same_block round company turn new (Some seat) same leads =
+  -- a company's orders lead to the same
+  same_orders : (round : Round) (company : Company) (turn new : InTurn) (president : Option Seat)
+      → ReadAlikeFor round first second → CompanyOrdersLead first round company turn president new
+      → CompanyOrdersLead second round company turn president new
+  same_orders round company turn new None same leads = leads
+  same_orders round company turn new (Some seat) same leads =
       subst (λ (parts : Parts). LinesLead (record { company = company; president = seat }) turn
-      (block_in company parts.opened) new)
+      (company_orders_in company parts.opened) new)
       (same.parts seat.0) leads
 
-  -- and its turn ends alike by that block
+  -- and its turn ends alike by those orders
   same_end : (round : Round) (company : Company) (game new : Game) (president : Option Seat)
-      → ReadAlikeFor round first second → BlockEnds first round company game president new
-      → BlockEnds second round company game president new
+      → ReadAlikeFor round first second → CompanyOrdersEnd first round company game president new
+      → CompanyOrdersEnd second round company game president new
   same_end round company game new None same ends = ends
   same_end round company game new (Some seat) same ends =
       subst (λ (parts : Parts). EndLeads (record { company = company; president = seat })
-      (block_in company parts.opened) game new)
+      (company_orders_in company parts.opened) game new)
       (same.parts seat.0) ends
 
   -- a company takes its turn alike
@@ -125,8 +126,8 @@ module _ (first second : List ℕ) where
   same_turn round company old new same turn =
       record {
         last = turn.last;
-        block = same_block round company (begun old company) turn.last (president_of old.events company) same
-            turn.block;
+        orders = same_orders round company (begun old company) turn.last (president_of old.events company) same
+            turn.orders;
         after = same_end round company (withheld_if_unpaid company turn.last).game new (president_of old.events company)
             same turn.after;
       }
@@ -143,13 +144,13 @@ module _ (first second : List ℕ) where
 
   -- as many lines are left
   same_left : (round : Round) (events : List Event) (seats : List ℕ) → ReadAlikeFor round first second
-      → operating.told_left first round events seats ≡ operating.told_left second round events seats
+      → operating.left_events first round events seats ≡ operating.left_events second round events seats
   same_left round events [] same = refl
   same_left round events (seat ∷ seats) same =
       ap
       (λ (parts : Parts).
       with_left (seat_at seat) (lines_in parts - rulings_in_round events (seat_at seat))
-      (operating.told_left first round events seats))
+      (operating.left_events first round events seats))
       (same.parts seat)
       ∙ ap (λ (rest : List Event). with_left (seat_at seat) (operating.lines_left second round events (seat_at seat))
       rest) (same_left round events seats same)

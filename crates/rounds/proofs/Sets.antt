@@ -48,16 +48,16 @@ keeps_on set count (Operating its number) in_set sold broken events keeps =
 left_after_last : (set : ℕ) (round : Round) (in_set : ℕ) (sold broken : Bool) → IsOfSet set round →
     IsInSet round in_set →
     OfNext (λ later. ¬ (IsOfSet set later) → round ≡ Operating set in_set) (following round in_set sold broken)
-left_after_last set (Opening number) in_set sold broken same stands = absurd same
-left_after_last set (Stock its) in_set sold broken same stands = λ other. absurd (other same)
-left_after_last set (Operating its number) in_set sold broken same stands =
+left_after_last set (Opening number) in_set sold broken same within_set = absurd same
+left_after_last set (Stock its) in_set sold broken same within_set = λ other. absurd (other same)
+left_after_last set (Operating its number) in_set sold broken same within_set =
     after_operating (λ (later : Round). ¬ (IsOfSet set later)
     → ◌≡◌ {A = Round} (Operating its number) (Operating set in_set))
     its number in_set sold broken
     (λ more other. absurd (other same))
     (λ over other.
     let past : in_set ≤ number = ltb-false number in_set over in
-    let within : number ≤ in_set = stands.within in
+    let within : number ≤ in_set = within_set.within in
     let last : number ≡ in_set = omega (arith, past, within) in
     cc (last, same))
 
@@ -93,19 +93,19 @@ module _ (file : List ℕ) where
   all_keep set count (suc later) begun there keeps played =
       round_keeps set count played.0 there (all_keep set count later begun played.0 keeps played.1) played.2
 
-  -- and they stand within their sets
-  all_stand : (later : ℕ) (begun there : Between) → IsNextInSet begun → AreRounds file later begun there
+  -- and they are within their sets
+  all_in_set : (later : ℕ) (begun there : Between) → IsNextInSet begun → AreRounds file later begun there
       → IsNextInSet there
-  all_stand zero begun there stands played = subst IsNextInSet played stands
-  all_stand (suc later) begun there stands played =
-      round_in_set file played.0 there (all_stand later begun played.0 stands played.1) played.2
+  all_in_set zero begun there within_set played = subst IsNextInSet played within_set
+  all_in_set (suc later) begun there within_set played =
+      round_in_set file played.0 there (all_in_set later begun played.0 within_set played.1) played.2
 
   -- a set is left only after the last of its rounds
   whole_set : (set count : ℕ) (there after : Between) (round later : Round) → IsInSet round there.in_set
       → there.in_set ≡ count →
       there.next ≡ next.Round round → IsOfSet set round → IsRound file there after → after.next ≡ next.Round later →
       ¬ IsOfSet set later → round ≡ Operating set count
-  whole_set set count there after round later stands number here of_set step comes other =
+  whole_set set count there after round later within_set number here of_set step comes other =
       let sold = all_sold after.game.events in
       let broken = broken_in after.game.events in
       let same : step.round ≡ round = comes_once step.round round (sym step.comes ∙ here) in
@@ -114,7 +114,7 @@ module _ (file : List ℕ) where
       in
       of_coming (λ (later : Round). ¬ (IsOfSet set later) → round ≡ Operating set there.in_set)
       (following round there.in_set sold broken) later says
-      (left_after_last set round there.in_set sold broken of_set stands) other
+      (left_after_last set round there.in_set sold broken of_set within_set) other
       ∙ ap (λ (most : ℕ). Operating set most) number
 
 -- sets keep their numbers
@@ -128,12 +128,12 @@ keep_their_number file set rounds later begun there round reached comes played h
     in
     let number : there.in_set ≡ count = (all_keep file set count later begun there first played round here).number
     of_set in
-    let stands : IsInSet round there.in_set = all_stand file later begun there
+    let within_set : IsInSet round there.in_set = all_in_set file later begun there
     (comes_in_set file rounds begun reached) played round here in
     record {
       number = number;
-      within = subst (λ (most : ℕ). turn_in_set round ≤ most) number stands.within;
+      within = subst (λ (most : ℕ). turn_in_set round ≤ most) number within_set.within;
       whole =
-          λ after upcoming step is other. whole_set file set count there after round upcoming stands number here
+          λ after upcoming step is other. whole_set file set count there after round upcoming within_set number here
           of_set step is other;
     }

@@ -242,7 +242,7 @@ pub is_numbered : SheetsAreNumbered → (file : List ℕ) (here : Between) (roun
 is_numbered numbered file here round come to_play =
     posted_small numbered file round (some_play file here come) to_play.posted
 
--- and stands within its set
+-- and is within its set
 pub is_in_set : (file : List ℕ) (here : Between) (round : Round) → HasComeTo file here → IsToPlay file here.next round
     → IsInSet round here.in_set
 is_in_set file here round come to_play = comes_in_set file come.rounds here come.reached round to_play.comes
@@ -272,7 +272,7 @@ one_round file here round old game in_set upcoming to_play is played comes count
       same = refl;
     }
 
--- and a play has come so much further
+-- and a play has come that much further
 pub come_on :
     (file : List ℕ) (here : Between) (round : Round) (there : Between) → HasComeTo file here
     → IsItsRound file here round there → IsSound there.game →
@@ -355,8 +355,8 @@ module _ (file : List ℕ) where
               | inr more ↦ omega
                   (arith, more, within)
             ] in
-            let front = first_of rounds few old played.0 played.1 fewer in
-            (front.0, front.1, suc front.2, (played.0, front.3, played.2))
+            let prefix = first_of rounds few old played.0 played.1 fewer in
+            (prefix.0, prefix.1, suc prefix.2, (played.0, prefix.3, played.2))
       ]
 
 -- where steps have led from the start of a file, this many of its rounds were played
@@ -404,14 +404,14 @@ module _ (one_opening : OneOpeningRound) (one_stock : OneStockRound) (one_operat
   up_to_by : (rounds : ℕ) (there last : Between) → AreRounds file rounds (before_play file) there
       → (plays : Plays file last) → rounds ≤ plays.rounds → IsUpTo file rounds there
   up_to_by rounds there last reached plays within =
-      let front = first_of file plays.rounds rounds (before_play file) last plays.reached within in
-      let same : front.0 ≡ there = rounds_once one_opening one_stock one_operating file rounds (before_play file)
-      front.0 there front.1 reached in
+      let prefix = first_of file plays.rounds rounds (before_play file) last plays.reached within in
+      let same : prefix.0 ≡ there = rounds_once one_opening one_stock one_operating file rounds (before_play file)
+      prefix.0 there prefix.1 reached in
       record {
         reached = reached;
-        later = front.2;
+        later = prefix.2;
         last = last;
-        ahead = subst (λ (at : Between). AreRounds file front.2 at last) same front.3;
+        ahead = subst (λ (at : Between). AreRounds file prefix.2 at last) same prefix.3;
         plays = plays;
       }
 

@@ -18,7 +18,7 @@ use Rattle.order_grammar.specs.declared.order.Order.{Order}
 use Rattle.order_grammar.specs.declared.order.Order.TheVariants as order
 use Rattle.order_grammar.specs.declared.order.ShareSource.{ShareSource}
 use Rattle.rounds.proofs.Growing.{Grows, GrowsPlainly, GrowsStill, broken_grows, further, in_either, is_still}
-use Rattle.rounds.proofs.Growing.{passes_plain, passes_test, stands_aside, stays, told}
+use Rattle.rounds.proofs.Growing.{by_one_event, passes_plain, passes_test, stays, still_is_aside}
 use Rattle.rounds.proofs.PlainLines.{recorded_plain, ruled_plain, ruling_plain}
 use Rattle.rounds.proofs.PlainTurns.{AddsPlain}
 use Rattle.sheets.specs.Part.{Numbered}
@@ -45,7 +45,7 @@ successor_grows seats events company None = stays events
 successor_grows seats events company (Some old) =
     let new : Seat = successor_of seats events company old in
     in_either events events (events ++ event.President company new ∷ []) (new.0 == old.0) (stays events)
-    (told events (event.President company new) refl)
+    (by_one_event events (event.President company new) refl)
 
 -- by a presidency that moves
 president_grows : (seats : ℕ) (events : List Event) (company : Company) →
@@ -57,7 +57,7 @@ floated_grows : (seats : ℕ) (events : List Event) (company : Company) (par : �
     GrowsPlainly is_still events (floated_at seats events company par)
 floated_grows seats events company par =
     further events (events ++ event.Floats company (10 * par) ∷ []) _
-    (told events (event.Floats company (10 * par)) refl)
+    (by_one_event events (event.Floats company (10 * par)) refl)
     (broken_grows seats (events ++ event.Floats company (10 * par) ∷ []))
 
 -- by a float
@@ -75,7 +75,7 @@ token_grows move events company None = stays events
 token_grows move events company (Some square) =
     in_either events events (events ++ event.Moves company (move square) ∷ []) (same_square (move square) square)
     (stays events)
-    (told events (event.Moves company (move square)) refl)
+    (by_one_event events (event.Moves company (move square)) refl)
 
 -- by a purchase
 purchase_grows : (seats : ℕ) (events : List Event) (seat : Seat) (company : Company) (from : ShareSource) →
@@ -90,12 +90,12 @@ purchase_grows seats events seat company from =
 pub sale_grows : (seats : ℕ) (events : List Event) (seat : Seat) (company : Company) (shares : ℕ) →
     GrowsPlainly is_still events (after_sale seats events seat company shares)
 sale_grows seats events seat company shares =
-    let told_so : List Event = events ++ event.Sells company seat shares (shares * market_price_of events company)
+    let sale_recorded : List Event = events ++ event.Sells company seat shares (shares * market_price_of events company)
     ∷ [] in
     let paid : List Event = sold seats events seat company shares in
     let presided : List Event = with_president seats paid company in
-    further events told_so _ (record { more = _; longer = refl; aside = refl })
-    (further told_so paid _ (broken_grows seats told_so)
+    further events sale_recorded _ (record { more = _; longer = refl; aside = refl })
+    (further sale_recorded paid _ (broken_grows seats sale_recorded)
     (further paid presided _ (president_grows seats paid company)
     (token_grows (fallen shares) presided company (square_of presided company))))
 
@@ -105,7 +105,7 @@ exchange_grows : (seats : ℕ) (events : List Event) (seat : Seat) →
 exchange_grows seats events seat =
     let done : List Event = exchanged events seat in
     let presided : List Event = with_president seats done NewYorkCentral in
-    further events done _ (told events (event.Exchanged seat (exchange_source events)) refl)
+    further events done _ (by_one_event events (event.Exchanged seat (exchange_source events)) refl)
     (further done presided _ (president_grows seats done NewYorkCentral) (float_grows seats presided NewYorkCentral))
 
 -- by an order that was obeyed
@@ -123,7 +123,7 @@ done_grows : (seats : ℕ) (seat : Seat) (turn : InTurn) (number : ℕ) (conditi
 done_grows seats seat turn number condition done =
     let ruled : List Event = recorded seat number (ruling.Obeyed condition done) turn.events in
     further turn.events ruled (after_act seats seat ruled done)
-    (told turn.events (event.Ruled seat number (ruling.Obeyed condition done)) refl)
+    (by_one_event turn.events (event.Ruled seat number (ruling.Obeyed condition done)) refl)
     (passes_test is_still ruled (after_act seats seat ruled done) (act_grows seats seat ruled done))
 
 -- by a line of a turn
@@ -132,8 +132,8 @@ line_grows : (seats : ℕ) (seat : Seat) (turn : InTurn) (line : Numbered) →
 line_grows seats seat turn line =
     of_ruled (acted seats seat) (refusal_of seats turn.events seat turn.actions.bought) seat turn line.number
     (λ (after : InTurn). GrowsStill turn.events after.events)
-    (λ (ruled : Ruling) (none : obeyed_by ruled ≡ None). told turn.events (event.Ruled seat line.number ruled) refl)
-    (λ (condition : Option Condition) (done : Order)
+    (λ (ruled : Ruling) (none : obeyed_by ruled ≡ None). by_one_event turn.events (event.Ruled seat line.number ruled)
+    refl) (λ (condition : Option Condition) (done : Order)
     (kept : refusal_of seats turn.events seat turn.actions.bought done ≡ None).
     done_grows seats seat turn line.number condition done)
     has_place_in_turn turn.events line
@@ -159,21 +159,21 @@ stock_round_still =
     (record {
       stays = stays;
       further = further;
-      standing = λ seat events line. told events (event.Ruled seat line.number
+      standing = λ seat events line. by_one_event events (event.Ruled seat line.number
           (ruling.Faulty (fault_of_standing line.reading))) refl;
       line = line_grows;
-      passes = λ events seat. told events (event.Passes seat) refl;
+      passes = λ events seat. by_one_event events (event.Passes seat) refl;
       closed = λ seats events.
           let order : List Company = operating_order_of events in
           passes_test is_still events (all_risen events order) (rises_grow events order);
-      leaves = λ events seat lines. told events (event.Left seat lines) refl;
+      leaves = λ events seat lines. by_one_event events (event.Left seat lines) refl;
     })
 
 -- so they stand aside
 pub stock_round_grows : (file : List ℕ) (round : Round) (old new : Game) → IsStockRound file round old new →
     Grows (old.events ++ event.Round round ∷ []) new.events
 stock_round_grows file round old new played =
-    stands_aside (old.events ++ event.Round round ∷ []) new.events (stock_round_still file round old new played)
+    still_is_aside (old.events ++ event.Round round ∷ []) new.events (stock_round_still file round old new played)
 
 -- a line without a condition adds but plain events, and so does the close
 pub stock_adds : AddsPlain stock_rules

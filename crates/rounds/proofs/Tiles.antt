@@ -6,8 +6,8 @@ use Rattle.rounds.proofs.RoundSteps.{in_each_game}
 use Rattle.rounds.specs.Tiles.{AllTilesAreThereInEachGame}
 
 -- tiles are in each game
-pub tiles_stand : TilesAreAllAtFirst → OthersKeepTiles → TurnsKeepTiles → AllTilesAreThereInEachGame
-tiles_stand first others turns =
+pub tiles_are_there : TilesAreAllAtFirst → OthersKeepTiles → TurnsKeepTiles → AllTilesAreThereInEachGame
+tiles_are_there first others turns =
     in_each_game TilesAreAll
     (record {
       first = first;

@@ -11,8 +11,8 @@ use Rattle.rounds.specs.Trains.{PhasesGoOnInRounds, AllTrainsAreThereInEachGame}
 use Rattle.tables.specs.Train.{place_of_kind}
 
 -- trains are in each game
-pub trains_stand : AllTrainsAreThereAtFirst → OthersKeepStanding → TurnsKeepAll → AllTrainsAreThereInEachGame
-trains_stand first others turns =
+pub trains_are_there : AllTrainsAreThereAtFirst → OthersKeepStanding → TurnsKeepAll → AllTrainsAreThereInEachGame
+trains_are_there first others turns =
     in_each_game AllTrainsAreThere
     (record {
       first = first;

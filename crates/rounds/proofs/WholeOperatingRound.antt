@@ -11,7 +11,7 @@ use Rattle.totals.specs.LookBack.{Game, with_event}
 use Rattle.totals.specs.Operating.{rulings_in_round}
 use Rattle.history.specs.Record.{revenues_recorded, with_left}
 use Rattle.purchases.specs.Standing.{after_standing}
-use Rattle.rounds.specs.OperatingRound.{IsOperatingRound, TurnsLead, finished, lines_left, opened, told_left}
+use Rattle.rounds.specs.OperatingRound.{IsOperatingRound, TurnsLead, finished, left_events, lines_left, opened}
 use Rattle.sheets.specs.File.{players_of}
 use Rattle.sheets.specs.Part.{lines_in, parts_for}
 use Rattle.tables.specs.Seat.{seat_at}
@@ -23,20 +23,20 @@ same_game : (a b : Game) → a.seats ≡ b.seats → a.events ≡ b.events → a
 same_game a b seats events = λ i. record { seats = seats i; events = events i }
 
 -- the ROUND event, the standing lines and the revenues open a round
-pub round_opened : (file : List ℕ) (round : Round) (old told ruled paid : Game) → old.seats ≡ length (players_of file)
-    → told ≡ with_event old (event.Round round) → ruled.seats ≡ told.seats
-    → ruled.events ≡ after_standing (length (players_of file)) file round told.events → paid ≡ revenues_recorded ruled
-    → paid ≡ opened file round old
-round_opened file round old told ruled paid players is_told ruled_seats is_ruled is_paid =
+pub round_opened : (file : List ℕ) (round : Round) (old recorded ruled paid : Game)
+    → old.seats ≡ length (players_of file) → recorded ≡ with_event old (event.Round round)
+    → ruled.seats ≡ recorded.seats → ruled.events ≡ after_standing (length (players_of file)) file round recorded.events
+    → paid ≡ revenues_recorded ruled → paid ≡ opened file round old
+round_opened file round old recorded ruled paid players is_recorded ruled_seats is_ruled is_paid =
     let start : List Event = old.events ++ event.Round round ∷ [] in
     let events : ruled.events ≡ after_standing old.seats file round start =
     is_ruled
-    ∙ ap (λ (game : Game). after_standing (length (players_of file)) file round game.events) is_told
+    ∙ ap (λ (game : Game). after_standing (length (players_of file)) file round game.events) is_recorded
     ∙ ap (λ (seats : ℕ). after_standing seats file round start) (sym players)
     in
     let is : ruled ≡ record { seats = old.seats; events = after_standing old.seats file round start } =
     same_game ruled (record { seats = old.seats; events = after_standing old.seats file round start })
-    (ruled_seats ∙ ap (λ (game : Game). game.seats) is_told) events
+    (ruled_seats ∙ ap (λ (game : Game). game.seats) is_recorded) events
     in
     is_paid ∙ ap revenues_recorded is
 
@@ -65,8 +65,8 @@ count_adds_none counted false events left count seat = counted events (event.Lef
 pub as_many_ruled : RulingsAreCounted → (from old new : List Event) (left : Seat) (count : ℕ) (seat : Seat)
     → rulings_in_round old seat ≡ rulings_in_round from seat → new ≡ old ++ with_left left count []
     → rulings_in_round new seat ≡ rulings_in_round from seat
-as_many_ruled counted from old new left count seat before told =
-    ap (λ (list : List Event). rulings_in_round list seat) told
+as_many_ruled counted from old new left count seat before recorded =
+    ap (λ (list : List Event). rulings_in_round list seat) recorded
     ∙ count_adds_none counted (count == 0) old left count seat ∙ before
 
 -- the seats that are left begin with the next
@@ -79,14 +79,14 @@ next_seat seat total within =
 pub left_goes_on : (file : List ℕ) (round : Round) (from old new : List Event) (seat total : ℕ) (left : Seat)
     → seat < total → left ≡ seat_at seat → rulings_in_round old left ≡ rulings_in_round from left
     → new ≡ old ++ with_left left (lines_left file round old left) []
-    → new ++ told_left file round from (range_with_len (seat + 1) (total - (seat + 1)))
-    ≡ old ++ told_left file round from (range_with_len seat (total - seat))
-left_goes_on file round from old new seat total left within is_seat as_many told =
-    let rest : List Event = told_left file round from (range_with_len (seat + 1) (total - (seat + 1))) in
-    ap (λ (all : List Event). all ++ rest) told
+    → new ++ left_events file round from (range_with_len (seat + 1) (total - (seat + 1)))
+    ≡ old ++ left_events file round from (range_with_len seat (total - seat))
+left_goes_on file round from old new seat total left within is_seat as_many recorded =
+    let rest : List Event = left_events file round from (range_with_len (seat + 1) (total - (seat + 1))) in
+    ap (λ (all : List Event). all ++ rest) recorded
     ∙ append_assoc old (with_left left (lines_left file round old left) []) rest
     ∙ ap (λ (all : List Event). old ++ all)
     (left_first left (lines_left file round old left) rest
     ∙ ap (λ (ruled : ℕ). with_left left (lines_in (parts_for file round left.0) - ruled) rest) as_many
     ∙ ap (λ (seat : Seat). with_left seat (lines_left file round from seat) rest) is_seat)
-    ∙ ap (λ (seats : List ℕ). old ++ told_left file round from seats) (sym (next_seat seat total within))
+    ∙ ap (λ (seats : List ℕ). old ++ left_events file round from seats) (sym (next_seat seat total within))

@@ -15,7 +15,7 @@ use Rattle.tables.specs.declared.roster.Company.{Company}
 use Rattle.tables.specs.declared.round.Round.{Round}
 use Rattle.tables.specs.declared.round.Round.TheVariants.{Opening, Stock, Operating}
 
--- the course of the turn of a company in a round, whose faults are told as those of play
+-- the course of the turn of a company in a round, whose faults are those of play
 abbrev pub CompanyCalls : List ℕ → Round → Company → Course Game Game PlayFault
 CompanyCalls file round company = Named (λ fault. fault_in_turn fault round company) (TurnCalls file round company)
 
@@ -37,7 +37,7 @@ TurnsCall file round = SomeTimesThen (NextCalls file round) (Unasked Memory AreO
 abbrev pub IsOpened : List ℕ → Round → Game → Game → Type 0
 IsOpened file round old new = new ≡ opened file round old
 
--- it is told what was left
+-- it is recorded what was left
 abbrev pub IsFinished : List ℕ → Round → Game → Game → Type 0
 IsFinished file round turned new =
     new ≡ record { seats = turned.seats; events = finished file round turned.seats turned.events }

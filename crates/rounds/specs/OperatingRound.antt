@@ -53,19 +53,19 @@ pub record TurnsLead (file : List ℕ) (round : Round) (old new : Game) : Type 0
   pub turns : TakeTurns file round companies old new
   pub over_then : next_company new.events ≡ None
 
--- the lines of a seat's sheet that were not taken up, heads of blocks not counted
+-- the lines of a seat's sheet that were not taken up, heads of companies' orders not counted
 abbrev pub lines_left : List ℕ → Round → List Event → Seat → ℕ
 lines_left file round events seat = lines_in (parts_for file round seat.0) - rulings_in_round events seat
 
--- what is told of those of these seats, in order
-abbrev pub told_left : List ℕ → Round → List Event → List ℕ → List Event
-told_left file round events [] = []
-told_left file round events (seat ∷ seats) =
-    with_left (seat_at seat) (lines_left file round events (seat_at seat)) (told_left file round events seats)
+-- what is recorded of those of these seats, in order
+abbrev pub left_events : List ℕ → Round → List Event → List ℕ → List Event
+left_events file round events [] = []
+left_events file round events (seat ∷ seats) =
+    with_left (seat_at seat) (lines_left file round events (seat_at seat)) (left_events file round events seats)
 
 -- the list at the end of the round, where the turns have led to these events
 abbrev pub finished : List ℕ → Round → ℕ → List Event → List Event
-finished file round seats events = events ++ told_left file round events (range_with_len 0 seats)
+finished file round seats events = events ++ left_events file round events (range_with_len 0 seats)
 
 -- new is old after an operating round with the sheets of the file
 pub record IsOperatingRound (file : List ℕ) (round : Round) (old new : Game) : Type 0 where

@@ -10,7 +10,7 @@ use Rattle.order_grammar.specs.declared.condition.Version.TheVariants.{One}
 use Rattle.rounds.specs.Play.{AreRounds, Between, before_play}
 use Rattle.sheets.specs.File.{version_of}
 
--- the condition under which the order stands that was ruled; a fault has none
+-- the condition of the order that was ruled; a fault has none
 abbrev pub condition_ruled : Ruling → Option Condition
 condition_ruled (Obeyed condition order) = condition
 condition_ruled (Refused rule condition order) = condition

@@ -1,5 +1,5 @@
 -- Files whose sheets are read alike, be their bytes the same or not: for a round each seat has a sheet in both or in
--- none, and the lines of its sheets come to the same parts. A round is played from these alone.
+-- none, and the lines of its sheets make the same parts. A round is played from these alone.
 use Rattle.std.specs.Prelude.{◌≡◌, ℕ, List, is_some}
 use Rattle.rounds.specs.Play.{Between, Plays}
 use Rattle.sheets.specs.File.{players_of, sheet_of, version_of}

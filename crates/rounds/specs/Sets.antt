@@ -23,7 +23,7 @@ pub record KeepsItsNumber (file : List ℕ) (set : ℕ) (begun there : Between) 
       → ¬ IsOfSet set later →
       round ≡ Operating set (rounds_of_new_set begun.game.events)
 
--- so it is in each game of a file, wherever it has come to a stock round, and this many rounds later is still in its
+-- so it is in each game of a file, wherever it has reached a stock round, and this many rounds later is still in its
 -- set
 abbrev pub SetsKeepTheirNumber : Type 0
 SetsKeepTheirNumber =

@@ -52,7 +52,7 @@ pub(crate) fn play_operating<R: Runner>(
     Ok(history)
 }
 
-/// Tells that the round begins.
+/// Records that the round begins.
 fn begin(history: &mut History, round: Round) -> Result<(), AllocError>
     requires { IsSound history.old }
     ensures event { OnOk result (history.new ≡ with_event history.old (event.Round round)) }
@@ -91,7 +91,7 @@ fn take_turns<R: Runner>(
     Ok(table.history)
 }
 
-/// A company takes its turn, with a board that has the first of what lies.
+/// A company takes its turn, with a board that has the first of the tiles and tokens.
 fn take_turn<R: Runner>(
     alloc: Global,
     table: Table,
@@ -139,7 +139,7 @@ fn first_idle(history: &History) -> Option<Company>
         .find(|company| !history.now().has_operated(*company))
 }
 
-/// Tells how many lines of each sheet were not taken up, heads of blocks not counted.
+/// Records how many lines of each sheet were not taken up, heads of companies' orders not counted.
 fn record_all_left(history: &mut History, sheets: &Sheets, round: Round) -> Result<(), AllocError>
     requires { IsSound history.old }
     ensures seats { OnOk result (history.new.seats ≡ history.old.seats) }
@@ -155,7 +155,7 @@ fn record_all_left(history: &mut History, sheets: &Sheets, round: Round) -> Resu
     Ok(())
 }
 
-/// Tells how many lines of a seat's sheet were not taken up.
+/// Records how many lines of a seat's sheet were not taken up.
 fn record_left(
     history: &mut History,
     sheets: &Sheets,

@@ -29,7 +29,7 @@ use std::mem;
 use stock_round::play_stock;
 use tables::{Round, Seat, rounds_in_set};
 
-/// What a step of play came to.
+/// What became of a step of play.
 #[derive(Clone, Copy, Debug, PartialEq, Eq)]
 pub enum Step {
     /// This round was played.

@@ -1,4 +1,4 @@
--- The table of pieces: what is added to it, and how a piece is found there.
+-- The table of segments: what is added to it, and how a segment is found there.
 use Rattle.std.proofs.Common.{◌≡◌, ℕ, zero, suc, ◌+◌, ◌-◌, ◌<◌, ◌≤◌, Bool, true, false, ◌==◌, ◌⊎◌, inl, inr, Some, List}
 use Rattle.std.proofs.Common.{[], ◌∷◌, ◌++◌, length, replicate, set, slice_get, refl, sym, ap, subst, ◌∙◌, arith}
 use Rattle.std.proofs.Common.{length-append, length-set}
@@ -28,7 +28,7 @@ at_end (z ∷ zs) x zero y at = inl at
 at_end (z ∷ zs) x (suc i) y at = elim (at_end zs x i y at)
     [ inl old ↦ inl old | inr last ↦ inr (ap suc last.0, last.1) ]
 
--- what is in a list of which one place is changed
+-- what is in a list with one place changed
 pub set_at : {A : Type 0} (xs : List A) (place i : ℕ) (new found : A) → slice_get (set xs place new) i ≡ Some found
     → ((i ≡ place) × (new ≡ found)) ⊎ ((i ≡ place → ⊥) × (slice_get xs i ≡ Some found))
 set_at [] place i new found at = absurd (omega (arith, slice_get_within [] i found at))
@@ -41,7 +41,7 @@ set_at (x ∷ xs) (suc place) (suc i) new found at =
       | inr other ↦ inr (λ is. other.0 (omega (arith, is)), other.1)
     ]
 
--- the pieces from a spot where one more is in the table
+-- the segments from a spot where one more is in the table
 from_more : (spot : ℕ) (entries : List Entry) (entry : Entry)
     → segments_from spot (entries ++ entry ∷ []) ≡ segments_from spot entries
     ++ segment_if (entry.from == spot) entry.segment []
@@ -102,7 +102,7 @@ entry_more entries more there spot place is =
       place_is = is.place_is;
     }
 
--- one more piece: it comes behind those from its spot
+-- one more segment: it comes behind those from its spot
 module _ (entries : List Entry) (chains : List Chain) (are : AreChained entries chains) (entry : Entry) (old : Chain)
     (at_old : slice_get chains entry.from ≡ Some old) (place_is : entry.place ≡ old.count)
     (before_is : entry.before ≡ old.last) where
@@ -182,10 +182,10 @@ module _ (entries : List Entry) (chains : List Chain) (are : AreChained entries 
             last = λ place one. entry_more entries entry chain.last spot place (is.last place one);
           }
 
--- on the way back from the last piece to one at a place: this many are left to pass
+-- on the way back from the last segment to one at a place: this many are left to pass
 pub record IsAbove (entries : List Entry) (there spot place left : ℕ) : Type 0 where
   pub here : ℕ
-  pub stands : IsEntryAt entries there spot here
+  pub is_entry : IsEntryAt entries there spot here
   pub is : here ≡ place + left
 
 pub above_last : (entries : List Entry) (chains : List Chain) → AreChained entries chains → (spot : ℕ) (chain : Chain)
@@ -194,20 +194,20 @@ pub above_last : (entries : List Entry) (chains : List Chain) → AreChained ent
 above_last entries chains are spot chain at place low =
     let is : IsChain entries spot chain = are.chains_are spot chain at in
     let some : chain.count - 1 + 1 ≡ chain.count = omega (arith, is.count, low) in
-    record { here = chain.count - 1; stands = is.last (chain.count - 1) some; is = omega (arith, is.count, low) }
+    record { here = chain.count - 1; is_entry = is.last (chain.count - 1) some; is = omega (arith, is.count, low) }
 
 pub above_before : (entries : List Entry) (chains : List Chain) → AreChained entries chains
     → (there spot place left : ℕ) (entry : Entry) → slice_get entries there ≡ Some entry → 0 < left
     → IsAbove entries there spot place left → IsAbove entries entry.before spot place (left - 1)
 above_before entries chains are there spot place left entry at some above =
-    let same : above.stands.entry ≡ entry = let e : Some above.stands.entry ≡ Some entry =
-    sym above.stands.there_is ∙ at in cc in
-    let place_is : entry.place ≡ above.here = ap (λ (e : Entry). e.place) (sym same) ∙ above.stands.place_is in
-    let from_is : entry.from ≡ spot = ap (λ (e : Entry). e.from) (sym same) ∙ above.stands.from_is in
+    let same : above.is_entry.entry ≡ entry = let e : Some above.is_entry.entry ≡ Some entry =
+    sym above.is_entry.there_is ∙ at in cc in
+    let place_is : entry.place ≡ above.here = ap (λ (e : Entry). e.place) (sym same) ∙ above.is_entry.place_is in
+    let from_is : entry.from ≡ spot = ap (λ (e : Entry). e.from) (sym same) ∙ above.is_entry.from_is in
     let one : above.here - 1 + 1 ≡ entry.place = omega (arith, place_is, above.is, some) in
     record {
       here = above.here - 1;
-      stands = subst (λ (n : ℕ). IsEntryAt entries entry.before n (above.here - 1)) from_is
+      is_entry = subst (λ (n : ℕ). IsEntryAt entries entry.before n (above.here - 1)) from_is
           ((are.places there entry at).before (above.here - 1) one);
       is = omega (arith, above.is, some);
     }
@@ -216,15 +216,16 @@ pub above_it : (entries : List Entry) (chains : List Chain) → AreChained entri
     → (there spot place left : ℕ) (entry : Entry) → slice_get entries there ≡ Some entry → left ≡ 0
     → IsAbove entries there spot place left → slice_get (segments_from spot entries) place ≡ Some entry.segment
 above_it entries chains are there spot place left entry at none above =
-    let same : above.stands.entry ≡ entry = let e : Some above.stands.entry ≡ Some entry =
-    sym above.stands.there_is ∙ at in cc in
+    let same : above.is_entry.entry ≡ entry = let e : Some above.is_entry.entry ≡ Some entry =
+    sym above.is_entry.there_is ∙ at in cc in
     let place_is : entry.place ≡ place = ap (λ (e : Entry). e.place) (sym same)
-    ∙ (above.stands.place_is ∙ omega (arith, above.is, none)) in
-    let from_is : entry.from ≡ spot = ap (λ (e : Entry). e.from) (sym same) ∙ above.stands.from_is in
+    ∙ (above.is_entry.place_is ∙ omega (arith, above.is, none)) in
+    let from_is : entry.from ≡ spot = ap (λ (e : Entry). e.from) (sym same) ∙ above.is_entry.from_is in
     subst (λ (n : ℕ). slice_get (segments_from n entries) place ≡ Some entry.segment) from_is
     (subst (λ (n : ℕ). slice_get (segments_from entry.from entries) n ≡ Some entry.segment) place_is
     (are.places there entry at).segment_is)
 
 pub above_low : (entries : List Entry) (there spot place left : ℕ) → IsAbove entries there spot place left
     → there < length entries
-above_low entries there spot place left above = slice_get_within entries there above.stands.entry above.stands.there_is
+above_low entries there spot place left above = slice_get_within entries there above.is_entry.entry
+    above.is_entry.there_is

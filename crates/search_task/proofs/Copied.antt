@@ -8,10 +8,10 @@ pub append_together : {A : Type 0} (xs ys zs : List A) → (xs ++ ys) ++ zs ≡ 
 append_together [] ys zs = refl
 append_together (x ∷ xs) ys zs = ap (λ rest. x ∷ rest) (append_together xs ys zs)
 
-set_front : (steps : List Step) (n : ℕ) (step last : Step)
+set_in_prefix : (steps : List Step) (n : ℕ) (step last : Step)
     → set (steps ++ replicate (suc n) last) (length steps) step ≡ steps ++ step ∷ replicate n last
-set_front [] n step last = refl
-set_front (first ∷ steps) n step last = ap (λ others. first ∷ others) (set_front steps n step last)
+set_in_prefix [] n step last = refl
+set_in_prefix (first ∷ steps) n step last = ap (λ others. first ∷ others) (set_in_prefix steps n step last)
 
 together : (steps others : List Step) (step : Step) → (steps ++ step ∷ []) ++ others ≡ steps ++ step ∷ others
 together [] others step = refl
@@ -31,7 +31,7 @@ copy_next first few place last none low fits before =
     ap (λ (steps : List Step). set steps place step)
     (before ∙ ap (λ (m : ℕ). take place first ++ replicate m last) some)
     ∙ (ap (λ (i : ℕ). set (take place first ++ replicate (suc n) last) i step) (sym long)
-    ∙ (set_front (take place first) n step last
+    ∙ (set_in_prefix (take place first) n step last
     ∙ (sym (together (take place first) (replicate n last) step)
     ∙ (ap (λ (steps : List Step). steps ++ replicate n last) (sym taken)
     ∙ ap (λ (m : ℕ). take (place + 1) first ++ replicate m last) rest))))

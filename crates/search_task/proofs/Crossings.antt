@@ -19,7 +19,7 @@ pub set_misses : (used marks : List Bool) (apart : Bool) → (apart ≡ true →
     → (apart ≡ false → AreApart used marks → ⊥) → apart ≡ misses used (numbers_in marks)
 set_misses used marks apart are meet =
     same_bool apart (misses used (numbers_in marks))
-    (λ told. free_misses used (numbers_in marks) (λ border among marked. are told border marked
+    (λ holds. free_misses used (numbers_in marks) (λ border among marked. are holds border marked
     ((in_set marks border).1 among)))
     (λ free. true_or apart (λ none. meet none (λ border first second. misses_free used (numbers_in marks) free border
     ((in_set marks border).0 second) first)))

@@ -1,5 +1,5 @@
--- The ways from a stop, as they are found: by a piece to a stop there is one, by a piece to a side those by the pieces
--- from there.
+-- The legs from a stop, as they are found: by a segment to a stop there is one, by a segment to a side those by the
+-- segments from there.
 use Rattle.std.proofs.Common.{◌≡◌, ℕ, zero, suc, ◌+◌, ◌*◌, ◌<◌, ◌≤◌, Bool, true, false, ◌⊎◌, inl, inr, Option, Some}
 use Rattle.std.proofs.Common.{None, List, [], ◌∷◌, ◌++◌, length, get_or, slice_get, take, refl, sym, ap, subst, ◌∙◌}
 use Rattle.std.proofs.Common.{arith, length-append}
@@ -28,7 +28,7 @@ use Rattle.search_task.proofs.Marks.{marked_fewer}
 use Rattle.search_task.proofs.Places.{below_next, place_low}
 use Rattle.search_task.proofs.Copied.{append_together}
 
--- a piece over no border counts one
+-- a segment over no border counts one
 abbrev pub one_if_none : List ℕ → ℕ
 one_if_none [] = 1
 one_if_none (border ∷ borders) = 0
@@ -37,7 +37,7 @@ pub none_over : (borders : List ℕ) → 0 < length borders → one_if_none bord
 none_over [] some = absurd (omega (arith, some))
 none_over (border ∷ borders) some = refl
 
--- less is left after a piece
+-- less is left after a segment
 pub lead_less : (used : List Bool) (borders : List ℕ) → length used ≡ 279 → BordersFit borders
     → misses used borders ≡ true → 2 * unused (marked_all used borders) + 1 ≤ 2 * unused used + one_if_none borders
 lead_less used [] whole fit free = omega arith
@@ -46,13 +46,13 @@ lead_less used (border ∷ borders) whole fit free =
     marked_fewer used (border ∷ borders) whole fit (omega arith) free in
     omega (arith, fewer)
 
--- the first piece of such is free
+-- the first segment of such is free
 pub free_first : (used : List Bool) (segment : Segment) (hops : List Hop) → AreFree used segment hops
     → misses used segment.borders.items ≡ true
 free_first used segment [] free = free
 free_first used segment (hop ∷ hops) free = free.0
 
--- a piece whose border is used adds none
+-- a segment whose border is used adds none
 pub adds_none :
     (task : Task) (used : List Bool) (walked : List Step) (place : ℕ) (segment : Segment) (legs : List Leg) →
     misses used segment.borders.items ≡ false → AddsLegs task used walked place segment legs legs
@@ -64,7 +64,7 @@ adds_none task used walked place segment legs fails =
           sym (free_first used segment hops free) ∙ fails in cc);
     }
 
--- a piece to a stop is a way
+-- a segment to a stop is a leg
 pub adds_stop :
     (task : Task) (used : List Bool) (walked : List Step) (place : ℕ) (segment : Segment) (legs : List Leg)
     (leg : Leg) →
@@ -156,7 +156,7 @@ below_more task used walked place spot index segment old middle new here before 
       ];
     }
 
--- a piece to a side that may be passed
+-- a segment to a side that may be passed
 made_more :
     (task : Task) (used : List Bool) (walked : List Step) (place : ℕ) (segment : Segment) (hop : Hop)
     (hops : List Hop) (leg : Leg) →
@@ -210,7 +210,7 @@ adds_side task used walked place segment index old new free side passes all belo
           to_is = has.to_is;
         }
 
--- the ways after a path that is the same are the same
+-- the legs after a path that is the same are the same
 pub adds_after : (task : Task) (used : List Bool) (old new : Path) (segment : Segment) (legs more : List Leg)
     → IsSamePath old new → AddsLegsBy task used new segment legs more → AddsLegsBy task used old segment legs more
 adds_after task used old new segment legs more same adds =
@@ -287,7 +287,7 @@ departs_more task count all from before here =
     at_end (z ∷ zs) (suc i) y at = elim (at_end zs i y at)
         [ inl old ↦ inl old | inr last ↦ inr (ap suc last.0, last.1) ]
 
--- the ways from a stop, by its number
+-- the legs from a stop, by its number
 pub none_at : {A : Type 0} (xs : List A) (i : ℕ) → slice_get xs i ≡ None → i < length xs → ⊥
 none_at [] i none low = omega (arith, low)
 none_at (x ∷ xs) zero none low = absurd cc
@@ -303,7 +303,7 @@ pub departs_at : (task : Task) → AreReady task → (stop : ℕ) (from : Depart
     → from ≡ get_or task.departures.items stop from → slice_get task.departures.items stop ≡ Some from
 departs_at task ready stop from low is = slice_get_read task.departures.items 744 stop from (sym ready.long) low is
 
--- what is said of ways is said of spots and pieces alone
+-- what is said of legs is said of spots and segments alone
 node_same : (a b : Task) → a.spots.items ≡ b.spots.items → (spot : ℕ) → node_at a spot ≡ node_at b spot
 node_same a b same spot = ap (λ (nodes : List Node). slice_get nodes spot) same
 
@@ -394,8 +394,8 @@ pub listed_more : (task : Task) (count : ℕ) (stops : List ℕ) → IsStop task
     → AreStops task (count + 1) (stops ++ count ∷ [])
 listed_more task count stops is before =
     record {
-      each = λ stop low stands. elim (below_next stop count low) [
-        | inl less ↦ elim (before.each stop less stands) [
+      each = λ stop low stop_there. elim (below_next stop count low) [
+        | inl less ↦ elim (before.each stop less stop_there) [
           | inl none ↦ inl none
           | inr listed ↦ inr (
             listed.0,
@@ -422,11 +422,11 @@ pub listed_same : (task : Task) (count : ℕ) (stops : List ℕ)
     → AreStops task (count + 1) stops
 listed_same task count stops why before =
     record {
-      each = λ stop low stands. elim (below_next stop count low) [
-        | inl less ↦ before.each stop less stands
+      each = λ stop low stop_there. elim (below_next stop count low) [
+        | inl less ↦ before.each stop less stop_there
         | inr same ↦ elim why [
           | inl side ↦ absurd (let wrong : true ≡ false =
-              sym stands ∙ (ap (λ (n : ℕ). stop_in (node_at task n)) same ∙ side) in cc)
+              sym stop_there ∙ (ap (λ (n : ℕ). stop_in (node_at task n)) same ∙ side) in cc)
           | inr none ↦ inl (ap (λ (n : ℕ). legs_at task n) same ∙ none)
         ]
       ];
@@ -437,7 +437,7 @@ listed_same task count stops why before =
 pub no_stop : (task : Task) → IsFit task → (hex : ℕ) → AreSides task (8 * hex) (8 * hex + 6)
 no_stop task fit hex spot least low = (fit.sides spot (omega (arith, least, low))).0
 
--- a stop from which no way leads
+-- a stop from which no leg leads
 pub no_legs : (task : Task) (stop : ℕ) (from : Departures) → slice_get task.departures.items stop ≡ Some from
     → length from.legs.items ≡ 0 → legs_at task stop ≡ []
 no_legs task stop from at none = ap legs_in at ∙ empty from.legs.items none

@@ -1,4 +1,4 @@
--- The steps of a position, and the pieces from its spots, as they are collected.
+-- The steps of a position, and the segments from its spots, as they are collected.
 use Rattle.std.proofs.Common.{◌≡◌, ◌↔◌, ℕ, zero, suc, ◌+◌, ◌*◌, ◌/◌, ◌%◌, ◌<◌, ◌≤◌, Bool, true, false, ◌⊎◌, inl, inr}
 use Rattle.std.proofs.Common.{Option, Some, None, option_map, List, [], ◌∷◌, ◌++◌, length, get_or, replicate, set}
 use Rattle.std.proofs.Common.{slice_get, take, refl, sym, ap, subst, ◌∙◌, arith, length-set}
@@ -233,7 +233,7 @@ code_comes number (Some other) low = (λ is. ap (λ (n : ℕ). Some n) is, λ is
 comes_by_code : (number : ℕ) (step : Step) → number < 744 → (code_before step ≡ number) ↔ ComesFrom number step
 comes_by_code number step few = code_comes number (number_before (entered_at step).hex (entered_at step).end) few
 
--- the code of a step is told by the spot at which it is entered
+-- the code of a step is known by the spot at which it is entered
 pub code_is : (number : ℕ) (spot : Spot) (step : Step) → spot ≡ entered_at step
     → number ≡ number_or_none (number_before spot.hex spot.end) → number ≡ code_before step
 code_is number spot step same is = is ∙ ap (λ (s : Spot). number_or_none (number_before s.hex s.end)) same
@@ -258,7 +258,7 @@ segments_same number steps segments next fails before =
       ];
     }
 
--- the piece of the next step is added
+-- the segment of the next step is added
 segments_more : (number : ℕ) (steps : List Step) (segments : List Segment) (next : Step) → ComesFrom number next
     → (segment : Segment) → IsSegmentOf next segment → AreSegmentsFrom number steps segments
     → AreSegmentsFrom number (steps ++ next ∷ []) (segments ++ segment ∷ [])
@@ -415,7 +415,7 @@ takes_none step entries none steps before number =
     segments_same number steps (segments_from number entries) step
     (λ comes. let low = comes_low number step comes in omega (arith, none, low.0, low.1)) (before number)
 
--- its piece is added behind those from the spot from which it may be taken
+-- its segment is added behind those from the spot from which it may be taken
 pub takes_segment : (step : Step) (old new : List Entry) (segment : Segment) → code_before step < 744
     → IsSegmentOf step segment → AddsSegment (code_before step) segment old new → TakesStep step old new
 takes_segment step old new segment few is adds steps before number =

@@ -1,4 +1,4 @@
--- Ways lead back over all ways, as far as has been asked.
+-- Legs lead back over all legs, as far as has been asked.
 use Rattle.std.proofs.Common.{◌≡◌, ℕ, zero, suc, ◌+◌, ◌<◌, ◌≤◌, inl, inr, Option, Some, None, List, [], length, get_or}
 use Rattle.std.proofs.Common.{slice_get, refl, sym, ap, subst, ◌∙◌, arith}
 use Rattle.std.proofs.lemmas.Option.{slice_get_read, slice_get_within}
@@ -8,7 +8,7 @@ use Rattle.search_task.specs.declared.task.Leg.{Leg}
 use Rattle.search_task.specs.Legs.{AllLeadBack, HasMirror, IsMirrored, legs_at, legs_in}
 use Rattle.search_task.proofs.Places.{below_next, one_leg}
 
--- the ways from a spot that is read
+-- the legs from a spot that is read
 pub read_at : (task : Task) (spot : ℕ) (from : Departures) → spot < length task.departures.items
     → from ≡ get_or task.departures.items spot from → legs_at task spot ≡ from.legs.items
 read_at task spot from low is = ap legs_in (slice_get_read task.departures.items (length task.departures.items) spot
@@ -22,17 +22,17 @@ leg_at task spot from index leg low is within read =
     ap (λ (legs : List Leg). slice_get legs index) (read_at task spot from low is)
     ∙ slice_get_read from.legs.items (length from.legs.items) index leg refl within read
 
--- over the ways before a place
+-- over the legs before a place
 abbrev pub LeadBackBelow : Task → ℕ → ℕ → Type 0
 LeadBackBelow task spot most = (place : ℕ) (leg : Leg) → place < most → slice_get (legs_at task spot) place ≡ Some leg
     → HasMirror task leg
 
 pub back_more : (task : Task) (spot index : ℕ) (leg : Leg) → slice_get (legs_at task spot) index ≡ Some leg
     → HasMirror task leg → LeadBackBelow task spot index → LeadBackBelow task spot (index + 1)
-back_more task spot index leg at mirror before place found low stands =
+back_more task spot index leg at mirror before place found low is_leg =
     elim (below_next place index low) [
-      | inl less ↦ before place found less stands
-      | inr same ↦ subst (HasMirror task) (one_leg (legs_at task spot) index place leg found at stands same) mirror
+      | inl less ↦ before place found less is_leg
+      | inr same ↦ subst (HasMirror task) (one_leg (legs_at task spot) index place leg found at is_leg same) mirror
     ]
 
 pub back_none : (task : Task) (spot : ℕ) → LeadBackBelow task spot 0
@@ -44,7 +44,7 @@ back_all task spot most legs there all below place leg at =
     let low : place < length legs = slice_get_within legs place leg (ap (λ ws. slice_get ws place) (sym there) ∙ at) in
     below place leg (omega (arith, low, all)) at
 
--- over the ways from the spots before one
+-- over the legs from the spots before one
 abbrev pub AllBackBelow : Task → ℕ → Type 0
 AllBackBelow task most = (spot : ℕ) → spot < most → AllLeadBack task spot
 
@@ -74,7 +74,7 @@ spots_all task most all below spot place leg at = by_from (slice_get task.depart
     by_from (Some from) is there =
         below spot (omega (arith, all, slice_get_within task.departures.items spot from is)) place leg at
 
--- what is asked of the ways alone
+-- what is asked of the legs alone
 pub mirrored_same : (a b : Task) → a.departures.items ≡ b.departures.items → IsMirrored a → IsMirrored b
 mirrored_same a b same is spot place leg at =
     let legs : (n : ℕ) → legs_at a n ≡ legs_at b n =

@@ -14,12 +14,12 @@ pub node_is : (task : Task) → IsFit task → (stop : ℕ) (node : Node) → st
     → node ≡ get_or task.spots.items stop node → node_at task stop ≡ Some node
 node_is task fit stop node low is = slice_get_read task.spots.items 744 stop node (sym fit.all) low is
 
--- a node that is read where a piece leads is the one there
+-- a node that is read where a segment leads is the one there
 pub came : (task : Task) (to read : ℕ) (node : Node) → read ≡ to → node ≡ get_or task.spots.items read node
     → node ≡ get_or task.spots.items to node
 came task to read node same is = subst (λ (n : ℕ). node ≡ get_or task.spots.items n node) same is
 
--- a piece that is found from where another leads
+-- a segment that is found from where another leads
 pub from_there : (task : Task) (to read index : ℕ) (segment : Segment) → read ≡ to
     → slice_get (segments_at task read) index ≡ Some segment → LeadsFrom task to index segment
 from_there task to read index segment same at = subst (λ (n : ℕ). LeadsFrom task n index segment) same at
@@ -29,7 +29,7 @@ pub all_there : (task : Task) (to read count index : ℕ) → read ≡ to → co
 all_there task to read count index same is all =
     subst (λ (n : ℕ). length (segments_at task n) ≤ index) same (omega (arith, is, all))
 
--- a piece that leads from a spot has a place among its pieces
+-- a segment that leads from a spot has a place among its segments
 pub place_low : (task : Task) (spot index : ℕ) (segment : Segment) → LeadsFrom task spot index segment
     → index < length (segments_at task spot)
 place_low task spot index segment leads = slice_get_within (segments_at task spot) index segment leads
@@ -59,7 +59,7 @@ side_value task fit spot = by_node (node_at task spot) refl
     by_node None is side = refl
     by_node (Some node) is side = (fit.nodes spot node is).side side
 
--- a piece that leads from a spot is fit
+-- a segment that leads from a spot is fit
 pub leading_fits : (task : Task) → IsFit task → (spot index : ℕ) (segment : Segment)
     → LeadsFrom task spot index segment → (from : Bool) × SegmentFits task from segment
 leading_fits task fit spot index segment leads = (stop_in (node_at task spot), fit.segments spot index segment leads)

@@ -1,4 +1,4 @@
--- Marks as bits in words of 64: what setting a bit, and joining, taking away or comparing words comes to, mark by mark.
+-- Marks as bits in words of 64: what setting a bit, and joining, taking away or comparing words does, mark by mark.
 use Rattle.std.proofs.Common.{◌≡◌, ◌↔◌, ℕ, zero, suc, ◌+◌, ◌-◌, ◌*◌, ◌/◌, ◌%◌, ◌^◌, ◌<◌, ◌≤◌, Bool, true, false, ◌||◌}
 use Rattle.std.proofs.Common.{◌⊎◌, inl, inr, List, [], ◌∷◌, length, get_or, set, replicate, refl, sym, ap, subst, ◌∙◌}
 use Rattle.std.proofs.Common.{arith, eq-eqb, eqb, eqb-true, get_or-set_same, get_or-set_other, length-set, w64}
@@ -66,13 +66,13 @@ either_true false b is = inr is
 either_bit : (a b i : ℕ) → eqb (bit_at (bit_or a b) i) 1 ≡ (eqb (bit_at a i) 1 || eqb (bit_at b i) 1)
 either_bit a b i =
     same_bool (eqb (bit_at (bit_or a b) i) 1) (eqb (bit_at a i) 1 || eqb (bit_at b i) 1)
-    (λ told. let is = eqb-true (bit_at (bit_or a b) i) 1 told in
+    (λ holds. let is = eqb-true (bit_at (bit_or a b) i) 1 holds in
     elim (cases_eq (bit_at a i) 1) [
       | inl one ↦ left_true (eqb (bit_at a i) 1) (eqb (bit_at b i) 1) (eq-eqb (bit_at a i) 1 one)
       | inr other ↦ right_true (eqb (bit_at a i) 1) (eqb (bit_at b i) 1)
           (eq-eqb (bit_at b i) 1 (omega (arith, is, other, bit_at_or a b i, bit_at-lt a i)))
     ])
-    (λ told. eq-eqb (bit_at (bit_or a b) i) 1 (elim (either_true (eqb (bit_at a i) 1) (eqb (bit_at b i) 1) told) [
+    (λ holds. eq-eqb (bit_at (bit_or a b) i) 1 (elim (either_true (eqb (bit_at a i) 1) (eqb (bit_at b i) 1) holds) [
       | inl one ↦ omega (arith, eqb-true (bit_at a i) 1 one, bit_at_or a b i, bit_at-lt b i)
       | inr two ↦ omega (arith, eqb-true (bit_at b i) 1 two, bit_at_or a b i, bit_at-lt a i)
     ]))
@@ -428,7 +428,7 @@ without_more a b words k value low here before rest j less =
           (subst (λ (word : ℕ). IsWithout word (get_or b k 0) value) (rest k (omega arith)) here))
     ]
 
--- words of which all bits for the first numbers are set, and no others
+-- words with all bits for the first numbers set, and no others
 unfoldable pub all_words : ℕ → ℕ → List ℕ
 all_words count words =
     set (replicate words 18446744073709551615) (words - 1) (18446744073709551615 / 2 ^

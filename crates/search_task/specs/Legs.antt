@@ -169,7 +169,7 @@ AreHomes task from to (home ∷ homes) =
     (from ≤ home) × (home < to) × (own_in (node_at task home) ≡ true) × HasNoHome task from home
     × AreHomes task (home + 1) to homes
 
--- a leg leads back from where another one comes to, and crosses no border but those of it
+-- a leg leads back from where another one ends, and crosses no border but those of it
 pub record HasMirror (task : Task) (leg : Leg) : Type 0 where
   pub place : ℕ
   pub back : Leg

@@ -22,7 +22,7 @@ pub record AddsSegment (from : ℕ) (segment : Segment) (old new : List Entry) :
   pub segment_is : entry.segment ≡ segment
   pub more : new ≡ old ++ entry ∷ []
 
--- at a place in the table stands the segment that has a place among those from a spot
+-- at a place in the table is the segment that has a place among those from a spot
 pub record IsEntryAt (entries : List Entry) (there spot place : ℕ) : Type 0 where
   pub entry : Entry
   pub there_is : slice_get entries there ≡ Some entry

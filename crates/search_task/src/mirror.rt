@@ -5,7 +5,7 @@ ghost use Rattle.search_task.specs.Legs.{AllLeadBack, HasMirror, IsMirrored};
 use crate::task::{Leg, Task};
 
 impl Task {
-    /// Whether a leg leads back over one, from where that comes to, over no borders but those of it.
+    /// Whether a leg leads back over one, from where that ends, over no borders but those of it.
     fn leads_back(&self, leg: &Leg) -> bool
         ensures { IsTrue result → HasMirror self.now leg.now }
     {

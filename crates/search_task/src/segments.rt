@@ -1,5 +1,5 @@
-//! The segments of track that lead from the spots, all in one table: the segments from a spot are told one
-//! after another, each with the place of the one before it.
+//! The segments of track that lead from the spots, all in one table: the segments from a spot are recorded
+//! one after another, each with the place of the one before it.
 ghost use Rattle.std.specs.Prelude.{◌≡◌, ◌<◌, [], IfOk, OnOk, Some, length, slice_get};
 ghost use Rattle.search_task.specs.Segments.{AddsSegment, segments_from};
 

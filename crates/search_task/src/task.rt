@@ -6,7 +6,7 @@ use crate::steps::Steps;
 use reach::Step;
 use tables::Amount;
 
-/// Track that leads from a spot to another: what a leg comes to, and what each `Stretch` is to the contracts.
+/// Track that leads from a spot to another: what a leg reaches, and what each `Stretch` is to the contracts.
 #[derive(Drop)]
 pub struct Segment {
     /// The spot to which it leads, by its number.

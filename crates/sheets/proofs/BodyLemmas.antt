@@ -7,9 +7,9 @@ use Rattle.std.specs.List.{prefix_len}
 use Rattle.std.proofs.lemmas.List.{append-nil}
 use Rattle.order_grammar.specs.declared.condition.Version.{Version}
 use Rattle.order_grammar.specs.declared.fault.Fault.{Fault}
-use Rattle.sheets.specs.File.{is_sheet_line, begins, same_sheet_key, block, sheet_in, good_lines, unread_fault}
+use Rattle.sheets.specs.File.{is_sheet_line, begins, same_sheet_key, sheet_lines, sheet_in, good_lines, unread_fault}
 use Rattle.sheets.specs.File.{unread_in}
-use Rattle.sheets.specs.Collecting.{Open, open_with, Stands}
+use Rattle.sheets.specs.Collecting.{Open, open_with, CollectedSoFar}
 use Rattle.sheets.specs.Limits.{sheets_most}
 use Rattle.sheets.specs.declared.sheet_key.SheetKey.{SheetKey}
 
@@ -50,17 +50,17 @@ counted : (players lines : List (List ℕ)) (line : List ℕ) (sheet_key : Sheet
     good_lines players (line ∷ lines) ≡ 1 + good_lines players lines
 counted players lines line sheet_key e = rw e refl
 
--- a block goes on with a line that has another first word
-block-line : (line : List ℕ) (lines : List (List ℕ)) → is_sheet_line line ≡ false
-    → block (line ∷ lines) ≡ line ∷ block lines
-block-line line lines e =
+-- a sheet goes on with a line that has another first word
+sheet_lines-line : (line : List ℕ) (lines : List (List ℕ)) → is_sheet_line line ≡ false
+    → sheet_lines (line ∷ lines) ≡ line ∷ sheet_lines lines
+sheet_lines-line line lines e =
     let rest : ℕ = prefix_len (λ l. not (is_sheet_line l)) lines in
     let more : 1 + rest ≡ suc rest = omega arith in
     rw e (ap (λ n. take n (line ∷ lines)) more)
 
--- a block ends before a SHEET line
-block-end : (line : List ℕ) (lines : List (List ℕ)) → is_sheet_line line ≡ true → block (line ∷ lines) ≡ []
-block-end line lines e = rw e refl
+-- a sheet ends before a SHEET line
+sheet_lines-end : (line : List ℕ) (lines : List (List ℕ)) → is_sheet_line line ≡ true → sheet_lines (line ∷ lines) ≡ []
+sheet_lines-end line lines e = rw e refl
 
 -- a line inside a sheet has no code
 unread-inside : (version : Version) (players lines : List (List ℕ)) (line : List ℕ) → is_sheet_line line ≡ false →
@@ -89,20 +89,20 @@ unread-either : (version : Version) (players lines : List (List ℕ)) (line : Li
     unread_in version players true (line ∷ lines) ≡ unread_in version players false (line ∷ lines)
 unread-either version players lines line e = rw e refl
 
--- a block that goes on
+-- a sheet that goes on
 open-line : (sheet_key q : SheetKey) (had lines : List (List ℕ)) (line : List ℕ) → is_sheet_line line ≡ false →
     open_with (Some (record { sheet_key = sheet_key; lines = had })) (line ∷ lines) q
     ≡ open_with (Some (record { sheet_key = sheet_key; lines = had ++ line ∷ [] })) lines q
 open-line sheet_key q had lines line e =
     ap (λ b. cond (same_sheet_key sheet_key q) (Some b) None)
-    (ap (λ b. had ++ b) (block-line line lines e) ∙ sym (append_assoc had (line ∷ []) (block lines)))
+    (ap (λ b. had ++ b) (sheet_lines-line line lines e) ∙ sym (append_assoc had (line ∷ []) (sheet_lines lines)))
 
--- a block that ends
+-- a sheet that ends
 open-end : (sheet_key q : SheetKey) (had lines : List (List ℕ)) (line : List ℕ) → is_sheet_line line ≡ true →
     open_with (Some (record { sheet_key = sheet_key; lines = had })) (line ∷ lines) q
     ≡ cond (same_sheet_key sheet_key q) (Some had) None
 open-end sheet_key q had lines line e = ap (λ b. cond (same_sheet_key sheet_key q) (Some b) None)
-    (ap (λ b. had ++ b) (block-end line lines e) ∙ append-nil had)
+    (ap (λ b. had ++ b) (sheet_lines-end line lines e) ∙ append-nil had)
 
 -- a sheet that begins
 begun : (players lines : List (List ℕ)) (line : List ℕ) (sheet_key q : SheetKey) (had : Option (List (List ℕ)))
@@ -111,16 +111,17 @@ begun : (players lines : List (List ℕ)) (line : List ℕ) (sheet_key q : Sheet
     ≡ option_or (sheet_in players lines q) (option_or
     (open_with (Some (record { sheet_key = sheet_key; lines = [] })) lines q) had)
 begun players lines line sheet_key q had e = rw e
-    (option_or-option_or (sheet_in players lines q) (cond (same_sheet_key sheet_key q) (Some (block lines)) None) had)
+    (option_or-option_or (sheet_in players lines q) (cond (same_sheet_key sheet_key q) (Some (sheet_lines lines)) None)
+    had)
 
 module _ (version : Version) (players body : List (List ℕ)) (sheets : SheetKey → Option (List (List ℕ)))
     (unread : List Fault) (good : ℕ) where
   -- other sheets with the same look-ups
-  pub stands_same : (others : SheetKey → Option (List (List ℕ))) (lines : List (List ℕ)) (current : Option Open)
+  pub collected_same : (others : SheetKey → Option (List (List ℕ))) (lines : List (List ℕ)) (current : Option Open)
       → ((sheet_key : SheetKey) → others sheet_key ≡ sheets sheet_key)
-      → Stands version players body lines current sheets unread good
-      → Stands version players body lines current others unread good
-  stands_same others lines current same s = record {
+      → CollectedSoFar version players body lines current sheets unread good
+      → CollectedSoFar version players body lines current others unread good
+  collected_same others lines current same s = record {
     sheets_are = λ sheet_key. ap (λ o. option_or (sheet_in players lines sheet_key)
         (option_or (open_with current lines sheet_key) o)) (same sheet_key) ∙ s.sheets_are sheet_key;
     unread_are = s.unread_are;
@@ -129,12 +130,12 @@ module _ (version : Version) (players body : List (List ℕ)) (sheets : SheetKey
   }
 
   -- a line inside a sheet
-  pub stands_inside : (line : List ℕ) (lines : List (List ℕ)) (sheet_key : SheetKey) (had : List (List ℕ))
-      → is_sheet_line line ≡ false → Stands version players body (line ∷ lines)
+  pub collected_inside : (line : List ℕ) (lines : List (List ℕ)) (sheet_key : SheetKey) (had : List (List ℕ))
+      → is_sheet_line line ≡ false → CollectedSoFar version players body (line ∷ lines)
       (Some (record { sheet_key = sheet_key; lines = had })) sheets unread good
-      → Stands version players body lines (Some (record { sheet_key = sheet_key; lines = had ++ line ∷ [] })) sheets
-      unread good
-  stands_inside line lines sheet_key had other s =
+      → CollectedSoFar version players body lines (Some (record { sheet_key = sheet_key; lines = had ++ line ∷ [] }))
+      sheets unread good
+  collected_inside line lines sheet_key had other s =
       let none : begins players line ≡ None = begins_none players line other in
       record {
         sheets_are = λ q. ap (λ o. option_or o (option_or
@@ -149,10 +150,10 @@ module _ (version : Version) (players body : List (List ℕ)) (sheets : SheetKey
       }
 
   -- a line outside
-  pub stands_stray : (line : List ℕ) (lines : List (List ℕ)) → is_sheet_line line ≡ false
-      → Stands version players body (line ∷ lines) None sheets unread good
-      → Stands version players body lines None sheets (unread ++ unread_fault version line ∷ []) good
-  stands_stray line lines other s =
+  pub collected_stray : (line : List ℕ) (lines : List (List ℕ)) → is_sheet_line line ≡ false
+      → CollectedSoFar version players body (line ∷ lines) None sheets unread good
+      → CollectedSoFar version players body lines None sheets (unread ++ unread_fault version line ∷ []) good
+  collected_stray line lines other s =
       let none : begins players line ≡ None = begins_none players line other in
       record {
         sheets_are = λ q. ap (λ o. option_or o (sheets q)) (sym (skipped players lines line q none)) ∙ s.sheets_are q;
@@ -163,12 +164,12 @@ module _ (version : Version) (players body : List (List ℕ)) (sheets : SheetKey
       }
 
   -- a SHEET line ends the sheet before it
-  pub stands_closed : (line : List ℕ) (lines : List (List ℕ)) (sheet_key : SheetKey) (had : List (List ℕ))
-      → is_sheet_line line ≡ true → Stands version players body (line ∷ lines)
+  pub collected_closed : (line : List ℕ) (lines : List (List ℕ)) (sheet_key : SheetKey) (had : List (List ℕ))
+      → is_sheet_line line ≡ true → CollectedSoFar version players body (line ∷ lines)
       (Some (record { sheet_key = sheet_key; lines = had })) sheets unread good
-      → Stands version players body (line ∷ lines) None (λ q. cond (same_sheet_key sheet_key q) (Some had) (sheets q))
-      unread good
-  stands_closed line lines sheet_key had is s =
+      → CollectedSoFar version players body (line ∷ lines) None (λ q. cond (same_sheet_key sheet_key q) (Some had)
+      (sheets q)) unread good
+  collected_closed line lines sheet_key had is s =
       record {
         sheets_are = λ q. ap (λ o. option_or (sheet_in players (line ∷ lines) q) o)
             (sym (option_or-cond (same_sheet_key sheet_key q) had (sheets q))
@@ -179,11 +180,12 @@ module _ (version : Version) (players body : List (List ℕ)) (sheets : SheetKey
       }
 
   -- a good SHEET line begins a sheet
-  pub stands_begun : (line : List ℕ) (lines : List (List ℕ)) (sheet_key : SheetKey) → is_sheet_line line ≡ true
+  pub collected_begun : (line : List ℕ) (lines : List (List ℕ)) (sheet_key : SheetKey) → is_sheet_line line ≡ true
       → begins players line ≡ Some sheet_key → good < sheets_most
-      → Stands version players body (line ∷ lines) None sheets unread good
-      → Stands version players body lines (Some (record { sheet_key = sheet_key; lines = [] })) sheets unread (good + 1)
-  stands_begun line lines sheet_key is some below s =
+      → CollectedSoFar version players body (line ∷ lines) None sheets unread good
+      → CollectedSoFar version players body lines (Some (record { sheet_key = sheet_key; lines = [] })) sheets unread
+      (good + 1)
+  collected_begun line lines sheet_key is some below s =
       record {
         sheets_are = λ q. sym (begun players lines line sheet_key q (sheets q) some) ∙ s.sheets_are q;
         unread_are = ap (λ codes. unread ++ codes) (sym
@@ -193,10 +195,10 @@ module _ (version : Version) (players body : List (List ℕ)) (sheets : SheetKey
       }
 
   -- a SHEET line with a fault begins none
-  pub stands_bad : (line : List ℕ) (lines : List (List ℕ)) → is_sheet_line line ≡ true → begins players line ≡ None
-      → Stands version players body (line ∷ lines) None sheets unread good
-      → Stands version players body lines None sheets (unread ++ unread_fault version line ∷ []) good
-  stands_bad line lines is none s =
+  pub collected_bad : (line : List ℕ) (lines : List (List ℕ)) → is_sheet_line line ≡ true → begins players line ≡ None
+      → CollectedSoFar version players body (line ∷ lines) None sheets unread good
+      → CollectedSoFar version players body lines None sheets (unread ++ unread_fault version line ∷ []) good
+  collected_bad line lines is none s =
       record {
         sheets_are = λ q. ap (λ o. option_or o (sheets q)) (sym (skipped players lines line q none)) ∙ s.sheets_are q;
         unread_are = append_assoc unread (unread_fault version line ∷ []) (unread_in version players false lines)
@@ -207,6 +209,6 @@ module _ (version : Version) (players body : List (List ℕ)) (sheets : SheetKey
 
   -- one good SHEET line too many
   pub too_many : (line : List ℕ) (lines : List (List ℕ)) (sheet_key : SheetKey) → begins players line ≡ Some sheet_key
-      → sheets_most ≤ good → Stands version players body (line ∷ lines) None sheets unread good
+      → sheets_most ≤ good → CollectedSoFar version players body (line ∷ lines) None sheets unread good
       → sheets_most < good_lines players body
   too_many line lines sheet_key some full s = omega (arith, s.good_are, counted players lines line sheet_key some)

@@ -34,7 +34,7 @@ module _ (opens : Result Order Fault → Bool) (no_head : opens (Err PastLastLin
   one_more number reading parts false true is_past head few =
       let within : number ≤ lines_most = grind (arith, nat_tests) in rw head (omega arith)
 
-  -- lines of which this many came before
+  -- lines, after this many others
   few_after : (version : Version) (lines : List (List ℕ)) (count : ℕ)
       → length (written_turns_of (parts_after version opens count lines)) ≤ lines_most - count
   few_after version [] count = omega arith

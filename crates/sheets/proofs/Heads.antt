@@ -30,7 +30,7 @@ abbrev pub ReadWhereSpelt : Type 0
 ReadWhereSpelt = (version : Version) (line : List ℕ) (spelt : Ordered)
     → (reading_in version line ≡ Ok spelt) ↔ SpellsInVersion version line spelt
 
--- words of which the first is this one begin with it
+-- words whose first is this one begin with it
 begins : (word : List ℕ) (others : List (List ℕ) → Type 0) (words : List (List ℕ)) → same_word word word ≡ true
     → Then (IsWord word) others words →
     same_word (first_of_words words) word ≡ true

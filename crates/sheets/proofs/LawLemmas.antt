@@ -3,7 +3,8 @@ use Rattle.std.proofs.Common.{◌≡◌, ℕ, List, [], ◌∷◌, ◌++◌, tru
 use Rattle.std.proofs.Common.{ap}
 use Rattle.std.specs.Prelude.{◌&&◌, unwrap_or}
 use Rattle.std.specs.Option.{option_or}
-use Rattle.sheets.specs.File.{Sent, begins, block, lines_begun, sheet_in, sent_by, sent_in, last_for, sheet_key_at}
+use Rattle.sheets.specs.File.{Sent, begins, sheet_lines, lines_begun, sheet_in, sent_by, sent_in, last_for}
+use Rattle.sheets.specs.File.{sheet_key_at}
 use Rattle.sheets.specs.File.{sheet_of, posts_of, players_of, body_of, version_of}
 use Rattle.sheets.specs.Part.{parts_of}
 use Rattle.sheets.specs.Laws.{LastSheetCounts, ArrivalChangesNoParts, ArrivalChangesNothing}
@@ -31,9 +32,9 @@ last_in : (players lines : List (List ℕ)) (seat : ℕ) (round : Round)
     → sheet_in players lines (sheet_key_at seat round) ≡ last_for round (sent_in players lines seat)
 last_in players [] seat round = refl
 last_in players (line ∷ lines) seat round =
-    ap (λ o. option_or o (lines_begun (sheet_key_at seat round) (block lines) (begins players line)))
+    ap (λ o. option_or o (lines_begun (sheet_key_at seat round) (sheet_lines lines) (begins players line)))
     (last_in players lines seat round)
-    ∙ begun_first seat round (block lines) (begins players line) (sent_in players lines seat)
+    ∙ begun_first seat round (sheet_lines lines) (begins players line) (sent_in players lines seat)
 
 -- the law of the last sheet
 pub last_sheet_counts_law : LastSheetCounts

@@ -9,7 +9,7 @@ use Rattle.order_grammar.specs.Spells.{IsSmallRound, Spells}
 use Rattle.order_grammar.specs.declared.fault.Fault.{Fault}
 use Rattle.order_grammar.specs.declared.order.Order.{Order}
 use Rattle.order_grammar.specs.declared.order.Order.TheVariants as order
-use Rattle.sheets.specs.File.{begins, block, body_of, is_sheet_line, lines_begun, players_of, sheet_key_at}
+use Rattle.sheets.specs.File.{begins, body_of, is_sheet_line, lines_begun, players_of, sheet_key_at, sheet_lines}
 use Rattle.sheets.specs.File.{sheet_key_begun, sheet_key_for, same_sheet_key, seat_from, sheet_in, sheet_of}
 use Rattle.sheets.specs.Laws.{SheetsAreNumbered, number_of}
 use Rattle.sheets.specs.declared.sheet_key.SheetKey.{SheetKey}
@@ -98,7 +98,7 @@ module _ (spelt : ReadWhereSpelt) (players : List (List ℕ)) where
       → number_of sheet_key.round ≤ number_most
   sheet_small [] sheet_key there = absurd (search rules)
   sheet_small (line ∷ lines) sheet_key there =
-      there_small (sheet_in players lines sheet_key) (begins players line) (block lines) sheet_key
+      there_small (sheet_in players lines sheet_key) (begins players line) (sheet_lines lines) sheet_key
       (sheet_small lines sheet_key) (begins_small line) there
 
 -- no sheet is for a round past 99,999

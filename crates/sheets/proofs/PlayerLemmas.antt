@@ -74,7 +74,7 @@ pub keys_of-seats : (seat : ℕ) (players : List (List ℕ)) → keys_of (with_s
 keys_of-seats seat [] = refl
 keys_of-seats seat (player ∷ players) = ap (λ (l : List (List ℕ)). player ∷ l) (keys_of-seats (seat + 1) players)
 
--- the seat that stands by a name is the name's
+-- the seat that has a name is the name's
 pub seat_looked_up : (seat : ℕ) (players : List (List ℕ)) (name : List ℕ) →
     lookup (is_equal name) (with_seats seat players) ≡ seat_from seat players name
 seat_looked_up seat [] name = refl

@@ -6,7 +6,7 @@ use Rattle.std.specs.Prelude.{is_some}
 use Rattle.order_grammar.specs.Line.{reading_of}
 use Rattle.order_grammar.specs.declared.condition.Version.{Version}
 use Rattle.order_grammar.specs.declared.fault.Fault.{Fault}
-use Rattle.sheets.specs.Collecting.{HasBegun, Open, IsOpen, Stands, Reaches, closed, StopsAt, StopsBy}
+use Rattle.sheets.specs.Collecting.{HasBegun, Open, IsOpen, CollectedSoFar, Reaches, closed, StopsAt, StopsBy}
 use Rattle.sheets.specs.File.{is_sheet_line, begins, sheet_key_begun, unread_fault, same_sheet_key, sheet_in}
 use Rattle.sheets.specs.File.{good_lines}
 use Rattle.sheets.specs.Text.{written_lines, BeginsWith}
@@ -14,50 +14,52 @@ use Rattle.sheets.specs.declared.open_sheet.OpenSheet.{OpenSheet}
 use Rattle.sheets.specs.declared.fault.FileFault.{FileFault}
 use Rattle.sheets.specs.declared.sheet_key.SheetKey.{SheetKey}
 use Rattle.sheets.proofs.TextLemmas.{begins_with_nothing, one_after_another, prefix_by_rest, lines_of_both}
-use Rattle.sheets.proofs.BodyLemmas.{option_or-cond, stands_same, stands_inside, stands_stray, stands_closed}
-use Rattle.sheets.proofs.BodyLemmas.{stands_begun, stands_bad, too_many}
+use Rattle.sheets.proofs.BodyLemmas.{option_or-cond, collected_same, collected_inside, collected_stray}
+use Rattle.sheets.proofs.BodyLemmas.{collected_closed}
+use Rattle.sheets.proofs.BodyLemmas.{collected_begun, collected_bad, too_many}
 
 module _ (version : Version) (players body : List (List ℕ)) (sheets : SheetKey → Option (List (List ℕ)))
     (unread : List Fault) (good : ℕ) where
   -- a SHEET line comes, and the sheet before it is kept
   pub kept_before : (line : List ℕ) (lines : List (List ℕ)) (text : List ℕ) (sheet : Option OpenSheet)
       (current : Option Open) → is_sheet_line line ≡ true → IsOpen sheet current text
-      → Stands version players body (line ∷ lines) current sheets unread good
-      → Stands version players body (line ∷ lines) None (closed sheet text sheets) unread good
+      → CollectedSoFar version players body (line ∷ lines) current sheets unread good
+      → CollectedSoFar version players body (line ∷ lines) None (closed sheet text sheets) unread good
   kept_before line lines text None None is h s = s
   kept_before line lines text None (Some had) is h s = absurd h
   kept_before line lines text (Some sheet) None is h s = absurd h
   kept_before line lines text (Some sheet) (Some had) is h s =
-      let front : List ℕ = h.1.0 in
+      let prefix : List ℕ = h.1.0 in
       let same : written_lines (take (length sheet.text.now - length text) sheet.text.now) ≡ had.lines =
-      ap written_lines (prefix_by_rest front had.lines text sheet.text.now h.1.1) ∙ h.1.1.first in
-      stands_same version players body (λ q. cond (same_sheet_key had.sheet_key q) (Some had.lines) (sheets q)) unread
-      good (closed (Some sheet) text sheets) (line ∷ lines) None
+      ap written_lines (prefix_by_rest prefix had.lines text sheet.text.now h.1.1) ∙ h.1.1.first in
+      collected_same version players body (λ q. cond (same_sheet_key had.sheet_key q) (Some had.lines) (sheets q))
+      unread good (closed (Some sheet) text sheets) (line ∷ lines) None
       (λ q. ap (λ p. cond (same_sheet_key p q) (Some
       (written_lines (take (length sheet.text.now - length text) sheet.text.now))) (sheets q)) h.0
       ∙ ap (λ ls. cond (same_sheet_key had.sheet_key q) (Some ls) (sheets q)) same)
-      (stands_closed version players body sheets unread good line lines had.sheet_key had.lines is s)
+      (collected_closed version players body sheets unread good line lines had.sheet_key had.lines is s)
 
   -- a line inside a sheet
-  pub reaches_inside : (front line : List ℕ) (rest text : List ℕ) (sheet : Option OpenSheet) (current : Option Open)
-      → is_some sheet ≡ true → is_sheet_line line ≡ false → BeginsWith front (line ∷ []) rest text
-      → IsOpen sheet current text → Stands version players body (line ∷ written_lines rest) current sheets unread good
-      → Reaches version players body rest sheet sheets unread good
-  reaches_inside front line rest text None current some other first h s = absurd (let wrong : false ≡ true = some in cc)
-  reaches_inside front line rest text (Some sheet) None some other first h s = absurd h
-  reaches_inside front line rest text (Some sheet) (Some had) some other first h s = (
+  pub reaches_inside : (prefix line : List ℕ) (rest text : List ℕ) (sheet : Option OpenSheet) (current : Option Open)
+      → is_some sheet ≡ true → is_sheet_line line ≡ false → BeginsWith prefix (line ∷ []) rest text
+      → IsOpen sheet current text → CollectedSoFar version players body (line ∷ written_lines rest) current sheets
+      unread good → Reaches version players body rest sheet sheets unread good
+  reaches_inside prefix line rest text None current some other first h s = absurd
+      (let wrong : false ≡ true = some in cc)
+  reaches_inside prefix line rest text (Some sheet) None some other first h s = absurd h
+  reaches_inside prefix line rest text (Some sheet) (Some had) some other first h s = (
     Some (record { sheet_key = had.sheet_key; lines = had.lines ++ line ∷ [] }),
-    (h.0, (h.1.0 ++ front, one_after_another h.1.0 front had.lines (line ∷ []) text rest sheet.text.now h.1.1 first)),
-    stands_inside version players body sheets unread good line (written_lines rest) had.sheet_key had.lines other s,
+    (h.0, (h.1.0 ++ prefix, one_after_another h.1.0 prefix had.lines (line ∷ []) text rest sheet.text.now h.1.1 first)),
+    collected_inside version players body sheets unread good line (written_lines rest) had.sheet_key had.lines other s,
   )
 
   -- a line outside
   pub reaches_stray : (line rest text : List ℕ) (sheet : Option OpenSheet) (current : Option Open)
       → is_some sheet ≡ false → is_sheet_line line ≡ false → IsOpen sheet current text
-      → Stands version players body (line ∷ written_lines rest) current sheets unread good
+      → CollectedSoFar version players body (line ∷ written_lines rest) current sheets unread good
       → Reaches version players body rest sheet sheets (unread ++ unread_fault version line ∷ []) good
   reaches_stray line rest text None None none other h s =
-      (None, tt, stands_stray version players body sheets unread good line (written_lines rest) other s)
+      (None, tt, collected_stray version players body sheets unread good line (written_lines rest) other s)
   reaches_stray line rest text None (Some had) none other h s = absurd h
   reaches_stray line rest text (Some sheet) current none other h s = absurd (let wrong : true ≡ false = none in cc)
 
@@ -65,16 +67,17 @@ module _ (version : Version) (players body : List (List ℕ)) (sheets : SheetKey
   reaches_by : (line rest : List ℕ) (begun : Option SheetKey) (sheet : Option OpenSheet) (codes : List Fault)
       (count : ℕ) → is_sheet_line line ≡ true → begins players line ≡ begun
       → HasBegun rest (unread_fault version line) good unread begun sheet count codes
-      → Stands version players body (line ∷ written_lines rest) None sheets unread good
+      → CollectedSoFar version players body (line ∷ written_lines rest) None sheets unread good
       → Reaches version players body rest sheet sheets codes count
   reaches_by line rest None sheet codes count is b h s =
-      rw (h.0, h.1, h.2) (None, tt, stands_bad version players body sheets unread good line (written_lines rest) is b s)
+      rw (h.0, h.1, h.2) (None, tt, collected_bad version players body sheets unread good line (written_lines rest) is b
+      s)
   reaches_by line rest (Some sheet_key) None codes count is b h s = absurd h.0
   reaches_by line rest (Some sheet_key) (Some sheet) codes count is b h s =
       rw (h.2, h.3) (
         Some (record { sheet_key = sheet_key; lines = [] }),
         (h.0.0, ([], subst (λ t. BeginsWith [] [] rest t) (sym h.0.1) (begins_with_nothing rest))),
-        stands_begun
+        collected_begun
             version players body sheets unread good line (written_lines rest) sheet_key is b h.1 s,
       )
 
@@ -82,7 +85,7 @@ module _ (version : Version) (players body : List (List ℕ)) (sheets : SheetKey
   pub reaches_begun : (line rest : List ℕ) (sheet : Option OpenSheet) (codes : List Fault) (count : ℕ)
       → is_sheet_line line ≡ true → HasBegun rest (unread_fault version line) good unread
       (sheet_key_begun players (reading_of line)) sheet count codes
-      → Stands version players body (line ∷ written_lines rest) None sheets unread good
+      → CollectedSoFar version players body (line ∷ written_lines rest) None sheets unread good
       → Reaches version players body rest sheet sheets codes count
   unfolding begins
   reaches_begun line rest sheet codes count is h s =
@@ -91,7 +94,8 @@ module _ (version : Version) (players body : List (List ℕ)) (sheets : SheetKey
   -- why reading stops, by the sheet that the line begins
   stops_by : (line : List ℕ) (lines : List (List ℕ)) (begun : Option SheetKey) (fault : FileFault)
       → begins players line ≡ begun → StopsAt good begun fault
-      → Stands version players body (line ∷ lines) None sheets unread good → StopsBy (good_lines players body) fault
+      → CollectedSoFar version players body (line ∷ lines) None sheets unread good
+      → StopsBy (good_lines players body) fault
   stops_by line lines None fault b h s = rw h tt
   stops_by line lines (Some sheet_key) fault b h s =
       rw h.0 (too_many version players body sheets unread good line lines sheet_key b h.1 s)
@@ -99,7 +103,8 @@ module _ (version : Version) (players body : List (List ℕ)) (sheets : SheetKey
   -- why reading stops at a SHEET line
   pub stops_begun : (line : List ℕ) (lines : List (List ℕ)) (fault : FileFault) → is_sheet_line line ≡ true
       → StopsAt good (sheet_key_begun players (reading_of line)) fault
-      → Stands version players body (line ∷ lines) None sheets unread good → StopsBy (good_lines players body) fault
+      → CollectedSoFar version players body (line ∷ lines) None sheets unread good
+      → StopsBy (good_lines players body) fault
   unfolding begins
   stops_begun line lines fault is h s = stops_by line lines (sheet_key_begun players (reading_of line)) fault
       (rw is refl) h s
@@ -111,19 +116,19 @@ pub reaches_sheet_line : (version : Version) (players body : List (List ℕ))
     is_sheet_line line ≡ true → written_lines text ≡ line ∷ written_lines rest
     → ((sheet_key : SheetKey) → kept sheet_key ≡ closed sheet text sheets sheet_key) →
     Reaches version players body text sheet sheets unread good
-    → Stands version players body (line ∷ written_lines rest) None kept unread good
+    → CollectedSoFar version players body (line ∷ written_lines rest) None kept unread good
 reaches_sheet_line version players body sheets kept unread good line rest text sheet is lines same r =
-    stands_same version players body (closed sheet text sheets) unread good kept (line ∷ written_lines rest) None same
-    (kept_before version players body sheets unread good line (written_lines rest) text sheet r.0 is r.1
-    (subst (λ ls. Stands version players body ls r.0 sheets unread good) lines r.2))
+    collected_same version players body (closed sheet text sheets) unread good kept (line ∷ written_lines rest) None
+    same (kept_before version players body sheets unread good line (written_lines rest) text sheet r.0 is r.1
+    (subst (λ ls. CollectedSoFar version players body ls r.0 sheets unread good) lines r.2))
 
 -- what is kept at the end
 module _ (version : Version) (players body : List (List ℕ)) (sheets : SheetKey → Option (List (List ℕ)))
     (unread : List Fault) (good : ℕ) where
   -- a sheet that is open goes to the end
   ended : (text : List ℕ) (sheet : Option OpenSheet) (current : Option Open) → IsOpen sheet current text
-      → written_lines text ≡ [] → Stands version players body [] current sheets unread good → (sheet_key : SheetKey)
-      → closed sheet [] sheets sheet_key ≡ sheet_in players body sheet_key
+      → written_lines text ≡ [] → CollectedSoFar version players body [] current sheets unread good
+      → (sheet_key : SheetKey) → closed sheet [] sheets sheet_key ≡ sheet_in players body sheet_key
   ended text None None h none s sheet_key = s.sheets_are sheet_key
   ended text None (Some had) h none s sheet_key = absurd h
   ended text (Some sheet) None h none s sheet_key = absurd h
@@ -144,4 +149,4 @@ module _ (version : Version) (players body : List (List ℕ)) (sheets : SheetKey
       → Reaches version players body text sheet sheets unread good → (sheet_key : SheetKey)
       → closed sheet [] sheets sheet_key ≡ sheet_in players body sheet_key
   sheets_at_end text sheet none r = ended text sheet r.0 r.1 none
-      (subst (λ ls. Stands version players body ls r.0 sheets unread good) none r.2)
+      (subst (λ ls. CollectedSoFar version players body ls r.0 sheets unread good) none r.2)

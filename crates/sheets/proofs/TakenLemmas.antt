@@ -1,12 +1,12 @@
--- What rounds take up of their sheets, seat by seat: the standing lines, and what is told of lines that were
--- not taken up.
+-- What rounds take up of their sheets, seat by seat: the standing lines, and what is said of lines that were not taken
+-- up.
 use Rattle.std.proofs.Common.{◌≡◌, ℕ, suc, ◌+◌, ◌-◌, ◌<◌, List, [], ◌∷◌, ◌++◌, length, map, zero-add, sym, ap, ◌∙◌}
 use Rattle.std.proofs.Common.{append_assoc, arith}
 use Rattle.std.specs.List.{range_with_len}
 use Rattle.std.proofs.lemmas.List.{map-append}
 use Rattle.std.proofs.lemmas.List.FromFn.{map-range_with_len_more}
 use Rattle.sheets.specs.Part.{Numbered, Parts, IsAtHead, written_turns_of, lines_in, lines_in_written_turns, parts_for}
-use Rattle.sheets.specs.Taken.{after_all_before, after_each, after_lines_before, written_turns_for, told_of_left}
+use Rattle.sheets.specs.Taken.{after_all_before, after_each, after_lines_before, written_turns_for, said_of_left}
 use Rattle.tables.specs.Seat.{seat_at}
 use Rattle.tables.specs.declared.round.Round.{Round}
 use Rattle.tables.specs.declared.seat.Seat.{Seat}
@@ -54,21 +54,21 @@ at_head sheet new left = ap (λ (parts : Parts). parts.before) left
 
 -- what is left of a sheet at a head is its written turns
 lines_at_head : (sheet : Parts) → IsAtHead sheet → lines_in sheet ≡ lines_in_written_turns (written_turns_of sheet)
-lines_at_head sheet stands =
-    let none : length sheet.before ≡ 0 = ap (λ (lines : List Numbered). length lines) stands in
+lines_at_head sheet is_at_head =
+    let none : length sheet.before ≡ 0 = ap (λ (lines : List Numbered). length lines) is_at_head in
     omega arith
 
 -- the seats that are left bring, after the next of them, what they bring before it
-pub left_goes_on : {Told : Type 0} (tell : Seat → ℕ → List Told → List Told) →
-    ((seat : Seat) (count : ℕ) (rest : List Told) → tell seat count [] ++ rest ≡ tell seat count rest) →
-    (old new : List Told) (seat count : ℕ) (sheet : Parts) (others : List Parts)
-    → new ≡ old ++ tell (seat_at seat) count [] → count ≡ lines_in sheet →
-    IsAtHead sheet → new ++ told_of_left tell (seat + 1) (map written_turns_of others)
-    ≡ old ++ told_of_left tell seat (map written_turns_of (sheet ∷ others))
-left_goes_on {Told} tell first old new seat count sheet others told counted stands =
-    let rest : List Told = told_of_left tell (seat + 1) (map written_turns_of others) in
-    ap (λ (all : List Told). all ++ rest) told
-    ∙ append_assoc old (tell (seat_at seat) count []) rest
-    ∙ ap (λ (all : List Told). old ++ all)
-    (first (seat_at seat) count rest ∙ ap (λ (n : ℕ). tell (seat_at seat) n rest)
-    (counted ∙ lines_at_head sheet stands))
+pub left_goes_on : {Said : Type 0} (say : Seat → ℕ → List Said → List Said) →
+    ((seat : Seat) (count : ℕ) (rest : List Said) → say seat count [] ++ rest ≡ say seat count rest) →
+    (old new : List Said) (seat count : ℕ) (sheet : Parts) (others : List Parts)
+    → new ≡ old ++ say (seat_at seat) count [] → count ≡ lines_in sheet →
+    IsAtHead sheet → new ++ said_of_left say (seat + 1) (map written_turns_of others)
+    ≡ old ++ said_of_left say seat (map written_turns_of (sheet ∷ others))
+left_goes_on {Said} say first old new seat count sheet others recorded counted is_at_head =
+    let rest : List Said = said_of_left say (seat + 1) (map written_turns_of others) in
+    ap (λ (all : List Said). all ++ rest) recorded
+    ∙ append_assoc old (say (seat_at seat) count []) rest
+    ∙ ap (λ (all : List Said). old ++ all)
+    (first (seat_at seat) count rest ∙ ap (λ (n : ℕ). say (seat_at seat) n rest)
+    (counted ∙ lines_at_head sheet is_at_head))

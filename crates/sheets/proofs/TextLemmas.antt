@@ -11,24 +11,24 @@ use Rattle.sheets.specs.Text.{without_return, last_line, lines_from, lines_of, r
 use Rattle.sheets.specs.Text.{written_lines, IsCut, BeginsWith}
 
 -- what follows an LF is read apart from what is before it
-closed : (line front more : List ℕ) → lines_from line ((front ++ 10 ∷ []) ++ more)
-    ≡ lines_from line (front ++ 10 ∷ []) ++ lines_from [] more
+closed : (line prefix more : List ℕ) → lines_from line ((prefix ++ 10 ∷ []) ++ more)
+    ≡ lines_from line (prefix ++ 10 ∷ []) ++ lines_from [] more
 closed line [] more = refl
-closed line (byte ∷ front) more =
-    elim (eqb byte 10) as (λ b. cond b (without_return line ∷ lines_from [] ((front ++ 10 ∷ []) ++ more))
-    (lines_from (line ++ byte ∷ []) ((front ++ 10 ∷ []) ++ more))
-    ≡ cond b (without_return line ∷ lines_from [] (front ++ 10 ∷ []))
-    (lines_from (line ++ byte ∷ []) (front ++ 10 ∷ [])) ++ lines_from [] more) [
-      | true ↦ ap (λ ls. without_return line ∷ ls) (closed [] front more)
-      | false ↦ closed (line ++ byte ∷ []) front more
+closed line (byte ∷ prefix) more =
+    elim (eqb byte 10) as (λ b. cond b (without_return line ∷ lines_from [] ((prefix ++ 10 ∷ []) ++ more))
+    (lines_from (line ++ byte ∷ []) ((prefix ++ 10 ∷ []) ++ more))
+    ≡ cond b (without_return line ∷ lines_from [] (prefix ++ 10 ∷ []))
+    (lines_from (line ++ byte ∷ []) (prefix ++ 10 ∷ [])) ++ lines_from [] more) [
+      | true ↦ ap (λ ls. without_return line ∷ ls) (closed [] prefix more)
+      | false ↦ closed (line ++ byte ∷ []) prefix more
     ]
 
 -- a text may be cut after an LF
-cut_after_newline : (front rest : List ℕ) → IsCut (front ++ 10 ∷ []) rest
+cut_after_newline : (prefix rest : List ℕ) → IsCut (prefix ++ 10 ∷ []) rest
 unfolding written_lines
-cut_after_newline front rest = record {
-  joins = λ more left e. ap written (closed [] front more)
-      ∙ filter-append _ (lines_from [] (front ++ 10 ∷ [])) (lines_from [] more);
+cut_after_newline prefix rest = record {
+  joins = λ more left e. ap written (closed [] prefix more)
+      ∙ filter-append _ (lines_from [] (prefix ++ 10 ∷ [])) (lines_from [] more);
 }
 
 -- nothing has only nothing as its prefix
@@ -37,11 +37,11 @@ nothing_before [] left e = refl
 nothing_before (byte ∷ more) left e = cc
 
 -- a text may be cut at its end
-cut_at_end : (front : List ℕ) → IsCut front []
+cut_at_end : (prefix : List ℕ) → IsCut prefix []
 unfolding written_lines
-cut_at_end front = record {
+cut_at_end prefix = record {
   joins = λ more left e. let none : more ≡ [] = nothing_before more left e in rw
-      (none, append-nil front, append-nil (written (lines_of front))) refl;
+      (none, append-nil prefix, append-nil (written (lines_of prefix))) refl;
 }
 
 -- a text may be cut at its beginning
@@ -50,28 +50,29 @@ unfolding written_lines
 cut_at_start rest = record { joins = λ more left e. refl }
 
 -- a cut behind a cut
-pub cut_again : (front next rest : List ℕ) → IsCut front (next ++ rest) → IsCut next rest → IsCut (front ++ next) rest
-cut_again front next rest a b = record {
+pub cut_again : (prefix next rest : List ℕ) → IsCut prefix (next ++ rest) → IsCut next rest
+    → IsCut (prefix ++ next) rest
+cut_again prefix next rest a b = record {
   joins = λ more left e.
       let whole : (next ++ more) ++ left ≡ next ++ rest = append_assoc next more left ∙ ap (λ t. next ++ t) e in
       let nothing : next ++ [] ≡ next = append-nil next in
-      let only : written_lines (front ++ next) ≡ written_lines front ++ written_lines next = a.joins next rest refl in
-      let far : written_lines (front ++ (next ++ more)) ≡ written_lines front ++ written_lines (next ++ more) =
+      let only : written_lines (prefix ++ next) ≡ written_lines prefix ++ written_lines next = a.joins next rest refl in
+      let far : written_lines (prefix ++ (next ++ more)) ≡ written_lines prefix ++ written_lines (next ++ more) =
       a.joins (next ++ more) left whole in
       let near : written_lines (next ++ more) ≡ written_lines next ++ written_lines more = b.joins more left e in
-      ap written_lines (append_assoc front next more) ∙ far ∙ ap (λ ls. written_lines front ++ ls) near
-      ∙ sym (append_assoc (written_lines front) (written_lines next) (written_lines more))
+      ap written_lines (append_assoc prefix next more) ∙ far ∙ ap (λ ls. written_lines prefix ++ ls) near
+      ∙ sym (append_assoc (written_lines prefix) (written_lines next) (written_lines more))
       ∙ ap (λ ls. ls ++ written_lines more) (sym only);
 }
 
 -- the bytes before an LF are a line
-one_line : (line front : List ℕ) → ((k : ℕ) → k < length front → get_or front k 0 ≡ 10 → ⊥) →
-    lines_from line (front ++ 10 ∷ []) ≡ without_return (line ++ front) ∷ []
+one_line : (line prefix : List ℕ) → ((k : ℕ) → k < length prefix → get_or prefix k 0 ≡ 10 → ⊥) →
+    lines_from line (prefix ++ 10 ∷ []) ≡ without_return (line ++ prefix) ∷ []
 one_line line [] none = rw (append-nil line) refl
-one_line line (byte ∷ front) none =
+one_line line (byte ∷ prefix) none =
     let other : eqb byte 10 ≡ false = ne_eqb byte 10 (none 0 (omega arith)) in
-    rw other (one_line (line ++ byte ∷ []) front (λ k h. none (suc k) (omega arith))
-    ∙ ap (λ l. without_return l ∷ []) (append_assoc line (byte ∷ []) front))
+    rw other (one_line (line ++ byte ∷ []) prefix (λ k h. none (suc k) (omega arith))
+    ∙ ap (λ l. without_return l ∷ []) (append_assoc line (byte ∷ []) prefix))
 
 -- bytes with no LF are a last line
 last_of : (line text : List ℕ) → ((k : ℕ) → k < length text → get_or text k 0 ≡ 10 → ⊥)
@@ -83,15 +84,15 @@ last_of line (byte ∷ text) none =
     ∙ ap last_line (append_assoc line (byte ∷ []) text))
 
 -- a CR at the end of a line that ended in LF goes
-pub without_return-last : (front : List ℕ) (last : ℕ)
-    → without_return (front ++ last ∷ []) ≡ cond (eqb last 13) front (front ++ last ∷ [])
+pub without_return-last : (prefix : List ℕ) (last : ℕ)
+    → without_return (prefix ++ last ∷ []) ≡ cond (eqb last 13) prefix (prefix ++ last ∷ [])
 without_return-last [] last = refl
 without_return-last (a ∷ []) last = elim (eqb last 13) as
     (λ b. a ∷ cond b [] (last ∷ []) ≡ cond b (a ∷ []) (a ∷ last ∷ [])) [ true ↦ refl | false ↦ refl ]
-without_return-last (a ∷ b ∷ front) last =
-    ap (λ l. a ∷ l) (without_return-last (b ∷ front) last)
-    ∙ elim (eqb last 13) as (λ t. a ∷ cond t (b ∷ front) (b ∷ (front ++ last ∷ []))
-    ≡ cond t (a ∷ b ∷ front) (a ∷ b ∷ (front ++ last ∷ [])))
+without_return-last (a ∷ b ∷ prefix) last =
+    ap (λ l. a ∷ l) (without_return-last (b ∷ prefix) last)
+    ∙ elim (eqb last 13) as (λ t. a ∷ cond t (b ∷ prefix) (b ∷ (prefix ++ last ∷ []))
+    ≡ cond t (a ∷ b ∷ prefix) (a ∷ b ∷ (prefix ++ last ∷ [])))
     [ true ↦ refl | false ↦ refl ]
 
 -- a text with an LF begins with the line before it
@@ -100,14 +101,14 @@ pub begins_with_line : (text : List ℕ) (end : ℕ) → end < length text → g
     BeginsWith (take (end + 1) text) (written (without_return (take end text) ∷ [])) (drop (end + 1) text) text
 unfolding written_lines
 begins_with_line text end within here none =
-    let front : take (end + 1) text ≡ take end text ++ 10 ∷ [] = rw (add-one, take-suc text end 0 within, here) refl in
+    let prefix : take (end + 1) text ≡ take end text ++ 10 ∷ [] = rw (add-one, take-suc text end 0 within, here) refl in
     let short : length (take end text) ≡ end = grind (arith, common_steps) in
     let clear : (k : ℕ) → k < length (take end text) → get_or (take end text) k 0 ≡ 10 → ⊥ =
     λ k h e. none k (omega arith) (sym (get_or-take end text k 0 (omega arith)) ∙ e) in
     record {
       whole = sym (take-append-drop (end + 1) text);
-      first = ap (λ t. written (lines_from [] t)) front ∙ ap written (one_line [] (take end text) clear);
-      cut = subst (λ t. IsCut t (drop (end + 1) text)) (sym front)
+      first = ap (λ t. written (lines_from [] t)) prefix ∙ ap written (one_line [] (take end text) clear);
+      cut = subst (λ t. IsCut t (drop (end + 1) text)) (sym prefix)
           (cut_after_newline (take end text) (drop (end + 1) text));
     }
 
@@ -128,51 +129,52 @@ unfolding written_lines
 begins_with_nothing text = record { whole = refl; first = refl; cut = cut_at_start text }
 
 -- what is behind a prefix comes after its lines
-pub one_after_another : (front next : List ℕ) (lines more : List (List ℕ)) (middle rest text : List ℕ)
-    → BeginsWith front lines middle text →
-    BeginsWith next more rest middle → BeginsWith (front ++ next) (lines ++ more) rest text
-one_after_another front next lines more middle rest text a b =
-    let both : text ≡ front ++ (next ++ rest) = a.whole ∙ ap (λ t. front ++ t) b.whole in
-    let cut : IsCut front (next ++ rest) = subst (λ t. IsCut front t) b.whole a.cut in
+pub one_after_another : (prefix next : List ℕ) (lines more : List (List ℕ)) (middle rest text : List ℕ)
+    → BeginsWith prefix lines middle text →
+    BeginsWith next more rest middle → BeginsWith (prefix ++ next) (lines ++ more) rest text
+one_after_another prefix next lines more middle rest text a b =
+    let both : text ≡ prefix ++ (next ++ rest) = a.whole ∙ ap (λ t. prefix ++ t) b.whole in
+    let cut : IsCut prefix (next ++ rest) = subst (λ t. IsCut prefix t) b.whole a.cut in
     record {
-      whole = both ∙ sym (append_assoc front next rest);
+      whole = both ∙ sym (append_assoc prefix next rest);
       first = cut.joins next rest refl ∙ ap (λ ls. ls ++ written_lines next) a.first ∙ ap (λ ls. lines ++ ls) b.first;
-      cut = cut_again front next rest cut b.cut;
+      cut = cut_again prefix next rest cut b.cut;
     }
 
 -- the lines of a text that was cut
-pub lines_of_both : (front : List ℕ) (lines : List (List ℕ)) (rest text : List ℕ) → BeginsWith front lines rest text →
+pub lines_of_both : (prefix : List ℕ) (lines : List (List ℕ)) (rest text : List ℕ) → BeginsWith prefix lines rest text →
     written_lines text ≡ lines ++ written_lines rest
-lines_of_both front lines rest text a =
-    let cut : written_lines (front ++ rest) ≡ written_lines front ++ written_lines rest =
+lines_of_both prefix lines rest text a =
+    let cut : written_lines (prefix ++ rest) ≡ written_lines prefix ++ written_lines rest =
     a.cut.joins rest [] (append-nil rest) in
     ap written_lines a.whole ∙ cut ∙ ap (λ ls. ls ++ written_lines rest) a.first
 
 -- the prefix of a text, by what is left of it
-pub prefix_by_rest : (front : List ℕ) (lines : List (List ℕ)) (rest text : List ℕ) → BeginsWith front lines rest text →
-    take (length text - length rest) text ≡ front
-prefix_by_rest front lines rest text a =
-    rw (a.whole, length-append front rest)
-    (let n : (length front + length rest) - length rest ≡ length front =
-    omega arith in rw (n, take-append_seam front rest) refl)
+pub prefix_by_rest : (prefix : List ℕ) (lines : List (List ℕ)) (rest text : List ℕ)
+    → BeginsWith prefix lines rest text → take (length text - length rest) text ≡ prefix
+prefix_by_rest prefix lines rest text a =
+    rw (a.whole, length-append prefix rest)
+    (let n : (length prefix + length rest) - length rest ≡ length prefix =
+    omega arith in rw (n, take-append_seam prefix rest) refl)
 
 -- what is left behind a place, up to the end
 pub behind : (text : List ℕ) (n : ℕ) → take (length text - n) (drop n text) ≡ drop n text
 behind text n = rw (← length-drop n text) (take-length (drop n text))
 
--- a front without written lines, and then a blank line
-pub after_blank : (front next line middle rest text : List ℕ) → is_blank line ≡ true → BeginsWith front [] middle text →
-    BeginsWith next (written (line ∷ [])) rest middle → BeginsWith (front ++ next) [] rest text
-after_blank front next line middle rest text blank a b =
-    one_after_another front next [] [] middle rest text a
+-- a prefix without written lines, and then a blank line
+pub after_blank : (prefix next line middle rest text : List ℕ) → is_blank line ≡ true
+    → BeginsWith prefix [] middle text → BeginsWith next (written (line ∷ [])) rest middle
+    → BeginsWith (prefix ++ next) [] rest text
+after_blank prefix next line middle rest text blank a b =
+    one_after_another prefix next [] [] middle rest text a
     (subst (λ t. BeginsWith next (cond (not t) (line ∷ []) []) rest middle) blank b)
 
--- a front without written lines, and then a line that counts
-pub before_line : (front next line middle rest text : List ℕ) → is_blank line ≡ false
-    → BeginsWith front [] middle text →
-    BeginsWith next (written (line ∷ [])) rest middle → BeginsWith (front ++ next) (line ∷ []) rest text
-before_line front next line middle rest text blank a b =
-    one_after_another front next [] (line ∷ []) middle rest text a
+-- a prefix without written lines, and then a line that counts
+pub before_line : (prefix next line middle rest text : List ℕ) → is_blank line ≡ false
+    → BeginsWith prefix [] middle text →
+    BeginsWith next (written (line ∷ [])) rest middle → BeginsWith (prefix ++ next) (line ∷ []) rest text
+before_line prefix next line middle rest text blank a b =
+    one_after_another prefix next [] (line ∷ []) middle rest text a
     (subst (λ t. BeginsWith next (cond (not t) (line ∷ []) []) rest middle) blank b)
 
 -- a text with an LF is the line before it, and then the lines behind it

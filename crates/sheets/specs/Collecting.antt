@@ -4,7 +4,8 @@ use Rattle.std.specs.Prelude.{Option, Some, None, is_some}
 use Rattle.std.specs.Option.{option_or}
 use Rattle.order_grammar.specs.declared.condition.Version.{Version}
 use Rattle.order_grammar.specs.declared.fault.Fault.{Fault}
-use Rattle.sheets.specs.File.{same_sheet_key, block, sheet_in, good_lines, unread_in, players_of, unread_of, sheet_of}
+use Rattle.sheets.specs.File.{same_sheet_key, sheet_lines, sheet_in, good_lines, unread_in, players_of, unread_of}
+use Rattle.sheets.specs.File.{sheet_of}
 use Rattle.sheets.specs.File.{version_of, IsAccepted}
 use Rattle.sheets.specs.Limits.{sheets_most}
 use Rattle.sheets.specs.Text.{written_lines, BeginsWith}
@@ -18,19 +19,19 @@ pub record Open : Type 0 where
   pub sheet_key : SheetKey
   pub lines : List (List ℕ)
 
--- the text of an open sheet, of which this is left
+-- the text of an open sheet, where this is left of it
 abbrev pub IsOpen : Option OpenSheet → Option Open → List ℕ → Type 0
 IsOpen None None rest = Unit {0}
 IsOpen None (Some current) rest = ⊥
 IsOpen (Some sheet) None rest = ⊥
 IsOpen (Some sheet) (Some current) rest =
-    (sheet.sheet_key ≡ current.sheet_key) × ((front : List ℕ) × BeginsWith front current.lines rest sheet.text.now)
+    (sheet.sheet_key ≡ current.sheet_key) × ((prefix : List ℕ) × BeginsWith prefix current.lines rest sheet.text.now)
 
 -- the open sheet, with the lines that are still to come in it
 abbrev pub open_with : Option Open → List (List ℕ) → SheetKey → Option (List (List ℕ))
 open_with None more sheet_key = None
 open_with (Some current) more sheet_key = if same_sheet_key current.sheet_key sheet_key then Some
-    (current.lines ++ block more) else None
+    (current.lines ++ sheet_lines more) else None
 
 -- a sheet once these lines are read too
 abbrev pub sheet_with : List (List ℕ) → Option Open → (SheetKey → Option (List (List ℕ))) → List (List ℕ) → SheetKey
@@ -39,7 +40,7 @@ sheet_with players current sheets lines sheet_key =
     option_or (sheet_in players lines sheet_key) (option_or (open_with current lines sheet_key) (sheets sheet_key))
 
 -- what is kept and what is left are together what the whole body has
-pub record Stands (version : Version) (players body lines : List (List ℕ)) (current : Option Open)
+pub record CollectedSoFar (version : Version) (players body lines : List (List ℕ)) (current : Option Open)
     (sheets : SheetKey → Option (List (List ℕ))) (unread : List Fault) (good : ℕ) : Type 0 where
   pub sheets_are : (sheet_key : SheetKey) → sheet_with players current sheets lines sheet_key
       ≡ sheet_in players body sheet_key
@@ -52,7 +53,7 @@ abbrev pub Reaches : Version → List (List ℕ) → List (List ℕ) → List �
     → (SheetKey → Option (List (List ℕ))) → List Fault → ℕ → Type 0
 Reaches version players body rest sheet sheets unread good =
     (current : Option Open) × IsOpen sheet current rest
-    × Stands version players body (written_lines rest) current sheets unread good
+    × CollectedSoFar version players body (written_lines rest) current sheets unread good
 
 -- the sheets once an open one is kept that ends where this is left
 abbrev pub closed : Option OpenSheet → List ℕ → (SheetKey → Option (List (List ℕ))) → SheetKey → Option (List (List ℕ))
@@ -62,7 +63,7 @@ closed (Some sheet) rest sheets sheet_key =
     then Some (written_lines (take (length sheet.text.now - length rest) sheet.text.now))
     else sheets sheet_key
 
--- the sheet that was begun, of which all is left
+-- the sheet that was begun, with all left of it
 abbrev pub IsBegun : SheetKey → List ℕ → Option OpenSheet → Type 0
 IsBegun sheet_key rest None = ⊥
 IsBegun sheet_key rest (Some sheet) = (sheet.sheet_key ≡ sheet_key) × (sheet.text.now ≡ rest)

@@ -76,7 +76,7 @@ seat_from seat [] name = None
 seat_from seat (player ∷ players) name =
     if same_word player name then Some (record { 0 = seat }) else seat_from (seat + 1) players name
 
--- players with their seats, of which the first has this one
+-- players with their seats, the first of whom has this one
 abbrev pub with_seats : ℕ → List (List ℕ) → List (List ℕ × Seat)
 with_seats seat [] = []
 with_seats seat (player ∷ players) = (player, record { 0 = seat }) ∷ with_seats (seat + 1) players
@@ -109,8 +109,8 @@ abbrev pub same_sheet_key : SheetKey → SheetKey → Bool
 same_sheet_key a b = a.seat.0 == b.seat.0 && same_round a.round b.round
 
 -- the lines up to the next whose first word is SHEET
-abbrev pub block : List (List ℕ) → List (List ℕ)
-block lines = take_while (λ line. not (is_sheet_line line)) lines
+abbrev pub sheet_lines : List (List ℕ) → List (List ℕ)
+sheet_lines lines = take_while (λ line. not (is_sheet_line line)) lines
 
 -- these lines, if they are of the sheet that a line begins
 abbrev pub lines_begun : SheetKey → List (List ℕ) → Option SheetKey → Option (List (List ℕ))
@@ -121,7 +121,7 @@ lines_begun sheet_key lines (Some begun) = if same_sheet_key begun sheet_key the
 abbrev pub sheet_in : List (List ℕ) → List (List ℕ) → SheetKey → Option (List (List ℕ))
 sheet_in players [] sheet_key = None
 sheet_in players (line ∷ lines) sheet_key =
-    option_or (sheet_in players lines sheet_key) (lines_begun sheet_key (block lines) (begins players line))
+    option_or (sheet_in players lines sheet_key) (lines_begun sheet_key (sheet_lines lines) (begins players line))
 
 -- how many good SHEET lines there are
 abbrev pub good_lines : List (List ℕ) → List (List ℕ) → ℕ
@@ -228,7 +228,8 @@ sent_by seat lines (Some sheet_key) =
 -- the sheets of a seat that these lines begin, in order
 abbrev pub sent_in : List (List ℕ) → List (List ℕ) → ℕ → List Sent
 sent_in players [] seat = []
-sent_in players (line ∷ lines) seat = sent_by seat (block lines) (begins players line) ++ sent_in players lines seat
+sent_in players (line ∷ lines) seat = sent_by seat (sheet_lines lines) (begins players line)
+    ++ sent_in players lines seat
 
 -- the sheets that the player of a seat sent, in the order of the file
 unfoldable pub posts_of : List ℕ → ℕ → List Sent

@@ -39,7 +39,7 @@ ArrivalChangesNoParts = (f g : List ℕ) → SentTheSame f g → version_of f �
 abbrev pub plain : ℕ → List ℕ → Numbered
 plain number line = record { number = number; condition = None; reading = reading_at number (reading_of line) }
 
--- the parts of lines that are under no condition, of which this many came before
+-- the parts of lines that are under no condition, after this many others
 abbrev pub plain_parts : (Result Order Fault → Bool) → ℕ → List (List ℕ) → Parts
 plain_parts opens count [] = record { before = []; opened = [] }
 plain_parts opens count (line ∷ lines) = with_line opens (plain (count + 1) line) (plain_parts opens (count + 1) lines)
@@ -77,7 +77,7 @@ abbrev pub SheetsAreNumbered : Type 0
 SheetsAreNumbered = (file : List ℕ) (seat : ℕ) (round : Round) → IsSome (sheet_of file seat round)
     → number_of round ≤ number_most
 
--- a sheet has no more written turns or blocks than lines that may be orders
+-- a sheet has no more written turns or companies' orders than lines that may be orders
 abbrev pub SheetsHaveFewTurns : Type 0
 SheetsHaveFewTurns = (file : List ℕ) (round : Round) (seat : ℕ)
     → length (written_turns_of (parts_for file round seat)) ≤ lines_most

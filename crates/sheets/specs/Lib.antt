@@ -6,7 +6,7 @@ pub mod File
 pub mod Collecting
 pub mod Sheet
 pub mod Part
-pub mod Block
+pub mod CompanyOrders
 pub mod Place
 pub mod Taken
 pub mod Laws

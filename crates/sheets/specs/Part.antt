@@ -1,6 +1,7 @@
 -- A sheet is taken apart at its heads. In an opening or stock round's sheet each TURN line up to line 512 is a head,
--- and opens a written turn; in an operating round's sheet each COMPANY line up to line 512 is one, and opens a block.
--- The lines before the first head are alone. A line past 512 has that fault before any other, so it is no head.
+-- and opens a written turn; in an operating round's sheet each COMPANY line up to line 512 is one, and opens the
+-- company's orders. The lines before the first head are alone. A line past 512 has that fault before any other, so it
+-- is no head.
 use Rattle.std.specs.Prelude.{◌≡◌, ℕ, ◌+◌, Bool, true, false, nat_lt, if◌then◌else◌, List, [], ◌∷◌, length, map, Option}
 use Rattle.std.specs.Prelude.{Some, None, Result, Ok, Err, codes, unwrap_or}
 use Rattle.order_grammar.specs.Condition.{Ordered}
@@ -67,7 +68,7 @@ abbrev pub is_turn : Result Order Fault → Bool
 is_turn (Ok Turn) = true
 is_turn other = false
 
--- the order that opens a block
+-- the order that opens a company's orders
 abbrev pub is_company : Result Order Fault → Bool
 is_company (Ok (Company company)) = true
 is_company other = false
@@ -82,7 +83,7 @@ abbrev pub head_word : Round → List ℕ
 head_word (Operating set number) = codes "COMPANY"
 head_word round = codes "TURN"
 
--- a written turn or a block: its head, and the lines after that up to the next head
+-- a written turn or a company's orders: the head, and the lines after that up to the next head
 pub record Part : Type 0 where
   pub head : Numbered
   pub lines : List Numbered
@@ -105,7 +106,7 @@ after_line line parts = record { before = line ∷ parts.before; opened = parts.
 abbrev pub with_line : (Result Order Fault → Bool) → Numbered → Parts → Parts
 with_line opens line parts = if opens line.reading then after_head line parts else after_line line parts
 
--- the parts of lines of a file of some version, of which this many came before
+-- the parts of lines of a file of some version, after this many others
 abbrev pub parts_after : Version → (Result Order Fault → Bool) → ℕ → List (List ℕ) → Parts
 parts_after version opens count [] = record { before = []; opened = [] }
 parts_after version opens count (line ∷ lines) =
@@ -123,7 +124,7 @@ parts_of version round lines = parts_after version (opens_part round) 0 lines
 abbrev pub parts_for : List ℕ → Round → ℕ → Parts
 parts_for file round seat = parts_of (version_of file) round (unwrap_or (sheet_of file seat round) [])
 
--- the lines of each written turn or a block
+-- the lines that each head opens
 abbrev pub written_turns_of : Parts → List (List Numbered)
 written_turns_of parts = map (λ part. part.lines) parts.opened
 

@@ -1,4 +1,4 @@
--- Which orders have a place where a line stands is said by the kind of the round, and by whether the line is before the
+-- Which orders have a place where a line is, is said by the kind of the round, and by whether the line is before the
 -- first head or in a part. An order without a place is a fault of its line, after those that the line has by itself.
 use Rattle.std.specs.Prelude.{Bool, true, false, if◌then◌else◌, Result, Ok, Err}
 use Rattle.order_grammar.specs.declared.fault.Fault.{Fault}

@@ -1,4 +1,4 @@
--- What is read of a line apart: its order, and the condition under which that stands.
+-- What is read of a line apart: its order, and the condition that it is under.
 use Rattle.std.specs.Prelude.{Option, None, Result, Ok, Err}
 use Rattle.order_grammar.specs.Condition.{Ordered}
 use Rattle.order_grammar.specs.declared.condition.Condition.{Condition}

@@ -33,9 +33,9 @@ written_turns_for seats file round = map (λ seat. written_turns_of (parts_for f
 abbrev pub in_play : {State : Type 0} → State → ℕ → ℕ → List (List (List Numbered)) → InPlay State Numbered
 in_play state seat passes written_turns = record { now = state; seat = seat; passes = passes; written_turns = written_turns }
 
--- what is told of the lines that were not taken up, seat by seat, where so much is told in front of the rest
-abbrev pub told_of_left : {Told : Type 0} → (Seat → ℕ → List Told → List Told) → ℕ → List (List (List Numbered))
-    → List Told
-told_of_left tell seat [] = []
-told_of_left tell seat (written_turns ∷ others) = tell (seat_at seat) (lines_in_written_turns written_turns)
-    (told_of_left tell (seat + 1) others)
+-- what is said of the lines that were not taken up, seat by seat, where this is said in front of the rest
+abbrev pub said_of_left : {Said : Type 0} → (Seat → ℕ → List Said → List Said) → ℕ → List (List (List Numbered))
+    → List Said
+said_of_left say seat [] = []
+said_of_left say seat (written_turns ∷ others) = say (seat_at seat) (lines_in_written_turns written_turns)
+    (said_of_left say (seat + 1) others)

@@ -44,19 +44,19 @@ unfoldable pub written_lines : List ℕ → List (List ℕ)
 written_lines text = written (lines_of text)
 
 -- the lines of a prefix of a text and of any part of the rest are those of both together
-pub record IsCut (front rest : List ℕ) : Type 0 where
+pub record IsCut (prefix rest : List ℕ) : Type 0 where
   pub joins : (more left : List ℕ) → more ++ left ≡ rest
-      → written_lines (front ++ more) ≡ written_lines front ++ written_lines more
+      → written_lines (prefix ++ more) ≡ written_lines prefix ++ written_lines more
 
--- a text is a front with these written lines, cut from the rest
-pub record BeginsWith (front : List ℕ) (lines : List (List ℕ)) (rest text : List ℕ) : Type 0 where
-  pub whole : text ≡ front ++ rest
-  pub first : written_lines front ≡ lines
-  pub cut : IsCut front rest
+-- a text is a prefix with these written lines, cut from the rest
+pub record BeginsWith (prefix : List ℕ) (lines : List (List ℕ)) (rest text : List ℕ) : Type 0 where
+  pub whole : text ≡ prefix ++ rest
+  pub first : written_lines prefix ≡ lines
+  pub cut : IsCut prefix rest
 
 -- a text begins with this written line, and this is left after it
 abbrev pub IsFirstLine : List ℕ → List ℕ → List ℕ → Type 0
-IsFirstLine line rest text = (front : List ℕ) × BeginsWith front (line ∷ []) rest text
+IsFirstLine line rest text = (prefix : List ℕ) × BeginsWith prefix (line ∷ []) rest text
 
 -- the first LF of a text is here
 pub record IsNewline (text : List ℕ) (place : ℕ) : Type 0 where

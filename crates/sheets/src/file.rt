@@ -1,7 +1,7 @@
 ghost use Rattle.std.specs.Prelude.{◌≡◌, ℕ, ◌≤◌, List, length, MatchResult, IfOk, OnOk, option_copied, option_map};
 ghost use Rattle.std.specs.Prelude.{slice_get, Err};
 ghost use Rattle.order_grammar.specs.Line.{reading_of};
-ghost use Rattle.sheets.specs.Block.{block_for};
+ghost use Rattle.sheets.specs.CompanyOrders.{company_orders_for};
 ghost use Rattle.sheets.specs.File.{Fails, IsAccepted, body_content, content_of, header_version, lines_content};
 ghost use Rattle.sheets.specs.File.{players_content, players_of, sheet_of, unread_of, version_in, version_numbered};
 ghost use Rattle.sheets.specs.File.{version_of};
@@ -84,14 +84,14 @@ impl<'a> Sheets<'a> {
         PartsLeft::of(lines, round)
     }
 
-    /// What the sheet of this seat for this round has from the first line of a company's block on;
-    /// nothing where it has no block for the company, or there is no sheet. Of two blocks for the
+    /// What the sheet of this seat for this round has from the first of a company's orders on;
+    /// nothing where it has none for the company, or there is no sheet. Where two heads name the
     /// company the first counts.
-    pub fn block(&self, seat: Seat, round: &Round, company: Company) -> PartsLeft<'a>
-        ensures { result.before ≡ block_for self.now round.now seat.0 company }
+    pub fn company_orders(&self, seat: Seat, round: &Round, company: Company) -> PartsLeft<'a>
+        ensures { result.before ≡ company_orders_for self.now round.now seat.0 company }
     {
         let mut parts = self.parts(seat, *round);
-        parts.take_to_block(company);
+        parts.take_to_orders_of(company);
         parts
     }
 

@@ -48,8 +48,8 @@ pub fn sheets_are_numbered()
     order_grammar::laws::read_where_spelt()
 }
 
-/// A sheet has at most 512 written turns or blocks, since each begins with a line that may be an
-/// order.
+/// A sheet has at most 512 written turns or companies' orders, since each begins with a line that
+/// may be an order.
 pub fn sheets_have_few_turns()
     ensures { SheetsHaveFewTurns }
 {}

@@ -5,13 +5,13 @@
 //! order has room for a run of 280 places, so a line is read into a place that its reader holds. To a
 //! contract `Sheets` is the file that it was collected from, a `Sheet` the list of its lines, and
 //! `PartsLeft` what is still to come of a sheet: the lines before its next head, and the written turns
-//! or blocks that heads open.
+//! or the companies' orders that heads open.
 //!
 //! Reading order: `fault`, `text` (the lines of a text), `sheet`, `parts` (a sheet as the rounds
 //! take it up), `place` (orders that have none), `players`, `sheet_key` and `open_sheet` (whose sheet it
 //! is, and where it began), `collecting` (line after line), `file` (`collect`, `examine`), `laws`. In
 //! `specs/`, `File` says what a file says, `Reading` what is read of a line, `Part` what the parts of
-//! a sheet are, `Block` which of them is a company's, `Place` what becomes of an order without a
+//! a sheet are, `CompanyOrders` which of them is a company's, `Place` what becomes of an order without a
 //! place, `Limits` the limits of a file, and `Collecting` how far a file was collected.
 #![tactic(auto)]
 

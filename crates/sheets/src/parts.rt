@@ -1,5 +1,5 @@
 ghost use Rattle.std.specs.Prelude.{◌≡◌, [], Ok};
-ghost use Rattle.sheets.specs.Block.{block_in, opens_block_of};
+ghost use Rattle.sheets.specs.CompanyOrders.{company_orders_in, opens_orders_of};
 ghost use Rattle.sheets.specs.Part.{IsAtHead, TakesHead, TakesOrdinary, head_word, line_unread, lines_in, opens_part};
 ghost use Rattle.sheets.specs.Part.{parts_left};
 
@@ -9,7 +9,7 @@ use std::marker::Model;
 use tables::{Company, Round};
 
 /// What is still to be taken up of a sheet: the lines before the next head, and then written turn
-/// after written turn, or block after block, each with its head.
+/// after written turn, or one company's orders after another's, each with their head.
 ///
 /// In the sheet of an opening or a stock round a TURN line up to line `LINES_MOST` is a head, in
 /// that of an operating round a COMPANY line.
@@ -68,13 +68,13 @@ impl<'a> PartsLeft<'a> {
         self.lines.take_unread()
     }
 
-    /// Takes all that is left up to the head of the next block of a company, and that head; where
-    /// there is none, everything.
-    pub(crate) fn take_to_block(&mut self, company: Company)
-        ensures { self.new.before ≡ block_in company self.old.opened }
+    /// Takes all that is left up to the next head of a company's orders, and that head; where there
+    /// is none, everything.
+    pub(crate) fn take_to_orders_of(&mut self, company: Company)
+        ensures { self.new.before ≡ company_orders_in company self.old.opened }
     {
         while let Some(line) = self.lines.take_unread() {
-            if is_head(self.round, line) && opens_block_of(company, line) {
+            if is_head(self.round, line) && opens_orders_of(company, line) {
                 break;
             }
         }
@@ -145,21 +145,21 @@ fn is_head_of(round: Round, order: &Order) -> bool
     }
 }
 
-/// Whether a head opens a block of a company.
+/// Whether a head opens a company's orders.
 #[inline(never)]
-fn opens_block_of(company: Company, head: UnreadLine) -> bool
-    ensures { result ≡ opens_block_of company (line_unread head.entry).reading }
+fn opens_orders_of(company: Company, head: UnreadLine) -> bool
+    ensures { result ≡ opens_orders_of company (line_unread head.entry).reading }
 {
     let mut order = Order::Blank;
     match head.read_into(&mut order) {
-        Ok(_) => is_head_of_block(company, &order),
+        Ok(_) => is_head_of_company(company, &order),
         Err(_) => false,
     }
 }
 
-/// Whether an order opens a block of a company.
-fn is_head_of_block(company: Company, order: &Order) -> bool
-    ensures { result ≡ opens_block_of company (Ok order.now) }
+/// Whether an order opens a company's orders.
+fn is_head_of_company(company: Company, order: &Order) -> bool
+    ensures { result ≡ opens_orders_of company (Ok order.now) }
 {
     match order {
         Order::Company(named) => *named == company,

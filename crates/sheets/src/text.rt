@@ -22,8 +22,8 @@ pub fn first_line(text: &[u8]) -> Option<Piece<'_>>
         (λ piece. lines_of text.now ≡ piece.line.now ∷ lines_of piece.rest.now) }
     ensures rest { IfSome result (λ piece. piece.rest.now ≡ rest_of text.now) }
     ensures first { MatchOption result (text.now ≡ [])
-        (λ piece. (front : List ℕ) ×
-        BeginsWith front (written (piece.line.now ∷ [])) piece.rest.now text.now) }
+        (λ piece. (prefix : List ℕ) ×
+        BeginsWith prefix (written (piece.line.now ∷ [])) piece.rest.now text.now) }
 {
     if text.is_empty() {
         return None;
@@ -40,7 +40,7 @@ pub fn first_line(text: &[u8]) -> Option<Piece<'_>>
     }
 }
 
-/// Where the first LF of a text stands.
+/// Where the first LF of a text is.
 fn newline(text: &[u8]) -> Option<usize>
     ensures { MatchOption result
         (EachIndex text.now (λ k. slice_index text.now k ≢ 10))
@@ -53,10 +53,10 @@ fn newline(text: &[u8]) -> Option<usize>
 fn without_return(line: &[u8]) -> &[u8]
     ensures { result.now ≡ without_return line.now }
 {
-    let Some((last, front)) = line.split_last() else {
+    let Some((last, prefix)) = line.split_last() else {
         return line;
     };
-    if *last == b'\r' { front } else { line }
+    if *last == b'\r' { prefix } else { line }
 }
 
 /// Whether a line counts nowhere: it has no words and at most 1,024 bytes.

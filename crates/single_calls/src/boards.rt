@@ -114,13 +114,13 @@ pub fn puts_lays(rt: &HostRuntime) -> Result<Outcome, Fault> {
     Call::PutLay.begin(rt)?;
     let count = put_lays(&mut board, &tiles);
     made(rt)?;
-    let are_as_told = board.tiles_laid() == count
+    let are_as_owed = board.tiles_laid() == count
         && board.links(Hex::H6).is_empty() == (count == 0)
         && board.links(Hex::H16).is_empty() == (count < tiles.len());
     Ok(if count == tiles.len() {
-        Outcome::of_answer(are_as_told)
+        Outcome::of_answer(are_as_owed)
     } else {
-        Outcome::of_refusal(are_as_told)
+        Outcome::of_refusal(are_as_owed)
     })
 }
 
@@ -141,12 +141,12 @@ pub fn puts_tokens(rt: &HostRuntime) -> Result<Outcome, Fault> {
     Call::PutToken.begin(rt)?;
     let count = put_tokens(&mut board);
     made(rt)?;
-    let are_as_told = board.tokens_placed() == count.saturating_add(1)
+    let are_as_owed = board.tokens_placed() == count.saturating_add(1)
         && board.token(first(Hex::H10), PRR) == (count > 0);
     Ok(if count == MANY {
-        Outcome::of_answer(are_as_told)
+        Outcome::of_answer(are_as_owed)
     } else {
-        Outcome::of_refusal(are_as_told)
+        Outcome::of_refusal(are_as_owed)
     })
 }
 
@@ -203,8 +203,8 @@ pub fn reaches(rt: &HostRuntime) -> Result<Outcome, Fault> {
     })
 }
 
-/// What is told of the best that PRR's trains do on the line.
-fn told(answer: Result<Best, AllocError>) -> Outcome {
+/// The outcome of the best that PRR's trains do on the line.
+fn outcome_of(answer: Result<Best, AllocError>) -> Outcome {
     match answer {
         Ok(best) => {
             let runs = best.claim.runs.as_slice().len();
@@ -220,7 +220,7 @@ pub fn finds_best(rt: &HostRuntime) -> Result<Outcome, Fault> {
     Call::Best.begin(rt)?;
     let answer = best(rt.alloc(), &board, PRR, &TRAINS);
     made(rt)?;
-    Ok(told(answer))
+    Ok(outcome_of(answer))
 }
 
 /// The best on the plain board.
@@ -231,7 +231,7 @@ pub fn finds_best_plain(rt: &HostRuntime) -> Result<Outcome, Fault> {
     Call::BestPlain.begin(rt)?;
     let answer = best(rt.alloc(), &board, PRR, &TRAINS);
     made(rt)?;
-    Ok(told(answer))
+    Ok(outcome_of(answer))
 }
 
 /// The runner that searches answers the greatest revenue.
@@ -254,10 +254,10 @@ pub fn keeps(rt: &HostRuntime) -> Result<Outcome, Fault> {
     Call::Keeping.begin(rt)?;
     let (count, fault) = keep_many(&mut keeping, &board);
     made(rt)?;
-    let are_as_told = keeping.kept().len() == count && are_best(keeping.kept());
+    let are_as_owed = keeping.kept().len() == count && are_best(keeping.kept());
     Ok(match fault {
-        None => Outcome::of_answer(are_as_told && count == KEPT),
-        Some(fault) => Outcome::of_refusal(are_as_told && fault == RunnerFault::Memory),
+        None => Outcome::of_answer(are_as_owed && count == KEPT),
+        Some(fault) => Outcome::of_refusal(are_as_owed && fault == RunnerFault::Memory),
     })
 }
 

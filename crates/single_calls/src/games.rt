@@ -24,13 +24,13 @@ pub fn appends(rt: &HostRuntime) -> Result<Outcome, Fault> {
     made(rt)?;
     // (of two events, one pays ANN 5)
     let paid = (count.saturating_add(1) / 2).saturating_mul(5);
-    let are_as_told = game.events().len() == count
+    let are_as_owed = game.events().len() == count
         && game.lays().len() == count / 2
         && game.cash(Party::Holder(ANN)) == (paid as Money).saturating_add(800);
     Ok(if count == MANY {
-        Outcome::of_answer(are_as_told)
+        Outcome::of_answer(are_as_owed)
     } else {
-        Outcome::of_refusal(are_as_told)
+        Outcome::of_refusal(are_as_owed)
     })
 }
 

@@ -1,7 +1,7 @@
 //! Makes single calls of the umpire's libraries that take memory, each in a position that is built
-//! before it, and prints a line for each: its name, `: made: `, and what it came to. That is `as
-//! owed`; `want of memory, and as before`, where it answered so and what it was called on shows the
-//! state before the call; or `NOT AS OWED`. A word on the command line names the one call that is
+//! before it, and prints a line for each: its name, `: made: `, and what became of it. That is
+//! `as owed`; `want of memory, and as before`, where it answered so and what it was called on shows
+//! the state before the call; or `NOT AS OWED`. A word on the command line names the one call that is
 //! made. The name is written right before the call, and the next word right after it, so that whoever
 //! runs the program may refuse memory in the call alone. The status is 1 where a position cannot be
 //! built or a word names no call, 4 where a line cannot be written.
@@ -43,15 +43,15 @@ fn make_all(rt: &HostRuntime) -> Result<(), Fault> {
     let mut count: usize = 0;
     for call in Call::ALL {
         if named.is_none_or(|name| name.as_str() == call.name()) {
-            tell(rt, make(rt, call)?)?;
+            print_outcome(rt, make(rt, call)?)?;
             count = count.saturating_add(1);
         }
     }
     if count == 0 { Err(Fault::Name) } else { Ok(()) }
 }
 
-/// Prints what a call came to, and ends its line.
-fn tell(rt: &HostRuntime, outcome: Outcome) -> Result<(), Fault> {
+/// Prints what became of a call, and ends its line.
+fn print_outcome(rt: &HostRuntime, outcome: Outcome) -> Result<(), Fault> {
     rt.println(outcome.text())?;
     Ok(())
 }
@@ -100,11 +100,11 @@ fn make_on(rt: &HostRuntime, call: Call, file: &str) -> Result<Outcome, Fault> {
         Call::StepStock => games::steps(rt, &sheets, call, 1),
         Call::StepOperating => games::steps(rt, &sheets, call, 2),
         Call::StepBest => games::steps(rt, &sheets, call, 4),
-        Call::HeaderText => reports::tells_header(rt, &sheets),
-        Call::NextText => reports::tells_next(rt, &sheets),
-        Call::EndText => reports::tells_end(rt, &sheets),
-        Call::RoundText => reports::tells_round(rt, &sheets),
-        Call::Report => reports::tells_all(rt, &sheets),
+        Call::HeaderText => reports::writes_header(rt, &sheets),
+        Call::NextText => reports::writes_next(rt, &sheets),
+        Call::EndText => reports::writes_end(rt, &sheets),
+        Call::RoundText => reports::writes_round(rt, &sheets),
+        Call::Report => reports::writes_all(rt, &sheets),
         _ => Err(Fault::Name),
     }
 }

@@ -1,4 +1,4 @@
-/// What a call came to.
+/// What became of a call.
 #[derive(Clone, Copy, Debug, PartialEq, Eq)]
 pub enum Outcome {
     /// It answered what it owes.

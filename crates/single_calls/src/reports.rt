@@ -1,4 +1,4 @@
-//! Calls that tell a game as text.
+//! Calls that write a game as text.
 
 use crate::call::{Call, made};
 use crate::fault::Fault;
@@ -13,8 +13,8 @@ use std::alloc::AllocError;
 use std::rt::Runtime;
 use tables::Round;
 
-/// What is told of a text, by the text that is owed.
-fn told(answer: Result<Vec<u8>, AllocError>, owed: &str) -> Outcome {
+/// The outcome of a text, by the text that is owed.
+fn outcome_of(answer: Result<Vec<u8>, AllocError>, owed: &str) -> Outcome {
     match answer {
         Ok(text) => Outcome::of_answer(text.as_slice() == owed.as_bytes()),
         Err(_) => Outcome::of_refusal(true),
@@ -22,15 +22,15 @@ fn told(answer: Result<Vec<u8>, AllocError>, owed: &str) -> Outcome {
 }
 
 /// The header of the first game.
-pub fn tells_header(rt: &HostRuntime, sheets: &Sheets) -> Result<Outcome, Fault> {
+pub fn writes_header(rt: &HostRuntime, sheets: &Sheets) -> Result<Outcome, Fault> {
     Call::HeaderText.begin(rt)?;
     let answer = header_text(rt.alloc(), sheets);
     made(rt)?;
-    Ok(told(answer, HEADER))
+    Ok(outcome_of(answer, HEADER))
 }
 
 /// Its round, as it was played last.
-pub fn tells_next(rt: &HostRuntime, sheets: &Sheets) -> Result<Outcome, Fault> {
+pub fn writes_next(rt: &HostRuntime, sheets: &Sheets) -> Result<Outcome, Fault> {
     let mut search = Search::new(rt.alloc());
     let mut play = Play::start(rt.alloc(), sheets)?;
     if !has_stepped(&mut play, &mut search) {
@@ -39,11 +39,11 @@ pub fn tells_next(rt: &HostRuntime, sheets: &Sheets) -> Result<Outcome, Fault> {
     Call::NextText.begin(rt)?;
     let answer = next_text(rt.alloc(), &play);
     made(rt)?;
-    Ok(told(answer, FIRST_ROUND))
+    Ok(outcome_of(answer, FIRST_ROUND))
 }
 
 /// What follows its round.
-pub fn tells_end(rt: &HostRuntime, sheets: &Sheets) -> Result<Outcome, Fault> {
+pub fn writes_end(rt: &HostRuntime, sheets: &Sheets) -> Result<Outcome, Fault> {
     let mut search = Search::new(rt.alloc());
     let mut play = Play::start(rt.alloc(), sheets)?;
     if !has_stepped(&mut play, &mut search) {
@@ -59,23 +59,23 @@ fn ends(rt: &HostRuntime, play: &mut Play, search: &mut Search) -> Result<Outcom
             Call::EndText.begin(rt)?;
             let answer = end_text(rt.alloc(), play);
             made(rt)?;
-            Ok(told(answer, AWAITED))
+            Ok(outcome_of(answer, AWAITED))
         }
         Ok(Step::Played(_)) | Err(_) => Err(Fault::Position),
     }
 }
 
 /// Its round, looked back at.
-pub fn tells_round(rt: &HostRuntime, sheets: &Sheets) -> Result<Outcome, Fault> {
+pub fn writes_round(rt: &HostRuntime, sheets: &Sheets) -> Result<Outcome, Fault> {
     let game = play(rt.alloc(), sheets)?;
     Call::RoundText.begin(rt)?;
     let answer = round_text(rt.alloc(), &game, Round::Opening(1));
     made(rt)?;
-    Ok(told(answer, FIRST_ROUND))
+    Ok(outcome_of(answer, FIRST_ROUND))
 }
 
 /// The whole report.
-pub fn tells_all(rt: &HostRuntime, sheets: &Sheets) -> Result<Outcome, Fault> {
+pub fn writes_all(rt: &HostRuntime, sheets: &Sheets) -> Result<Outcome, Fault> {
     let game = play(rt.alloc(), sheets)?;
     Call::Report.begin(rt)?;
     let answer = report(rt.alloc(), &game);

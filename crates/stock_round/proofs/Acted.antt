@@ -25,7 +25,7 @@ use Rattle.tables.specs.declared.roster.Company.TheVariants.{NewYorkCentral}
 use Rattle.tables.specs.declared.seat.Seat.{Seat}
 use Rattle.tables.specs.declared.squares.Square.{Square}
 use Rattle.turns.proofs.Acted.{LineSaysWhoActed, in_both, in_either, nobody, nobody_ruled, one_more, or_nothing}
-use Rattle.turns.proofs.Acted.{turns_tell}
+use Rattle.turns.proofs.Acted.{turns_say}
 use Rattle.turns.proofs.Ruled.{of_ruled}
 use Rattle.turns.specs.Acted.{SaysWhoActed, TurnsSayWhoActed}
 use Rattle.turns.specs.Ruling.{has_place_in_turn}
@@ -52,10 +52,10 @@ module _ (seat : Seat) (seats : ℕ) where
       → SaysWhoActed seat false events (with_float seats events company)
   in_float events company =
       let par : ℕ = unwrap_or (par_of events company) 0 in
-      let told : List Event = events ++ event.Floats company (10 * par) ∷ [] in
+      let recorded : List Event = events ++ event.Floats company (10 * par) ∷ [] in
       in_either seat false events (floated_at seats events company par) events (is_to_float events company)
-      (in_both seat false false events told (with_broken seats told)
-      (one_more seat false events (event.Floats company (10 * par)) refl) (in_break told))
+      (in_both seat false false events recorded (with_broken seats recorded)
+      (one_more seat false events (event.Floats company (10 * par)) refl) (in_break recorded))
       (nobody seat events)
 
   -- nor where a token moves from this square, if it is on one
@@ -84,17 +84,17 @@ module _ (seat : Seat) (seats : ℕ) where
       (one_more seat true events (event.Bought company seat 1 from (share_price_of events company from)) refl)
       (in_what_follows paid company)
 
-  -- nobody acts by the events of a sale, since its line has told of it
+  -- nobody acts by the events of a sale, since its line has recorded it
   in_sale : (events : List Event) (company : Company) (shares : ℕ)
       → SaysWhoActed seat false events (after_sale seats events seat company shares)
   in_sale events company shares =
       let price : ℕ = shares * market_price_of events company in
-      let told : List Event = events ++ event.Sells company seat shares price ∷ [] in
+      let recorded : List Event = events ++ event.Sells company seat shares price ∷ [] in
       let paid : List Event = sold seats events seat company shares in
       let presided : List Event = with_president seats paid company in
       in_both seat false false events paid (after_sale seats events seat company shares)
-      (in_both seat false false events told paid (one_more seat false events (event.Sells company seat shares price)
-      refl) (in_break told))
+      (in_both seat false false events recorded paid (one_more seat false events (event.Sells company seat shares price)
+      refl) (in_break recorded))
       (in_both seat false false paid presided (after_sale seats events seat company shares)
       (in_succession paid company (president_of paid company))
       (in_move (fallen shares) presided company (square_of presided company)))
@@ -119,53 +119,53 @@ has_sold false true = refl
 has_sold false false = refl
 
 -- by a line whose order is done
-order_tells : (seats : ℕ) (seat : Seat) (turn : InTurn) (number : ℕ) (condition : Option Condition) (done : Order)
+order_says : (seats : ℕ) (seat : Seat) (turn : InTurn) (number : ℕ) (condition : Option Condition) (done : Order)
     → refusal_of seats turn.events seat turn.actions.bought done ≡ None →
     LineSaysWhoActed stock_rules seat turn (after_ruling seats seat turn number (Obeyed condition done))
-order_tells seats seat turn number condition (order.Par company price) kept =
+order_says seats seat turn number condition (order.Par company price) kept =
     let line : Event = event.Ruled seat number (Obeyed condition (order.Par company price)) in
     let ruled : List Event = turn.events ++ line ∷ [] in
     record {
       acts = true;
-      told = in_both seat false true turn.events ruled (after_start ruled seat company price)
+      says_who = in_both seat false true turn.events ruled (after_start ruled seat company price)
           (one_more seat false turn.events line refl) (record { more = _; longer = refl; last = refl });
       acted = has_bought (is_some turn.actions.bought || turn.actions.sold);
     }
-order_tells seats seat turn number condition (order.BuyShare company from) kept =
+order_says seats seat turn number condition (order.BuyShare company from) kept =
     let line : Event = event.Ruled seat number (Obeyed condition (order.BuyShare company from)) in
     let ruled : List Event = turn.events ++ line ∷ [] in
     record {
       acts = true;
-      told = in_both seat false true turn.events ruled (after_purchase seats ruled seat company from)
+      says_who = in_both seat false true turn.events ruled (after_purchase seats ruled seat company from)
           (one_more seat false turn.events line refl) (in_purchase seat seats ruled company from);
       acted = has_bought (is_some turn.actions.bought || turn.actions.sold);
     }
-order_tells seats seat turn number condition (order.Sell company shares) kept =
+order_says seats seat turn number condition (order.Sell company shares) kept =
     let line : Event = event.Ruled seat number (Obeyed condition (order.Sell company shares)) in
     let ruled : List Event = turn.events ++ line ∷ [] in
     record {
       acts = true;
-      told = in_both seat true false turn.events ruled (after_sale seats ruled seat company shares)
+      says_who = in_both seat true false turn.events ruled (after_sale seats ruled seat company shares)
           (one_more seat true turn.events line refl) (in_sale seat seats ruled company shares);
       acted = has_sold (is_some turn.actions.bought) turn.actions.sold;
     }
-order_tells seats seat turn number condition order.ExchangeMohawk kept =
+order_says seats seat turn number condition order.ExchangeMohawk kept =
     let line : Event = event.Ruled seat number (Obeyed condition order.ExchangeMohawk) in
     let ruled : List Event = turn.events ++ line ∷ [] in
     record {
       acts = false;
-      told = in_both seat false false turn.events ruled (after_exchange seats ruled seat)
+      says_who = in_both seat false false turn.events ruled (after_exchange seats ruled seat)
           (one_more seat false turn.events line refl) (in_exchange seat seats ruled);
       acted = or_nothing (is_some turn.actions.bought || turn.actions.sold);
     }
-order_tells seats seat turn number condition other kept = absurd (cc)
+order_says seats seat turn number condition other kept = absurd (cc)
 
 -- so each turn of a stock round tells who acted in it
-pub stock_turns_tell : TurnsSayWhoActed stock_rules
-stock_turns_tell =
-    turns_tell stock_rules refl
+pub stock_turns_say : TurnsSayWhoActed stock_rules
+stock_turns_say =
+    turns_say stock_rules refl
     (λ (seats : ℕ) (seat : Seat) (turn : InTurn) (line : Numbered).
     of_ruled (acted seats seat) (refusal_of seats turn.events seat turn.actions.bought) seat turn line.number
     (LineSaysWhoActed stock_rules seat turn)
-    (nobody_ruled stock_rules seat turn line.number) (order_tells seats seat turn line.number) has_place_in_turn
+    (nobody_ruled stock_rules seat turn line.number) (order_says seats seat turn line.number) has_place_in_turn
     turn.events line)

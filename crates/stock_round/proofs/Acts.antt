@@ -44,11 +44,11 @@ pub start_sound : (game new : Game) (seat : Seat) (company : Company) (price cos
     → new ≡ with_event (with_event (with_event game (event.Par company price))
     (event.Bought company seat 2 source.InitialOffering cost)) (event.President company seat) → IsSound game
     → IsSound new
-start_sound game new seat company price cost may within is_cost told sound =
+start_sound game new seat company price cost may within is_cost recorded sound =
     let pays : pos cost ≤ℤ free_cash_of game.seats game.events seat =
     subst (λ (n : ℕ). pos n ≤ℤ free_cash_of game.seats game.events seat) (sym is_cost)
     (paid game.seats game.events seat (president_shares * price) may.pays) in
-    subst IsSound (sym told) (start_by_purchase_sound game company seat price cost
+    subst IsSound (sym recorded) (start_by_purchase_sound game company seat price cost
     (holds (is_par_value price) may.par) (is_nothing (square_of game.events company) may.fresh) within pays sound)
 
 -- a share that is not missing is there
@@ -63,11 +63,11 @@ pub purchase_sound : (game new : Game) (seat : Seat) (company : Company) (from :
     → price ≡ share_price_of game.events company from → new ≡ with_event game (event.Bought company seat 1 from price)
     → IsSound game → IsSound new
 unfolding is_sold_out_there
-purchase_sound game new seat company from price may within is_price told sound =
+purchase_sound game new seat company from price may within is_price recorded sound =
     let pays : pos price ≤ℤ free_cash_of game.seats game.events seat =
     subst (λ (n : ℕ). pos n ≤ℤ free_cash_of game.seats game.events seat) (sym is_price)
     (paid game.seats game.events seat (share_price_of game.events company from) may.pays) in
-    subst IsSound (sym told)
+    subst IsSound (sym recorded)
     (elim (square_of game.events company) as (λ (found : Option Square). square_of game.events company ≡ found
     → is_some found ≡ true → IsSound (with_event game (event.Bought company seat 1 from price))) [
       | None ↦ λ is has. absurd (cc)
@@ -101,13 +101,13 @@ has_source false false there is_offered is_pooled some = absurd (cc)
 pub exchange_sound : (game new : Game) (seat : Seat) (from : ShareSource) → MayExchange game.events seat
     → seat.0 < game.seats → from ≡ exchange_source game.events → new ≡ with_event game (event.Exchanged seat from)
     → IsSound game → IsSound new
-exchange_sound game new seat from may within is_from told sound =
+exchange_sound game new seat from may within is_from recorded sound =
     let events = game.events in
     let kept = none_of (is_owner seat (owner_of events MohawkHudson)) (is_offered events || is_pooled events) _ may in
     let there : pos 1 ≤ℤ shares_of events company.NewYorkCentral (place_of_source (exchange_source events)) =
     has_source (is_offered events) (is_pooled events)
     (λ (from : ShareSource). shares_of events company.NewYorkCentral (place_of_source from)) refl refl kept.1 in
-    subst IsSound (sym told)
+    subst IsSound (sym recorded)
     (exchange_law game seat from (owns seat (owner_of events MohawkHudson) kept.0) within
     (subst (λ (s : ShareSource). pos 1 ≤ℤ shares_of events company.NewYorkCentral (place_of_source s))
     (sym is_from) there) sound)
@@ -144,6 +144,6 @@ float_led game its ready sound =
 -- a company that floats
 pub float_sound : (game new : Game) (its : Company) (amount : ℕ) → is_to_float game.events its ≡ true
     → new ≡ with_event game (event.Floats its amount) → IsSound game → IsSound new
-float_sound game new its amount ready told sound =
-    subst IsSound (sym told) (float_law game its amount
+float_sound game new its amount ready recorded sound =
+    subst IsSound (sym recorded) (float_law game its amount
     (few_left (is_floated game.events its) (shares_of game.events its InitialOffering) ready) sound)

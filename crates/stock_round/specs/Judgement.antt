@@ -1,6 +1,6 @@
 -- The rules of a turn of a stock round. A seat may set a company's par value and so buy its president's certificate,
 -- buy a share, or sell shares, by the rules on certificates; or give up MH for a share of NYC, if it owns MH, the
--- initial offering or the pool has such a share, and it would not come to hold over six, where the zone of NYC's square
+-- initial offering or the pool has such a share, and it would not hold over six then, where the zone of NYC's square
 -- limits that. There is one purchase a turn, but of a company whose square is brown there may be several.
 use Rattle.std.specs.Prelude.{ℕ, ◌==◌, Bool, false, not, ◌||◌, if◌then◌else◌, List, [], ◌∷◌, Option, Some, None}
 use Rattle.std.specs.Prelude.{option_map, pos}

@@ -8,7 +8,7 @@ use tables::Company;
 /// sold.
 #[derive(Clone, Copy, Debug, Default)]
 pub(crate) struct ShareDeals {
-    /// The company of which the seat has bought.
+    /// The company whose share the seat has bought.
     pub(crate) bought: Option<Company>,
     /// Whether the seat has sold.
     pub(crate) sold: bool,

@@ -3,8 +3,8 @@
 //! In a turn a player may set a company's par value and so buy its president's certificate, or buy
 //! one share of a company, and may sell shares before and after; or he passes. Shares of the
 //! initial offering cost the par value, those of the pool the market price, which a sale lowers.
-//! Who comes to have more of a company than its president presides over it. A company floats once
-//! few shares are left in its initial offering. The round is over when all seats have passed in
+//! Whoever has more of a company than its president presides over it. A company floats once few
+//! shares are left in its initial offering. The round is over when all seats have passed in
 //! succession; then the companies that are all in players' hands move up.
 //!
 //! Reading order: `judgement` (the rules that an order may break), `act` (what an obeyed order

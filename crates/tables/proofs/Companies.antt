@@ -1,4 +1,4 @@
--- Companies are told apart by their places in the roster.
+-- Companies differ by their places in the roster.
 use Rattle.std.proofs.Common.{◌≡◌, ◌∙◌, ap, sym, refl, true, get_or}
 use Rattle.std.proofs.lemmas.Bool.{eq-eqb, eqb-true}
 use Rattle.tables.specs.Roster.{companies, place_of_company, same_company}

@@ -6,7 +6,7 @@ abbrev pub iterate : {A : Type 0} → (A → A) → ℕ → A → A
 iterate step zero a = a
 iterate step (suc n) a = step (iterate step n a)
 
--- From a, the steps have come to z, and at none before it was it over.
+-- From a, the steps have reached z, and at none before it was it over.
 pub record LeadsTo {A : Type 0} (step : A → A) (over : A → Bool) (a z : A) : Type 0 where
   pub steps : ℕ
   pub reached : iterate step steps a ≡ z

@@ -83,7 +83,7 @@ times_failed true at some fails = absurd cc
 times_failed false at [] fails = refl
 times_failed false at (one ∷ others) fails = omega (arith, times_failed false at others refl)
 
--- no train comes to the bank
+-- no train goes to the bank
 abbrev ComesFromBankAlone : Option TrainMove → Type 0
 ComesFromBankAlone None = Unit {0}
 ComesFromBankAlone (Some move) = same_train_place move.to place.Bank ≡ false
@@ -124,7 +124,7 @@ none_to_bank (event.Aid seat company amount) = tt
 none_to_bank (event.Bankrupt seat) = tt
 none_to_bank event.Broken = tt
 
--- what comes to those in play and to the place of those out of play went from there, or from the bank
+-- what those in play gain and to the place of those out of play went from there, or from the bank
 balanced : (kind : Kind) (move : Option TrainMove) → ComesFromBankAlone move
     → come_to kind move train_owners + one_if (train_comes place.OutOfPlay kind move)
     ≡ (go_from kind move train_owners + one_if (train_goes place.OutOfPlay kind move))
@@ -177,7 +177,7 @@ trains_stay (event ∷ events) kind =
           events kind,
     )
 
--- two tests of which one fails
+-- two tests, one of which fails
 not_both : (test : Bool) → one_if (test && false) ≡ 0
 not_both true = refl
 not_both false = refl

@@ -5,7 +5,7 @@ use Rattle.std.specs.Prelude.{replicate}
 use Rattle.std.proofs.lemmas.Int.{ints}
 use Rattle.events.specs.declared.event.Event.{Event}
 use Rattle.totals.proofs.Tied.{none_standing}
-use Rattle.totals.specs.Totals.{IsCounted, IsNet, at_company, bid_in, count_at, net_at, sale_in}
+use Rattle.totals.specs.Totals.{IsBalance, IsCounted, at_company, balance_at, bid_in, count_at, sale_in}
 use Rattle.tables.specs.Roster.{place_of_company}
 use Rattle.tables.specs.declared.roster.Company.{Company}
 use Rattle.tables.specs.declared.roster.Company.TheVariants as company
@@ -45,9 +45,10 @@ same_throughout a zero entry = refl
 same_throughout a (suc n) zero = refl
 same_throughout a (suc n) (suc entry) = same_throughout a n entry
 
--- has the net of no events at each entry
-pub no_net : (brings takes : Event → ℕ) (n entry : ℕ) → IsNet brings takes [] (net_at (replicate n (pos 0)) entry)
-no_net brings takes n entry =
+-- has the balance of no events at each entry
+pub no_balance : (brings takes : Event → ℕ) (n entry : ℕ) → IsBalance brings takes []
+    (balance_at (replicate n (pos 0)) entry)
+no_balance brings takes n entry =
     let none = same_throughout (pos 0) n entry in
     record { is = none; not_under = omega (arith, ints, none); not_over = omega (arith, ints, none) }
 
@@ -71,7 +72,7 @@ row_throughout row company.Erie = refl
 row_throughout row company.NewHaven = refl
 row_throughout row company.BostonMaine = refl
 
--- a table in which no sale is told of
+-- a table that names no sale
 pub no_sale : (company : Company) (seat : Seat) → sale_in (replicate 8 (replicate 6 false)) company seat ≡ false
 no_sale company seat =
     ap (λ row. slice_index_or row seat.0 false) (row_throughout (replicate 6 false) company)

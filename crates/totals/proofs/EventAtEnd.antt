@@ -96,7 +96,7 @@ pub balance_at_end : (start : ℕ) (brings takes : Event → ℕ) (events : List
 balance_at_end start brings takes events event =
     omega (arith, ints, sum_by_push brings events event, sum_by_push takes events event)
 
--- an account of which an event doesn't speak
+-- an account that an event doesn't speak of
 pub balance_before : (start : ℕ) (brings takes : Event → ℕ) (events : List Event) (event : Event) → brings event ≡ 0
     → takes event ≡ 0 → balance start brings takes (events ++ event ∷ []) ≡ balance start brings takes events
 balance_before start brings takes events event none_in none_out =

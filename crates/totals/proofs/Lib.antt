@@ -1,8 +1,8 @@
 pub mod Choices
 pub mod EventAtEnd
 pub mod Places
-pub mod Noted
-pub mod NetTables
+pub mod Applied
+pub mod BalanceTables
 pub mod Empty
 pub mod Lent
 pub mod Standing

@@ -28,11 +28,11 @@ no_word says obeyed by line seat (Refused rule condition order) agree none = ref
 no_word says obeyed by line seat (Faulty fault) agree none = refl
 
 -- and neither does the event that tells of it
-pub no_word_told :
+pub no_word_said :
     {A : Type 0} (says : Order → Option A) (obeyed : Ruling → Option A) (event : Event) (by : Seat) (line : ℕ)
     (seat : Seat) (ruling : Ruling) →
     ((condition : Option Condition) (order : Order) → obeyed (Obeyed condition order) ≡ says order) →
     event ≡ Ruled by line ruling → None ≡ obeyed ruling →
     None ≡ said_by seat says (obeyed_of event)
-no_word_told says obeyed event by line seat ruling agree is none =
+no_word_said says obeyed event by line seat ruling agree is none =
     subst (λ e. None ≡ said_by seat says (obeyed_of e)) (sym is) (no_word says obeyed by line seat ruling agree none)

@@ -36,11 +36,11 @@ bids_on_more count events private =
 pub bid_added : (count : ℕ) (events : List Event) (private : Private) (bids : List Bid) (seat : Seat) (amount : ℕ)
     → bids ≡ bids_on count events private → seat ≡ seat_at count → Some amount ≡ bid_of events private seat
     → bids ++ record { seat = seat; amount = amount } ∷ [] ≡ bids_on (count + 1) events private
-bid_added count events private bids seat amount before here stands =
+bid_added count events private bids seat amount before here is_bid =
     ap (λ list. list ++ record { seat = seat; amount = amount } ∷ []) before
     ∙ sym (bids_on_more count events private ∙ ap (λ at. bids_on count events private
     ++ as_bid at (bid_of events private at)) (sym here)
-    ∙ ap (λ bid. bids_on count events private ++ as_bid seat bid) (sym stands))
+    ∙ ap (λ bid. bids_on count events private ++ as_bid seat bid) (sym is_bid))
 
 -- a seat without one
 pub bid_missing : (count : ℕ) (events : List Event) (private : Private) (bids : List Bid) (seat : Seat)

@@ -22,8 +22,8 @@ pub is_standing :
     (events : List Event) (private : Private) (number : ℕ) (standing : List (Option ℕ)) (seat : Seat) → number < 6
     → seat ≡ seat_at number →
     AreStanding events private standing → get_or standing number None ≡ bid_of events private seat
-is_standing events private number standing seat within at stands =
-    stands number within ∙ ap (bid_of events private) (sym at)
+is_standing events private number standing seat within at is_bid =
+    is_bid number within ∙ ap (bid_of events private) (sym at)
 
 -- what is no bid is none
 pub none_without : (bid : Option ℕ) → ((amount : ℕ) → bid ≡ Some amount → ⊥) → bid ≡ None

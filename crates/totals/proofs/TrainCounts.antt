@@ -1,4 +1,4 @@
--- How many trains a company has: all that came to it, less all that went.
+-- How many trains a company has: all that came to it, minus all that went.
 use Rattle.std.proofs.Common.{◌≡◌, ℕ, zero, suc, ◌+◌, ◌<◌, ◌≤◌, ◌^◌, Bool, ◌&&◌, List, [], ◌∷◌, length, Option, Some}
 use Rattle.std.proofs.Common.{None, ℤ, pos, negsuc, neg_ℤ, unsigned_abs, FitsSigned, ◌≤ℤ◌, ◌-ℤ◌, ◌+ℤ◌, refl, sym, subst}
 use Rattle.std.proofs.Common.{◌∙◌, arith}
@@ -10,8 +10,8 @@ use Rattle.events.specs.Event.{train_owner_place, train_moved}
 use Rattle.events.specs.declared.event.Event.{Event}
 use Rattle.events.specs.declared.event.TrainMove.{TrainMove}
 use Rattle.totals.proofs.AllTrains.{trains_in_front}
-use Rattle.totals.proofs.NetTables.{net_kept}
-use Rattle.totals.specs.Totals.{IsNet}
+use Rattle.totals.proofs.BalanceTables.{balance_kept}
+use Rattle.totals.specs.Totals.{IsBalance}
 use Rattle.totals.specs.LookBack.{balance}
 use Rattle.totals.specs.Trains.{any_comes, any_goes, count_of, one_if, train_count, train_comes, train_goes}
 use Rattle.tables.specs.Train.{kinds, same_kind}
@@ -115,29 +115,29 @@ count_fits comes goes events short =
     (omega (arith, ints, came, went)) in
     fits_signed_from_abs w64 (count_of comes goes events) (omega (arith, low, short))
 
--- the net of a table is the number that keeps it
+-- the balance of a table is the number that keeps it
 count_safe :
-    (comes goes : Event → Bool) (events : List Event) (net : ℤ) → length events < 2 ^ 63 →
-    IsNet (λ e. one_if (comes e)) (λ e. one_if (goes e)) events net → to_z w128 (of_z w128 net) ≡ net
-count_safe comes goes events net short kept =
-    net_kept net (record {
+    (comes goes : Event → Bool) (events : List Event) (total : ℤ) → length events < 2 ^ 63 →
+    IsBalance (λ e. one_if (comes e)) (λ e. one_if (goes e)) events total → to_z w128 (of_z w128 total) ≡ total
+count_safe comes goes events total short kept =
+    balance_kept total (record {
       not_under = omega (arith, ints, short, kept.not_under);
       not_over = omega (arith, ints, short, kept.not_over);
     })
 
 -- so it fits a smaller number
 pub train_count_fits :
-    (comes goes : Event → Bool) (events : List Event) (net : ℤ) → length events < 2 ^ 63 →
-    IsNet (λ e. one_if (comes e)) (λ e. one_if (goes e)) events net → FitsSigned w64 (to_z w128 (of_z w128 net))
-train_count_fits comes goes events net short kept =
-    subst (FitsSigned w64) (sym (count_safe comes goes events net short kept ∙ kept.is))
+    (comes goes : Event → Bool) (events : List Event) (total : ℤ) → length events < 2 ^ 63 →
+    IsBalance (λ e. one_if (comes e)) (λ e. one_if (goes e)) events total → FitsSigned w64 (to_z w128 (of_z w128 total))
+train_count_fits comes goes events total short kept =
+    subst (FitsSigned w64) (sym (count_safe comes goes events total short kept ∙ kept.is))
     (count_fits comes goes events short)
 
 -- which is the count
 pub train_count_kept :
-    (comes goes : Event → Bool) (events : List Event) (net : ℤ) → length events < 2 ^ 63 →
-    IsNet (λ e. one_if (comes e)) (λ e. one_if (goes e)) events net
-    → to_z w64 (of_z w64 (to_z w128 (of_z w128 net))) ≡ count_of comes goes events
-train_count_kept comes goes events net short kept =
-    to_z-of_z w64 (to_z w128 (of_z w128 net)) (train_count_fits comes goes events net short kept)
-    ∙ count_safe comes goes events net short kept ∙ kept.is
+    (comes goes : Event → Bool) (events : List Event) (total : ℤ) → length events < 2 ^ 63 →
+    IsBalance (λ e. one_if (comes e)) (λ e. one_if (goes e)) events total
+    → to_z w64 (of_z w64 (to_z w128 (of_z w128 total))) ≡ count_of comes goes events
+train_count_kept comes goes events total short kept =
+    to_z-of_z w64 (to_z w128 (of_z w128 total)) (train_count_fits comes goes events total short kept)
+    ∙ count_safe comes goes events total short kept ∙ kept.is

@@ -40,8 +40,8 @@ AreStanding events private standing =
     (number : ℕ) → number < 6 → slice_index_or standing number None ≡ bid_of events private (seat_at number)
 
 -- a table after a word on bids has what that says of the bids on a private, and else what it had
-abbrev pub NotesBidOn : Private → Option Bidding → List (Option ℕ) → List (Option ℕ) → Type 0
-NotesBidOn private bidding old new =
+abbrev pub AppliesBidOn : Private → Option Bidding → List (Option ℕ) → List (Option ℕ) → Type 0
+AppliesBidOn private bidding old new =
     (number : ℕ) → number < 6 →
     slice_index_or new number None ≡ unwrap_or (bid_said private (seat_at number) bidding)
     (slice_index_or old number None)

@@ -1,6 +1,5 @@
--- What a list of events, oldest first, says when it is looked back over. There are two ways: what the
--- last event about a thing says, and a start with all that came in less all that went out. Where it says so
--- is a place in the list.
+-- What a list of events, oldest first, says when it is looked back over. There are two ways: what the last event about
+-- a thing says, and a start with all that came in minus all that went out. Where it says so is a place in the list.
 use Rattle.std.specs.Prelude.{ℕ, ◌<◌, ◌+◌, ◌==◌, Bool, true, false, if◌then◌else◌, List, [], ◌∷◌, ◌++◌, Option, Some}
 use Rattle.std.specs.Prelude.{None, sum_by, pos, neg_ℤ, ◌-ℤ◌, ◌≤ℤ◌, ℤ, ◌^◌, is_none, length, is_some, ◌&&◌, unwrap_or}
 use Rattle.std.specs.Prelude.{slice_index_or}
@@ -52,7 +51,7 @@ last_place_from says place [] = None
 last_place_from says place (event ∷ events) =
     option_or (last_place_from says (place + 1) events) (if is_some (says event) then Some place else None)
 
--- a start, with all that came in, less all that went out
+-- a start, with all that came in, minus all that went out
 abbrev pub balance : ℕ → (Event → ℕ) → (Event → ℕ) → List Event → ℤ
 balance start brings takes events = pos (start + sum_by brings events) -ℤ pos (sum_by takes events)
 
@@ -95,7 +94,7 @@ start_of seats party.Bank = bank_start_of seats
 start_of seats (party.Holder (holder.Seat seat)) = start_money_of seats
 start_of seats (party.Holder (holder.Company company)) = 0
 
--- a party's cash: its start money, plus all that came in, less all that went out
+-- a party's cash: its start money, plus all that came in, minus all that went out
 abbrev pub cash_of : ℕ → List Event → Party → ℤ
 cash_of seats events party =
     balance (start_of seats party) (λ event. paid_to party (payment_of event))

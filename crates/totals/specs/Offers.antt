@@ -16,10 +16,10 @@ use Rattle.tables.specs.declared.seat.Seat.{Seat}
 abbrev pub is_that_offer : Seat → Offer → Seat × Offer → Bool
 is_that_offer seat sale offer = offer.0.0 == seat.0 && same_offer offer.1 sale
 
--- so is what was told, if an offer was
-abbrev pub tells_offer : Seat → Offer → Option (Seat × Offer) → Bool
-tells_offer seat sale None = false
-tells_offer seat sale (Some offer) = is_that_offer seat sale offer
+-- so is what was said, if an offer was
+abbrev pub says_offer : Seat → Offer → Option (Seat × Offer) → Bool
+says_offer seat sale None = false
+says_offer seat sale (Some offer) = is_that_offer seat sale offer
 
 -- a seat's offer of this sale is among these
 abbrev pub is_among : Seat → Offer → List (Seat × Offer) → Bool

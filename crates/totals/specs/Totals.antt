@@ -110,45 +110,45 @@ sale_in sales company seat = slice_index_or (slice_index_or sales (place_of_comp
 abbrev pub flag_then : Event → Bool → Bool → Bool
 flag_then event speaks flag = if is_some (round_begun_by event) then false else (flag || speaks)
 
--- an entry of a table of nets
-abbrev pub net_at : List ℤ → ℕ → ℤ
-net_at nets entry = slice_index_or nets entry (pos 0)
+-- an entry of a table of balances
+abbrev pub balance_at : List ℤ → ℕ → ℤ
+balance_at balances entry = slice_index_or balances entry (pos 0)
 
 -- a change by a sum of money keeps it in reach of a number
-pub record IsSafe (net : ℤ) : Type 0 where
-  pub not_under : neg_ℤ (pos (2 ^ 110)) ≤ℤ net
-  pub not_over : net ≤ℤ pos (2 ^ 110)
+pub record IsSafe (total : ℤ) : Type 0 where
+  pub not_under : neg_ℤ (pos (2 ^ 110)) ≤ℤ total
+  pub not_over : total ≤ℤ pos (2 ^ 110)
 
 -- what came to a party minus what went from it, as a table has it
-abbrev pub cash_net : List ℤ → Party → ℤ
-cash_net nets party = net_at nets (party_entry party)
+abbrev pub cash_balance : List ℤ → Party → ℤ
+cash_balance balances party = balance_at balances (party_entry party)
 
 -- the same of the shares of a company at a place
-abbrev pub shares_net : List ℤ → Company → Shareholder → ℤ
-shares_net nets company place = net_at nets (shares_entry company place)
+abbrev pub shares_balance : List ℤ → Company → Shareholder → ℤ
+shares_balance balances company place = balance_at balances (shares_entry company place)
 
 -- the same of the trains of a kind at a place
-abbrev pub train_net : List ℤ → TrainPlace → Kind → ℤ
-train_net nets place kind = net_at nets (train_entry place kind)
+abbrev pub train_balance : List ℤ → TrainPlace → Kind → ℤ
+train_balance balances place kind = balance_at balances (train_entry place kind)
 
 -- how many trains a company has, or the bank pool where there is none, as a table has it
-abbrev pub train_count_net : List ℤ → Option Company → ℤ
-train_count_net nets owner = net_at nets (train_row (train_owner_place owner))
+abbrev pub train_count_balance : List ℤ → Option Company → ℤ
+train_count_balance balances owner = balance_at balances (train_row (train_owner_place owner))
 
 -- a number is a count of events
 pub record IsCounted (count : ℕ) (events : List Event) (kept : ℕ) : Type 0 where
   pub is : kept ≡ count
   pub few : kept ≤ length events
 
--- a net is what came in minus what went out, and no further from 0 than the events can bring it
-pub record IsNet (brings takes : Event → ℕ) (events : List Event) (net : ℤ) : Type 0 where
-  pub is : net ≡ balance 0 brings takes events
-  pub not_under : neg_ℤ (pos (2 ^ 32 * length events)) ≤ℤ net
-  pub not_over : net ≤ℤ pos (2 ^ 32 * length events)
+-- a balance is what came in minus what went out, and no further from 0 than the events can bring it
+pub record IsBalance (brings takes : Event → ℕ) (events : List Event) (total : ℤ) : Type 0 where
+  pub is : total ≡ balance 0 brings takes events
+  pub not_under : neg_ℤ (pos (2 ^ 32 * length events)) ≤ℤ total
+  pub not_over : total ≤ℤ pos (2 ^ 32 * length events)
 
 -- the totals have what the list says
 pub record AreTotalsOf (totals : Totals) (events : List Event) : Type 0 where
-  pub told : totals.told ≡ length events
+  pub event_count : totals.event_count ≡ length events
   pub owners : (private : Private) → word_in totals.owners private ≡ word_on events private
   pub bids : (private : Private) (number : ℕ) → number < 6
       → bid_in totals.bids private number ≡ bid_of events private (seat_at number)
@@ -163,21 +163,21 @@ pub record AreTotalsOf (totals : Totals) (events : List Event) : Type 0 where
   pub presidents : (company : Company) → at_company totals.presidents company ≡ president_of events company
   pub arrivals : (company : Company) → at_company totals.arrivals company ≡ arrival_on events company
   pub floats : (company : Company) → at_company totals.floats company ≡ float_on events company
-  pub cash : (party : Party) → HasEntry party → IsNet (λ e. paid_to party (payment_of e))
-      (λ e. paid_by party (payment_of e)) events (cash_net totals.cash party)
+  pub cash : (party : Party) → HasEntry party → IsBalance (λ e. paid_to party (payment_of e))
+      (λ e. paid_by party (payment_of e)) events (cash_balance totals.cash party)
   pub shares :
       (company : Company) (place : Shareholder) → HasShares place →
-      IsNet (λ e. brought_to company place (transfer_of e)) (λ e. taken_from company place (transfer_of e)) events
-      (shares_net totals.shares company place)
+      IsBalance (λ e. brought_to company place (transfer_of e)) (λ e. taken_from company place (transfer_of e)) events
+      (shares_balance totals.shares company place)
   pub trains :
       (place : TrainPlace) (kind : Kind) →
-      IsNet (λ e. one_if (train_comes place kind (train_moved e)))
+      IsBalance (λ e. one_if (train_comes place kind (train_moved e)))
       (λ e. one_if (train_goes place kind (train_moved e))) events
-      (train_net totals.trains place kind)
+      (train_balance totals.trains place kind)
   pub train_owners :
       (owner : Option Company) →
-      IsNet (λ e. one_if (any_comes owner (train_moved e))) (λ e. one_if (any_goes owner (train_moved e))) events
-      (train_count_net totals.train_owners owner)
+      IsBalance (λ e. one_if (any_comes owner (train_moved e))) (λ e. one_if (any_goes owner (train_moved e))) events
+      (train_count_balance totals.train_owners owner)
   pub tokens : (company : Company) → IsCounted (tokens_placed events company) events
       (count_at totals.tokens (place_of_company company))
   pub operated : (company : Company) → flag_of totals.operated company ≡ has_operated events company

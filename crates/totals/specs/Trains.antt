@@ -36,7 +36,7 @@ abbrev pub train_goes : TrainPlace → Kind → Option TrainMove → Bool
 train_goes place kind None = false
 train_goes place kind (Some move) = same_kind move.kind kind && same_train_place move.from place
 
--- a train of any kind comes to a company, or to the bank pool where there is none
+-- a train of any kind goes to a company, or to the bank pool where there is none
 abbrev pub any_comes : Option Company → Option TrainMove → Bool
 any_comes owner None = false
 any_comes owner (Some move) = same_train_place move.to (train_owner_place owner)

@@ -20,7 +20,7 @@ use crate::topics::ParOrdered;
 use events::{Bid, Bidding, Event, Shareholder};
 use tables::{Amount, Company, PLAYERS_MOST, Private, Seat, Square};
 
-/// Notes what an event says of a thing, if it speaks of it.
+/// Applies what an event says of a thing, if it speaks of it.
 pub(crate) fn apply<W: Drop>(said: &mut Option<W>, word: Option<W>)
     ensures { said.new ≡ option_or word said.old }
 {
@@ -29,7 +29,7 @@ pub(crate) fn apply<W: Drop>(said: &mut Option<W>, word: Option<W>)
     }
 }
 
-/// Notes the par value that an event sets, in a table by the places of the companies.
+/// Applies the par value that an event sets, in a table by the places of the companies.
 pub(crate) fn apply_par(pars: &mut [Option<Amount>; 8], event: &Event)
     ensures { (company : Company) → at_company pars.new company
         ≡ option_or (par_said company (par_set event.now)) (at_company pars.old company) }
@@ -39,7 +39,7 @@ pub(crate) fn apply_par(pars: &mut [Option<Amount>; 8], event: &Event)
     }
 }
 
-/// Notes the square that an event sets.
+/// Applies the square that an event sets.
 pub(crate) fn apply_square(squares: &mut [Option<Square>; 8], event: &Event)
     ensures { (company : Company) → at_company squares.new company
         ≡ option_or (square_said company (square_set event.now)) (at_company squares.old company) }
@@ -49,7 +49,7 @@ pub(crate) fn apply_square(squares: &mut [Option<Square>; 8], event: &Event)
     }
 }
 
-/// Notes the president whom an event names.
+/// Applies the president whom an event names.
 pub(crate) fn apply_president(presidents: &mut [Option<Seat>; 8], event: &Event)
     ensures { (company : Company) → at_company presidents.new company
         ≡ option_or (president_said company (office_of event.now))
@@ -60,7 +60,7 @@ pub(crate) fn apply_president(presidents: &mut [Option<Seat>; 8], event: &Event)
     }
 }
 
-/// Notes the company that floats by an event.
+/// Applies the company that floats by an event.
 pub(crate) fn apply_float(floats: &mut [Option<Company>; 8], event: &Event)
     ensures { (company : Company) → at_company floats.new company
         ≡ option_or (float_said company (floated_by event.now)) (at_company floats.old company) }
@@ -70,7 +70,7 @@ pub(crate) fn apply_float(floats: &mut [Option<Company>; 8], event: &Event)
     }
 }
 
-/// Notes what is said of bids, in a table by the places of the privates and the seats.
+/// Applies what is said of bids, in a table by the places of the privates and the seats.
 pub(crate) fn apply_bids(bids: &mut [[Option<Amount>; PLAYERS_MOST]; 6], bidding: Option<Bidding>)
     ensures { (private : Private) (number : ℕ) → number < 6 → bid_in bids.new private number
         ≡ unwrap_or (bid_said private (seat_at number) bidding) (bid_in bids.old private number) }
@@ -83,7 +83,7 @@ pub(crate) fn apply_bids(bids: &mut [[Option<Amount>; PLAYERS_MOST]; 6], bidding
     apply_bid_on(&mut bids[private.place()], private, bidding);
 }
 
-/// Notes whether an event tells that the bank is broken.
+/// Applies an event that says that the bank is broken.
 pub(crate) fn apply_broken(broken: &mut bool, event: &Event)
     ensures { broken.new ≡ (broken.old || says_broken event.now) }
 {
@@ -92,7 +92,7 @@ pub(crate) fn apply_broken(broken: &mut bool, event: &Event)
     }
 }
 
-/// Notes whether an event tells that a president is bankrupt.
+/// Applies an event that says that a president is bankrupt.
 pub(crate) fn apply_bankrupt(bankrupt: &mut bool, event: &Event)
     ensures { bankrupt.new ≡ (bankrupt.old || says_bankrupt event.now) }
 {
@@ -101,7 +101,7 @@ pub(crate) fn apply_bankrupt(bankrupt: &mut bool, event: &Event)
     }
 }
 
-/// Notes where the event of this place in the list sets the square of a company.
+/// Applies where the event of this place in the list sets the square of a company.
 pub(crate) fn apply_arrival(arrivals: &mut [Option<usize>; 8], place: usize, event: &Event)
     ensures { (company : Company) → at_company arrivals.new company
         ≡ option_or (here_if (square_said company (square_set event.now)) place)
@@ -112,7 +112,7 @@ pub(crate) fn apply_arrival(arrivals: &mut [Option<usize>; 8], place: usize, eve
     }
 }
 
-/// Notes the token that an event places, in a table of how many each company has placed.
+/// Applies the token that an event places, in a table of how many each company has placed.
 pub(crate) fn apply_token(tokens: &mut [usize; 8], event: &Event)
     ensures { (company : Company) → count_at tokens.old (place_of_company company) < 2 ^ 63 →
         count_at tokens.new (place_of_company company)
@@ -125,8 +125,8 @@ pub(crate) fn apply_token(tokens: &mut [usize; 8], event: &Event)
     }
 }
 
-/// Notes whose turn of an operating round an event tells; one that begins a round empties the
-/// table.
+/// Applies whose turn of an operating round an event says it is; one that begins a round empties
+/// the table.
 pub(crate) fn apply_turn(operated: &mut [bool; 8], event: &Event)
     ensures { (company : Company) → flag_of operated.new company
         ≡ flag_then event.now (is_some (turn_said company (operated_by event.now)))
@@ -141,14 +141,14 @@ pub(crate) fn apply_turn(operated: &mut [bool; 8], event: &Event)
     }
 }
 
-/// A table in which no sale is told of.
+/// A table that names no sale.
 pub(crate) fn no_sales() -> [[bool; PLAYERS_MOST]; 8]
     ensures { (company : Company) (seat : Seat) → sale_in result company seat ≡ false }
 {
     [[false; PLAYERS_MOST]; 8]
 }
 
-/// Notes which shares a seat sells by an event; one that begins a round empties the table.
+/// Applies which shares a seat sells by an event; one that begins a round empties the table.
 pub(crate) fn apply_sale(sales: &mut [[bool; PLAYERS_MOST]; 8], event: &Event)
     ensures { (company : Company) (seat : Seat) → seat.0 < 6 → sale_in sales.new company seat
         ≡ flag_then event.now (is_some (sale_said company seat (transfer_of event.now)))
@@ -167,7 +167,7 @@ pub(crate) fn apply_sale(sales: &mut [[bool; PLAYERS_MOST]; 8], event: &Event)
     }
 }
 
-/// Notes that shares of a company went from a seat to the bank pool, if they did.
+/// Applies that shares of a company went from a seat to the bank pool, if they did.
 fn apply_sale_of(sales: &mut [bool; PLAYERS_MOST], from: Shareholder, to: Shareholder)
     ensures { (seat : Seat) → seat.0 < 6 → slice_index_or sales.new seat.0 false
         ≡ (slice_index_or sales.old seat.0 false
@@ -188,7 +188,7 @@ pub(crate) fn no_rulings() -> [usize; PLAYERS_MOST]
     [0; PLAYERS_MOST]
 }
 
-/// Notes of whose sheet an event rules a line, in a table of how many lines were ruled of each
+/// Applies whose sheet an event rules a line of, in a table of how many lines were ruled of each
 /// seat's; one that begins a round empties the table.
 pub(crate) fn apply_ruling(rulings: &mut [usize; PLAYERS_MOST], event: &Event)
     ensures { (seat : Seat) → seat.0 < 6 → count_at rulings.old seat.0 < 2 ^ 63 →
@@ -206,7 +206,7 @@ pub(crate) fn apply_ruling(rulings: &mut [usize; PLAYERS_MOST], event: &Event)
     }
 }
 
-/// A table in which no limit is told of.
+/// A table that names no limit.
 pub(crate) fn no_limits() -> [[Option<Amount>; PLAYERS_MOST]; 6]
     ensures { (private : Private) (number : ℕ) → number < 6 →
         bid_in result private number ≡ None }
@@ -231,8 +231,8 @@ fn limit_in_event(event: &Event) -> Option<Bidding>
     }
 }
 
-/// Notes how far a seat goes in an auction of a private by an event, in a table like that of bids;
-/// one that begins a round empties the table.
+/// Applies how far a seat goes in an auction of a private by an event, in a table like that of
+/// bids; one that begins a round empties the table.
 pub(crate) fn apply_limit(limits: &mut [[Option<Amount>; PLAYERS_MOST]; 6], event: &Event)
     ensures { (private : Private) (seat : Seat) → seat.0 < 6 → bid_in limits.new private seat.0
         ≡ unwrap_or (in_round (λ e. said_by seat (limit_in private) (obeyed_of e)) event.now)
@@ -245,7 +245,7 @@ pub(crate) fn apply_limit(limits: &mut [[Option<Amount>; PLAYERS_MOST]; 6], even
     apply_bids(limits, limit_in_event(event));
 }
 
-/// Notes the par value of BO that a seat orders by an event, in a table by the seats.
+/// Applies the par value of BO that a seat orders by an event, in a table by the seats.
 pub(crate) fn apply_par_order(orders: &mut [Option<Amount>; PLAYERS_MOST], event: &Event)
     ensures { (seat : Seat) → seat.0 < 6 → slice_index_or orders.new seat.0 None
         ≡ option_or (said_by seat par_of_baltimore_in (obeyed_of event.now))

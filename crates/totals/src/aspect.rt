@@ -7,7 +7,7 @@ ghost use Rattle.totals.specs.LookBack.{IsModerate, balance, in_round, last_said
 use events::Event;
 use tables::{Amount, Money};
 
-/// A thing of which some events speak.
+/// A thing that some events speak of.
 pub(crate) trait Topic {
     /// What an event says of it.
     type Word;
@@ -66,7 +66,7 @@ pub(crate) trait Account {
         ensures { result ≡ takes self.now event.now };
 }
 
-/// What an account begins with, plus all that came in, less all that went out.
+/// What an account begins with, plus all that came in, minus all that went out.
 pub(crate) fn balance<A: Account>(account: &A, start: Amount, events: &[Event]) -> Money
     ensures sum { result ≡ balance start (A.brings account.now) (A.takes account.now) events.now }
     ensures within { IsModerate result }

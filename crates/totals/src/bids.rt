@@ -1,7 +1,8 @@
 //! Standing bids, and what the standing orders of a seat say.
 ghost use Rattle.std.specs.Prelude.{◌≡◌, ◌^◌, ◌<◌, ◌≤◌, option_map, pos};
 ghost use Rattle.totals.specs.Orders.{bid_limit_of, par_ordered_of};
-ghost use Rattle.totals.specs.Bids.{AreStanding, NotesBidOn, bid_of, bids_elsewhere_of, bids_of, bids_on, free_cash_of};
+ghost use Rattle.totals.specs.Bids.{AppliesBidOn, AreStanding, bid_of, bids_elsewhere_of, bids_of, bids_on};
+ghost use Rattle.totals.specs.Bids.{free_cash_of};
 ghost use Rattle.totals.specs.Bids.{free_for, tied_on};
 
 use crate::aspect::{InRound, last_said};
@@ -121,13 +122,13 @@ impl GameView<'_> {
     }
 }
 
-/// Notes what is said of the bids on a private in a table of the seats' standing bids.
+/// Applies what is said of the bids on a private in a table of the seats' standing bids.
 pub(crate) fn apply_bid_on(
     standing: &mut [Option<Amount>; PLAYERS_MOST],
     private: Private,
     bidding: Option<Bidding>,
 )
-    ensures { NotesBidOn private bidding standing.old standing.new }
+    ensures { AppliesBidOn private bidding standing.old standing.new }
 {
     match bidding {
         Some(Bidding::Made(other, bid)) => {

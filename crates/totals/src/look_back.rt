@@ -10,7 +10,7 @@ ghost use Rattle.totals.specs.LookBack.{cheapest_of, is_sold, is_sold_in, last_s
 ghost use Rattle.totals.specs.LookBack.{round_of, start_of, sv_price_of};
 
 use crate::aspect::balance;
-use crate::nets::entry_of_party;
+use crate::balances::entry_of_party;
 use crate::owners::Owners;
 use crate::topics::Cash;
 use crate::totals::Totals;
@@ -90,7 +90,7 @@ impl<'a> GameView<'a> {
 }
 
 impl GameView<'_> {
-    /// What a party has, in dollars: its start money, plus all that came in, less all that went
+    /// What a party has, in dollars: its start money, plus all that came in, minus all that went
     /// out.
     pub fn cash(&self, party: Party) -> Money
         ensures sum { result ≡ cash_of self.now.seats self.now.events.now party }

@@ -24,7 +24,7 @@ impl Owners {
         Owners { said: [None; 6] }
     }
 
-    /// Notes what an event says of the owner of a private, if it speaks of one.
+    /// Applies what an event says of the owner of a private, if it speaks of one.
     pub(crate) fn apply(&mut self, event: &Event)
         ensures { (private : Private) → word_in self.new private
             ≡ option_or (owner_said private (ownership_of event.now)) (word_in self.old private) }

@@ -7,7 +7,7 @@ ghost use Rattle.totals.specs.Shares.{shares_of, square_of, start_shares};
 
 use crate::aspect::{InRound, balance, last_said};
 use crate::look_back::GameView;
-use crate::nets::entry_of_shares;
+use crate::balances::entry_of_shares;
 use crate::topics::{SaleBy, Shares};
 use events::Shareholder;
 use tables::{Amount, Company, Money, PLAYERS_MOST, Seat, Square};

@@ -1,4 +1,4 @@
-//! The things of which events speak, and the accounts that they change.
+//! The things that events speak of, and the accounts that they change.
 ghost use Rattle.events.specs.Event.{bidding_of, obeyed_of, payment_of, transfer_of};
 ghost use Rattle.events.specs.Offers.{offered_in};
 ghost use Rattle.events.specs.Orders.{limit_in, par_of_baltimore_in, said_by};

@@ -9,7 +9,7 @@ use crate::applying::{
     apply_par, apply_par_order, apply_president, apply_ruling, apply_sale, apply_square,
     apply_token, apply_turn, no_limits,
 };
-use crate::nets::{apply_payment, apply_train, apply_train_owner, apply_transfer};
+use crate::balances::{apply_payment, apply_train, apply_train_owner, apply_transfer};
 use crate::owners::Owners;
 use crate::shares::ShareCount;
 use events::Event;
@@ -22,7 +22,7 @@ use tables::{Amount, Company, Kind, Money, PLAYERS_MOST, Round, Seat, Square};
 #[derive(Clone, Copy, Debug)]
 pub struct Totals {
     /// How many events there are.
-    told: usize,
+    event_count: usize,
     pub(crate) owners: Owners,
     pub(crate) bids: [[Option<Amount>; PLAYERS_MOST]; 6],
     pub(crate) sv_price: Option<Amount>,
@@ -57,7 +57,7 @@ impl Totals {
         ensures { AreTotalsOf result [] }
     {
         Totals {
-            told: 0,
+            event_count: 0,
             owners: Owners::unsold(),
             bids: [[None; PLAYERS_MOST]; 6],
             sv_price: None,
@@ -84,7 +84,7 @@ impl Totals {
         }
     }
 
-    /// Notes one more event.
+    /// Applies one more event.
     pub fn apply(&mut self, event: &Event)
         ensures { (events : List TheEvent) →
             length events < 2 ^ 63 → AreTotalsOf self.old events →
@@ -101,7 +101,7 @@ impl Totals {
         apply_par(&mut self.pars, event);
         apply_square(&mut self.squares, event);
         apply_president(&mut self.presidents, event);
-        apply_arrival(&mut self.arrivals, self.told, event);
+        apply_arrival(&mut self.arrivals, self.event_count, event);
         apply_float(&mut self.floats, event);
         apply_payment(&mut self.cash, event);
         apply_transfer(&mut self.shares, event);
@@ -113,6 +113,6 @@ impl Totals {
         apply_ruling(&mut self.rulings, event);
         apply_limit(&mut self.limits, event);
         apply_par_order(&mut self.par_orders, event);
-        self.told = self.told.saturating_add(1);
+        self.event_count = self.event_count.saturating_add(1);
     }
 }

@@ -35,7 +35,7 @@ AreAccountsOf game accounts =
 
 -- each holds what its party had in a game as it stood
 abbrev pub AreAccountsAt : GameView → Accounts → Type 0
-AreAccountsAt past accounts = AreAccountsOf (record { seats = past.seats; events = past.events.now }) accounts
+AreAccountsAt view accounts = AreAccountsOf (record { seats = view.seats; events = view.events.now }) accounts
 
 -- and nobody has, or owes, more than 2 ^ 100
 abbrev pub AreModerate : Accounts → Type 0

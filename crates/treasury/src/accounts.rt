@@ -45,14 +45,14 @@ impl Accounts {
     }
 
     /// The accounts of a game as it stood.
-    pub fn at(past: &GameView) -> Accounts
-        ensures accounts { AreAccountsAt past.now result }
+    pub fn at(view: &GameView) -> Accounts
+        ensures accounts { AreAccountsAt view.now result }
         ensures moderate { AreModerate result }
     {
         Accounts {
-            bank: past.cash(Party::Bank),
-            seats: cash_of_seats(past),
-            companies: cash_of_companies(past),
+            bank: view.cash(Party::Bank),
+            seats: cash_of_seats(view),
+            companies: cash_of_companies(view),
         }
     }
 

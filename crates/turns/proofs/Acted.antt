@@ -27,12 +27,12 @@ nothing_more None = refl
 nothing_more (Some x) = refl
 
 -- what two lists say last, one after the other
-said_in_both : {A : Type 0} (says : Event → Option A) (front back : List Event) →
-    last_said says (front ++ back) ≡ option_or (last_said says back) (last_said says front)
+said_in_both : {A : Type 0} (says : Event → Option A) (prefix back : List Event) →
+    last_said says (prefix ++ back) ≡ option_or (last_said says back) (last_said says prefix)
 said_in_both says [] back = sym (nothing_more (last_said says back))
-said_in_both {A} says (event ∷ front) back =
-    ap (λ (later : Option A). option_or later (says event)) (said_in_both says front back)
-    ∙ in_order (last_said says back) (last_said says front) (says event)
+said_in_both {A} says (event ∷ prefix) back =
+    ap (λ (later : Option A). option_or later (says event)) (said_in_both says prefix back)
+    ∙ in_order (last_said says back) (last_said says prefix) (says event)
 
 -- the seat acted in the one or the other
 in_one_of_both : (seat : Seat) (first second : Bool) →
@@ -89,7 +89,7 @@ in_either seat acted old one other false first second = second
 pub record LineSaysWhoActed {TurnActions : Type 0} (rules : RoundRules TurnActions) (seat : Seat)
     (old new : InTurn TurnActions) : Type 0 where
   pub acts : Bool
-  pub told : SaysWhoActed seat acts old.events new.events
+  pub says_who : SaysWhoActed seat acts old.events new.events
   pub acted : rules.has_acted new.actions ≡ (rules.has_acted old.actions || acts)
 
 -- of three the first two or the last two first
@@ -103,25 +103,25 @@ or_nothing true = refl
 or_nothing false = refl
 
 module _ {TurnActions : Type 0} (rules : RoundRules TurnActions) (seats : ℕ) (seat : Seat)
-    (line_tells : (turn : InTurn TurnActions) (line : Numbered)
+    (line_says : (turn : InTurn TurnActions) (line : Numbered)
     → LineSaysWhoActed rules seat turn (rules.line seats seat turn line)) where
   -- so do some lines
-  lines_tell : (turn : InTurn TurnActions) (lines : List Numbered)
+  lines_say : (turn : InTurn TurnActions) (lines : List Numbered)
       → LineSaysWhoActed rules seat turn (after_lines rules seats seat turn lines)
-  lines_tell turn [] = record {
+  lines_say turn [] = record {
     acts = false;
-    told = nobody seat turn.events;
+    says_who = nobody seat turn.events;
     acted =
         or_nothing (rules.has_acted turn.actions);
   }
-  lines_tell turn (line ∷ lines) =
+  lines_say turn (line ∷ lines) =
       let next : InTurn TurnActions = rules.line seats seat turn line in
       let last : InTurn TurnActions = after_lines rules seats seat next lines in
-      let here = line_tells turn line in
-      let rest = lines_tell next lines in
+      let here = line_says turn line in
+      let rest = lines_say next lines in
       record {
         acts = here.acts || rest.acts;
-        told = in_both seat here.acts rest.acts turn.events next.events last.events here.told rest.told;
+        says_who = in_both seat here.acts rest.acts turn.events next.events last.events here.says_who rest.says_who;
         acted = rest.acted ∙ ap (λ (b : Bool). b || rest.acts) here.acted
             ∙ either_order (rules.has_acted turn.actions) here.acts rest.acts;
       }
@@ -131,13 +131,13 @@ module _ {TurnActions : Type 0} (rules : RoundRules TurnActions) (seats : ℕ) (
       SaysWhoActed seat (rules.has_acted (after_lines rules seats seat (in_turn events rules.nothing) lines).actions)
       events (after_lines rules seats seat (in_turn events rules.nothing) lines).events
   written_turn_says idle events lines =
-      let all = lines_tell (in_turn events rules.nothing) lines in
+      let all = lines_say (in_turn events rules.nothing) lines in
       let acted : all.acts ≡ rules.has_acted (after_lines rules seats seat (in_turn events rules.nothing)
       lines).actions =
       sym (all.acted ∙ ap (λ (b : Bool). b || all.acts) idle)
       in
       subst (λ (b : Bool). SaysWhoActed seat b events
-      (after_lines rules seats seat (in_turn events rules.nothing) lines).events) acted all.told
+      (after_lines rules seats seat (in_turn events rules.nothing) lines).events) acted all.says_who
 
 -- a ruling by which no order is done names nobody
 pub nobody_ruled : {TurnActions : Type 0} (rules : RoundRules TurnActions) (seat : Seat) (turn : InTurn TurnActions)
@@ -147,15 +147,15 @@ nobody_ruled rules seat turn number (Obeyed condition order) none = absurd (cc)
 nobody_ruled rules seat turn number other none =
     record {
       acts = false;
-      told = one_more seat false turn.events (event.Ruled seat number other) refl;
+      says_who = one_more seat false turn.events (event.Ruled seat number other) refl;
       acted =
           or_nothing (rules.has_acted turn.actions);
     }
 
 -- so each turn of a round tells it
-pub turns_tell : {TurnActions : Type 0} (rules : RoundRules TurnActions) → rules.has_acted rules.nothing ≡ false →
+pub turns_say : {TurnActions : Type 0} (rules : RoundRules TurnActions) → rules.has_acted rules.nothing ≡ false →
     ((seats : ℕ) (seat : Seat) (turn : InTurn TurnActions) (line : Numbered)
     → LineSaysWhoActed rules seat turn (rules.line seats seat turn line)) →
     TurnsSayWhoActed rules
-turns_tell rules idle line_tells seats seat events lines =
-    written_turn_says rules seats seat (line_tells seats seat) idle events lines
+turns_say rules idle line_says seats seat events lines =
+    written_turn_says rules seats seat (line_says seats seat) idle events lines

@@ -88,9 +88,9 @@ module _ {TurnActions : Type 0} (rules : RoundRules TurnActions) (Leads : List E
       Leads events (events ++ (if none then rest else event.Left seat lines ∷ rest))
   over_count true events seat lines rest others = others events
   over_count false events seat lines rest others =
-      let told : List Event = events ++ event.Left seat lines ∷ [] in
+      let recorded : List Event = events ++ event.Left seat lines ∷ [] in
       subst (λ (new : List Event). Leads events new) (append_assoc events (event.Left seat lines ∷ []) rest)
-      (leads.further events told (told ++ rest) (leads.leaves events seat lines) (others told))
+      (leads.further events recorded (recorded ++ rest) (leads.leaves events seat lines) (others recorded))
 
   -- over those of seats
   over_left : (seat : ℕ) (written_turns : List (List (List Numbered))) (events : List Event)

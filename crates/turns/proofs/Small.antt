@@ -68,4 +68,4 @@ parts_small file round seat = small_after (version_of file) round (unwrap_or (sh
 pub ready_after : (sheet new : Parts) → new ≡ record { before = []; opened = sheet.opened } → PartsAreSmall sheet
     → IsReady new
 ready_after sheet new left small =
-    subst IsReady (sym left) (record { stands = refl; small = (tt, small.1) })
+    subst IsReady (sym left) (record { is_at_head = refl; small = (tt, small.1) })

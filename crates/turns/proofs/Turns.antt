@@ -41,7 +41,7 @@ written_turns_here unruled seat d within =
     ap (λ written_turns. unwrap_or written_turns []) (slice_get-map written_turns_of unruled seat
     ∙ ap (λ found. option_map written_turns_of found) (slice_get-get_or unruled seat d within))
 
--- a round in play after a turn, where the written turns have come to these
+-- a round in play after a turn, where these written turns are left
 abbrev played : ℕ → ℕ → ℕ → Turned (List Event) → List (List (List Numbered)) → InPlay (List Event) Numbered
 played seats seat passes turn written_turns =
     record {
@@ -97,9 +97,9 @@ module _ {TurnActions : Type 0} (rules : RoundRules TurnActions) (seats : ℕ) (
       → after ≡ mid ++ Passes (seat_at seat) ∷ [] → in_play after (left_of seats (seat_at seat)).0 (passes + 1)
       (map written_turns_of (set unruled seat new)) ≡ after_turn (turns_of rules seats)
       (in_play events seat passes (map written_turns_of unruled))
-  turn_passed mid after acted not_acted taken told =
+  turn_passed mid after acted not_acted taken recorded =
       ap (λ (events : List Event). in_play events (left_of seats (seat_at seat)).0 (passes + 1)
-      (map written_turns_of (set unruled seat new))) told
+      (map written_turns_of (set unruled seat new))) recorded
       ∙ ap (λ (b : Bool). played seats seat passes (record { state = mid; acted = b })
       (map written_turns_of (set unruled seat new))) (sym not_acted)
       ∙ turn_taken (record { state = mid; acted = acted }) taken

@@ -13,17 +13,18 @@ use Rattle.turns.specs.RoundOfTurns.{in_play, left_from, opened, turns_of}
 
 module _ {TurnActions : Type 0} (rules : RoundRules TurnActions) where
   -- the round before its first turn
-  begun : (file : List ℕ) (round : Round) (old told ruled : Game) (first : ℕ) (written_turns : List (List (List Numbered))) →
-      old.seats ≡ length (players_of file) → told ≡ with_event old (event.Round round) →
-      ruled.events ≡ after_standing rules file round told.events (range_with_len 0 (length (players_of file))) →
-      written_turns ≡ written_turns_for (length (players_of file)) file round → first ≡ (priority_of old.seats old.events).0 →
-      in_play ruled.events first 0 written_turns ≡ opened rules old.seats file round old.events
-  begun file round old told ruled first written_turns players is_told is_ruled are_written_turns is_first =
+  begun : (file : List ℕ) (round : Round) (old recorded ruled : Game) (first : ℕ)
+      (written_turns : List (List (List Numbered))) → old.seats ≡ length (players_of file)
+      → recorded ≡ with_event old (event.Round round) → ruled.events ≡ after_standing rules file round recorded.events
+      (range_with_len 0 (length (players_of file))) → written_turns ≡ written_turns_for (length (players_of file)) file
+      round → first ≡ (priority_of old.seats old.events).0 → in_play ruled.events first 0 written_turns
+      ≡ opened rules old.seats file round old.events
+  begun file round old recorded ruled first written_turns players is_recorded is_ruled are_written_turns is_first =
       let start : List Event = old.events ++ event.Round round ∷ [] in
       let events : ruled.events ≡ after_standing rules file round start (range_with_len 0 old.seats) =
       is_ruled
       ∙ ap (λ (game : Game). after_standing rules file round game.events
-      (range_with_len 0 (length (players_of file)))) is_told
+      (range_with_len 0 (length (players_of file)))) is_recorded
       ∙ ap (λ (seats : ℕ). after_standing rules file round start (range_with_len 0 seats)) (sym players)
       in
       let all : written_turns ≡ written_turns_for old.seats file round =
@@ -55,21 +56,23 @@ module _ {TurnActions : Type 0} (rules : RoundRules TurnActions) where
       ∙ ap (λ (events : List Event). game old.seats events) list
 
   -- the ROUND event, the standing lines, the turns, the close and what was left are a round
-  pub whole_round : (file : List ℕ) (round : Round) (old told ruled turned ended new : Game) (first : ℕ)
+  pub whole_round : (file : List ℕ) (round : Round) (old recorded ruled turned ended new : Game) (first : ℕ)
       (written_turns left : List (List (List Numbered))) →
-      old.seats ≡ length (players_of file) → told ≡ with_event old (event.Round round) → ruled.seats ≡ told.seats →
-      ruled.events ≡ after_standing rules file round told.events (range_with_len 0 (length (players_of file))) →
-      written_turns ≡ written_turns_for (length (players_of file)) file round → first ≡ (priority_of old.seats old.events).0
-      → turned.seats ≡ ruled.seats →
+      old.seats ≡ length (players_of file) → recorded ≡ with_event old (event.Round round)
+      → ruled.seats ≡ recorded.seats → ruled.events ≡ after_standing rules file round recorded.events
+      (range_with_len 0 (length (players_of file))) → written_turns ≡ written_turns_for (length (players_of file)) file
+      round → first ≡ (priority_of old.seats old.events).0 → turned.seats ≡ ruled.seats →
       TurnsLead rules ruled.seats (in_play ruled.events first 0 written_turns) turned.events left
       → ended.seats ≡ turned.seats →
       ended.events ≡ rules.closed turned.seats turned.events → new.seats ≡ ended.seats
       → new.events ≡ ended.events ++ left_from 0 left →
       IsRoundOfTurns rules file round old new
-  whole_round file round old told ruled turned ended new first written_turns left players is_told ruled_seats is_ruled
+  whole_round file round old recorded ruled turned ended new first written_turns left players is_recorded ruled_seats
+      is_ruled
       are_written_turns is_first turned_seats lead ended_seats is_ended new_seats is_new =
-      let seats : ruled.seats ≡ old.seats = ruled_seats ∙ ap (λ (game : Game). game.seats) is_told in
-      let start = begun file round old told ruled first written_turns players is_told is_ruled are_written_turns is_first in
+      let seats : ruled.seats ≡ old.seats = ruled_seats ∙ ap (λ (game : Game). game.seats) is_recorded in
+      let start = begun file round old recorded ruled first written_turns players is_recorded is_ruled are_written_turns
+      is_first in
       record {
         last = lead.last;
         turns =

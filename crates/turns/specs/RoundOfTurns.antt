@@ -11,7 +11,7 @@ use Rattle.totals.specs.LookBack.{Game, priority_of}
 use Rattle.history.specs.Record.{with_left}
 use Rattle.sheets.specs.Part.{Numbered}
 pub use Rattle.sheets.specs.Taken.{written_turns_for, in_play}
-use Rattle.sheets.specs.Taken.{after_all_before, after_each, told_of_left}
+use Rattle.sheets.specs.Taken.{after_all_before, after_each, said_of_left}
 use Rattle.tables.specs.Turns.{InPlay, Play, Turned, TurnsEnd}
 use Rattle.tables.specs.declared.round.Round.{Round}
 use Rattle.tables.specs.declared.seat.Seat.{Seat}
@@ -75,7 +75,7 @@ opened rules seats file round events =
 
 -- the lines that were not taken up, seat by seat
 abbrev pub left_from : ℕ → List (List (List Numbered)) → List Event
-left_from seat written_turns = told_of_left with_left seat written_turns
+left_from seat written_turns = said_of_left with_left seat written_turns
 
 -- the list at the end of the round
 abbrev pub finished : {TurnActions : Type 0} → RoundRules TurnActions → ℕ → InPlay (List Event) Numbered → List Event

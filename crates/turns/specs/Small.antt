@@ -41,5 +41,5 @@ PartsAreSmall parts = AreSmall parts.before × WrittenTurnsAreSmall (written_tur
 
 -- a sheet whose standing lines are ruled
 pub record IsReady (parts : Parts) : Type 0 where
-  pub stands : IsAtHead parts
+  pub is_at_head : IsAtHead parts
   pub small : PartsAreSmall parts

@@ -1,6 +1,6 @@
 //! Rounds of turns, such as the opening and the stock rounds: how a round begins, how the sheets'
-//! lines are taken up, who has the turn, who passes, when the turns are over, and what is told of
-//! lines that were not taken up.
+//! lines are taken up, who has the turn, who passes, when the turns are over, and what is recorded
+//! of lines that were not taken up.
 //!
 //! What a line does, what acting is, what else ends the turns and what follows them is each kind of
 //! round's own: a type says it that has the trait `TurnRules`.

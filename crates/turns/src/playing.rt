@@ -50,7 +50,7 @@ pub fn play_round<T: TurnRules>(
     Ok(history)
 }
 
-/// Tells that the round begins.
+/// Records that the round begins.
 fn begin<T: TurnRules>(_rules: &T, history: &mut History, round: Round) -> Result<(), AllocError>
     requires sound { IsSound history.old }
     requires may_begin { T.may_begin history.old.events }
@@ -184,7 +184,7 @@ fn pass<T: TurnRules>(_rules: &T, history: &mut History, seat: Seat) -> Result<(
     Ok(())
 }
 
-/// Tells how many lines of each sheet were not taken up, heads of written turns not counted.
+/// Records how many lines of each sheet were not taken up, heads of written turns not counted.
 fn record_all_left<T: TurnRules>(
     rules: &T,
     history: &mut History,
@@ -204,7 +204,7 @@ fn record_all_left<T: TurnRules>(
     Ok(())
 }
 
-/// Tells how many lines of a seat's sheet were not taken up.
+/// Records how many lines of a seat's sheet were not taken up.
 fn record_seat_left<T: TurnRules>(
     _rules: &T,
     history: &mut History,
@@ -212,7 +212,7 @@ fn record_seat_left<T: TurnRules>(
     lines: u32,
 ) -> Result<(), AllocError>
     requires { T.holds history.old }
-    ensures told { OnOk result (history.new ≡ left_recorded seat lines history.old) }
+    ensures recorded { OnOk result (history.new ≡ left_recorded seat lines history.old) }
     ensures underway { OnOk result (T.holds history.new) }
 {
     history.record_left(seat, lines)?;

@@ -146,11 +146,11 @@ pub fn record(
     ensures obeyed { IfOk result (λ obeyed. obeyed ≡ is_none broken) }
     ensures sound { OnOk result (IsSound history.new) }
 {
-    let kept = history.keep(line.condition.as_ref(), order)?;
+    let packed = history.pack(line.condition.as_ref(), order)?;
     let obeyed = broken.is_none();
     let ruling = match broken {
-        Some(rule) => PackedRuling::refused(rule, kept),
-        None => PackedRuling::obeyed(kept),
+        Some(rule) => PackedRuling::refused(rule, packed),
+        None => PackedRuling::obeyed(packed),
     };
     history.record_event(Event::Ruled {
         seat,

@@ -50,7 +50,7 @@ answered_again some written file groups accepted certify within =
     subst (λ (behind : List ℕ). AreReadAgain groups (groups_of behind)) (sym parted.certificates)
     (reads_back groups can) in
     let all : HasAllGroups (order_file_of input) (groups_of (certificates_of input)) =
-    subst (λ (front : List ℕ). HasAllGroups front (groups_of (certificates_of input))) (sym parted.order_file)
+    subst (λ (prefix : List ℕ). HasAllGroups prefix (groups_of (certificates_of input))) (sym parted.order_file)
     (record {
       played = certify.played;
       calls = certify.calls;

@@ -10,26 +10,27 @@ use Rattle.umpire.specs.Gathered.{Gathers, IsFromHeader}
 use Rattle.umpire.specs.Migrated.{body_in_two, file_in_two, header_of_two, is_if_line}
 use Rattle.umpire.proofs.EndedLines.{FirstEnded, body_by_line, file_by_blank, file_by_header, line_goes, line_stays}
 use Rattle.umpire.proofs.EndedLines.{no_body_in_two, nothing_in_two}
-use Rattle.umpire.proofs.GatherLemmas.{front_behind, gathers_both, gathers_none}
+use Rattle.umpire.proofs.GatherLemmas.{gathers_both, gathers_none, prefix_behind}
 
 -- the prefix of a text, by what is left of it
-front_of : (front rest : List ℕ) → take (length (front ++ rest) - length rest) (front ++ rest) ≡ front
-front_of front rest =
-    rw (length-append front rest)
-    (let n : (length front + length rest) - length rest ≡ length front =
-    omega arith in rw (n, take-append_seam front rest) refl)
+prefix_taken : (prefix rest : List ℕ) → take (length (prefix ++ rest) - length rest) (prefix ++ rest) ≡ prefix
+prefix_taken prefix rest =
+    rw (length-append prefix rest)
+    (let n : (length prefix + length rest) - length rest ≡ length prefix =
+    omega arith in rw (n, take-append_seam prefix rest) refl)
 
-pub prefix_by_rest : (text front rest : List ℕ) → text ≡ front ++ rest → take (length text - length rest) text ≡ front
-prefix_by_rest text front rest is = rw is (front_of front rest)
+pub prefix_by_rest : (text prefix rest : List ℕ) → text ≡ prefix ++ rest → take (length text - length rest) text
+    ≡ prefix
+prefix_by_rest text prefix rest is = rw is (prefix_taken prefix rest)
 
 -- blank lines came first
 pub record AreBlank (file rest : List ℕ) : Type 0 where
-  pub front : List ℕ
-  pub whole : file ≡ front ++ rest
-  pub stays : file_in_two file ≡ front ++ file_in_two rest
+  pub prefix : List ℕ
+  pub whole : file ≡ prefix ++ rest
+  pub stays : file_in_two file ≡ prefix ++ file_in_two rest
 
 pub none_blank : (file : List ℕ) → AreBlank file file
-none_blank file = record { front = []; whole = refl; stays = refl }
+none_blank file = record { prefix = []; whole = refl; stays = refl }
 
 pub one_more_blank : (file text line rest : List ℕ) → AreBlank file text → FirstEnded text line rest
     → is_blank line ≡ true → AreBlank file rest
@@ -39,10 +40,10 @@ one_more_blank file text line rest so_far first blank =
     let stays : file_in_two text ≡ more ++ file_in_two rest =
     file_by_blank text line rest first blank ∙ sym (append_assoc line first.end (file_in_two rest)) in
     record {
-      front = so_far.front ++ more;
-      whole = so_far.whole ∙ ap (λ l. so_far.front ++ l) whole ∙ sym (append_assoc so_far.front more rest);
-      stays = so_far.stays ∙ ap (λ l. so_far.front ++ l) stays
-          ∙ sym (append_assoc so_far.front more (file_in_two rest));
+      prefix = so_far.prefix ++ more;
+      whole = so_far.whole ∙ ap (λ l. so_far.prefix ++ l) whole ∙ sym (append_assoc so_far.prefix more rest);
+      stays = so_far.stays ∙ ap (λ l. so_far.prefix ++ l) stays
+          ∙ sym (append_assoc so_far.prefix more (file_in_two rest));
     }
 
 -- the header line is reached
@@ -50,7 +51,7 @@ pub at_header : (file text line : List ℕ) (lines : List (List ℕ)) → AreBla
     → is_blank line ≡ false → IsFromHeader file text
 at_header file text line lines so_far are counts =
     record {
-      front = so_far.front;
+      prefix = so_far.prefix;
       whole = so_far.whole;
       stays = so_far.stays;
       counts = λ other others e. let both : line ∷ lines ≡ other ∷ others = sym are ∙ e in let same : line ≡ other =
@@ -61,7 +62,7 @@ at_header file text line lines so_far are counts =
 pub no_header : (file text : List ℕ) → AreBlank file text → text ≡ [] → IsFromHeader file text
 no_header file text so_far none =
     record {
-      front = so_far.front;
+      prefix = so_far.prefix;
       whole = so_far.whole;
       stays = so_far.stays;
       counts = λ other others e. let wrong : ◌≡◌ {A = List (List ℕ)} [] (other ∷ others) =
@@ -70,18 +71,18 @@ no_header file text so_far none =
 
 -- a file without a header line stays
 pub blank_file_stays : (file text : List ℕ) (found : IsFromHeader file text) → text ≡ []
-    → file_in_two file ≡ found.front
-blank_file_stays file text found none = found.stays ∙ ap (λ l. found.front ++ file_in_two l) none
-    ∙ rw nothing_in_two (append-nil found.front)
+    → file_in_two file ≡ found.prefix
+blank_file_stays file text found none = found.stays ∙ ap (λ l. found.prefix ++ file_in_two l) none
+    ∙ rw nothing_in_two (append-nil found.prefix)
 
 -- another is what is before that, the header and the body
 pub file_by_parts : (file text line rest : List ℕ) (lines : List (List ℕ)) (found : IsFromHeader file text)
     → lines_of text ≡ line ∷ lines → FirstEnded text line rest →
-    file_in_two file ≡ found.front ++ (header_of_two ++ body_in_two (drop (length line) text))
+    file_in_two file ≡ found.prefix ++ (header_of_two ++ body_in_two (drop (length line) text))
 file_by_parts file text line rest lines found are first =
     let behind : drop (length line) text ≡ first.end ++ rest =
     ap (λ l. drop (length line) l) first.whole ∙ drop-append_seam line (first.end ++ rest) in
-    rw behind (found.stays ∙ ap (λ l. found.front ++ l)
+    rw behind (found.stays ∙ ap (λ l. found.prefix ++ l)
     (file_by_header text line rest first (found.counts line lines are)))
 
 -- some lines have come behind what was gathered; of the text from `kept` on those from `rest` on are ahead
@@ -157,9 +158,9 @@ putting_all old mid new before after behind text kept rest so_far none last =
 pub prefix_of_stretch : (old mid new : Option (List ℕ)) (before after text kept rest stretch : List ℕ)
     (so_far : Putting old mid before after text kept rest) → stretch ≡ so_far.stretch
     → AppendsPrefix mid new (after ++ stretch) → AppendsPrefix old new (before ++ body_in_two text)
-prefix_of_stretch old mid new before after text kept rest stretch so_far is front =
-    rw (so_far.whole, ← is) (front_behind old mid new before after so_far.out stretch (body_in_two rest)
-    so_far.gathers front)
+prefix_of_stretch old mid new before after text kept rest stretch so_far is prefix =
+    rw (so_far.whole, ← is) (prefix_behind old mid new before after so_far.out stretch (body_in_two rest)
+    so_far.gathers prefix)
 
 -- so is a prefix of the X behind it
 pub prefix_of_x : (old mid there new : Option (List ℕ))
@@ -168,7 +169,7 @@ pub prefix_of_x : (old mid there new : Option (List ℕ))
     FirstEnded rest line next → is_if_line line ≡ true → stretch ≡ so_far.stretch
     → Gathers mid there after between stretch → AppendsPrefix there new (between ++ 88 ∷ []) →
     AppendsPrefix old new (before ++ body_in_two text)
-prefix_of_x old mid there new before after between text kept rest line next stretch so_far first goes is one front =
+prefix_of_x old mid there new before after between text kept rest line next stretch so_far first goes is one prefix =
     let body : body_in_two rest ≡ 88 ∷ (first.end ++ body_in_two next) =
     body_by_line rest line next first ∙ ap (λ l. l ++ (first.end ++ body_in_two next)) (line_goes line goes) in
     let whole : body_in_two text ≡ (so_far.out ++ stretch) ++ (88 ∷ (first.end ++ body_in_two next)) =
@@ -176,17 +177,17 @@ prefix_of_x old mid there new before after between text kept rest line next stre
     ∙ sym (append_assoc so_far.out stretch (88 ∷ (first.end ++ body_in_two next)))
     in
     rw whole
-    (front_behind old there new before between (so_far.out ++ stretch) (88 ∷ []) (first.end ++ body_in_two next)
-    (gathers_both _ _ _ _ _ _ _ _ so_far.gathers one) front)
+    (prefix_behind old there new before between (so_far.out ++ stretch) (88 ∷ []) (first.end ++ body_in_two next)
+    (gathers_both _ _ _ _ _ _ _ _ so_far.gathers one) prefix)
 
 -- and a prefix of what is left
 pub prefix_of_rest : (old mid new : Option (List ℕ)) (before after text kept rest : List ℕ)
     → Putting old mid before after text kept rest → rest ≡ [] → AppendsPrefix mid new (after ++ kept)
     → AppendsPrefix old new (before ++ body_in_two text)
-prefix_of_rest old mid new before after text kept rest so_far none front =
+prefix_of_rest old mid new before after text kept rest so_far none prefix =
     let tail : kept ≡ so_far.stretch = so_far.is_kept ∙ ap (λ l. so_far.stretch ++ l) none
     ∙ append-nil so_far.stretch in
-    prefix_of_stretch old mid new before after text kept rest kept so_far tail front
+    prefix_of_stretch old mid new before after text kept rest kept so_far tail prefix
 
 -- a line is no longer than its text
 pub line_within : (text line rest : List ℕ) → FirstEnded text line rest → length line ≤ length text
@@ -196,32 +197,32 @@ line_within text line rest first = rw (first.whole, length-append line (first.en
 pub prefix_of_file : (old mid new : Option (List ℕ)) (before after file text line rest first : List ℕ)
     (lines : List (List ℕ)) (found : IsFromHeader file text) → lines_of text ≡ line ∷ lines
     → FirstEnded text line rest →
-    first ≡ found.front → Gathers old mid before after first → AppendsPrefix mid new (after ++ header_of_two)
+    first ≡ found.prefix → Gathers old mid before after first → AppendsPrefix mid new (after ++ header_of_two)
     → AppendsPrefix old new (before ++ file_in_two file)
-prefix_of_file old mid new before after file text line rest first lines found are ended is gathers front =
+prefix_of_file old mid new before after file text line rest first lines found are ended is gathers prefix =
     rw (file_by_parts file text line rest lines found are ended, ← is)
-    (front_behind old mid new before after first header_of_two (body_in_two (drop (length line) text)) gathers front)
+    (prefix_behind old mid new before after first header_of_two (body_in_two (drop (length line) text)) gathers prefix)
 
 pub prefix_of_body : (old mid there new : Option (List ℕ))
     (before after between file text line rest first left : List ℕ) (lines : List (List ℕ))
     (found : IsFromHeader file text) → lines_of text ≡ line ∷ lines → FirstEnded text line rest →
-    first ≡ found.front → Gathers old mid before after first → Gathers mid there after between header_of_two
+    first ≡ found.prefix → Gathers old mid before after first → Gathers mid there after between header_of_two
     → left ≡ drop (length line) text → AppendsPrefix there new (between ++ body_in_two left)
     → AppendsPrefix old new (before ++ file_in_two file)
 prefix_of_body old mid there new before after between file text line rest first left lines found are ended is gathers
-    one behind_it front =
+    one behind_it prefix =
     let body : List ℕ = body_in_two left in
     let parts : file_in_two file ≡ (first ++ header_of_two) ++ body =
     file_by_parts file text line rest lines found are ended
     ∙ rw (← is, ← behind_it) (sym (append_assoc first header_of_two body)) in
     rw (parts, ← append-nil body)
-    (front_behind old there new before between (first ++ header_of_two) body []
-    (gathers_both _ _ _ _ _ _ _ _ gathers one) front)
+    (prefix_behind old there new before between (first ++ header_of_two) body []
+    (gathers_both _ _ _ _ _ _ _ _ gathers one) prefix)
 
 pub all_of_file : (old mid there new : Option (List ℕ))
     (before after between behind file text line rest first left : List ℕ) (lines : List (List ℕ))
     (found : IsFromHeader file text) → lines_of text ≡ line ∷ lines → FirstEnded text line rest →
-    first ≡ found.front → Gathers old mid before after first → Gathers mid there after between header_of_two
+    first ≡ found.prefix → Gathers old mid before after first → Gathers mid there after between header_of_two
     → left ≡ drop (length line) text → Gathers there new between behind (body_in_two left)
     → Gathers old new before behind (file_in_two file)
 all_of_file old mid there new before after between behind file text line rest first left lines found are ended is

@@ -23,7 +23,7 @@ use Rattle.umpire.specs.declared.fault.Fault.TheVariants.{Read, Write, Memory, F
 use Rattle.umpire.proofs.Files.{Says, refused, says}
 use Rattle.umpire.proofs.Parts.{LeavesRest}
 
--- a text of which nothing is left was written whole
+-- a text with nothing left was written whole
 pub all_written : (old new : Option (List ℕ)) (text rest : List ℕ) → LeavesRest old new text rest → rest ≡ []
     → Appends old new text
 all_written old new text rest left none =

@@ -46,15 +46,15 @@ record FirstFrom (begun text : List ℕ) : Type 0 where
 
 at_newline : (begun : List ℕ) (byte : ℕ) (text : List ℕ) → eqb byte 10 ≡ true → FirstFrom begun (byte ∷ text)
 at_newline begun byte text e =
-    let front : List ℕ = without_return begun in
+    let prefix : List ℕ = without_return begun in
     let returned : List ℕ = return_of begun in
     let behind : returned ++ 10 ∷ text ≡ (returned ++ 10 ∷ []) ++ text = sym (append_assoc returned (10 ∷ []) text) in
-    let all : begun ++ 10 ∷ text ≡ front ++ ((returned ++ 10 ∷ []) ++ text) =
-    ap (λ l. l ++ 10 ∷ text) (sym (both_parts begun)) ∙ append_assoc front returned (10 ∷ text)
-    ∙ ap (λ l. front ++ l) behind
+    let all : begun ++ 10 ∷ text ≡ prefix ++ ((returned ++ 10 ∷ []) ++ text) =
+    ap (λ l. l ++ 10 ∷ text) (sym (both_parts begun)) ∙ append_assoc prefix returned (10 ∷ text)
+    ∙ ap (λ l. prefix ++ l) behind
     in
     record {
-      line = front;
+      line = prefix;
       end = returned ++ 10 ∷ [];
       ended = rw e refl;
       plain = rw e refl;

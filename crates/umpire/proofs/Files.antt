@@ -23,7 +23,7 @@ read_or_long bytes file read (inr over) =
     let many : length file ≡ 67108865 = rw read (length-take-le 67108865 bytes (grind arith)) in
     inr (too_long bytes over, too_long file (grind arith))
 
--- what a whole file says, of which this was read
+-- what a whole file says, where this was read of it
 pub record Says (given : Option (List ℕ)) (file : List ℕ) : Type 0 where
   pub whole : List ℕ
   pub is_whole : IsFileOf given whole
@@ -92,7 +92,7 @@ refused given old new file fault read known =
       written = known.written;
     }
 
--- a report of which a front was written
+-- a report whose prefix was written
 cut_short : (given old new : Option (List ℕ)) (file : List ℕ) → IfSome given (λ bytes. file ≡ as_read bytes)
     → IsCutShort (Some file) old new → IsCutShort given old new
 cut_short given old new file read known =
@@ -102,7 +102,7 @@ cut_short given old new file read known =
       text = known.text;
       whole = says_all.is_whole;
       report = report_of_read given file known.file known.text says_all known.whole known.report;
-      front = known.front;
+      prefix = known.prefix;
     }
 
 -- what a fault leaves where this was read
@@ -123,7 +123,7 @@ prefix_of_none : (given old : Option (List ℕ)) (file : List ℕ) → IsFileOf 
     → (text : List ℕ) × IsReport file text → IsCutShort given old old
 prefix_of_none given old file whole some =
     let none : AppendsPrefix old old some.0 = record { count = 0; within = omega arith; appended = Appends-nil old } in
-    record { file = file; text = some.0; whole = whole; report = some.1; front = none }
+    record { file = file; text = some.0; whole = whole; report = some.1; prefix = none }
 
 -- where nothing is written yet, that is a prefix of the report, since each file has one
 pub nothing_written : ((file : List ℕ) → (text : List ℕ) × IsReport file text) → (given old : Option (List ℕ))
@@ -134,10 +134,10 @@ nothing_written some (Some bytes) old = prefix_of_none (Some bytes) old bytes re
 -- a prefix of the line that says why a file is refused is a prefix of its report
 pub cut_in_refusal : (file : List ℕ) (old new : Option (List ℕ)) (fault : FileFault) → content_of file ≡ Err fault →
     AppendsPrefix old new (refusal_line fault) → IsCutShort (Some file) old new
-cut_in_refusal file old new fault is front =
+cut_in_refusal file old new fault is prefix =
     let report : IsReport file (refusal_line fault) =
     subst (λ (r : Result Content FileFault). IsReportOf file r (refusal_line fault)) (sym is) refl in
-    record { file = file; text = refusal_line fault; whole = refl; report = report; front = front }
+    record { file = file; text = refusal_line fault; whole = refl; report = report; prefix = prefix }
 
 -- what reading leaves where it stops early
 pub read_stops : ((file : List ℕ) → (text : List ℕ) × IsReport file text)

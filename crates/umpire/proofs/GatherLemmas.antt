@@ -53,10 +53,10 @@ gathers_end old mid new after text gathered written =
     rw (← gathered.whole) (Appends-trans old mid new gathered.done after gathered.appended written)
 
 -- a prefix of what is gathered, with what comes behind it, is a prefix of the whole
-pub front_behind : (old mid new : Option (List ℕ)) (before between first second rest : List ℕ)
+pub prefix_behind : (old mid new : Option (List ℕ)) (before between first second rest : List ℕ)
     → Gathers old mid before between first → AppendsPrefix mid new (between ++ second)
     → AppendsPrefix old new (before ++ (first ++ (second ++ rest)))
-front_behind old mid new before between first second rest a front =
+prefix_behind old mid new before between first second rest a prefix =
     let behind : List ℕ = (between ++ second) ++ rest in
     let whole : a.done ++ behind ≡ before ++ (first ++ (second ++ rest)) =
     ap (λ l. a.done ++ l) (append_assoc between second rest) ∙ sym (append_assoc a.done between (second ++ rest))
@@ -64,26 +64,26 @@ front_behind old mid new before between first second rest a front =
     in
     let left : LeavesRest old mid (before ++ (first ++ (second ++ rest))) behind =
     record { done = a.done; whole = whole; appended = a.appended } in
-    prefix_of_part old mid new (before ++ (first ++ (second ++ rest))) behind (between ++ second) rest left refl front
+    prefix_of_part old mid new (before ++ (first ++ (second ++ rest))) behind (between ++ second) rest left refl prefix
 
 -- so it is where nothing of it was written
-pub front_so_far : (old mid : Option (List ℕ)) (before between first rest : List ℕ)
+pub prefix_so_far : (old mid : Option (List ℕ)) (before between first rest : List ℕ)
     → Gathers old mid before between first → AppendsPrefix old mid (before ++ (first ++ rest))
-front_so_far old mid before between first rest a =
-    front_behind old mid mid before between first [] rest a (none_of mid (between ++ []))
+prefix_so_far old mid before between first rest a =
+    prefix_behind old mid mid before between first [] rest a (none_of mid (between ++ []))
 
 -- what was gathered is written, and a prefix of the text behind it
-pub front_after : (old mid new : Option (List ℕ)) (before text : List ℕ) → Appends old mid before
+pub prefix_after : (old mid new : Option (List ℕ)) (before text : List ℕ) → Appends old mid before
     → AppendsPrefix mid new text → AppendsPrefix old new (before ++ text)
-front_after old mid new before text written front =
+prefix_after old mid new before text written prefix =
     let left : LeavesRest old mid (before ++ text) text = record { done = before; whole = refl; appended = written } in
-    prefix_of_part old mid new (before ++ text) text text [] left (sym (append-nil text)) front
+    prefix_of_part old mid new (before ++ text) text text [] left (sym (append-nil text)) prefix
 
 -- what was gathered from nothing on is what is left of a text
-pub front_at_end : (old mid new : Option (List ℕ)) (before after text : List ℕ) → Gathers old mid before after text
+pub prefix_at_end : (old mid new : Option (List ℕ)) (before after text : List ℕ) → Gathers old mid before after text
     → before ≡ [] → AppendsPrefix mid new after → AppendsPrefix old new text
-front_at_end old mid new before after text gathered none front =
+prefix_at_end old mid new before after text gathered none prefix =
     let whole : gathered.done ++ after ≡ text = gathered.whole ∙ ap (λ l. l ++ text) none in
     let left : LeavesRest old mid text after = record
     { done = gathered.done; whole = whole; appended = gathered.appended } in
-    prefix_of_part old mid new text after after [] left (sym (append-nil after)) front
+    prefix_of_part old mid new text after after [] left (sym (append-nil after)) prefix

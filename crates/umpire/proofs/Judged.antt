@@ -107,7 +107,7 @@ pub refused_lacks :
 refused_lacks file groups fault round company is judged =
     subst (λ (why : PlayFault). IsJudged {A = List ℕ} file groups (Err why)) is judged
 
-module _ (answered : GamesAreAnswered) (some_calls : SomeCalls) (fronts : RefusedCallsAreAPrefix) (file : List ℕ)
+module _ (answered : GamesAreAnswered) (some_calls : SomeCalls) (prefixes : RefusedCallsAreAPrefix) (file : List ℕ)
     (accepted : IsAccepted file) where
   -- play that was broken off by a refusal
   refused_by :
@@ -116,8 +116,8 @@ module _ (answered : GamesAreAnswered) (some_calls : SomeCalls) (fronts : Refuse
       GameCalls file (Ok played) whole → AreMade AnswersByNext groups some left
       → ArePrefix (play.Refused round company) some whole →
       LacksGroup file groups round company
-  refused_by groups left round company some whole played is made front =
-      elim front [
+  refused_by groups left round company some whole played is made prefix =
+      elim prefix [
         | inl first ↦ absurd (let wrong : play.Refused round company ≡ play.Memory = first.0 in cc)
         | inr short ↦ lacks file played some whole groups left round company short.0 short.1 short.2 is
             (answered file played whole is) made
@@ -144,4 +144,4 @@ module _ (answered : GamesAreAnswered) (some_calls : SomeCalls) (fronts : Refuse
   broken_judged groups left (play.Refused round company) calls is made =
       let whole = some_calls file accepted in
       refused_by groups left round company calls whole.1 whole.0 whole.2 made
-      (fronts file (play.Refused round company) whole.0 calls whole.1 is whole.2)
+      (prefixes file (play.Refused round company) whole.0 calls whole.1 is whole.2)

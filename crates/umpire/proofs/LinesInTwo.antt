@@ -13,7 +13,7 @@ use Rattle.sheets.specs.Text.{is_blank, lines_of, written, written_lines}
 use Rattle.umpire.specs.Migrated.{file_in_two, header_of_two, is_if_line, is_unknown, line_in_two}
 use Rattle.umpire.proofs.MigratedLines.{lines_go, plain_in_two}
 
--- a line of which G3 is the fault
+-- a line whose fault is G3
 unknown_is : (reading : Result Order Fault) → is_unknown reading ≡ true → reading ≡ Err UnknownWord
 unknown_is (Ok order) e = absurd (cc)
 unknown_is (Err UnknownWord) e = refl

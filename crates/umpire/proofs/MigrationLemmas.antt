@@ -55,8 +55,8 @@ cut_short given old new file read known =
     record {
       file = says_all.whole;
       whole = says_all.is_whole;
-      front = subst (λ (text : List ℕ). AppendsPrefix old new text)
-          (sym (of_whole given file says_all ∙ ap migration_of (sym known.whole))) known.front;
+      prefix = subst (λ (text : List ℕ). AppendsPrefix old new text)
+          (sym (of_whole given file says_all ∙ ap migration_of (sym known.whole))) known.prefix;
     }
 
 -- what a fault leaves where this was read
@@ -76,8 +76,8 @@ migration_stops given old new file read_failed write_failed (Certificate round c
 
 -- where nothing is written yet
 pub nothing_of_it : (given old : Option (List ℕ)) → IsMigratedShort given old old
-nothing_of_it None old = record { file = []; whole = tt; front = none_of old (migration_of []) }
-nothing_of_it (Some bytes) old = record { file = bytes; whole = refl; front = none_of old (migration_of bytes) }
+nothing_of_it None old = record { file = []; whole = tt; prefix = none_of old (migration_of []) }
+nothing_of_it (Some bytes) old = record { file = bytes; whole = refl; prefix = none_of old (migration_of bytes) }
 
 -- what reading leaves where it stops early
 pub migration_unread : (given old : Option (List ℕ)) (read_failed write_failed : Bool) (fault : Fault)
@@ -92,13 +92,13 @@ migration_unread given old read_failed write_failed (Certificate round company) 
 pub migration_cut : (file text : List ℕ) (old new : Option (List ℕ)) (failed : Bool) (fault : Fault)
     → IsWriteFault failed fault → migration_of file ≡ text → AppendsPrefix old new text
     → StopsMigration (Some file) old new false failed fault
-migration_cut file text old new failed Read is of front = absurd is
-migration_cut file text old new failed Write is of front =
-    (refl, is, record { file = file; whole = refl; front = rw of front })
-migration_cut file text old new failed Memory is of front =
-    (refl, is, record { file = file; whole = refl; front = rw of front })
-migration_cut file text old new failed (File fault) is of front = absurd is
-migration_cut file text old new failed (Certificate round company) is of front = absurd is
+migration_cut file text old new failed Read is of prefix = absurd is
+migration_cut file text old new failed Write is of prefix =
+    (refl, is, record { file = file; whole = refl; prefix = rw of prefix })
+migration_cut file text old new failed Memory is of prefix =
+    (refl, is, record { file = file; whole = refl; prefix = rw of prefix })
+migration_cut file text old new failed (File fault) is of prefix = absurd is
+migration_cut file text old new failed (Certificate round company) is of prefix = absurd is
 
 by_answer : (file : List ℕ) (content : Result Content FileFault) → IsOk content → answer_to file content ≡ migrated file
 by_answer file (Ok content) accepted = refl
@@ -149,8 +149,8 @@ migrated_by (Err fault) file text old new accepted is written = tt
 pub cut_by : (result : Result (Unit {0}) Fault) (file text : List ℕ) (old new : Option (List ℕ)) (failed : Bool)
     → migration_of file ≡ text → IfErr result (IsWriteFault failed) → OnErr result (AppendsPrefix old new text)
     → IfErr result (StopsMigration (Some file) old new false failed)
-cut_by (Ok done) file text old new failed of is front = tt
-cut_by (Err fault) file text old new failed of is front = migration_cut file text old new failed fault is of front
+cut_by (Ok done) file text old new failed of is prefix = tt
+cut_by (Err fault) file text old new failed of is prefix = migration_cut file text old new failed fault is of prefix
 
 -- only a write failed
 pub write_failed : (result : Result (Unit {0}) Fault) (failed : Bool) → IfErr result (λ fault. fault ≡ Write)

@@ -1,4 +1,4 @@
--- Where the last line that divides stands, as a text is read line by line.
+-- Where the last line that divides is, as a text is read line by line.
 use Rattle.std.proofs.Common.{◌≡◌, ℕ, ◌≤◌, List, [], ◌∷◌, ◌++◌, true, false, cond, length, refl, ◌∙◌, ap, suc, arith}
 use Rattle.std.proofs.Common.{eqb}
 use Rattle.std.specs.Prelude.{Bool, ◌&&◌, Option, Some, None, Result, Ok, Err, codes, ◌↔◌}
@@ -114,13 +114,13 @@ found_within begins (byte ∷ bytes) found e =
     (byte ∷ bytes)) e
 
 -- an LF at the end of a text goes
-pub without_newline-last : (front : List ℕ) (last : ℕ)
-    → without_newline (front ++ last ∷ []) ≡ cond (eqb last 10) front (front ++ last ∷ [])
+pub without_newline-last : (prefix : List ℕ) (last : ℕ)
+    → without_newline (prefix ++ last ∷ []) ≡ cond (eqb last 10) prefix (prefix ++ last ∷ [])
 without_newline-last [] last = refl
 without_newline-last (a ∷ []) last = elim (eqb last 10) as
     (λ b. a ∷ cond b [] (last ∷ []) ≡ cond b (a ∷ []) (a ∷ last ∷ [])) [ true ↦ refl | false ↦ refl ]
-without_newline-last (a ∷ b ∷ front) last =
-    ap (λ l. a ∷ l) (without_newline-last (b ∷ front) last)
-    ∙ elim (eqb last 10) as (λ t. a ∷ cond t (b ∷ front) (b ∷ (front ++ last ∷ []))
-    ≡ cond t (a ∷ b ∷ front) (a ∷ b ∷ (front ++ last ∷ [])))
+without_newline-last (a ∷ b ∷ prefix) last =
+    ap (λ l. a ∷ l) (without_newline-last (b ∷ prefix) last)
+    ∙ elim (eqb last 10) as (λ t. a ∷ cond t (b ∷ prefix) (b ∷ (prefix ++ last ∷ []))
+    ≡ cond t (a ∷ b ∷ prefix) (a ∷ b ∷ (prefix ++ last ∷ [])))
     [ true ↦ refl | false ↦ refl ]

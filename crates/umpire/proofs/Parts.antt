@@ -18,7 +18,7 @@ use Rattle.umpire.specs.Run.{IsCutShort, IsReported, IsWriteFault, Stops}
 use Rattle.umpire.specs.declared.fault.Fault.{Fault}
 use Rattle.umpire.specs.declared.fault.Fault.TheVariants.{Read, Write, Memory, File, Certificate}
 
--- so much of a text was written that this is left of it
+-- of a text all was written but this
 pub record LeavesRest (old new : Option (List ℕ)) (text rest : List ℕ) : Type 0 where
   pub done : List ℕ
   pub whole : done ++ rest ≡ text
@@ -43,18 +43,18 @@ pub prefix_of_text : (old new : Option (List ℕ)) (text rest : List ℕ) → Le
     → AppendsPrefix old new text
 prefix_of_text old new text rest left =
     let within : length left.done ≤ length text = rw (← left.whole) (grind (arith, common_steps)) in
-    let front : take (length left.done) text ≡ left.done = rw (← left.whole) (grind (arith, common_steps)) in
-    record { count = length left.done; within = within; appended = rw front left.appended }
+    let prefix : take (length left.done) text ≡ left.done = rw (← left.whole) (grind (arith, common_steps)) in
+    record { count = length left.done; within = within; appended = rw prefix left.appended }
 
 -- a prefix of a part, after what was written before it, is a prefix of the whole
 pub prefix_of_part : (old mid new : Option (List ℕ)) (text before part rest : List ℕ) → LeavesRest old mid text before
     → before ≡ part ++ rest → AppendsPrefix mid new part → AppendsPrefix old new text
-prefix_of_part old mid new text before part rest left is front =
-    let taken : List ℕ = take front.count part in
-    let later : List ℕ = drop front.count part ++ rest in
-    let parted : before ≡ taken ++ later = is ∙ ap (λ l. l ++ rest) (sym (take-append-drop front.count part))
-    ∙ append_assoc taken (drop front.count part) rest in
-    prefix_of_text old new text later (leaves_less old mid new text before taken later left parted front.appended)
+prefix_of_part old mid new text before part rest left is prefix =
+    let taken : List ℕ = take prefix.count part in
+    let later : List ℕ = drop prefix.count part ++ rest in
+    let parted : before ≡ taken ++ later = is ∙ ap (λ l. l ++ rest) (sym (take-append-drop prefix.count part))
+    ∙ append_assoc taken (drop prefix.count part) rest in
+    prefix_of_text old new text later (leaves_less old mid new text before taken later left parted prefix.appended)
 
 -- P where there is an error
 pub on_err : {T E P : Type 0} (result : Result T E) → P → OnErr result P
@@ -68,10 +68,10 @@ none_of old text = record { count = 0; within = omega arith; appended = Appends-
 -- a prefix of a part that a text begins with is a prefix of the text
 prefix_of_first : (old new : Option (List ℕ)) (text part rest : List ℕ) → text ≡ part ++ rest
     → AppendsPrefix old new part → AppendsPrefix old new text
-prefix_of_first old new text part rest is front =
-    prefix_of_part old old new text text part rest (leaves_all old text) is front
+prefix_of_first old new text part rest is prefix =
+    prefix_of_part old old new text text part rest (leaves_all old text) is prefix
 
--- what was written whole is a front
+-- what was written whole is a prefix
 pub whole_prefix : (old new : Option (List ℕ)) (text : List ℕ) → Appends old new text → AppendsPrefix old new text
 whole_prefix old new text written =
     prefix_of_text old new text [] (record { done = text; whole = append-nil text; appended = written })
@@ -79,69 +79,69 @@ whole_prefix old new text written =
 -- a prefix of the first of two parts is a prefix of both
 pub prefix_of_first_part : (old new : Option (List ℕ)) (part rest : List ℕ) → AppendsPrefix old new part
     → AppendsPrefix old new (part ++ rest)
-prefix_of_first_part old new part rest front = prefix_of_first old new (part ++ rest) part rest refl front
+prefix_of_first_part old new part rest prefix = prefix_of_first old new (part ++ rest) part rest refl prefix
 
 -- so is the first with a prefix of the second
 pub prefix_of_second_part : (old mid new : Option (List ℕ)) (part rest : List ℕ) → Appends old mid part
     → AppendsPrefix mid new rest →
     AppendsPrefix old new (part ++ rest)
-prefix_of_second_part old mid new part rest written front =
+prefix_of_second_part old mid new part rest written prefix =
     let left : LeavesRest old mid (part ++ rest) rest = record { done = part; whole = refl; appended = written } in
-    prefix_of_part old mid new (part ++ rest) rest rest [] left (sym (append-nil rest)) front
+    prefix_of_part old mid new (part ++ rest) rest rest [] left (sym (append-nil rest)) prefix
 
--- before the first round no text is told
-pub tells_none : (file : List ℕ) (play : Underway) (old : Option (List ℕ)) → play ≡ started file
+-- before the first round no text is written
+pub writes_none : (file : List ℕ) (play : Underway) (old : Option (List ℕ)) → play ≡ started file
     → WritesRounds file play old old
-tells_none file play old is = record { steps = zero; text = []; told = (is, refl); written = Appends-nil old }
+writes_none file play old is = record { steps = zero; text = []; is_text = (is, refl); written = Appends-nil old }
 
--- the text of one more round is told
-pub tells_more : (file : List ℕ) (old mid new : Option (List ℕ)) (play next : Underway) (round : Round)
+-- the text of one more round is written
+pub writes_more : (file : List ℕ) (old mid new : Option (List ℕ)) (play next : Underway) (round : Round)
     → WritesRounds file play old mid → PlaysNext play round next → Appends mid new (next_text_of next)
     → WritesRounds file next old new
-tells_more file old mid new play next round told step written =
+writes_more file old mid new play next round rounds step written =
     record {
-      steps = suc told.steps;
-      text = told.text ++ next_text_of next;
-      told = (play, told.text, told.told, round, step, refl);
-      written = Appends-trans old mid new told.text (next_text_of next) told.written written;
+      steps = suc rounds.steps;
+      text = rounds.text ++ next_text_of next;
+      is_text = (play, rounds.text, rounds.is_text, round, step, refl);
+      written = Appends-trans old mid new rounds.text (next_text_of next) rounds.written written;
     }
 
--- what was told so far is a front
-pub told_prefix : (file : List ℕ) (old new : Option (List ℕ)) (play : Underway) → WritesRounds file play old new
+-- what was written so far is a prefix
+pub written_prefix : (file : List ℕ) (old new : Option (List ℕ)) (play : Underway) → WritesRounds file play old new
     → WritesPrefixOfRounds file old new
-told_prefix file old new play told =
+written_prefix file old new play rounds =
     record {
-      steps = told.steps;
+      steps = rounds.steps;
       play = play;
-      text = told.text;
-      told = told.told;
-      front =
-          whole_prefix old new told.text told.written;
+      text = rounds.text;
+      is_text = rounds.is_text;
+      prefix =
+          whole_prefix old new rounds.text rounds.written;
     }
 
 -- so it is with a prefix of the text of one more round
 pub more_prefix : (file : List ℕ) (old mid new : Option (List ℕ)) (play next : Underway) (round : Round)
     → WritesRounds file play old mid → PlaysNext play round next → AppendsPrefix mid new (next_text_of next)
     → WritesPrefixOfRounds file old new
-more_prefix file old mid new play next round told step front =
+more_prefix file old mid new play next round rounds step prefix =
     let part : List ℕ = next_text_of next in
-    let left : LeavesRest old mid (told.text ++ part) part =
-    record { done = told.text; whole = refl; appended = told.written } in
+    let left : LeavesRest old mid (rounds.text ++ part) part =
+    record { done = rounds.text; whole = refl; appended = rounds.written } in
     record {
-      steps = suc told.steps;
+      steps = suc rounds.steps;
       play = next;
-      text = told.text ++ part;
-      told = (play, told.text, told.told, round, step, refl);
-      front = prefix_of_part old mid new (told.text ++ part) part part [] left (sym (append-nil part)) front;
+      text = rounds.text ++ part;
+      is_text = (play, rounds.text, rounds.is_text, round, step, refl);
+      prefix = prefix_of_part old mid new (rounds.text ++ part) part part [] left (sym (append-nil part)) prefix;
     }
 
-module _ (fronts : PartsAreAPrefix) (whole : PartsAreTheReport)
+module _ (prefixes : PartsAreAPrefix) (whole : PartsAreTheReport)
     (some : (file : List ℕ) → (text : List ℕ) × IsReport file text) (file : List ℕ) (accepted : IsAccepted file) where
   -- a prefix of the header is a prefix of the report
   pub cut_in_header : (old new : Option (List ℕ)) → AppendsPrefix old new (header file) → IsCutShort (Some file) old new
-  cut_in_header old new front =
+  cut_in_header old new prefix =
       let report = some file in
-      let is = fronts file zero (started file) [] report.0 accepted (refl, refl) report.1 in
+      let is = prefixes file zero (started file) [] report.0 accepted (refl, refl) report.1 in
       let parted : report.0 ≡ header file ++ is.rest =
       is.is ∙ ap (λ (text : List ℕ). text ++ is.rest) (append-nil (header file)) in
       record {
@@ -149,8 +149,8 @@ module _ (fronts : PartsAreAPrefix) (whole : PartsAreTheReport)
         text = report.0;
         whole = refl;
         report = report.1;
-        front =
-            prefix_of_first old new report.0 (header file) is.rest parted front;
+        prefix =
+            prefix_of_first old new report.0 (header file) is.rest parted prefix;
       }
 
   -- so is the header with a prefix of the rounds
@@ -158,7 +158,7 @@ module _ (fronts : PartsAreAPrefix) (whole : PartsAreTheReport)
       → IsCutShort (Some file) old new
   cut_in_rounds old mid new head cut =
       let report = some file in
-      let is = fronts file cut.steps cut.play cut.text report.0 accepted cut.told report.1 in
+      let is = prefixes file cut.steps cut.play cut.text report.0 accepted cut.is_text report.1 in
       let parted : header file ++ (cut.text ++ is.rest) ≡ report.0 =
       sym (append_assoc (header file) cut.text is.rest) ∙ sym is.is in
       let left : LeavesRest old mid report.0 (cut.text ++ is.rest) =
@@ -168,49 +168,49 @@ module _ (fronts : PartsAreAPrefix) (whole : PartsAreTheReport)
         text = report.0;
         whole = refl;
         report = report.1;
-        front =
-            prefix_of_part old mid new report.0 (cut.text ++ is.rest) cut.text is.rest left refl cut.front;
+        prefix =
+            prefix_of_part old mid new report.0 (cut.text ++ is.rest) cut.text is.rest left refl cut.prefix;
       }
 
   -- so are the header, all rounds, and a prefix of the end
   pub cut_in_end : (old mid there new : Option (List ℕ)) (ended : Underway) → Appends old mid (header file)
       → WritesAllRounds file ended mid there → AppendsPrefix there new (end_text_of ended)
       → IsCutShort (Some file) old new
-  cut_in_end old mid there new ended head all front =
-      let told = all.told in
+  cut_in_end old mid there new ended head all prefix =
+      let rounds = all.rounds in
       let end : List ℕ = end_text_of ended in
-      let text : List ℕ = (header file ++ told.text) ++ end in
-      let done = Appends-trans old mid there (header file) told.text head told.written in
+      let text : List ℕ = (header file ++ rounds.text) ++ end in
+      let done = Appends-trans old mid there (header file) rounds.text head rounds.written in
       let left : LeavesRest old there text end = record
-      { done = header file ++ told.text; whole = refl; appended = done } in
+      { done = header file ++ rounds.text; whole = refl; appended = done } in
       record {
         file = file;
         text = text;
         whole = refl;
-        report = whole file told.steps all.last ended all.end told.text accepted told.told all.stays;
-        front = prefix_of_part old there new text end end [] left (sym (append-nil end)) front;
+        report = whole file rounds.steps all.last ended all.end rounds.text accepted rounds.is_text all.stays;
+        prefix = prefix_of_part old there new text end end [] left (sym (append-nil end)) prefix;
       }
 
   -- and all of them are the report
-  pub all_told : (old mid there new : Option (List ℕ)) (ended : Underway) → Appends old mid (header file)
+  pub report_is_written : (old mid there new : Option (List ℕ)) (ended : Underway) → Appends old mid (header file)
       → WritesAllRounds file ended mid there → Appends there new (end_text_of ended) → IsReported (Some file) old new
-  all_told old mid there new ended head all written =
-      let told = all.told in
-      let done = Appends-trans old mid there (header file) told.text head told.written in
+  report_is_written old mid there new ended head all written =
+      let rounds = all.rounds in
+      let done = Appends-trans old mid there (header file) rounds.text head rounds.written in
       record {
         file = file;
-        text = (header file ++ told.text) ++ end_text_of ended;
+        text = (header file ++ rounds.text) ++ end_text_of ended;
         whole = refl;
         accepted = accepted;
-        report = whole file told.steps all.last ended all.end told.text accepted told.told all.stays;
-        written = Appends-trans old there new (header file ++ told.text) (end_text_of ended) done written;
+        report = whole file rounds.steps all.last ended all.end rounds.text accepted rounds.is_text all.stays;
+        written = Appends-trans old there new (header file ++ rounds.text) (end_text_of ended) done written;
       }
 
--- what is told of a play that was started is told of its file
+-- what is said of a play that was started is said of its file
 pub prefix_of_start : (file : List ℕ) (play : Underway) (old new : Option (List ℕ)) → play ≡ started file
     → WritesPrefixOfRounds play.file old new → WritesPrefixOfRounds file old new
-prefix_of_start file play old new is front =
-    subst (λ (f : List ℕ). WritesPrefixOfRounds f old new) (ap (λ (p : Underway). p.file) is) front
+prefix_of_start file play old new is prefix =
+    subst (λ (f : List ℕ). WritesPrefixOfRounds f old new) (ap (λ (p : Underway). p.file) is) prefix
 
 pub all_of_start : (file : List ℕ) (play ended : Underway) (old new : Option (List ℕ)) → play ≡ started file
     → WritesAllRounds play.file ended old new → WritesAllRounds file ended old new

@@ -302,8 +302,8 @@ BeginAnew [] = Unit {0}
 BeginAnew (line ∷ lines) = begins_group line ≡ true
 
 ends_here : (lines : List (List ℕ)) (group : Option Group) → BeginAnew lines → with_lines lines group ≡ group
-ends_here [] group anew = refl
-ends_here (line ∷ lines) group anew = rw anew refl
+ends_here [] group ends = refl
+ends_here (line ∷ lines) group ends = rw ends refl
 
 -- a group is read, and then those of the lines behind it
 record IsGroupRead (group : Group) (more : List (List ℕ)) : Type 0 where
@@ -313,7 +313,7 @@ record IsGroupRead (group : Group) (more : List (List ℕ)) : Type 0 where
 
 group_read : (group : Group) (more : List (List ℕ)) → CanBeWritten group → BeginAnew more → IsGroupRead group more
 unfolding lines_of_group cert_of
-group_read group more can anew =
+group_read group more can ends =
     let cert = cert_line group.round group.company group.claim.revenue can.cert in
     let claims : List (List ℕ) = claims_of group.claim.runs in
     let marks : List (List ℕ) = marks_within (length group.bits) group.bits in
@@ -325,7 +325,7 @@ group_read group more can anew =
     ap (λ (lines : List (List ℕ)). with_lines lines (Some begun)) parted
     ∙ claims_read group [] group.claim.runs (marks ++ more) can.claims
     ∙ read_marks.read
-    ∙ ends_here more (Some (having group group.claim.runs (group.bits ++ read_marks.filling))) anew
+    ∙ ends_here more (Some (having group group.claim.runs (group.bits ++ read_marks.filling))) ends
     in
     let rest : groups_in ((claims ++ marks) ++ more) ≡ groups_in more =
     ap groups_in parted

@@ -19,7 +19,7 @@ use Rattle.order_grammar.specs.declared.fault.Fault.TheVariants.{UnknownWord}
 use Rattle.order_grammar.specs.declared.order.Order.{Order}
 use Rattle.order_grammar.proofs.KeywordLemmas.{same_word-is}
 use Rattle.order_grammar.proofs.VersionLemmas.{one_is_as_it_was, same_without_if}
-use Rattle.sheets.specs.File.{Content, begins, block, body_content, body_in, body_of, content_of, good_lines}
+use Rattle.sheets.specs.File.{Content, begins, body_content, body_in, body_of, content_of, good_lines, sheet_lines}
 use Rattle.sheets.specs.File.{header_version, is_sheet_line, lines_begun, lines_content, players_content, players_in}
 use Rattle.sheets.specs.File.{players_named, players_of, sheet_key_at, same_sheet_key, sheet_in, sheet_of, unread_fault}
 use Rattle.sheets.specs.File.{unread_in, unread_of, version_in, version_of}
@@ -71,8 +71,8 @@ inside_alike : (lines : List (List ℕ)) → prefix_len is_inside (map line_in_t
 inside_alike [] = refl
 inside_alike (line ∷ lines) = rw (sheet_line_alike line, inside_alike lines) refl
 
-block_alike : (lines : List (List ℕ)) → block (map line_in_two lines) ≡ map line_in_two (block lines)
-block_alike lines =
+sheet_lines_alike : (lines : List (List ℕ)) → sheet_lines (map line_in_two lines) ≡ map line_in_two (sheet_lines lines)
+sheet_lines_alike lines =
     ap (λ n. take n (map line_in_two lines)) (inside_alike lines)
     ∙ take-map line_in_two (prefix_len is_inside lines) lines
 
@@ -96,11 +96,12 @@ sheet_goes : (players lines : List (List ℕ)) (sheet_key : SheetKey)
     → sheet_in players (map line_in_two lines) sheet_key ≡ gone (sheet_in players lines sheet_key)
 sheet_goes players [] sheet_key = refl
 sheet_goes players (line ∷ lines) sheet_key =
-    let here : lines_begun sheet_key (block (map line_in_two lines)) (begins players (line_in_two line))
-    ≡ gone (lines_begun sheet_key (block lines) (begins players line)) =
-    rw (begins_alike players line, block_alike lines) (begun_goes sheet_key (block lines) (begins players line)) in
+    let here : lines_begun sheet_key (sheet_lines (map line_in_two lines)) (begins players (line_in_two line))
+    ≡ gone (lines_begun sheet_key (sheet_lines lines) (begins players line)) =
+    rw (begins_alike players line, sheet_lines_alike lines) (begun_goes sheet_key (sheet_lines lines)
+    (begins players line)) in
     rw (sheet_goes players lines sheet_key, here) (either_goes (sheet_in players lines sheet_key)
-    (lines_begun sheet_key (block lines) (begins players line)))
+    (lines_begun sheet_key (sheet_lines lines) (begins players line)))
 
 -- a line is read in version 2 as the line that it stands for in version 1
 pub if_unknown : (words : List (List ℕ)) → same_word (first_of_words words) (codes "IF") ≡ true

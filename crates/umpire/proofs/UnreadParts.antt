@@ -34,9 +34,9 @@ unread_parted before most faults part later is_part is_later =
     ap (λ all. unread_lines before all) whole ∙ lines_parted before part later
 
 -- all are written, where none is left
-pub all_unread_told : (old new : Option (List ℕ)) (text : List ℕ) (before : ℕ) (rest : List Fault) → rest ≡ [] →
+pub all_unread_written : (old new : Option (List ℕ)) (text : List ℕ) (before : ℕ) (rest : List Fault) → rest ≡ [] →
     LeavesRest old new text (unread_lines before rest) → Appends old new text
-all_unread_told old new text before rest none left =
+all_unread_written old new text before rest none left =
     let nothing : unread_lines before rest ≡ [] = ap (λ faults. unread_lines before faults) none in
     let whole : left.done ≡ text = sym (append-nil left.done) ∙ ap (λ more. left.done ++ more) (sym nothing)
     ∙ left.whole in

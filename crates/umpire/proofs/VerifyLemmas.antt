@@ -46,9 +46,9 @@ parts_of : (input : List ℕ) (found : Option (List ℕ))
 parts_of input None within = omega arith
 parts_of input (Some text) within =
     let few : length text ≤ length input = within text refl in
-    let front : length (take (length input - length text) input) ≡ length input - length text =
+    let prefix : length (take (length input - length text) input) ≡ length input - length text =
     length-take-le (length input - length text) input (omega arith) in
-    omega (arith, less_newline (take (length input - length text) input), front)
+    omega (arith, less_newline (take (length input - length text) input), prefix)
 
 make_up : (input : List ℕ) → length input ≤ length (order_file_of input) + 1 + length (certificates_of input)
 unfolding order_file_of certificates_of
@@ -80,7 +80,7 @@ input_too_long input many =
       | inr over ↦ over_limit input over
     ]
 
--- what a whole input says, of which this was read
+-- what a whole input says, where this was read of it
 pub record SaysInput (given : Option (List ℕ)) (input : List ℕ) : Type 0 where
   pub whole : List ℕ
   pub is_whole : IsFileOf given whole
@@ -297,14 +297,14 @@ writing_stops file groups old new failed (File fault) is = absurd is
 writing_stops file groups old new failed (Certificate round company) is = absurd is
 
 -- the texts of all rounds, once they are written
-pub rounds_told :
+pub rounds_are_written :
     (file : List ℕ) (ended : Underway) (text : List ℕ) (old new : Option (List ℕ)) → IsTextOfRounds file ended text
     → Appends old new text →
     WritesAllRounds file ended old new
-rounds_told file ended text old new all written =
+rounds_are_written file ended text old new all written =
     record {
       last = all.last;
-      told = record { steps = all.steps; text = text; told = all.told; written = written };
+      rounds = record { steps = all.steps; text = text; is_text = all.is_text; written = written };
       end = all.end;
       stays = all.stays;
     }

@@ -15,9 +15,9 @@ pub record Gathers (old new : Option (List ℕ)) (before after text : List ℕ) 
 
 -- a file is some blank lines, which stay, and this, of which the first line is not blank
 pub record IsFromHeader (file rest : List ℕ) : Type 0 where
-  pub front : List ℕ
-  pub whole : file ≡ front ++ rest
-  pub stays : file_in_two file ≡ front ++ file_in_two rest
+  pub prefix : List ℕ
+  pub whole : file ≡ prefix ++ rest
+  pub stays : file_in_two file ≡ prefix ++ file_in_two rest
   pub counts : (line : List ℕ) (lines : List (List ℕ)) → lines_of rest ≡ line ∷ lines → is_blank line ≡ false
 
 -- a line is not too long, and its bytes before the comment are printable: it has no fault that comes before those of its

@@ -30,7 +30,7 @@ pub record IsMigrated (given old new : Option (List ℕ)) : Type 0 where
 pub record IsMigratedShort (given old new : Option (List ℕ)) : Type 0 where
   pub file : List ℕ
   pub whole : IsFileOf given file
-  pub front : AppendsPrefix old new (migration_of file)
+  pub prefix : AppendsPrefix old new (migration_of file)
 
 -- what a fault leaves, and which calls of the reader and the writer have failed
 abbrev pub StopsMigration : Option (List ℕ) → Option (List ℕ) → Option (List ℕ) → Bool → Bool → Fault → Type 0

@@ -62,7 +62,7 @@ pub record IsCutShort (given old new : Option (List ℕ)) : Type 0 where
   pub text : List ℕ
   pub whole : IsFileOf given file
   pub report : IsReport file text
-  pub front : AppendsPrefix old new text
+  pub prefix : AppendsPrefix old new text
 
 -- what a fault leaves, and which calls of the reader and the writer have failed
 abbrev pub Stops : Option (List ℕ) → Option (List ℕ) → Option (List ℕ) → Bool → Bool → Fault → Type 0

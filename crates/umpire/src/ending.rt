@@ -15,8 +15,9 @@ use rounds::Play;
 use std::alloc::Global;
 use std::io::Write;
 
-/// How many unread lines are told at a time. One takes some twenty bytes of a report and may be two
-/// bytes of a file: so the text of all of them may be ten times the file, and is never held at once.
+/// How many unread lines are written at a time. One takes some twenty bytes of a report and may be
+/// two bytes of a file: so the text of all of them may be ten times the file, and is never held at
+/// once.
 const UNREAD_AT_ONCE: usize = 4_096;
 
 /// Writes what follows the rounds: the unread lines, and why play stopped.
@@ -31,7 +32,7 @@ pub(crate) fn write_end<W: Write>(
         (W.contents (inside writer.new)) (end_text_of play.now)) }
     ensures unfailed { OnOk result (has_failed writer.new ≡ false) }
     ensures err { IfErr result (IsWriteFault (has_failed writer.new)) }
-    ensures front { OnErr result (AppendsPrefix (W.contents (inside writer.old))
+    ensures prefix { OnErr result (AppendsPrefix (W.contents (inside writer.old))
         (W.contents (inside writer.new)) (end_text_of play.now)) }
 {
     write_unread(alloc, play.sheets().unread(), writer)?;
@@ -51,7 +52,7 @@ fn write_unread<W: Write>(
         (W.contents (inside writer.new)) (unread_lines 0 unread.now)) }
     ensures unfailed { OnOk result (has_failed writer.new ≡ false) }
     ensures err { IfErr result (IsWriteFault (has_failed writer.new)) }
-    ensures front { OnErr result (AppendsPrefix (W.contents (inside writer.old))
+    ensures prefix { OnErr result (AppendsPrefix (W.contents (inside writer.old))
         (W.contents (inside writer.new)) (unread_lines 0 unread.now)) }
 {
     let mut before = 0;

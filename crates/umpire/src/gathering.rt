@@ -25,7 +25,7 @@ pub(crate) fn put<W: Write>(
         (W.contents (inside writer.new)) gathered.old.items gathered.new.items text.now) }
     ensures unfailed { OnOk result (has_failed writer.new ≡ false) }
     ensures err { IfErr result (IsWriteFault (has_failed writer.new)) }
-    ensures front { OnErr result (AppendsPrefix (W.contents (inside writer.old))
+    ensures prefix { OnErr result (AppendsPrefix (W.contents (inside writer.old))
         (W.contents (inside writer.new)) (gathered.old.items ++ text.now)) }
 {
     if text.len() >= PIECE {
@@ -45,7 +45,7 @@ fn make_room<W: Write>(gathered: &mut Vec<u8>, writer: &mut Watched<W>) -> Resul
         (W.contents (inside writer.new)) gathered.old.items gathered.new.items []) }
     ensures unfailed { OnOk result (has_failed writer.new ≡ false) }
     ensures err { IfErr result (IsWriteFault (has_failed writer.new)) }
-    ensures front { OnErr result (AppendsPrefix (W.contents (inside writer.old))
+    ensures prefix { OnErr result (AppendsPrefix (W.contents (inside writer.old))
         (W.contents (inside writer.new)) gathered.old.items) }
 {
     if gathered.len() < PIECE {
@@ -66,7 +66,7 @@ pub(crate) fn write_gathered<W: Write>(
     ensures empty { OnOk result (gathered.new.items ≡ []) }
     ensures unfailed { OnOk result (has_failed writer.new ≡ false) }
     ensures err { IfErr result (IsWriteFault (has_failed writer.new)) }
-    ensures front { OnErr result (AppendsPrefix (W.contents (inside writer.old))
+    ensures prefix { OnErr result (AppendsPrefix (W.contents (inside writer.old))
         (W.contents (inside writer.new)) gathered.old.items) }
 {
     write_text(writer, gathered.as_slice())?;

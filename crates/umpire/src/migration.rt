@@ -86,7 +86,7 @@ fn write_in_two<W: Write>(alloc: Global, file: &[u8], writer: &mut Watched<W>) -
         (W.contents (inside writer.new)) (file_in_two file.now)) }
     ensures unfailed { OnOk result (has_failed writer.new ≡ false) }
     ensures err { IfErr result (IsWriteFault (has_failed writer.new)) }
-    ensures front { OnErr result (AppendsPrefix (W.contents (inside writer.old))
+    ensures prefix { OnErr result (AppendsPrefix (W.contents (inside writer.old))
         (W.contents (inside writer.new)) (file_in_two file.now)) }
 {
     let mut gathered = Vec::new(alloc);
@@ -107,7 +107,7 @@ fn put_in_two<W: Write>(
         (file_in_two file.now)) }
     ensures unfailed { OnOk result (has_failed writer.new ≡ false) }
     ensures err { IfErr result (IsWriteFault (has_failed writer.new)) }
-    ensures front { OnErr result (AppendsPrefix (W.contents (inside writer.old))
+    ensures prefix { OnErr result (AppendsPrefix (W.contents (inside writer.old))
         (W.contents (inside writer.new)) (gathered.old.items ++ file_in_two file.now)) }
 {
     let text = from_header(file);
@@ -156,7 +156,7 @@ fn put_body<W: Write>(
         (body_in_two text.now)) }
     ensures unfailed { OnOk result (has_failed writer.new ≡ false) }
     ensures err { IfErr result (IsWriteFault (has_failed writer.new)) }
-    ensures front { OnErr result (AppendsPrefix (W.contents (inside writer.old))
+    ensures prefix { OnErr result (AppendsPrefix (W.contents (inside writer.old))
         (W.contents (inside writer.new)) (gathered.old.items ++ body_in_two text.now)) }
 {
     // What is not put yet, of which the lines from `rest` on are ahead.

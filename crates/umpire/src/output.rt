@@ -16,7 +16,7 @@ pub(crate) fn write_text<W: Write>(writer: &mut Watched<W>, text: &[u8]) -> Resu
     ensures unfailed { OnOk result (has_failed writer.new ≡ false) }
     ensures fault { IfErr result (λ error. error ≡ fault.Write) }
     ensures failed { OnErr result (has_failed writer.new ≡ true) }
-    ensures front { OnErr result (AppendsPrefix (W.contents (inside writer.old))
+    ensures prefix { OnErr result (AppendsPrefix (W.contents (inside writer.old))
         (W.contents (inside writer.new)) text.now) }
 {
     let mut done = 0;

@@ -73,8 +73,8 @@ fn is_divider(line: &[u8]) -> bool
 fn without_newline(text: &[u8]) -> &[u8]
     ensures { result.now ≡ without_newline text.now }
 {
-    let Some((last, front)) = text.split_last() else {
+    let Some((last, prefix)) = text.split_last() else {
         return text;
     };
-    if *last == b'\n' { front } else { text }
+    if *last == b'\n' { prefix } else { text }
 }

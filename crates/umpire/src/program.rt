@@ -112,7 +112,7 @@ pub(crate) fn write_header<W: Write>(
         (W.contents (inside writer.new)) (header sheets.now)) }
     ensures unfailed { OnOk result (has_failed writer.new ≡ false) }
     ensures err { IfErr result (IsWriteFault (has_failed writer.new)) }
-    ensures front { OnErr result (AppendsPrefix (W.contents (inside writer.old))
+    ensures prefix { OnErr result (AppendsPrefix (W.contents (inside writer.old))
         (W.contents (inside writer.new)) (header sheets.now)) }
 {
     let text = header_text(alloc, sheets)?;
@@ -133,7 +133,7 @@ fn write_rounds<W: Write>(
         (W.contents (inside writer.old)) (W.contents (inside writer.new))) }
     ensures unfailed { OnOk result (has_failed writer.new ≡ false) }
     ensures err { IfErr result (IsWriteFault (has_failed writer.new)) }
-    ensures front { OnErr result (WritesPrefixOfRounds play.old.file
+    ensures prefix { OnErr result (WritesPrefixOfRounds play.old.file
         (W.contents (inside writer.old)) (W.contents (inside writer.new))) }
 {
     let mut search = Search::new(alloc);

@@ -24,7 +24,7 @@ pub(crate) fn write_refusal<W: Write>(
         (W.contents (inside writer.new)) (refusal_line fault)) }
     ensures unfailed { OnOk result (has_failed writer.new ≡ false) }
     ensures err { IfErr result (IsWriteFault (has_failed writer.new)) }
-    ensures front { OnErr result (AppendsPrefix (W.contents (inside writer.old))
+    ensures prefix { OnErr result (AppendsPrefix (W.contents (inside writer.old))
         (W.contents (inside writer.new)) (refusal_line fault)) }
 {
     let line = refusal_text(alloc, fault)?;

@@ -90,7 +90,7 @@ fn write_answer<W: Write>(alloc: Global, input: &[u8], writer: &mut Watched<W>) 
     }
 }
 
-/// Writes the answer to a file that is refused. The result is what that comes to: that refusal, or
+/// Writes the answer to a file that is refused. The result is what that becomes: that refusal, or
 /// what stopped the writing.
 fn refuse<W: Write>(alloc: Global, fault: FileFault, writer: &mut Watched<W>) -> Fault
     requires { has_failed writer.old ≡ false }
@@ -123,7 +123,7 @@ fn write_judgement<W: Write>(
     let groups = read_groups(alloc, certificates)?;
     let mut play = Play::start(alloc, sheets)?;
     match play_checked(alloc, &mut play, groups) {
-        Ok(told) => write_told(alloc, sheets, &play, told.as_slice(), writer),
+        Ok(texts) => write_played(alloc, sheets, &play, texts.as_slice(), writer),
         Err(PlayFault::Memory) => Err(Fault::Memory),
         Err(PlayFault::Refused(round, company)) => {
             let line = uncertified_text(alloc, round, company)?;
@@ -134,8 +134,8 @@ fn write_judgement<W: Write>(
 }
 
 /// Plays the game as far as its sheets go; each RUN BEST that is obeyed is judged by its group. The
-/// answer is the text of each round, told before the next is played, one after the other. The errors
-/// are refused memory, and the round and the company of the first RUN BEST that has no group.
+/// answer is the text of each round, written before the next is played, one after the other. The
+/// errors are refused memory, and the round and the company of the first RUN BEST that has no group.
 fn play_checked(
     alloc: Global,
     play: &mut Play,
@@ -144,7 +144,7 @@ fn play_checked(
     requires started { play.old ≡ started play.old.file }
     requires accepted { IsAccepted play.old.file }
     ensures judged { IsJudged play.old.file groups.items result }
-    ensures told { IfOk result (λ told. IsTextOfRounds play.old.file play.new told.items) }
+    ensures texts { IfOk result (λ texts. IsTextOfRounds play.old.file play.new texts.items) }
 {
     // Laws, which do nothing when they run: a file's game makes one list of calls, and each of them is
     // answered; those of the steps are those of the game, or of one that is broken off, and then they
@@ -155,27 +155,27 @@ fn play_checked(
     rounds::laws::broken_steps_call_a_broken_game();
     rounds::laws::refused_calls_are_a_prefix();
     let mut checked = Checked::new(groups);
-    let mut told = Vec::new(alloc);
+    let mut texts = Vec::new(alloc);
     loop {
         if let Step::Ended(_) = play.step(&mut checked)? {
-            return Ok(told);
+            return Ok(texts);
         }
         let text = next_text(alloc, play)?;
-        told.extend_from_slice(text.as_slice())?;
+        texts.extend_from_slice(text.as_slice())?;
     }
 }
 
 /// Writes the report of some sheets, of which all rounds are played and have this text.
-fn write_told<W: Write>(
+fn write_played<W: Write>(
     alloc: Global,
     sheets: &Sheets,
     play: &Play,
-    told: &[u8],
+    texts: &[u8],
     writer: &mut Watched<W>,
 ) -> Result<(), Fault>
     requires unfailed { has_failed writer.old ≡ false }
     requires accepted { IsAccepted sheets.now }
-    requires told { IsTextOfRounds sheets.now play.now told.now }
+    requires texts { IsTextOfRounds sheets.now play.now texts.now }
     ensures ok { OnOk result (IsReported (Some sheets.now)
         (W.contents (inside writer.old)) (W.contents (inside writer.new))) }
     ensures unfailed { OnOk result (has_failed writer.new ≡ false) }
@@ -185,7 +185,7 @@ fn write_told<W: Write>(
     report::laws::some_report();
     report::laws::parts_are_the_report();
     write_header(alloc, sheets, writer)?;
-    write_text(writer, told)?;
+    write_text(writer, texts)?;
     write_end(alloc, play, writer)?;
     Ok(())
 }

@@ -15,7 +15,7 @@ pub struct Watched<S> {
 }
 
 impl<S> Watched<S> {
-    /// Watches a reader or a writer, of which no call has failed yet.
+    /// Watches a reader or a writer, none of whose calls has failed yet.
     pub fn new(inner: S) -> Watched<S>
         ensures inner { inside result ≡ inner }
         ensures failed { has_failed result ≡ false }

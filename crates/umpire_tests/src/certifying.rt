@@ -55,11 +55,11 @@ fn outcome_in(alloc: Global, call: Call, input: &[u8], most: usize) -> Outcome {
 
 /// Whether a call ended with this word, and status 4.
 fn has_word(outcome: &Outcome, owed: &str) -> bool {
-    let told = match &outcome.result {
+    let written = match &outcome.result {
         Ok(()) => "",
         Err(fault) => word(fault),
     };
-    told == owed && status(&outcome.result) == 4
+    written == owed && status(&outcome.result) == 4
 }
 
 /// Whether a call answered that a read failed, after this many, and wrote nothing.
@@ -73,10 +73,10 @@ fn stops_reading(outcome: &Outcome, reads: usize) -> bool {
 }
 
 /// Whether a call answered that a write failed, and wrote this before.
-fn stops_writing(outcome: &Outcome, front: &[u8]) -> bool {
+fn stops_writing(outcome: &Outcome, prefix: &[u8]) -> bool {
     outcome.result == Err(Fault::Write)
         && has_word(outcome, "Write")
-        && outcome.text.as_slice() == front
+        && outcome.text.as_slice() == prefix
         && !outcome.read_failed
         && outcome.write_failed
 }
@@ -139,8 +139,8 @@ fn is_refused(outcome: &Outcome) -> bool {
 fn verify_takes_what_certs_writes(rt: HostRuntime) -> Result<(), Fail> {
     let file = file(rt.alloc(), "RUN BEST\n")?;
     let text = outcome_in(rt.alloc(), Call::Certs, file.as_slice(), 1_000).text;
-    let front = b"CERTS 1\nCERT OR2.1 PRR 30\nCLAIM 2 ".as_slice();
-    assert!(rt; text.as_slice().starts_with(front));
+    let prefix = b"CERTS 1\nCERT OR2.1 PRR 30\nCLAIM 2 ".as_slice();
+    assert!(rt; text.as_slice().starts_with(prefix));
     let input = joined(rt.alloc(), &[file.as_slice(), b"\n", text.as_slice()])?;
     let report = outcome_in(rt.alloc(), Call::Run, file.as_slice(), 1_000).text;
     for most in [1, 7, 1_000] {

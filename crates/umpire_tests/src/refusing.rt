@@ -10,7 +10,7 @@ use std::test::Fail;
 use tables::{Company, Kind, Money, Round};
 
 /// The opening, the first set and the second stock round of a game in which PRR buys two 2s, and
-/// its block in OR2.1 up to its run.
+/// its orders in OR2.1 up to its run.
 const BEFORE: &str = "GAME 1830 1
 PLAYERS ANN BOB CYD
 SHEET ANN PR1

@@ -5,7 +5,7 @@ use std::io;
 use std::io::{Read, Write};
 use umpire::{Fault, Watched, run};
 
-/// A reader that tells a cell when it has told of its end.
+/// A reader that tells a cell when it has given its end.
 #[derive(Drop)]
 struct Telling<'a> {
     source: Source<'a>,
@@ -20,7 +20,7 @@ impl<'a> Read for Telling<'a> {
     }
 }
 
-/// A writer that counts its calls, and those before the reader had told of its end.
+/// A writer that counts its calls, and those before the reader had given its end.
 #[derive(Drop)]
 struct Watching<'a> {
     ended: &'a Cell<bool>,

@@ -231,7 +231,7 @@ fn after_refusals(
     Ok((refused, later))
 }
 
-/// How many rounds the steps of a play come to, and why it then stops.
+/// How many rounds the steps of a play make, and why it then stops.
 fn steps_to_end(alloc: Global, play: &mut Play) -> Result<(u32, Option<End>), PlayFault> {
     let mut search = Search::new(alloc);
     let mut rounds = 0;
@@ -302,8 +302,8 @@ fn steps_through_a_game(rt: HostRuntime) -> Result<(), Fail> {
             (Some(first), Some(awaiting))
         );
     }
-    let told = end_at_second(rt.alloc(), &sheets)?.ok_or("goes on")?;
-    assert_eq!(rt; told.as_slice(), end.as_slice());
+    let written = end_at_second(rt.alloc(), &sheets)?.ok_or("goes on")?;
+    assert_eq!(rt; written.as_slice(), end.as_slice());
     Ok(())
 }
 

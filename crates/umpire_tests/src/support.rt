@@ -33,10 +33,10 @@ BANK   9615
 AWAITING PR2 ANN BOB CYD
 ";
 
-/// What a reader does when it is called once more after it has told of its end.
+/// What a reader does when it is called once more after it has given its end.
 #[derive(Clone, Copy, PartialEq, Eq)]
 pub(crate) enum AfterEnd {
-    /// It tells of the end again.
+    /// It gives the end again.
     Ends,
     /// It fails.
     Fails,
@@ -52,7 +52,7 @@ pub(crate) struct Source<'a> {
     pub(crate) most: usize,
     pub(crate) bad: Option<usize>,
     pub(crate) after_end: AfterEnd,
-    /// Whether it has told of its end.
+    /// Whether it has given its end.
     pub(crate) ended: bool,
     /// How often it was called.
     pub(crate) calls: usize,
@@ -175,7 +175,7 @@ impl Write for Sink {
     }
 }
 
-/// What a run came to.
+/// What became of a run.
 #[derive(Drop)]
 pub(crate) struct Outcome {
     pub(crate) result: Result<(), Fault>,

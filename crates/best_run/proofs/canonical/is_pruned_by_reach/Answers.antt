@@ -8,8 +8,8 @@ least-cap-requires-clause-room c =
     worth_most c.args.task.now c.requires.fit c.args.reach.now.ahead c.args.reach.now.worth c.requires.known
 
 pub returns : goal.returns
-returns c told =
+returns c holds =
     reach_earns c.args.task.now c.requires.fit c.requires.ready c.args.assigned.now c.args.reach.now.ahead
     c.args.reach.now.worth c.index-most.result.now c.least-cap.result c.args.best c.requires.reaches
     c.requires.held c.requires.known c.marks_all_borders.ensures c.least-cap.ensures.least
-    (c.are_pruned_by_cap.ensures told)
+    (c.are_pruned_by_cap.ensures holds)

@@ -1,4 +1,4 @@
--- Each way that crosses no used border is opened.
+-- Each leg that crosses no used border is opened.
 use Rattle.std.proofs.Common.{◌≡◌, ◌+◌, Bool, List, Some, length, slice_get, refl, sym, ap, subst, ◌∙◌, arith}
 use Rattle.std.proofs.lemmas.Option.{slice_get_read}
 use Rattle.best_run.specs.Canonical.{AreOpenBelow, Opens}

@@ -1,4 +1,4 @@
--- The ways before the next one are open.
+-- The legs before the next one are open.
 use Rattle.best_run.specs.Canonical.{AreOpenBelow, Opens}
 use Rattle.best_run.proofs.canonical.open_from.Given as goal
 

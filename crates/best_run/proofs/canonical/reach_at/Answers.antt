@@ -1,4 +1,4 @@
--- The stop is held, and what a run may come to from there lies in reach.
+-- The stop is held, and what a run may reach from there lies in reach.
 use Rattle.best_run.proofs.Likened.{reach_at}
 use Rattle.best_run.proofs.canonical.reach_at.Goals as goal
 

@@ -1,4 +1,4 @@
--- Each way adds what it leads to.
+-- Each leg adds what it leads to.
 use Rattle.std.proofs.Common.{◌≡◌, Some, length, slice_get, refl, ap, subst, ◌∙◌, arith}
 use Rattle.std.proofs.lemmas.Option.{slice_get_read}
 use Rattle.best_run.specs.declared.state.PartialRun.{PartialRun}

@@ -1,4 +1,4 @@
--- The ways before the next one are gone over.
+-- The legs before the next one are gone over.
 use Rattle.best_run.specs.Ahead.{IsWorth, WidensBelow}
 use Rattle.best_run.specs.Canonical.{anywhere}
 use Rattle.best_run.proofs.canonical.reach_from.Given as goal

@@ -1,4 +1,4 @@
--- The ways from each listed stop from which a run may set out are opened.
+-- The legs from each listed stop from which a run may set out are opened.
 use Rattle.std.proofs.Common.{◌≡◌, ◌+◌, Bool, Some, List, length, slice_get, refl, sym, subst, ◌∙◌, arith}
 use Rattle.std.proofs.lemmas.Option.{slice_get_read}
 use Rattle.best_run.specs.Canonical.{IsShutBelow}

@@ -1,4 +1,4 @@
--- The ways from the listed stops before the next one are open.
+-- The legs from the listed stops before the next one are open.
 use Rattle.best_run.specs.Canonical.{IsShutBelow}
 use Rattle.best_run.proofs.canonical.shut.Given as goal
 

@@ -1,6 +1,6 @@
 -- The run of the train in hand is claimed, if it runs.
 use Rattle.tables.specs.declared.rolling_stock.Kind.TheVariants.{Two}
-use Rattle.best_run.proofs.Told.{can_next, can_pass, claims_next, claims_pass}
+use Rattle.best_run.proofs.ReadPath.{can_next, can_pass, claims_next, claims_pass}
 use Rattle.best_run.proofs.claimed.claimed_runs.Goals as goal
 use Rattle.best_run.proofs.claimed.claimed_runs.Goals.{in-Some+in_ok-push, in_default}
 

@@ -5,8 +5,8 @@ use Rattle.std.proofs.lemmas.List.{take-append-le}
 use Rattle.reach.specs.declared.walk.Step.{Step}
 use Rattle.best_run.specs.declared.move_path.Mark.{Mark}
 use Rattle.best_run.specs.declared.move_path.Mark.TheVariants.{Turn}
-use Rattle.best_run.specs.MovePath.{after_walk, turned_about, walk_told}
-use Rattle.best_run.proofs.Told.{about_reversed, last_read}
+use Rattle.best_run.specs.MovePath.{after_walk, turned_about, walk_of_marks}
+use Rattle.best_run.proofs.ReadPath.{about_reversed, last_read}
 use Rattle.best_run.proofs.claimed.read_walk.Goals as goal
 
 -- what is written to all items of a vector is there
@@ -25,10 +25,10 @@ loop-mark-preserved c =
     ∙ ap (λ (m : Mark). m ∷ rest) c.in-Turn.is in
     let about : reverse turned ≡ turned_about (reverse walk) =
     ap reverse (c.turn_about.ensures ∙ ap turned_about c.deref_mut.ensures.value) ∙ about_reversed walk in (
-      ap (λ (steps : List Step). walk_told (reverse steps) rest)
+      ap (λ (steps : List Step). walk_of_marks (reverse steps) rest)
           (all_written turned walk c.loop-mark.walk.len (omega arith))
-          ∙ ap (λ (steps : List Step). walk_told steps rest) about
-          ∙ ap (λ (marks : List Mark). walk_told (reverse walk) marks) (sym read)
+          ∙ ap (λ (steps : List Step). walk_of_marks steps rest) about
+          ∙ ap (λ (marks : List Mark). walk_of_marks (reverse walk) marks) (sym read)
           ∙ c.loop-mark.invariant.0,
       ap after_walk (sym read) ∙ c.loop-mark.invariant.1,
     )

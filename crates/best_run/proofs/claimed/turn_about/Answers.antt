@@ -1,6 +1,6 @@
 -- The step in hand is taken the other way.
 use Rattle.std.proofs.Common.{ap, arith, length}
-use Rattle.best_run.proofs.Told.{turned_more}
+use Rattle.best_run.proofs.ReadPath.{turned_more}
 use Rattle.best_run.proofs.claimed.turn_about.Goals as goal
 
 pub loop-step-preserved : goal.loop-step-preserved

@@ -1,4 +1,4 @@
--- The ways before the next one cross it.
+-- The legs before the next one cross it.
 use Rattle.best_run.specs.Last.{CrossItBelow}
 use Rattle.best_run.proofs.last.cross_it.Given as goal
 

@@ -1,4 +1,4 @@
--- Each way adds what it leads to, and together they are all ways of the stop.
+-- Each leg adds what it leads to, and together they are all legs of the stop.
 use Rattle.std.proofs.Common.{◌≡◌, ◌+◌, ◌<◌, Bool, true, Some, List, length, set, slice_get, refl, sym, ap, subst, ◌∙◌}
 use Rattle.std.proofs.Common.{arith}
 use Rattle.std.proofs.lemmas.Option.{slice_get_read}

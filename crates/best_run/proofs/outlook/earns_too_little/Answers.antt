@@ -6,7 +6,7 @@ use Rattle.best_run.proofs.Hopeless.{ends_canonical, ends_low}
 use Rattle.best_run.proofs.outlook.earns_too_little.Goals as goal
 
 pub returns-then-bounds-later : goal.returns-then-bounds-later
-returns-then-bounds-later c told =
+returns-then-bounds-later c holds =
     let task = c.args.task.now in
     let assigned = c.args.assigned.now in
     let later = c.len.result - assigned.next - 1 in
@@ -21,9 +21,9 @@ returns-then-bounds-later c told =
     (omega (arith, c.most_ahead.ensures.most.low, c.if-total-best.false, c.if-bounds-later.true))
 
 pub returns : goal.returns
-returns c told =
+returns c holds =
     ends_canonical c.args.task.now c.requires.fit c.requires.ready c.args.assigned.now c.args.run.now
     c.args.outlook.now.ahead c.requires.ahead c.most_ahead.ensures.most.nodes c.most_ahead.ensures.most.counts
     c.requires.at_stop c.requires.begun c.most_ahead.ensures.most.level _ c.args.best
-    (c.are_pruned_by_cap.ensures told) c.requires.borders c.requires.spots
+    (c.are_pruned_by_cap.ensures holds) c.requires.borders c.requires.spots
     (omega (arith, c.most_ahead.ensures.most.low))

@@ -5,6 +5,6 @@ use Rattle.best_run.proofs.Equal.{no_dearer}
 use Rattle.best_run.proofs.outlook.earns_too_much.Goals as goal
 
 pub returns : goal.returns
-returns c told best moves completes =
+returns c holds best moves completes =
     absurd (no_dearer c.args.task.now moves c.args.assigned.now c.args.run.now (omega arith) (omega arith)
-    (ltb-true _ _ told) completes)
+    (ltb-true _ _ holds) completes)

@@ -1,4 +1,4 @@
--- The piece leads on, or it does not.
+-- The segment leads on, or it does not.
 use Rattle.std.proofs.Common.{sym, ◌∙◌}
 use Rattle.best_run.proofs.Ahead.{along_not, along_at, leads_free}
 use Rattle.best_run.proofs.outlook.look_along.Goals as goal

@@ -1,4 +1,4 @@
--- Each way by which the run may turn back adds what it leads to.
+-- Each leg by which the run may turn back adds what it leads to.
 use Rattle.std.proofs.Common.{◌≡◌, ◌+◌, Some, length, slice_get, refl, sym, ap, subst, ◌∙◌, arith}
 use Rattle.std.proofs.lemmas.Option.{slice_get_read}
 use Rattle.best_run.specs.declared.outlook.Outlook.{Outlook}

@@ -1,4 +1,4 @@
--- The ways before the next one are gone over, as far as the run may turn back by them.
+-- The legs before the next one are gone over, as far as the run may turn back by them.
 use Rattle.best_run.specs.Ahead.{WidensBackBelow}
 use Rattle.best_run.specs.Last.{HasWorth}
 use Rattle.best_run.proofs.outlook.look_back.Given as goal

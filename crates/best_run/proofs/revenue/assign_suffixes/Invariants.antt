@@ -1,4 +1,4 @@
--- So many trains are solved for as the loop has come to.
+-- As many trains are solved for as the loop has passed.
 use Rattle.best_run.specs.Suffix.{IsSolved}
 use Rattle.best_run.proofs.revenue.assign_suffixes.Given as goal
 

@@ -1,10 +1,10 @@
--- What has been explored from the start is the greatest, and the runs that the path tells earn it.
+-- What has been explored from the start is the greatest, and the runs that the path gives earn it.
 use Rattle.std.proofs.Common.{◌≡◌, List, [], arith}
 use Rattle.legal_runs.specs.Set.{IsGreatest, TrainRun}
 use Rattle.legal_runs.proofs.Greatest.{a_greatest_exists, one_greatest}
 use Rattle.search_task.specs.Described.{Describes}
-use Rattle.best_run.specs.MovePath.{marks_in, runs_told}
-use Rattle.best_run.proofs.Greatest.{TellSet, can_claim, greatest_found, names_them, tell_set}
+use Rattle.best_run.specs.MovePath.{marks_in, runs_of_marks}
+use Rattle.best_run.proofs.Greatest.{MarksEarn, can_claim, greatest_found, marks_earn, names_them}
 use Rattle.best_run.proofs.revenue.find.Goals as goal
 
 pub returns : goal.returns
@@ -16,10 +16,10 @@ returns g c =
     let found = c.in_ok-found.found in
     let lawful = c.keeps_laws.ensures in
     let laid : Describes position company kinds task = c.in_ok-task.ensures.described in
-    let tells : TellSet position company lawful kinds task laid (marks_in found.move_path) found.amount =
-    tell_set position company lawful kinds task laid (marks_in found.move_path) found.amount
+    let tells : MarksEarn position company lawful kinds task laid (marks_in found.move_path) found.amount =
+    marks_earn position company lawful kinds task laid (marks_in found.move_path) found.amount
     c.in_ok-found.ensures.earns in
-    let runs : List TrainRun = runs_told kinds [] (marks_in found.move_path) in
+    let runs : List TrainRun = runs_of_marks kinds [] (marks_in found.move_path) in
     let greatest : IsGreatest position company kinds found.amount =
     greatest_found position company lawful kinds task laid found c.in_ok-found.ensures in
     let some = a_greatest_exists position company kinds lawful in

@@ -1,4 +1,4 @@
--- Each loop adds the next ways to those tried, and together they are all moves of the state.
+-- Each loop adds the next legs to those tried, and together they are all moves of the state.
 use Rattle.std.proofs.Common.{◌≡◌, ℕ, ◌+◌, ◌<◌, Bool, List, [], ◌∷◌, true, false, inl, None, Some, drop, get_or, length}
 use Rattle.std.proofs.Common.{slice_get, refl, sym, ap, subst, ◌∙◌, arith}
 use Rattle.std.proofs.lemmas.List.{drop_all, drop_more}

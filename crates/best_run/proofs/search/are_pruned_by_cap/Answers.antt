@@ -5,7 +5,7 @@ use Rattle.std.proofs.lemmas.Option.{slice_get-get_or}
 use Rattle.best_run.proofs.search.are_pruned_by_cap.Goals as goal
 
 pub returns : goal.returns
-returns c told =
+returns c holds =
     let left = c.len.result - c.args.next - c.equals-equal.result in
     record {
       some = omega arith;
@@ -15,5 +15,5 @@ returns c told =
       rest = c.requires.bounds left (slice_index_or c.args.bounds.now left 0) (c.args.next + c.equals-equal.result)
           (slice_get-get_or c.args.bounds.now left 0 c.if-left-bounds.false)
           (omega (arith, c.len.ensures, c.equals-equal.ensures.within));
-      short = omega (arith, leb-true _ _ told);
+      short = omega (arith, leb-true _ _ holds);
     }

@@ -6,7 +6,7 @@ use Rattle.best_run.proofs.search.is_pruned_by_suffix.Goals as goal
 use Rattle.best_run.proofs.search.is_pruned_by_suffix.Goals.{then-left-bounds, else-left-bounds}
 
 pub returns-then-assigned-best-clause-short : goal.returns-then-assigned-best-clause-short
-returns-then-assigned-best-clause-short c told =
+returns-then-assigned-best-clause-short c holds =
     let bounds = c.args.bounds.now in
     let left = c.len.result - c.args.assigned.now.next in
     let same : left ≡ length c.args.task.now.trains.items - c.args.assigned.now.next = omega (arith, c.len.ensures) in
@@ -15,7 +15,7 @@ returns-then-assigned-best-clause-short c told =
         slice_index_or bounds left 0,
         subst (λ (n : ℕ). slice_get bounds n ≡ Some (slice_index_or bounds left 0)) same
             (slice_get-get_or bounds left 0 w.if-left-bounds.true),
-        omega (arith, leb-true _ _ told, leb-true _ _ (sym w.value-is ∙ c.if-assigned-best.true)),
+        omega (arith, leb-true _ _ holds, leb-true _ _ (sym w.value-is ∙ c.if-assigned-best.true)),
       )
       | else-left-bounds w ↦ absurd (omega (
         arith,

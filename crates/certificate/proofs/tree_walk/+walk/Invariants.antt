@@ -5,8 +5,8 @@ use Rattle.map_tables.specs.declared.place.Stop.{Stop}
 use Rattle.reach.specs.Walk.{entered_at}
 use Rattle.reach.specs.declared.walk.Step.{Step}
 use Rattle.legal_runs.specs.Set.{TrainRun}
-use Rattle.certificate.specs.Tree.{for_each, goes_over, run_borders, setting_out, taken_borders, with_steps, ways_at}
-use Rattle.certificate.specs.Tree.{ways_by, ways_from}
+use Rattle.certificate.specs.Tree.{for_each, goes_over, run_borders, setting_out, taken_borders, with_steps, steps_at}
+use Rattle.certificate.specs.Tree.{steps_by, steps_from}
 use Rattle.certificate.specs.Walking.{AreCrossed, Continues, LeavesOver, IsOnRun, IsBetweenRuns, may_take, node_at}
 use Rattle.certificate.specs.Walking.{node_from, reached_in, set_outs, trains_of_tree}
 use Rattle.certificate.proofs.Walking.{end_rank}
@@ -45,36 +45,36 @@ decreases-choose-trains g l = l.place
 abbrev pub invariant-choose-trains : goal.invariant-choose-trains
 invariant-choose-trains g l =
     (l.used ≡ l.fn.used)
-    × ((settled : List TrainRun) → IsBetweenRuns (g.N.Network.position l.network) l.tree l.fn.value settled
-    → AreCrossed l.fn.used (run_borders settled) →
+    × ((assigned : List TrainRun) → IsBetweenRuns (g.N.Network.position l.network) l.tree l.fn.value assigned
+    → AreCrossed l.fn.used (run_borders assigned) →
     l.fn.first ≤ length (trains_of_tree l.tree) →
     (l.place ≤ length (trains_of_tree l.tree))
     × LeavesOver g.D.Decider.decides (g.N.Network.position l.network) l.tree l.fn.decider
-    (node_from l.tree settled l.fn.first ∷ [])
-    l.decider (set_outs (g.N.Network.position l.network) l.tree settled l.fn.first (l.place - l.fn.first)))
+    (node_from l.tree assigned l.fn.first ∷ [])
+    l.decider (set_outs (g.N.Network.position l.network) l.tree assigned l.fn.first (l.place - l.fn.first)))
 
 abbrev pub invariant-set_out-loop-stop : goal.invariant-set_out-loop-stop
 invariant-set_out-loop-stop g l =
     (l.used ≡ l.fn.used) × (l.seen ≡ replicate 186 false)
-    × ((settled : List TrainRun) → IsBetweenRuns (g.N.Network.position l.network) l.tree l.fn.value settled
-    → AreCrossed l.fn.used (run_borders settled) →
+    × ((assigned : List TrainRun) → IsBetweenRuns (g.N.Network.position l.network) l.tree l.fn.value assigned
+    → AreCrossed l.fn.used (run_borders assigned) →
     l.fn.place < length (trains_of_tree l.tree) →
     LeavesOver g.D.Decider.decides (g.N.Network.position l.network) l.tree l.fn.decider
     (setting_out (g.N.Network.position l.network) l.tree.company (reached_in l.tree)
-    (node_from l.tree settled l.fn.place)) l.decider
-    (with_steps (goes_over (taken_borders (node_from l.tree settled l.fn.place)))
-    (node_from l.tree settled l.fn.place) (for_each (ways_from (g.N.Network.position l.network))
+    (node_from l.tree assigned l.fn.place)) l.decider
+    (with_steps (goes_over (taken_borders (node_from l.tree assigned l.fn.place)))
+    (node_from l.tree assigned l.fn.place) (for_each (steps_from (g.N.Network.position l.network))
     (drop l.stop-index l.stop-items))))
 
 abbrev pub invariant-follow-loop-link : goal.invariant-follow-loop-link
 invariant-follow-loop-link g l =
     (l.used ≡ l.fn.used) × (l.seen ≡ l.fn.seen)
-    × ((settled : List TrainRun) (steps : List Step) (stops : List Stop) →
-    IsOnRun (g.N.Network.position l.network) l.tree l.begun l.fn.used l.fn.seen settled steps stops →
+    × ((assigned : List TrainRun) (steps : List Step) (stops : List Stop) →
+    IsOnRun (g.N.Network.position l.network) l.tree l.begun l.fn.used l.fn.seen assigned steps stops →
     ((step : Step) → entered_at step ≡ l.fn.at → Continues steps stops step) →
     LeavesOver g.D.Decider.decides (g.N.Network.position l.network) l.tree l.fn.decider
-    (with_steps (may_take (reached_in l.tree) (node_at l.tree l.begun settled steps) l.fn.at.end)
-    (node_at l.tree l.begun settled steps) (ways_at (g.N.Network.position l.network) l.fn.at.hex l.fn.at.end))
+    (with_steps (may_take (reached_in l.tree) (node_at l.tree l.begun assigned steps) l.fn.at.end)
+    (node_at l.tree l.begun assigned steps) (steps_at (g.N.Network.position l.network) l.fn.at.hex l.fn.at.end))
     l.decider
-    (with_steps (may_take (reached_in l.tree) (node_at l.tree l.begun settled steps) l.fn.at.end)
-    (node_at l.tree l.begun settled steps) (for_each (ways_by l.fn.at.end) (drop l.link-index l.link-items))))
+    (with_steps (may_take (reached_in l.tree) (node_at l.tree l.begun assigned steps) l.fn.at.end)
+    (node_at l.tree l.begun assigned steps) (for_each (steps_by l.fn.at.end) (drop l.link-index l.link-items))))

@@ -11,7 +11,7 @@ use Rattle.certificate.proofs.Walking.{bound_is, still_is}
 use Rattle.certificate.proofs.tree_walk.ask.Goals as goal
 
 pub returns : goal.returns
-returns g c = λ position crossed settled steps at_node.
+returns g c = λ position crossed assigned steps at_node.
     let stops = visited steps in
     let tree = c.args.tree.now in
     let begun = c.args.begun.now in
@@ -22,9 +22,9 @@ returns g c = λ position crossed settled steps at_node.
     ∙ (ap (λ (left : Option ℕ). most_of left values) at_node.left
     ∙ sym (still_is (stops_of begun.kind) (length stops) values)) in
     let is : c.saturating_add-bound.result ≡ capped
-    (bound position (reached_in tree) (node_at tree begun settled steps)) =
+    (bound position (reached_in tree) (node_at tree begun assigned steps)) =
     c.saturating_add-bound.ensures ∙ (ap (λ (n : ℕ). capped (n + begun.later)) c.saturating_add.ensures
-    ∙ bound_is begun.value c.may_earn-still.result begun.later (revenue_of position settled) (worth position stops)
+    ∙ bound_is begun.value c.may_earn-still.result begun.later (revenue_of position assigned) (worth position stops)
     amount (may_all_earn position (reached_in tree) (drop begun.next (trains_of_tree tree))) at_node.value still
     at_node.later) in
     subst (λ (n : ℕ). g.D.Decider.decides c.args.decider.now n false c.decide.result c.decide.new.self) is

@@ -7,7 +7,7 @@ use Rattle.certificate.proofs.tree_walk.descend.Given as goal
 
 abbrev pub invariant-loop-place : goal.invariant-loop-place
 invariant-loop-place g l =
-    (position : Position) (settled : List TrainRun) → IsBetweenRuns position l.tree l.fn.value settled
+    (position : Position) (assigned : List TrainRun) → IsBetweenRuns position l.tree l.fn.value assigned
     → l.fn.first ≤ length (trains_of_tree l.tree) →
-    LeavesOver g.D.Decider.decides position l.tree l.fn.decider (node_from l.tree settled l.fn.first ∷ [])
-    l.decider (node_from l.tree settled l.place ∷ set_outs position l.tree settled l.fn.first (l.place - l.fn.first))
+    LeavesOver g.D.Decider.decides position l.tree l.fn.decider (node_from l.tree assigned l.fn.first ∷ [])
+    l.decider (node_from l.tree assigned l.place ∷ set_outs position l.tree assigned l.fn.first (l.place - l.fn.first))

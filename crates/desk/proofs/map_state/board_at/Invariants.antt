@@ -5,7 +5,7 @@ use Rattle.desk.specs.Laid.{laid_then}
 use Rattle.totals.specs.Trains.{phase_of}
 use Rattle.desk.proofs.map_state.board_at.Given as goal
 
--- what lies by the events so far
+-- the map state by the events so far
 abbrev pub invariant-loop-event : goal.invariant-loop-event
 invariant-loop-event l =
     l.board ≡ fold laid_then (map_state_of [] [] (phase_of l.view.events.now)) (take l.event-index l.view.events.now)

@@ -3,4 +3,5 @@ use Rattle.events.proofs.packed_run.run_of.Given as goal
 
 -- the places so far
 abbrev pub invariant-loop-place : goal.invariant-loop-place
-invariant-loop-place l = (l.places.items ≡ take l.place-index l.kept) × (2 ≤ length l.kept) × (length l.kept ≤ 280)
+invariant-loop-place l = (l.places.items ≡ take l.place-index l.packed) × (2 ≤ length l.packed)
+    × (length l.packed ≤ 280)

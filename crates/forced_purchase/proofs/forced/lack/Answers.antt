@@ -16,7 +16,7 @@ difference_kept price cash small within = omega (arith, ints)
 pub returns : goal.returns
 unfolding lack_of
 returns c =
-    let past = c.args.history.now in
+    let view = c.args.history.now in
     let price = c.price-cost.ensures in
     let cash = c.cash.ensures in
     ap (λ (z : ℤ). to_z w128 (of_z w128 (to_z w128 (of_z w128 z) -ℤ to_z w128 (of_z w128 c.cash.result))))
@@ -24,5 +24,5 @@ returns c =
     ∙ difference_kept c.price-cost.result c.cash.result (omega (arith, price.small)) cash.within
     ∙ ap (λ (n : ℕ). pos n -ℤ c.cash.result) (price.price
     ∙ ap cost_of (c.cheapest.ensures.purchase ∙ ap cheapest c.now.ensures.events))
-    ∙ ap (λ (z : ℤ). pos (cost_of (cheapest past.events)) -ℤ z)
-    (cash.sum ∙ ap (cash_of past.seats past.events) c.of_company.ensures)
+    ∙ ap (λ (z : ℤ). pos (cost_of (cheapest view.events)) -ℤ z)
+    (cash.sum ∙ ap (cash_of view.seats view.events) c.of_company.ensures)

@@ -6,7 +6,7 @@ use Rattle.totals.specs.LookBack.{Game}
 use Rattle.order_grammar.specs.declared.condition.Condition.{Condition}
 use Rattle.order_grammar.specs.declared.order.Order.TheVariants.{Raise}
 use Rattle.forced_purchase.proofs.Steps.{nothing, raise_obeyed, raised}
-use Rattle.purchases.proofs.Told.{told_obeyed}
+use Rattle.purchases.proofs.Recorded.{recorded_obeyed}
 use Rattle.forced_purchase.specs.Forced.{raise_rule}
 use Rattle.sheets.specs.Part.{line_with}
 use Rattle.forced_purchase.proofs.forced.rule_raise.Goals as goal
@@ -57,7 +57,7 @@ returns-in_ok-sell_block-clause-after c =
     (line_with c.args.line (Raise c.args.sale.company c.args.sale.shares)) c.args.sale
     (ap (λ (its : Option Condition). raise_rule c.args.due c.args.by c.args.history.now its c.args.sale)
     (sym c.as_ref.ensures.value) ∙ sym c.raise_rule-broken.ensures ∙ nothing c.raise_rule-broken.result none)
-    (told_obeyed c.args.history.now c.record.new.history c.args.by.president
+    (recorded_obeyed c.args.history.now c.record.new.history c.args.by.president
     (line_with c.args.line (Raise c.args.sale.company c.args.sale.shares))
     (Raise c.args.sale.company c.args.sale.shares) c.raise_rule-broken.result c.in_ok-record.ensures.ruling none)
     c.in_ok-sell_block.ensures.seats c.in_ok-sell_block.ensures.events

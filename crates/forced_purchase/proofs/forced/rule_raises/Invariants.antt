@@ -7,9 +7,9 @@ use Rattle.forced_purchase.proofs.forced.rule_raises.Given as goal
 abbrev pub invariant-loop-line : goal.invariant-loop-line
 invariant-loop-line l = record {
   seats : l.history.seats ≡ l.fn.history.seats;
-  after : after_raises l.due l.by l.history l.block.before ≡ after_raises l.due l.by l.fn.history l.fn.block.before;
+  after : after_raises l.due l.by l.history l.orders.before ≡ after_raises l.due l.by l.fn.history l.fn.orders.before;
   sound : IsSound l.history;
 }
 
 abbrev pub decreases-loop-line : goal.decreases-loop-line
-decreases-loop-line l = length l.block.before
+decreases-loop-line l = length l.orders.before

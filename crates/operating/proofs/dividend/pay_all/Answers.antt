@@ -20,13 +20,13 @@ loop-seat-preserved c =
     let revenue = c.args.revenue in
     let game = c.loop-seat.history in
     let seat = c.at-seat.result in
-    let told = c.in_ok-pay_for.ensures.after in
+    let recorded = c.in_ok-pay_for.ensures.after in
     record {
-      seats = ap (λ (game : Game). game.seats) told
+      seats = ap (λ (game : Game). game.seats) recorded
           ∙ paid_seats game company (holder.Seat seat) (dividend_of game.events company (place.Seat seat) revenue)
           ∙ so_far.seats;
       paid = seats_go_on company revenue game c.pay_for.new.history seat c.loop-seat.seat c.args.history.now.seats
-          (omega arith) c.at-seat.ensures told
+          (omega arith) c.at-seat.ensures recorded
           ∙ so_far.paid;
       sound = c.in_ok-pay_for.ensures.sound;
     }

@@ -1,4 +1,4 @@
--- A purchase is due where the company has no train, and can run by what lies.
+-- A purchase is due where the company has no train, and can run by the map state.
 use Rattle.std.proofs.Common.{◌≡◌, true, false, List, ap, sym, subst, ◌∙◌}
 use Rattle.board_state.specs.MapState.{MapState, position_of}
 use Rattle.legal_runs.specs.TwoTrain.{CanRun}

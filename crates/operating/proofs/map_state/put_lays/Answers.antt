@@ -1,9 +1,9 @@
--- The next is told, until there is none.
+-- The next is brought, until there is none.
 use Rattle.std.proofs.Common.{ap, sym, subst, ◌∙◌}
 use Rattle.std.specs.Prelude.{slice_get}
 use Rattle.board_state.specs.MapState.{MapState}
 use Rattle.totals.specs.Operating.{lays_of}
-use Rattle.operating.proofs.Prefixes.{all_told, next}
+use Rattle.operating.proofs.Prefixes.{next, prefix_is_all}
 use Rattle.operating.specs.MapState.{BeginsWith}
 use Rattle.operating.proofs.map_state.put_lays.Goals as goal
 
@@ -21,5 +21,5 @@ loop-lay-preserved c =
 pub returns-clause-lays : goal.returns-clause-lays
 returns-clause-lays c =
     let all = lays_of c.args.history.now.events in
-    all_told c.loop-lay.board.lays all c.loop-lay.invariant.begins
+    prefix_is_all c.loop-lay.board.lays all c.loop-lay.invariant.begins
     (ap (λ n. slice_get all n) (sym c.tiles_laid.ensures) ∙ sym c.laid.ensures ∙ c.in_default.is)

@@ -1,4 +1,4 @@
--- The first of them have been told, and the others are as they were.
+-- The first of them have been brought, and the others are as they were.
 use Rattle.std.proofs.Common.{◌≡◌, ◌-◌, length}
 use Rattle.totals.specs.Operating.{lays_of}
 use Rattle.operating.specs.MapState.{BeginsWith}

@@ -1,9 +1,9 @@
--- The next is told, until there is none.
+-- The next is brought, until there is none.
 use Rattle.std.proofs.Common.{ap, sym, subst, ◌∙◌}
 use Rattle.std.specs.Prelude.{slice_get}
 use Rattle.board_state.specs.MapState.{MapState}
 use Rattle.totals.specs.Operating.{tokens_of}
-use Rattle.operating.proofs.Prefixes.{all_told, next}
+use Rattle.operating.proofs.Prefixes.{next, prefix_is_all}
 use Rattle.operating.specs.MapState.{BeginsWith}
 use Rattle.operating.proofs.map_state.put_tokens.Goals as goal
 
@@ -21,5 +21,5 @@ loop-place-preserved c =
 pub returns-clause-tokens : goal.returns-clause-tokens
 returns-clause-tokens c =
     let all = tokens_of c.args.history.now.events in
-    all_told c.loop-place.board.tokens all c.loop-place.invariant.begins
+    prefix_is_all c.loop-place.board.tokens all c.loop-place.invariant.begins
     (ap (λ n. slice_get all n) (sym c.tokens_placed.ensures) ∙ sym c.token.ensures ∙ c.in_default.is)

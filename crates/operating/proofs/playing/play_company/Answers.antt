@@ -15,8 +15,8 @@ returns-clause-calls g c =
 
 pub returns-in_err-played-clause-calls : goal.returns-in_err-played-clause-calls
 returns-in_err-played-clause-calls g c =
-    let told = err_from_is_err_and c.from_residual-in_err-played.result c.from_residual-in_err-played.ensures.1 in
-    let is : c.from_residual-in_err-played.result ≡ Err c.in_err-played.field-0.0 = told.1 ∙ ap Err told.2 in
+    let fault_is = err_from_is_err_and c.from_residual-in_err-played.result c.from_residual-in_err-played.ensures.1 in
+    let is : c.from_residual-in_err-played.result ≡ Err c.in_err-played.field-0.0 = fault_is.1 ∙ ap Err fault_is.2 in
     subst (λ (met : Result Game RunnerFault). Makes g.R.Runner.earns c.args.runner.now
     (TurnCalls c.args.sheets.now c.args.round c.args.company c.args.history met) c.play_on.new.runner) (sym is)
     (subst (λ (game : Game). Makes g.R.Runner.earns c.args.runner.now

@@ -10,7 +10,7 @@ use Rattle.totals.specs.Shares.{president_of}
 use Rattle.history.specs.Sound.{IsSound}
 use Rattle.forced_purchase.specs.declared.operator.Operator.{Operator}
 use Rattle.operating.proofs.Begun.{HasBegun, called, played}
-use Rattle.operating.proofs.Blocks.{block_small}
+use Rattle.operating.proofs.CompanyOrders.{orders_small}
 use Rattle.operating.proofs.Played.{president_there, seats_stay}
 use Rattle.operating.proofs.Tables.{home_prefix}
 use Rattle.operating.specs.Calls.{Makes}
@@ -23,8 +23,8 @@ use Rattle.operating.proofs.playing.play_on.Goals as goal
 
 pub play-requires-clause-small : goal.play-requires-clause-small
 play-requires-clause-small g c =
-    subst AreSmall (sym c.block-orders.ensures) (block_small c.args.sheets.now c.args.round c.in-Some.president.0
-    c.args.company)
+    subst AreSmall (sym c.company_orders-orders.ensures) (orders_small c.args.sheets.now c.args.round
+    c.in-Some.president.0 c.args.company)
 
 pub play-requires-clause-at_table : goal.play-requires-clause-at_table
 play-requires-clause-at_table g c =
@@ -50,21 +50,21 @@ play-requires-clause-order g c =
 pub returns-clause-turn : goal.returns-clause-turn
 returns-clause-turn g c =
     let begun : HasBegun c.args.sheets.now c.args.round c.args.company c.in-Some.president c.place_home.new.history
-    c.begin-turn.result c.block-orders.result.before =
+    c.begin-turn.result c.company_orders-orders.result.before =
     record {
       is_by = c.begin-turn.ensures.by;
       is_round = c.begin-turn.ensures.round;
       is_game = c.begin-turn.ensures.history;
       is_start = c.begin-turn.ensures.progress;
-      are_lines = c.block-orders.ensures;
+      are_lines = c.company_orders-orders.ensures;
     }
     in
     let president : Some c.in-Some.president ≡ president_of c.args.table.history.events c.args.company =
     sym c.in-Some.is ∙ c.president-president.ensures
     ∙ ap (λ events. president_of events c.args.company) c.now.ensures.events in
     played c.args.sheets.now c.args.round c.args.company c.in-Some.president c.place_home.new.history
-    c.begin-turn.result c.block-orders.result.before begun c.args.table.history c.play.new.self.history president
-    c.in_ok-place_home.ensures.event c.in_ok-play.ensures.turn
+    c.begin-turn.result c.company_orders-orders.result.before begun c.args.table.history c.play.new.self.history
+    president c.in_ok-place_home.ensures.event c.in_ok-play.ensures.turn
 
 pub returns-clause-seats : goal.returns-clause-seats
 returns-clause-seats g c =
@@ -74,36 +74,36 @@ returns-clause-seats g c =
 pub returns-clause-calls : goal.returns-clause-calls
 returns-clause-calls g c =
     let begun : HasBegun c.args.sheets.now c.args.round c.args.company c.in-Some.president c.place_home.new.history
-    c.begin-turn.result c.block-orders.result.before =
+    c.begin-turn.result c.company_orders-orders.result.before =
     record {
       is_by = c.begin-turn.ensures.by;
       is_round = c.begin-turn.ensures.round;
       is_game = c.begin-turn.ensures.history;
       is_start = c.begin-turn.ensures.progress;
-      are_lines = c.block-orders.ensures;
+      are_lines = c.company_orders-orders.ensures;
     }
     in
     let president : Some c.in-Some.president ≡ president_of c.args.table.history.events c.args.company =
     sym c.in-Some.is ∙ c.president-president.ensures
     ∙ ap (λ events. president_of events c.args.company) c.now.ensures.events in
     called c.args.sheets.now c.args.round c.args.company c.in-Some.president c.place_home.new.history
-    c.begin-turn.result c.block-orders.result.before begun g.R.Runner.earns c.args.table.history
+    c.begin-turn.result c.company_orders-orders.result.before begun g.R.Runner.earns c.args.table.history
     (Ok c.play.new.self.history) c.args.runner.now c.play.new.runner president c.in_ok-place_home.ensures.event
     c.in_ok-play.ensures.calls
 
 pub returns-in_err-play-clause-calls : goal.returns-in_err-play-clause-calls
 returns-in_err-play-clause-calls g c =
-    let told = err_from_is_err_and c.from_residual-in_err-play.result c.from_residual-in_err-play.ensures.1 in
+    let fault_is = err_from_is_err_and c.from_residual-in_err-play.result c.from_residual-in_err-play.ensures.1 in
     let fault : RunnerFault = c.in_err-play.field-0.0 in
-    let is : c.from_residual-in_err-play.result ≡ Err fault = told.1 ∙ ap Err told.2 in
+    let is : c.from_residual-in_err-play.result ≡ Err fault = fault_is.1 ∙ ap Err fault_is.2 in
     let begun : HasBegun c.args.sheets.now c.args.round c.args.company c.in-Some.president c.place_home.new.history
-    c.begin-turn.result c.block-orders.result.before =
+    c.begin-turn.result c.company_orders-orders.result.before =
     record {
       is_by = c.begin-turn.ensures.by;
       is_round = c.begin-turn.ensures.round;
       is_game = c.begin-turn.ensures.history;
       is_start = c.begin-turn.ensures.progress;
-      are_lines = c.block-orders.ensures;
+      are_lines = c.company_orders-orders.ensures;
     }
     in
     let president : Some c.in-Some.president ≡ president_of c.args.table.history.events c.args.company =
@@ -113,5 +113,5 @@ returns-in_err-play-clause-calls g c =
     (TurnCalls c.args.sheets.now c.args.round c.args.company c.args.table.history (game_on met)) c.play.new.runner)
     (sym is)
     (called c.args.sheets.now c.args.round c.args.company c.in-Some.president c.place_home.new.history
-    c.begin-turn.result c.block-orders.result.before begun g.R.Runner.earns c.args.table.history (Err fault)
+    c.begin-turn.result c.company_orders-orders.result.before begun g.R.Runner.earns c.args.table.history (Err fault)
     c.args.runner.now c.play.new.runner president c.in_ok-place_home.ensures.event c.in_err-play.ensures.calls)

@@ -5,7 +5,7 @@ use Rattle.std.proofs.lemmas.Int.{to_z-of_z}
 use Rattle.privates.specs.Auction.{Bidder, auction_of, highest_bid, limit_by, second_limit, winner_among}
 use Rattle.privates.proofs.bidding.auction.Goals as goal
 
--- what the parts of an auction come to
+-- what the parts of an auction give
 whole : (bidders others : List Bidder) (first winner : Bidder) (price highest second : ℤ) → bidders ≡ first ∷ others
     → winner ≡ winner_among first others → highest ≡ highest_bid first others → second ≡ second_limit winner bidders
     → price ≡ int_max highest (int_min (limit_by winner) (second +ℤ pos 5)) → (winner.0, price) ≡ auction_of bidders

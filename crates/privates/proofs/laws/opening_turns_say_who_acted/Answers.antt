@@ -1,5 +1,5 @@
-use Rattle.privates.proofs.Acted.{opening_turns_tell}
+use Rattle.privates.proofs.Acted.{opening_turns_say}
 use Rattle.privates.proofs.laws.opening_turns_say_who_acted.Goals as goal
 
 pub returns : goal.returns
-returns c = opening_turns_tell
+returns c = opening_turns_say

@@ -10,7 +10,7 @@ pub returns : goal.returns
 returns c =
     let cash : SFits w128 c.cash.result = record { sfits = c.cash.type_inv } in
     let price : SFits w128 c.from.result = record { sfits = c.from.type_inv } in
-    let past = c.args.past.now in
+    let view = c.args.view.now in
     rw (to_z-of_z w128 c.cash.result cash, to_z-of_z w128 c.from.result price, c.from.ensures)
     (ap (λ (z : ℤ). lt_z z (pos c.args.price)) (c.cash.ensures.sum
-    ∙ ap (cash_of past.seats past.events.now) c.of_company.ensures))
+    ∙ ap (cash_of view.seats view.events.now) c.of_company.ensures))

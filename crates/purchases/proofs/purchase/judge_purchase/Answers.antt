@@ -6,9 +6,9 @@ use Rattle.purchases.proofs.purchase.judge_purchase.Goals as goal
 
 pub returns : goal.returns
 returns c =
-    let past = c.now.result in
+    let view = c.now.result in
     c.broken_by.ensures
-    ∙ ap (λ (seats : ℕ). train_judgement (record { seats = seats; events = past.events.now }) c.args.company
+    ∙ ap (λ (seats : ℕ). train_judgement (record { seats = seats; events = view.events.now }) c.args.company
     c.args.purchase) c.now.ensures.seats
     ∙ ap (λ (events : List Event). train_judgement (record { seats = c.args.history.now.seats; events = events })
     c.args.company c.args.purchase) c.now.ensures.events

@@ -57,7 +57,7 @@ loop-spot-smaller g c =
     c.in-Some.spot
     c.in_ok-look.ensures.length_kept c.in_ok-look.ensures.grown c.in_ok-look.ensures.balance c.in-Some.ensures.items
 
--- a list of which nothing can be taken is empty
+-- a list that nothing can be taken of is empty
 none_left : (waiting : List Spot) → (0 < length waiting → false ≡ true) → waiting ≡ []
 none_left [] none = refl
 none_left (spot ∷ waiting) none = let wrong : false ≡ true = none (omega arith) in cc

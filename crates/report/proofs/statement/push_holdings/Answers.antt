@@ -6,6 +6,6 @@ use Rattle.tables.specs.Roster.{companies}
 
 pub loop-company-preserved : goal.loop-company-preserved
 loop-company-preserved c =
-    elements_step (λ company. shares_column c.args.snapshot.now.past.events.now company (OfSeat c.args.seat))
+    elements_step (λ company. shares_column c.args.snapshot.now.view.events.now company (OfSeat c.args.seat))
     companies c.loop-company.company-index _ _ _ _
     c.loop-company-test.true c.loop-company.invariant c.in_ok-push_shares.ensures

@@ -8,5 +8,5 @@ use Rattle.tables.specs.Roster.{companies}
 -- the companies so far
 abbrev pub invariant-loop-company : goal.invariant-loop-company
 invariant-loop-company l =
-    l.out.items ≡ l.fn.out.items ++ flat_map (λ company. shares_column l.snapshot.past.events.now company
+    l.out.items ≡ l.fn.out.items ++ flat_map (λ company. shares_column l.snapshot.view.events.now company
     (OfSeat l.seat)) (take l.company-index companies)

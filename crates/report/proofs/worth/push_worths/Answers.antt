@@ -6,15 +6,15 @@ use Rattle.report.proofs.worth.push_worths.Goals as goal
 
 pub loop-seat-preserved : goal.loop-seat-preserved
 loop-seat-preserved c =
-    seats_step (λ seat. worth_line c.args.sheets.now c.args.past.now.seats c.args.past.now.events.now
+    seats_step (λ seat. worth_line c.args.sheets.now c.args.view.now.seats c.args.view.now.events.now
     (record { 0 = seat })) c.loop-seat.seat _ _ _
     c.loop-seat.invariant c.in_ok-push_worth.ensures
 
 pub returns : goal.returns
 unfolding worth_lines
 returns c =
-    let past = c.args.past.now in
-    let all : c.loop-seat.seat ≡ past.seats = omega arith in
+    let view = c.args.view.now in
+    let all : c.loop-seat.seat ≡ view.seats = omega arith in
     c.loop-seat.invariant
-    ∙ ap (λ n. c.args.out.now.items ++ flat_map (λ seat. worth_line c.args.sheets.now past.seats past.events.now
+    ∙ ap (λ n. c.args.out.now.items ++ flat_map (λ seat. worth_line c.args.sheets.now view.seats view.events.now
     (record { 0 = seat })) (range_with_len 0 n)) all

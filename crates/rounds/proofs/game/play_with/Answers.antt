@@ -16,8 +16,8 @@ returns-in_err-end-clause-calls g c =
     let file = c.args.sheets.now in
     let at = c.loop-play.invariant in
     let fault = c.in_err-end.field-0.0 in
-    let told = err_from_is_err_and c.from_residual-in_err-end.result c.from_residual-in_err-end.ensures.1 in
-    let is : c.from_residual-in_err-end.result ≡ Err fault = told.1 ∙ ap Err told.2 in
+    let fault_is = err_from_is_err_and c.from_residual-in_err-end.result c.from_residual-in_err-end.ensures.1 in
+    let is : c.from_residual-in_err-end.result ≡ Err fault = fault_is.1 ∙ ap Err fault_is.2 in
     let broken = breaks_off file at.here c.loop-play.play c.step.new.self fault at.file at.there
     c.in_err-end.ensures.step in
     let course = called_between g.R.Runner.earns file at.here (Err fault) c.loop-play.play c.step.new.self _ _ at.file

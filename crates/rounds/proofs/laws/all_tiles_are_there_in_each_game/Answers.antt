@@ -1,7 +1,7 @@
-use Rattle.rounds.proofs.Tiles.{tiles_stand}
+use Rattle.rounds.proofs.Tiles.{tiles_are_there}
 use Rattle.rounds.proofs.laws.all_tiles_are_there_in_each_game.Goals as goal
 
 pub returns : goal.returns
 returns c =
     let laws = c.all_tiles_are_there.ensures in
-    tiles_stand laws.first laws.others laws.turns
+    tiles_are_there laws.first laws.others laws.turns

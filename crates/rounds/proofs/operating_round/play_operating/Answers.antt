@@ -22,18 +22,18 @@ returns-clause-round g c =
 
 pub returns-in_err-record_revenues-clause-calls : goal.returns-in_err-record_revenues-clause-calls
 returns-in_err-record_revenues-clause-calls g c =
-    let told = err_from_is_err_and c.from_residual-in_err-record_revenues.result
+    let fault_is = err_from_is_err_and c.from_residual-in_err-record_revenues.result
     c.from_residual-in_err-record_revenues.ensures.1 in
-    let is_fault : c.from_residual-in_err-record_revenues.result ≡ Err Memory = told.1 ∙ ap Err told.2 in
+    let is_fault : c.from_residual-in_err-record_revenues.result ≡ Err Memory = fault_is.1 ∙ ap Err fault_is.2 in
     subst (λ (met : Result Game PlayFault). Makes g.R.Runner.earns c.args.runner.now
     (OperatingCalls c.args.sheets.now c.args.round c.args.history met) c.args.runner.now) (sym is_fault)
     ([], inl (refl, refl), refl)
 
 pub returns-in_err-record_all_left-clause-calls : goal.returns-in_err-record_all_left-clause-calls
 returns-in_err-record_all_left-clause-calls g c =
-    let told = err_from_is_err_and c.from_residual-in_err-record_all_left.result
+    let fault_is = err_from_is_err_and c.from_residual-in_err-record_all_left.result
     c.from_residual-in_err-record_all_left.ensures.1 in
-    let is_fault : c.from_residual-in_err-record_all_left.result ≡ Err Memory = told.1 ∙ ap Err told.2 in
+    let is_fault : c.from_residual-in_err-record_all_left.result ≡ Err Memory = fault_is.1 ∙ ap Err fault_is.2 in
     let is = round_opened c.args.sheets.now c.args.round c.args.history c.begin.new.history
     c.rule_standing_lines.new.history c.record_revenues.new.self c.requires.seats c.in_ok-begin.ensures.event
     c.in_ok-rule_standing_lines.ensures.seats c.in_ok-rule_standing_lines.ensures.events
@@ -47,8 +47,9 @@ returns-in_err-record_all_left-clause-calls g c =
 
 pub returns-in_err-history-clause-calls : goal.returns-in_err-history-clause-calls
 returns-in_err-history-clause-calls g c =
-    let told = err_from_is_err_and c.from_residual-in_err-history.result c.from_residual-in_err-history.ensures.1 in
-    let is_fault : c.from_residual-in_err-history.result ≡ Err c.in_err-history.field-0.0 = told.1 ∙ ap Err told.2 in
+    let fault_is = err_from_is_err_and c.from_residual-in_err-history.result c.from_residual-in_err-history.ensures.1 in
+    let is_fault : c.from_residual-in_err-history.result ≡ Err c.in_err-history.field-0.0 = fault_is.1
+    ∙ ap Err fault_is.2 in
     let is = round_opened c.args.sheets.now c.args.round c.args.history c.begin.new.history
     c.rule_standing_lines.new.history c.record_revenues.new.self c.requires.seats c.in_ok-begin.ensures.event
     c.in_ok-rule_standing_lines.ensures.seats c.in_ok-rule_standing_lines.ensures.events

@@ -30,8 +30,8 @@ take_turn-requires-clause-floated g c =
 -- no board, no turn: no call was made
 pub returns-in_err-table-clause-calls : goal.returns-in_err-table-clause-calls
 returns-in_err-table-clause-calls g c =
-    let told = err_from_is_err_and c.from_residual.result c.from_residual.ensures.1 in
-    let is : c.from_residual.result ≡ Err Memory = told.1 ∙ ap Err told.2 in
+    let fault_is = err_from_is_err_and c.from_residual.result c.from_residual.ensures.1 in
+    let is : c.from_residual.result ≡ Err Memory = fault_is.1 ∙ ap Err fault_is.2 in
     subst (λ (met : Result Game PlayFault). Makes g.R.Runner.earns c.args.runner.now
     (TurnsCall c.args.sheets.now c.args.round c.args.history met) c.args.runner.now) (sym is)
     (no_more g.R.Runner.earns (NextCalls c.args.sheets.now c.args.round) (Unasked Memory AreOver) c.args.history
@@ -89,8 +89,8 @@ returns-clause-turns g c =
 
 pub returns-in_err-table-2-clause-calls : goal.returns-in_err-table-2-clause-calls
 returns-in_err-table-2-clause-calls g c =
-    let told = err_from_is_err_and c.from_residual-in_err-table-2.result c.from_residual-in_err-table-2.ensures.1 in
-    let is : c.from_residual-in_err-table-2.result ≡ Err c.in_err-table-2.field-0.0 = told.1 ∙ ap Err told.2 in
+    let fault_is = err_from_is_err_and c.from_residual-in_err-table-2.result c.from_residual-in_err-table-2.ensures.1 in
+    let is : c.from_residual-in_err-table-2.result ≡ Err c.in_err-table-2.field-0.0 = fault_is.1 ∙ ap Err fault_is.2 in
     subst (λ (met : Result Game PlayFault). Makes g.R.Runner.earns c.args.runner.now
     (TurnsCall c.args.sheets.now c.args.round c.args.history met) c.take_turn.new.runner) (sym is)
     (c.loop-company.invariant.calls (Err c.in_err-table-2.field-0.0) _

@@ -1,4 +1,4 @@
--- The pieces of the steps in the hexes before the next one are there.
+-- The segments of the steps in the hexes before the next one are there.
 use Rattle.search_task.specs.Described.{LaidBefore}
 use Rattle.search_task.proofs.spots.all_segments.Given as goal
 

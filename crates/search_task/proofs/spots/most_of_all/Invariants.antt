@@ -1,4 +1,4 @@
--- The trains before the next one are told.
+-- The trains before the next one are listed.
 use Rattle.std.proofs.Common.{◌≡◌, take}
 use Rattle.search_task.specs.Described.{most_of_all}
 use Rattle.search_task.proofs.spots.most_of_all.Given as goal

@@ -22,8 +22,8 @@ recorded_is : (seat : Seat) (line : Numbered) (fault : Fault) (old new : Game)
     → placed has_no_place line.reading ≡ Err fault →
     new ≡ with_event old (event.Ruled seat line.number (Faulty fault))
     → new.events ≡ after_standing_line seat old.events line
-recorded_is seat line fault old new is told =
-    ap (λ (game : Game). game.events) told
+recorded_is seat line fault old new is recorded =
+    ap (λ (game : Game). game.events) recorded
     ∙ ap (λ (fault : Fault). old.events ++ event.Ruled seat line.number (Faulty fault) ∷ [])
     (sym (fault_is line.reading fault is))
 

@@ -22,14 +22,14 @@ loop-seat-preserved g c =
     let i = c.loop-seat.seat in
     let d = c.index-unruled-seat.result in
     let old = c.loop-seat.history.events in
-    let told = ap (λ (game : Game). game.events) c.in_ok-record_seat_left.ensures.told in
+    let said = ap (λ (game : Game). game.events) c.in_ok-record_seat_left.ensures.recorded in
     let ready : IsReady (get_or all i d) = All-get_or IsReady all i d c.loop-seat-test.true c.requires.ready in
     record {
-      seats = ap (λ (game : Game). game.seats) c.in_ok-record_seat_left.ensures.told ∙ c.loop-seat.invariant.seats;
+      seats = ap (λ (game : Game). game.seats) c.in_ok-record_seat_left.ensures.recorded ∙ c.loop-seat.invariant.seats;
       events =
           left_goes_on with_left left_first old c.record_seat_left.new.history.events i c.count.result
-          (get_or all i d) (drop (i + 1) all) (told ∙ ap (λ (s : Seat). old ++ with_left s c.count.result [])
-          c.at.ensures) (c.count.ensures ∙ ap lines_in c.index-unruled-seat.is) ready.stands
+          (get_or all i d) (drop (i + 1) all) (said ∙ ap (λ (s : Seat). old ++ with_left s c.count.result [])
+          c.at.ensures) (c.count.ensures ∙ ap lines_in c.index-unruled-seat.is) ready.is_at_head
           ∙ ap (λ (left : List Parts). old ++ left_from i (map written_turns_of left))
           (sym (next_sheet all i d c.loop-seat-test.true))
           ∙ c.loop-seat.invariant.events;

@@ -9,20 +9,20 @@ use Rattle.umpire.proofs.migration.put_body.Goals.{then-is_if_line+in_ok-put+in_
 pub loop-piece-init : goal.loop-piece-init
 loop-piece-init g c = record { putting = putting_none _ _ _; unfailed = c.requires }
 
-pub returns-in_err-put-clause-front : goal.returns-in_err-put-clause-front
-returns-in_err-put-clause-front g c =
+pub returns-in_err-put-clause-prefix : goal.returns-in_err-put-clause-prefix
+returns-in_err-put-clause-prefix g c =
     let at = c.loop-piece.invariant.putting in
     on_err c.from_residual.result
-    (prefix_of_stretch _ _ _ _ _ _ _ _ _ at (prefix_by_rest _ at.stretch _ at.is_kept) c.in_err-put.ensures.front)
+    (prefix_of_stretch _ _ _ _ _ _ _ _ _ at (prefix_by_rest _ at.stretch _ at.is_kept) c.in_err-put.ensures.prefix)
 
-pub returns-in_err-put-2-clause-front : goal.returns-in_err-put-2-clause-front
-returns-in_err-put-2-clause-front g c =
+pub returns-in_err-put-2-clause-prefix : goal.returns-in_err-put-2-clause-prefix
+returns-in_err-put-2-clause-prefix g c =
     let at = c.loop-piece.invariant.putting in
     let h = c.in-Some.ensures in
     on_err c.from_residual-in_err-put-2.result
     (prefix_of_x _ _ _ _ _ _ _ _ _ _ _ _ _ at (first_ended _ _ _ h.lines h.rest)
     (sym c.is_if_line.ensures ∙ c.if-is_if_line.true) (prefix_by_rest _ at.stretch _ at.is_kept)
-    c.in_ok-put.ensures.ok c.in_err-put-2.ensures.front)
+    c.in_ok-put.ensures.ok c.in_err-put-2.ensures.prefix)
 
 pub behind-kept-requires : goal.behind-kept-requires
 behind-kept-requires g c = let h = c.in-Some.ensures in line_within _ _ _ (first_ended _ _ _ h.lines h.rest)
@@ -47,11 +47,11 @@ loop-piece-preserved g c =
           })
     ]
 
-pub returns-in_err-put-3-clause-front : goal.returns-in_err-put-3-clause-front
-returns-in_err-put-3-clause-front g c =
+pub returns-in_err-put-3-clause-prefix : goal.returns-in_err-put-3-clause-prefix
+returns-in_err-put-3-clause-prefix g c =
     on_err c.from_residual-in_err-put-3.result
     (prefix_of_rest _ _ _ _ _ _ _ _ c.loop-piece.invariant.putting c.in_default.ensures.lines
-    c.in_err-put-3.ensures.front)
+    c.in_err-put-3.ensures.prefix)
 
 pub returns-clause-ok : goal.returns-clause-ok
 returns-clause-ok g c =

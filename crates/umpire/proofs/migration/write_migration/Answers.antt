@@ -15,7 +15,7 @@ returns-in_err-write_refusal-in-Err g c =
     record {
       ok = rw given.1 tt;
       unfailed = rw given.1 tt;
-      err = rw (given.1, given.2) (migration_cut _ _ _ _ _ _ known.err (refused_goes _ _ is) known.front);
+      err = rw (given.1, given.2) (migration_cut _ _ _ _ _ _ known.err (refused_goes _ _ is) known.prefix);
     }
 
 pub returns-in-Ok-One-clause-ok : goal.returns-in-Ok-One-clause-ok
@@ -31,7 +31,7 @@ returns-in-Ok-One-clause-err g c =
     let version = sym c.in-Ok-One.field-0-is ∙ known.version in
     let file = c.args.file.now in
     cut_by c.write_in_two.result file _ _ _ _ (accepted_goes file known.accepted
-    ∙ one_goes file known.accepted version) c.write_in_two.ensures.err c.write_in_two.ensures.front
+    ∙ one_goes file known.accepted version) c.write_in_two.ensures.err c.write_in_two.ensures.prefix
 
 pub returns-in-Ok-Two-clause-ok : goal.returns-in-Ok-Two-clause-ok
 returns-in-Ok-Two-clause-ok g c =
@@ -47,4 +47,4 @@ returns-in-Ok-Two-clause-err g c =
     let file = c.args.file.now in
     cut_by c.write_text.result file _ _ _ _ (accepted_goes file known.accepted ∙ two_stays file known.accepted version)
     (write_failed c.write_text.result _ c.write_text.ensures.fault c.write_text.ensures.failed)
-    c.write_text.ensures.front
+    c.write_text.ensures.prefix

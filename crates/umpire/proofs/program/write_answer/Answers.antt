@@ -18,7 +18,7 @@ returns-in_err-write_refusal-in-Err g c =
     record {
       ok = rw given.1 tt;
       unfailed = rw given.1 tt;
-      err = rw (given.1, given.2) (stops_short _ _ _ _ _ known.err (cut_in_refusal _ _ _ _ is known.front));
+      err = rw (given.1, given.2) (stops_short _ _ _ _ _ known.err (cut_in_refusal _ _ _ _ is known.prefix));
     }
 
 pub returns-in_ok-write_refusal-in-Err : goal.returns-in_ok-write_refusal-in-Err

@@ -1,13 +1,13 @@
 use Rattle.std.proofs.Common.{◌≡◌, Ok, refl, sym, subst}
 use Rattle.rounds.specs.Steps.{IsUnbroken, PlaysNext, StepLeads}
 use Rattle.rounds.specs.declared.steps.Step.{Step}
-use Rattle.umpire.proofs.Parts.{more_prefix, on_err, tells_more, tells_none, told_prefix}
+use Rattle.umpire.proofs.Parts.{more_prefix, on_err, writes_more, writes_none, written_prefix}
 use Rattle.umpire.proofs.program.write_rounds.Goals as goal
 
 pub loop-play-init : goal.loop-play-init
 loop-play-init g c =
     record {
-      told = tells_none c.args.play.now.file c.args.play.now _ c.requires.started;
+      rounds = writes_none c.args.play.now.file c.args.play.now _ c.requires.started;
       unbroken = subst IsUnbroken (sym c.requires.started) refl;
       unfailed = c.requires.unfailed;
     }
@@ -21,24 +21,25 @@ loop-play-preserved g c =
     let bytes = rw c.as_slice.ensures.value at c.in_ok-write_text.ensures.ok in
     let written = rw c.in_ok-text.ensures at bytes in
     record {
-      told = tells_more _ _ _ _ _ _ _ c.loop-play.invariant.told step written;
+      rounds = writes_more _ _ _ _ _ _ _ c.loop-play.invariant.rounds step written;
       unbroken = subst IsUnbroken (sym step.after) refl;
       unfailed = c.in_ok-write_text.ensures.unfailed;
     }
 
-pub returns-in_err-step-clause-front : goal.returns-in_err-step-clause-front
-returns-in_err-step-clause-front g c = on_err c.from_residual.result (told_prefix _ _ _ _ c.loop-play.invariant.told)
+pub returns-in_err-step-clause-prefix : goal.returns-in_err-step-clause-prefix
+returns-in_err-step-clause-prefix g c = on_err c.from_residual.result (written_prefix _ _ _ _
+    c.loop-play.invariant.rounds)
 
-pub returns-in_err-text-clause-front : goal.returns-in_err-text-clause-front
-returns-in_err-text-clause-front g c = on_err c.from_residual-in_err-text.result
-    (told_prefix _ _ _ _ c.loop-play.invariant.told)
+pub returns-in_err-text-clause-prefix : goal.returns-in_err-text-clause-prefix
+returns-in_err-text-clause-prefix g c = on_err c.from_residual-in_err-text.result
+    (written_prefix _ _ _ _ c.loop-play.invariant.rounds)
 
-pub returns-in_err-write_text-clause-front : goal.returns-in_err-write_text-clause-front
-returns-in_err-write_text-clause-front g c =
+pub returns-in_err-write_text-clause-prefix : goal.returns-in_err-write_text-clause-prefix
+returns-in_err-write_text-clause-prefix g c =
     let step : PlaysNext c.loop-play.play c.in-Played.field-0 c.step.new.play =
     subst (λ (step : Step). StepLeads c.loop-play.play (Ok step) c.step.new.play) c.in-Played.is
     c.in_ok-step.ensures.step
     in
-    let bytes = rw c.as_slice.ensures.value at c.in_err-write_text.ensures.front in
-    let front = rw c.in_ok-text.ensures at bytes in
-    on_err c.from_residual-in_err-write_text.result (more_prefix _ _ _ _ _ _ _ c.loop-play.invariant.told step front)
+    let bytes = rw c.as_slice.ensures.value at c.in_err-write_text.ensures.prefix in
+    let prefix = rw c.in_ok-text.ensures at bytes in
+    on_err c.from_residual-in_err-write_text.result (more_prefix _ _ _ _ _ _ _ c.loop-play.invariant.rounds step prefix)

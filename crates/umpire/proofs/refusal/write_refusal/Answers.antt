@@ -1,5 +1,5 @@
 use Rattle.umpire.proofs.Parts.{none_of, on_err}
 use Rattle.umpire.proofs.refusal.write_refusal.Goals as goal
 
-pub returns-in_err-line-clause-front : goal.returns-in_err-line-clause-front
-returns-in_err-line-clause-front g c = on_err c.from_residual.result (none_of _ _)
+pub returns-in_err-line-clause-prefix : goal.returns-in_err-line-clause-prefix
+returns-in_err-line-clause-prefix g c = on_err c.from_residual.result (none_of _ _)

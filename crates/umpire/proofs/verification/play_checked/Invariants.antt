@@ -6,20 +6,20 @@ use Rattle.rounds.specs.Steps.{IsUnbroken, places_ahead, started}
 use Rattle.rounds.specs.StepsCall.{StepsCall}
 use Rattle.umpire.proofs.verification.play_checked.Given as goal
 
--- some steps have led here; their calls were answered by the groups that are used, the texts of their rounds were told,
--- and no fault has broken play off
-pub record Checking (l : goal.Live-loop-told) : Type 0 where
+-- some steps have led here; their calls were answered by the groups that are used, the texts of their rounds were
+-- written, and no fault has broken play off
+pub record Checking (l : goal.Live-loop-texts) : Type 0 where
   pub steps : ℕ
   pub calls : List Call
   pub called : StepsCall steps l.fn.play.file l.play calls
   pub made : AreMade AnswersByNext l.fn.groups.items calls l.checked
   pub rounds : ℕ
-  pub told : IsTextOfSteps rounds (started l.fn.play.file) l.play l.told.items
+  pub is_text : IsTextOfSteps rounds (started l.fn.play.file) l.play l.texts.items
   pub unbroken : IsUnbroken l.play
 
-abbrev pub invariant-loop-told : goal.invariant-loop-told
-invariant-loop-told l = Checking l
+abbrev pub invariant-loop-texts : goal.invariant-loop-texts
+invariant-loop-texts l = Checking l
 
 -- each round has a later place than the one before
-abbrev pub decreases-loop-told : goal.decreases-loop-told
-decreases-loop-told l = places_ahead l.play
+abbrev pub decreases-loop-texts : goal.decreases-loop-texts
+decreases-loop-texts l = places_ahead l.play

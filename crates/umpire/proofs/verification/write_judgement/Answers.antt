@@ -15,12 +15,12 @@ returns-in-Ok-clause-ok g c =
     (ap (λ (play : Underway). play.file) c.in_ok-play.ensures) c.in-Ok.ensures.judged in
     let all = subst (λ (groups : List (Option Group)). HasAllGroups c.args.sheets.now groups) c.in_ok-groups.ensures
     of_file in
-    on_ok_weaker c.write_told.result (report_answers c.args.sheets.now _ _ _ all) c.write_told.ensures.ok
+    on_ok_weaker c.write_played.result (report_answers c.args.sheets.now _ _ _ all) c.write_played.ensures.ok
 
 pub returns-in-Ok-clause-err : goal.returns-in-Ok-clause-err
 returns-in-Ok-clause-err g c =
-    IfErr-weaker c.write_told.result _ _ (λ fault is. writing_stops c.args.sheets.now _ _ _ _ fault is)
-    c.write_told.ensures.err
+    IfErr-weaker c.write_played.result _ _ (λ fault is. writing_stops c.args.sheets.now _ _ _ _ fault is)
+    c.write_played.ensures.err
 
 pub returns-clause-err : goal.returns-clause-err
 returns-clause-err g c =

@@ -1,4 +1,4 @@
--- The index goes on to have what lies.
+-- The index goes on to have the map state.
 use Rattle.std.proofs.Common.{arith, map}
 use Rattle.std.proofs.lemmas.List.{length-map}
 use Rattle.board.proofs.Indexed.{index_with_lay}

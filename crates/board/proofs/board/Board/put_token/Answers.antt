@@ -1,4 +1,4 @@
--- The index goes on to have what lies.
+-- The index goes on to have the map state.
 use Rattle.std.proofs.Common.{◌∙◌, [], ◌∷◌, length, arith, ap, length-append, map}
 use Rattle.board.proofs.Indexed.{counts_low, index_with_token}
 use Rattle.board.specs.Kept.{held}

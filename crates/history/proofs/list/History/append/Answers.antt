@@ -19,6 +19,6 @@ invariant_of-self-2 c =
           c.push_any.ensures.kept,
       all_kept token_placed events c.args.event _ _ _ (c.reserve-5.ensures.items ∙ c.self.invariant.3) c.token.ensures
           c.push_any-2.ensures.kept,
-      offers_applied events c.args.event _ _ c.apply_offer.ensures.noted
+      offers_applied events c.args.event _ _ c.apply_offer.ensures.applied
           (subst (λ offers. AreOffersOf offers events) (sym c.reserve-3.ensures.items) c.self.invariant.4),
     )

@@ -11,12 +11,12 @@ pub loop-private-preserved : goal.loop-private-preserved
 loop-private-preserved c =
     let seats = c.args.self.now.seats in
     let private : Private = get_or privates c.loop-private.private-index SchuylkillValley in
-    let told = c.in_ok-record_revenue.ensures.ok in
-    let paid = ap (λ (game : Game). game.events) told
+    let said = c.in_ok-record_revenue.ensures.ok in
+    let paid = ap (λ (game : Game). game.events) said
     ∙ ap (λ (n : ℕ). paid_to_owner n c.loop-private.self.events private
     (owner_of c.loop-private.self.events private)) c.loop-private.invariant.seats in
     record {
-      seats = ap (λ (game : Game). game.seats) told ∙ c.loop-private.invariant.seats;
+      seats = ap (λ (game : Game). game.seats) said ∙ c.loop-private.invariant.seats;
       events = revenues_go_on seats seats c.loop-private.self.events c.record_revenue.new.self.events privates
           c.loop-private.private-index SchuylkillValley c.loop-private-test.true refl paid
           ∙ c.loop-private.invariant.events;

@@ -1,8 +1,8 @@
 use Rattle.std.proofs.Common.{Ok, Err, sym, ap, ◌∙◌}
 use Rattle.std.proofs.lemmas.Result.{err_from_is_err_and}
 use Rattle.board_state.specs.MapState.{position_of}
-use Rattle.operating.proofs.BestCalls.{told_fault, told_revenue}
-use Rattle.operating.proofs.BestLemmas.{same_sum, small_sum, told_greatest}
+use Rattle.operating.proofs.BestCalls.{answered_fault, answered_revenue}
+use Rattle.operating.proofs.BestLemmas.{answered_greatest, same_sum, small_sum}
 use Rattle.operating.specs.Best.{trains_now}
 use Rattle.operating.proofs.company_turn.CompanyTurn.best_revenue.Goals as goal
 
@@ -13,32 +13,32 @@ amount-requires-clause-most g c =
 
 pub returns-clause-greatest : goal.returns-clause-greatest
 returns-clause-greatest g c =
-    (told_greatest c.a_greatest_exists.ensures c.one_greatest.ensures _ _ c.args.self.now.by.company _ _
+    (answered_greatest c.a_greatest_exists.ensures c.one_greatest.ensures _ _ c.args.self.now.by.company _ _
     c.in_ok-money.money c.amount.result c.in_ok-update_map_state.ensures.map_state
     (c.as_slice.ensures ∙ c.in_ok-trains.ensures ∙ ap (λ events. trains_now events c.args.self.now.by.company)
     c.now.ensures.events) c.keeps_laws.ensures c.amount.ensures c.in_ok-money.ensures.greatest).0
 
 pub returns-clause-small : goal.returns-clause-small
 returns-clause-small g c =
-    (told_greatest c.a_greatest_exists.ensures c.one_greatest.ensures _ _ c.args.self.now.by.company _ _
+    (answered_greatest c.a_greatest_exists.ensures c.one_greatest.ensures _ _ c.args.self.now.by.company _ _
     c.in_ok-money.money c.amount.result c.in_ok-update_map_state.ensures.map_state
     (c.as_slice.ensures ∙ c.in_ok-trains.ensures ∙ ap (λ events. trains_now events c.args.self.now.by.company)
     c.now.ensures.events) c.keeps_laws.ensures c.amount.ensures c.in_ok-money.ensures.greatest).1
 
 pub returns-in_err-money-clause-calls : goal.returns-in_err-money-clause-calls
 returns-in_err-money-clause-calls g c =
-    let told = err_from_is_err_and c.from_residual-in_err-money.result c.from_residual-in_err-money.ensures.1 in
-    told_fault g.R.Runner.earns c.args.self.now.history.events _ c.args.self.now.round c.args.self.now.by.company _
+    let fault_is = err_from_is_err_and c.from_residual-in_err-money.result c.from_residual-in_err-money.ensures.1 in
+    answered_fault g.R.Runner.earns c.args.self.now.history.events _ c.args.self.now.round c.args.self.now.by.company _
     c.earn.result _ _ c.args.runner.now c.earn.new.self
     (ap position_of c.in_ok-update_map_state.ensures.map_state)
     (c.as_slice.ensures ∙ c.in_ok-trains.ensures ∙ ap (λ events. trains_now events c.args.self.now.by.company)
     c.now.ensures.events)
-    (c.in_err-money.was ∙ ap Err (sym told.2)) told.1 c.earn.ensures.earns
+    (c.in_err-money.was ∙ ap Err (sym fault_is.2)) fault_is.1 c.earn.ensures.earns
 
 pub returns-clause-calls : goal.returns-clause-calls
 returns-clause-calls g c =
-    told_revenue g.R.Runner.earns c.args.self.now.history.events _ c.args.self.now.round c.args.self.now.by.company _
-    c.earn.result _ c.args.runner.now c.earn.new.self
+    answered_revenue g.R.Runner.earns c.args.self.now.history.events _ c.args.self.now.round c.args.self.now.by.company
+    _ c.earn.result _ c.args.runner.now c.earn.new.self
     (ap position_of c.in_ok-update_map_state.ensures.map_state)
     (c.as_slice.ensures ∙ c.in_ok-trains.ensures ∙ ap (λ events. trains_now events c.args.self.now.by.company)
     c.now.ensures.events)

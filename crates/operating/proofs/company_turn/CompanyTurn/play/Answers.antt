@@ -5,7 +5,7 @@ use Rattle.legal_runs.specs.declared.runner.RunnerFault.{RunnerFault}
 use Rattle.legal_runs.specs.declared.runner.RunnerFault.TheVariants.{Memory}
 use Rattle.forced_purchase.specs.declared.operator.Operator.{Operator}
 use Rattle.operating.proofs.Begun.{ended}
-use Rattle.operating.proofs.Going.{after_settling}
+use Rattle.operating.proofs.Going.{after_withholding}
 use Rattle.operating.proofs.Played.{withheld_seats}
 use Rattle.operating.proofs.Tables.{end_prefix}
 use Rattle.operating.proofs.TurnCalled.{orders_broken_off, orders_called}
@@ -39,7 +39,7 @@ end-requires-clause-at_table g c =
 
 pub end-requires-clause-order : goal.end-requires-clause-order
 end-requires-clause-order g c =
-    after_settling c.rule_lines.new.self c.withhold_if_unpaid.new.self c.in_ok-withhold_if_unpaid.ensures.turn
+    after_withholding c.rule_lines.new.self c.withhold_if_unpaid.new.self c.in_ok-withhold_if_unpaid.ensures.turn
     c.in_ok-withhold_if_unpaid.ensures.order
 
 pub returns-clause-turn : goal.returns-clause-turn
@@ -71,9 +71,9 @@ returns-clause-prefix g c =
 
 pub returns-in_err-withhold_if_unpaid-clause-calls : goal.returns-in_err-withhold_if_unpaid-clause-calls
 returns-in_err-withhold_if_unpaid-clause-calls g c =
-    let told = err_from_is_err_and c.from_residual-in_err-withhold_if_unpaid.result
+    let fault_is = err_from_is_err_and c.from_residual-in_err-withhold_if_unpaid.result
     c.from_residual-in_err-withhold_if_unpaid.ensures.1 in
-    let is : c.from_residual-in_err-withhold_if_unpaid.result ≡ Err Memory = told.1 ∙ ap Err told.2 in
+    let is : c.from_residual-in_err-withhold_if_unpaid.result ≡ Err Memory = fault_is.1 ∙ ap Err fault_is.2 in
     let old = c.args.self.now in
     subst (λ (met : Result _ RunnerFault). Makes g.R.Runner.earns c.args.runner.now
     (OrdersCall old.by old.round c.args.orders.now.before (state old)
@@ -84,8 +84,8 @@ returns-in_err-withhold_if_unpaid-clause-calls g c =
 
 pub returns-in_err-end-clause-calls : goal.returns-in_err-end-clause-calls
 returns-in_err-end-clause-calls g c =
-    let told = err_from_is_err_and c.from_residual-in_err-end.result c.from_residual-in_err-end.ensures.1 in
-    let is : c.from_residual-in_err-end.result ≡ Err Memory = told.1 ∙ ap Err told.2 in
+    let fault_is = err_from_is_err_and c.from_residual-in_err-end.result c.from_residual-in_err-end.ensures.1 in
+    let is : c.from_residual-in_err-end.result ≡ Err Memory = fault_is.1 ∙ ap Err fault_is.2 in
     let old = c.args.self.now in
     subst (λ (met : Result _ RunnerFault). Makes g.R.Runner.earns c.args.runner.now
     (OrdersCall old.by old.round c.args.orders.now.before (state old) (led_to c.end.new.self.history met))
@@ -96,10 +96,10 @@ returns-in_err-end-clause-calls g c =
 
 pub returns-in_err-rule_lines-clause-calls : goal.returns-in_err-rule_lines-clause-calls
 returns-in_err-rule_lines-clause-calls g c =
-    let told = err_from_is_err_and c.from_residual.result
+    let fault_is = err_from_is_err_and c.from_residual.result
     c.from_residual.ensures.1 in
     let fault : RunnerFault = c.in_err-rule_lines.field-0.0 in
-    let is : c.from_residual.result ≡ Err fault = told.1 ∙ ap Err told.2 in
+    let is : c.from_residual.result ≡ Err fault = fault_is.1 ∙ ap Err fault_is.2 in
     let old = c.args.self.now in
     subst (λ (met : Result _ RunnerFault). Makes g.R.Runner.earns c.args.runner.now
     (OrdersCall old.by old.round c.args.orders.now.before (state old) (led_to c.rule_lines.new.self.history met))

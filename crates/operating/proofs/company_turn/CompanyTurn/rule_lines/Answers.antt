@@ -52,8 +52,8 @@ returns-in_err-rule_line-clause-calls g c =
     let old = c.loop-line.self in
     let line = line_unread c.in-Some.line in
     let before = c.loop-line.invariant in
-    let told = err_from_is_err_and c.from_residual.result c.from_residual.ensures.1 in
-    let is : c.from_residual.result ≡ Err c.in_err-rule_line.field-0.0 = told.1 ∙ ap Err told.2 in
+    let fault_is = err_from_is_err_and c.from_residual.result c.from_residual.ensures.1 in
+    let is : c.from_residual.result ≡ Err c.in_err-rule_line.field-0.0 = fault_is.1 ∙ ap Err fault_is.2 in
     subst (λ (met : Result _ RunnerFault). Makes g.R.Runner.earns c.args.runner.now
     (LinesCall begun.by begun.round c.args.orders.now.before (state begun)
     (led_to (state c.rule_line.new.self) met)) c.rule_line.new.runner) (sym is)

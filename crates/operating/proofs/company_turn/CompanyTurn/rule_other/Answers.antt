@@ -2,7 +2,7 @@ use Rattle.std.proofs.Common.{ap, subst, sym, ◌∙◌}
 use Rattle.std.specs.Global.{Global}
 use Rattle.std.specs.Prelude.{Box}
 use Rattle.board_state.specs.MapState.{MapState}
-use Rattle.operating.proofs.Going.{after_settling, train_leads_on}
+use Rattle.operating.proofs.Going.{after_withholding, train_leads_on}
 use Rattle.operating.specs.CompanyTurn.{state}
 use Rattle.operating.specs.MapState.{IsPrefix}
 use Rattle.turns.specs.Small.{IsSmallOrder}
@@ -14,7 +14,7 @@ rule_train-requires-clause-small c = subst IsSmallOrder c.in-BuyTrain.is c.requi
 
 pub rule_train-requires-clause-order : goal.rule_train-requires-clause-order
 rule_train-requires-clause-order c =
-    after_settling c.args.self.now c.withhold_if_unpaid.new.self c.in_ok-withhold_if_unpaid-in-BuyTrain.ensures.turn
+    after_withholding c.args.self.now c.withhold_if_unpaid.new.self c.in_ok-withhold_if_unpaid-in-BuyTrain.ensures.turn
     c.in_ok-withhold_if_unpaid-in-BuyTrain.ensures.order
 
 pub returns-in_ok-rule_train-in-BuyTrain-clause-turn :

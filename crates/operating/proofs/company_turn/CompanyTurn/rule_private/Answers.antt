@@ -1,7 +1,7 @@
 use Rattle.std.proofs.Common.{◌≡◌, true, is_none, refl, sym, ◌∙◌}
 use Rattle.purchases.proofs.PrivateSales.{same_after_line}
 use Rattle.operating.proofs.Bought.{sold_steps}
-use Rattle.purchases.proofs.Told.{kept_all, told_obeyed}
+use Rattle.purchases.proofs.Recorded.{kept_all, recorded_obeyed}
 use Rattle.operating.specs.InTurn.{in_turn}
 use Rattle.order_grammar.specs.declared.order.Order.TheVariants.{BuyOwnedPrivate}
 use Rattle.sheets.specs.Part.{line_with}
@@ -13,7 +13,7 @@ buy_private-requires-clause-may c =
     same_after_line c.args.self.now.history c.record.new.history c.args.self.now.by.president
     (line_with c.args.line (BuyOwnedPrivate c.args.private c.args.price)) c.args.self.now.by.company
     c.args.private c.args.price
-    (told_obeyed c.args.self.now.history c.record.new.history c.args.self.now.by.president
+    (recorded_obeyed c.args.self.now.history c.record.new.history c.args.self.now.by.president
     (line_with c.args.line (BuyOwnedPrivate c.args.private c.args.price))
     (BuyOwnedPrivate c.args.private c.args.price) c.map-broken.result c.in_ok-record.ensures.ruling none)
     ∙ sym c.judge_private.ensures
@@ -27,7 +27,7 @@ returns-in_ok-buy_private-clause-turn c =
     (BuyOwnedPrivate c.args.private c.args.price) c.record.new.history c.buy_private.new.history refl
     (sym c.judge_private.ensures ∙ kept_all c.judge_private.result c.map-broken.result none
     c.map-broken.ensures.variant)
-    (told_obeyed c.args.self.now.history c.record.new.history c.args.self.now.by.president
+    (recorded_obeyed c.args.self.now.history c.record.new.history c.args.self.now.by.president
     (line_with c.args.line (BuyOwnedPrivate c.args.private c.args.price))
     (BuyOwnedPrivate c.args.private c.args.price) c.map-broken.result c.in_ok-record.ensures.ruling none)
     c.in_ok-buy_private.ensures.after

@@ -1,7 +1,7 @@
 use Rattle.std.proofs.Common.{◌≡◌, true, is_none, refl, sym, ◌∙◌}
 use Rattle.operating.proofs.Bought.{bought_steps}
 use Rattle.purchases.proofs.Still.{same_judgement}
-use Rattle.purchases.proofs.Told.{kept_all, told_obeyed}
+use Rattle.purchases.proofs.Recorded.{kept_all, recorded_obeyed}
 use Rattle.operating.specs.InTurn.{in_turn}
 use Rattle.order_grammar.specs.declared.order.Order.TheVariants.{BuyTrain}
 use Rattle.sheets.specs.Part.{line_with}
@@ -13,7 +13,7 @@ buy_train-requires-clause-may c =
     same_judgement c.args.self.now.history c.record.new.history c.args.self.now.by.president
     (line_with c.args.line (BuyTrain c.args.kind c.args.from)) c.args.kind c.args.from c.args.self.now.by.company
     c.purchase_of-purchase.result
-    (told_obeyed c.args.self.now.history c.record.new.history c.args.self.now.by.president
+    (recorded_obeyed c.args.self.now.history c.record.new.history c.args.self.now.by.president
     (line_with c.args.line (BuyTrain c.args.kind c.args.from)) (BuyTrain c.args.kind c.args.from)
     c.map-broken.result c.in_ok-record.ensures.ruling none)
     ∙ sym c.judge_purchase.ensures
@@ -28,6 +28,6 @@ returns-in_ok-buy_train-clause-turn c =
     c.purchase_of-purchase.ensures.purchase refl
     (sym c.judge_purchase.ensures ∙ kept_all c.judge_purchase.result c.map-broken.result none
     c.map-broken.ensures.variant)
-    (told_obeyed c.args.self.now.history c.record.new.history c.args.self.now.by.president
+    (recorded_obeyed c.args.self.now.history c.record.new.history c.args.self.now.by.president
     (line_with c.args.line (BuyTrain c.args.kind c.args.from)) (BuyTrain c.args.kind c.args.from)
     c.map-broken.result c.in_ok-record.ensures.ruling none) c.in_ok-buy_train.ensures.after

@@ -21,12 +21,12 @@ coming-self-inside-requires g c =
     } in
     let at = upcoming file c.self.inside.fault here c.self.inside.last_round c.self.inside.outcome c.args.self.now
     c.args.round c.self.view_is c.requires c.self.invariant in
-    let stands = is_in_set file here c.args.round at.come at.to_play in
+    let within_set = is_in_set file here c.args.round at.come at.to_play in
     record {
       number = is_numbered c.sheets_are_numbered.ensures file here c.args.round at.come at.to_play;
-      least = stands.some;
-      most = stands.few;
-      within = stands.within;
+      least = within_set.some;
+      most = within_set.few;
+      within = within_set.within;
     }
 
 pub invariant_of-self : goal.invariant_of-self

@@ -12,7 +12,7 @@ returns-then-self-word-ne0-clause-marked g c =
 pub returns-then-self-word-ne0-clause-low : goal.returns-then-self-word-ne0-clause-low
 returns-then-self-word-ne0-clause-low g c border is =
     let here : ℕ = lowest_of c.loop-word.word (get_or c.self.inside.words c.loop-word.word 0) in
-    let told : Some here ≡ Some border = is in
+    let holds : Some here ≡ Some border = is in
     let same : here ≡ border = cc in
     omega (
       arith,

@@ -9,7 +9,7 @@ returns-then-self-word-ne0-clause-meet g c none apart =
     c.if-self-word-ne0.true (rw (c.self.view_is, c.other.view_is) apart)
 
 pub returns-clause-apart : goal.returns-clause-apart
-returns-clause-apart g c told =
+returns-clause-apart g c holds =
     rw (← c.self.view_is, ← c.other.view_is)
     (apart_words g.row.COUNT g.row.WORDS c.self.inside.words c.other.inside.words (omega arith)
     (λ j low. c.loop-word.invariant j (omega arith)))

@@ -20,7 +20,7 @@ loop-word-preserved g c j bit low small =
     ]
 
 pub returns : goal.returns
-returns g c told =
+returns g c holds =
     rw (← c.self.view_is, ← c.other.view_is)
     (within_words g.row.COUNT g.row.WORDS c.self.inside.words c.other.inside.words (omega arith)
     (λ j bit low small. c.loop-word.invariant j bit (omega arith) small))

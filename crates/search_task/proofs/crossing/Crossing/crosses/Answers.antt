@@ -4,6 +4,6 @@ use Rattle.search_task.proofs.Numbers.{in_set}
 use Rattle.search_task.proofs.crossing.Crossing.crosses.Goals as goal
 
 pub returns : goal.returns
-returns c told =
+returns c holds =
     rw (← c.self.view_is)
-    ((in_set c.self.inside.set c.args.border).0 (sym c.has.ensures ∙ told))
+    ((in_set c.self.inside.set c.args.border).0 (sym c.has.ensures ∙ holds))

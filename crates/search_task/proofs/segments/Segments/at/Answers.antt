@@ -1,4 +1,4 @@
--- The way back comes to the piece.
+-- The way back comes to the segment.
 use Rattle.std.proofs.Common.{◌≡◌, ℕ, ◌+◌, ◌-◌, ◌<◌, Some, List, length, slice_get, sym, refl, subst, arith}
 use Rattle.std.proofs.lemmas.Option.{slice_get_read}
 use Rattle.search_task.specs.declared.segments.Entry.{Entry}

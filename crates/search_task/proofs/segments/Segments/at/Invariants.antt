@@ -1,4 +1,4 @@
--- So many pieces are left to pass on the way back.
+-- This many segments are left to pass on the way back.
 use Rattle.std.proofs.Common.{◌-◌}
 use Rattle.search_task.proofs.Chained.{IsAbove}
 use Rattle.search_task.proofs.segments.Segments.at.Given as goal

@@ -1,4 +1,4 @@
--- One more way is led back over.
+-- One more leg is led back over.
 use Rattle.std.proofs.Common.{arith}
 use Rattle.search_task.proofs.Mirrored.{back_all, back_more, back_none, read_at, leg_at}
 use Rattle.search_task.proofs.task.Task.all_lead_back.Goals as goal
@@ -14,7 +14,7 @@ loop-index-preserved c =
     (c.leads_back.ensures c.if-not-leads_back.false) c.loop-index.invariant
 
 pub returns : goal.returns
-returns c told =
+returns c holds =
     back_all c.args.self.now c.args.spot c.loop-index.index c.index-from.result.now.legs.items
     (read_at c.args.self.now c.args.spot c.index-from.result.now c.requires c.index-from.ensures) (omega arith)
     c.loop-index.invariant

@@ -1,4 +1,4 @@
--- Ways lead back over the ways before the next one.
+-- Legs lead back over the legs before the next one.
 use Rattle.search_task.proofs.Mirrored.{LeadBackBelow}
 use Rattle.search_task.proofs.task.Task.all_lead_back.Given as goal
 

@@ -12,4 +12,4 @@ loop-spot-preserved c =
     c.loop-spot.invariant
 
 pub returns : goal.returns
-returns c told = spots_all c.args.self.now c.loop-spot.spot (omega arith) c.loop-spot.invariant
+returns c holds = spots_all c.args.self.now c.loop-spot.spot (omega arith) c.loop-spot.invariant

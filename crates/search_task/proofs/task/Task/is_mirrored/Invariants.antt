@@ -1,4 +1,4 @@
--- Ways lead back over those from the spots before the next one.
+-- Legs lead back over those from the spots before the next one.
 use Rattle.search_task.proofs.Mirrored.{AllBackBelow}
 use Rattle.search_task.proofs.task.Task.is_mirrored.Given as goal
 

@@ -1,10 +1,10 @@
--- A way leads back.
+-- A leg leads back.
 use Rattle.std.proofs.Common.{arith}
 use Rattle.search_task.proofs.Mirrored.{leg_at}
 use Rattle.search_task.proofs.task.Task.leads_back.Goals as goal
 
 pub returns-then-is_within : goal.returns-then-is_within
-returns-then-is_within c told =
+returns-then-is_within c holds =
     record {
       place = c.loop-index.index;
       back = c.index-back.result.now;

@@ -54,7 +54,7 @@ returns g c =
             record { each = c.in_ok-stops.ensures.each; only = c.in_ok-stops.ensures.only };
         homes =
             c.in_ok-homes.ensures;
-        mirrored = λ told. mirrored_same _ task refl (c.is_mirrored.ensures told);
+        mirrored = λ holds. mirrored_same _ task refl (c.is_mirrored.ensures holds);
       };
     }
 

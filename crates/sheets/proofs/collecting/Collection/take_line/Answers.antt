@@ -1,7 +1,7 @@
 use Rattle.std.proofs.Common.{◌≡◌, true, false, List, ◌∷◌, ℕ, None, sym, subst}
 use Rattle.std.specs.HashMap.{get}
 use Rattle.std.proofs.lemmas.Result.{on_ok_weaker, IfErr-weaker}
-use Rattle.sheets.specs.Collecting.{Stands}
+use Rattle.sheets.specs.Collecting.{CollectedSoFar}
 use Rattle.sheets.specs.File.{same_sheet_key, is_sheet_line}
 use Rattle.sheets.specs.Text.{written_lines}
 use Rattle.sheets.proofs.ReachLemmas.{reaches_sheet_line, reaches_begun, stops_begun, reaches_inside, reaches_stray}
@@ -23,7 +23,7 @@ returns-in_ok-close-clause-ok c =
     reaches_sheet_line c.args.version players body (get same_sheet_key old.sheets) (get same_sheet_key mid.sheets)
     old.unread.items old.good line rest c.args.text.now old.current is
     c.requires.lines h.sheets r in
-    let t : Stands c.args.version players body (line ∷ written_lines rest) None (get same_sheet_key mid.sheets)
+    let t : CollectedSoFar c.args.version players body (line ∷ written_lines rest) None (get same_sheet_key mid.sheets)
     mid.unread.items mid.good = rw (h.unread, h.good) s in
     rw c.begin.ensures.sheets
     (reaches_begun c.args.version players body (get same_sheet_key mid.sheets) mid.unread.items mid.good line rest
@@ -45,7 +45,7 @@ returns-in_ok-close-clause-err c =
     reaches_sheet_line c.args.version players body (get same_sheet_key old.sheets) (get same_sheet_key mid.sheets)
     old.unread.items old.good line rest c.args.text.now old.current is
     c.requires.lines h.sheets r in
-    let t : Stands c.args.version players body (line ∷ written_lines rest) None (get same_sheet_key mid.sheets)
+    let t : CollectedSoFar c.args.version players body (line ∷ written_lines rest) None (get same_sheet_key mid.sheets)
     mid.unread.items mid.good = rw (h.unread, h.good) s in
     stops_begun c.args.version players body (get same_sheet_key mid.sheets) mid.unread.items mid.good line
     (written_lines rest) fault is m t)
@@ -60,7 +60,7 @@ returns-then-is_some-clause-ok c = λ body r.
     reaches_inside c.args.version c.args.players.now body (get same_sheet_key old.sheets) old.unread.items old.good
     c.requires.first.0 line rest c.args.text.now old.current r.0
     (sym c.if-is_some.ensures) other c.requires.first.1 r.1
-    (subst (λ ls. Stands c.args.version c.args.players.now body ls r.0 (get same_sheet_key old.sheets)
+    (subst (λ ls. CollectedSoFar c.args.version c.args.players.now body ls r.0 (get same_sheet_key old.sheets)
     old.unread.items old.good) c.requires.lines r.2)
 
 pub returns-in_ok-push-clause-ok : goal.returns-in_ok-push-clause-ok
@@ -72,5 +72,5 @@ returns-in_ok-push-clause-ok c = λ body r.
     rw (c.in_ok-push.ensures.items, c.unread_fault.ensures)
     (reaches_stray c.args.version c.args.players.now body (get same_sheet_key old.sheets) old.unread.items old.good
     line rest c.args.text.now old.current r.0 (sym c.if-is_some.ensures) other r.1
-    (subst (λ ls. Stands c.args.version c.args.players.now body ls r.0 (get same_sheet_key old.sheets)
+    (subst (λ ls. CollectedSoFar c.args.version c.args.players.now body ls r.0 (get same_sheet_key old.sheets)
     old.unread.items old.good) c.requires.lines r.2))

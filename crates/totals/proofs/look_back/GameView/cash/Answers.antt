@@ -1,6 +1,6 @@
 use Rattle.std.proofs.Common.{ℕ, arith, ◌∙◌, ap}
 use Rattle.events.specs.Event.{payment_of}
-use Rattle.totals.proofs.NetTables.{account_kept, account_moderate, net_there}
+use Rattle.totals.proofs.BalanceTables.{account_kept, account_moderate, balance_there}
 use Rattle.totals.specs.Totals.{AreTotalsOf}
 use Rattle.totals.specs.LookBack.{balance, paid_by, paid_to}
 use Rattle.totals.proofs.look_back.GameView.cash.Goals as goal
@@ -10,7 +10,7 @@ returns-in-Some-clause-sum c =
     let all : AreTotalsOf c.in-Some.totals.now c.args.self.now.events.now = c.in-Some.ensures in
     account_kept c.start_of-start.result _ _ c.args.self.now.events.now c.from.result _ c.args.self.now.short
     (omega (arith, c.start_of-start.type_inv)) c.from.ensures
-    (net_there _ _ _ _ _ _ c.entry_of_party-entry.ensures (all.cash c.args.party (omega
+    (balance_there _ _ _ _ _ _ c.entry_of_party-entry.ensures (all.cash c.args.party (omega
     (arith, c.entry_of_party-entry.ensures, c.if-entry-lt15.true))))
     ∙ ap (λ (start : ℕ). balance start (λ e. paid_to c.args.party (payment_of e))
     (λ e. paid_by c.args.party (payment_of e)) c.args.self.now.events.now) c.start_of-start.ensures
@@ -20,5 +20,5 @@ returns-in-Some-clause-within c =
     let all : AreTotalsOf c.in-Some.totals.now c.args.self.now.events.now = c.in-Some.ensures in
     account_moderate c.start_of-start.result _ _ c.args.self.now.events.now c.from.result _ c.args.self.now.short
     (omega (arith, c.start_of-start.type_inv)) c.from.ensures
-    (net_there _ _ _ _ _ _ c.entry_of_party-entry.ensures (all.cash c.args.party (omega
+    (balance_there _ _ _ _ _ _ c.entry_of_party-entry.ensures (all.cash c.args.party (omega
     (arith, c.entry_of_party-entry.ensures, c.if-entry-lt15.true))))

@@ -1,6 +1,6 @@
 use Rattle.std.proofs.Common.{ℕ, arith, ap, ◌∙◌, ◌<◌}
 use Rattle.events.specs.Event.{transfer_of}
-use Rattle.totals.proofs.NetTables.{account_kept, account_moderate, company_low, net_there}
+use Rattle.totals.proofs.BalanceTables.{account_kept, account_moderate, balance_there, company_low}
 use Rattle.totals.specs.Totals.{AreTotalsOf, row_of}
 use Rattle.totals.specs.LookBack.{balance}
 use Rattle.totals.specs.Shares.{brought_to, taken_from}
@@ -13,7 +13,7 @@ returns-in-Some-clause-sum c =
     (arith, c.entry_of_shares-entry.ensures, c.if-entry-lt64.true, company_low c.args.company) in
     account_kept c.start_shares-start.result _ _ c.args.self.now.events.now c.from.result _ c.args.self.now.short
     (omega (arith, c.start_shares-start.type_inv)) c.from.ensures
-    (net_there _ _ _ _ _ _ c.entry_of_shares-entry.ensures (all.shares c.args.company c.args.place has))
+    (balance_there _ _ _ _ _ _ c.entry_of_shares-entry.ensures (all.shares c.args.company c.args.place has))
     ∙ ap (λ (start : ℕ). balance start (λ e. brought_to c.args.company c.args.place (transfer_of e))
     (λ e. taken_from c.args.company c.args.place (transfer_of e)) c.args.self.now.events.now)
     c.start_shares-start.ensures
@@ -25,4 +25,4 @@ returns-in-Some-clause-within c =
     (arith, c.entry_of_shares-entry.ensures, c.if-entry-lt64.true, company_low c.args.company) in
     account_moderate c.start_shares-start.result _ _ c.args.self.now.events.now c.from.result _ c.args.self.now.short
     (omega (arith, c.start_shares-start.type_inv)) c.from.ensures
-    (net_there _ _ _ _ _ _ c.entry_of_shares-entry.ensures (all.shares c.args.company c.args.place has))
+    (balance_there _ _ _ _ _ _ c.entry_of_shares-entry.ensures (all.shares c.args.company c.args.place has))

@@ -1,6 +1,6 @@
 use Rattle.std.proofs.Common.{ap, ◌∙◌}
 use Rattle.events.specs.Event.{train_moved}
-use Rattle.totals.proofs.NetTables.{net_there}
+use Rattle.totals.proofs.BalanceTables.{balance_there}
 use Rattle.totals.proofs.TrainCounts.{size_is, train_count_fits, train_count_kept}
 use Rattle.totals.specs.Totals.{AreTotalsOf, train_row}
 use Rattle.totals.specs.Trains.{any_comes, any_goes}
@@ -11,7 +11,7 @@ overflow_cast-result c =
     let all : AreTotalsOf c.in-Some.totals.now c.args.self.now.events.now = c.in-Some.ensures in
     train_count_fits (λ e. any_comes c.args.owner (train_moved e)) (λ e. any_goes c.args.owner (train_moved e))
     c.args.self.now.events.now _ c.args.self.now.short
-    (net_there _ _ _ _ _ _ (c.row_of_trains.ensures.row ∙ ap train_row c.of_owner.ensures)
+    (balance_there _ _ _ _ _ _ (c.row_of_trains.ensures.row ∙ ap train_row c.of_owner.ensures)
     (all.train_owners c.args.owner))
 
 pub returns-in-Some-clause-sum : goal.returns-in-Some-clause-sum
@@ -19,6 +19,6 @@ returns-in-Some-clause-sum c =
     let all : AreTotalsOf c.in-Some.totals.now c.args.self.now.events.now = c.in-Some.ensures in
     train_count_kept (λ e. any_comes c.args.owner (train_moved e)) (λ e. any_goes c.args.owner (train_moved e))
     c.args.self.now.events.now _ c.args.self.now.short
-    (net_there _ _ _ _ _ _ (c.row_of_trains.ensures.row ∙ ap train_row c.of_owner.ensures)
+    (balance_there _ _ _ _ _ _ (c.row_of_trains.ensures.row ∙ ap train_row c.of_owner.ensures)
     (all.train_owners c.args.owner))
     ∙ size_is c.args.self.now.events.now c.args.owner

@@ -1,5 +1,5 @@
 use Rattle.events.specs.Event.{train_moved}
-use Rattle.totals.proofs.NetTables.{net_there}
+use Rattle.totals.proofs.BalanceTables.{balance_there}
 use Rattle.totals.proofs.TrainCounts.{train_count_fits, train_count_kept}
 use Rattle.totals.specs.Totals.{AreTotalsOf}
 use Rattle.totals.specs.Trains.{train_comes, train_goes}
@@ -10,11 +10,11 @@ overflow_cast-result c =
     let all : AreTotalsOf c.in-Some.totals.now c.args.self.now.events.now = c.in-Some.ensures in
     train_count_fits (λ e. train_comes c.args.place c.args.kind (train_moved e))
     (λ e. train_goes c.args.place c.args.kind (train_moved e)) c.args.self.now.events.now _ c.args.self.now.short
-    (net_there _ _ _ _ _ _ c.entry_of_train.ensures.entry (all.trains c.args.place c.args.kind))
+    (balance_there _ _ _ _ _ _ c.entry_of_train.ensures.entry (all.trains c.args.place c.args.kind))
 
 pub returns-in-Some-clause-sum : goal.returns-in-Some-clause-sum
 returns-in-Some-clause-sum c =
     let all : AreTotalsOf c.in-Some.totals.now c.args.self.now.events.now = c.in-Some.ensures in
     train_count_kept (λ e. train_comes c.args.place c.args.kind (train_moved e))
     (λ e. train_goes c.args.place c.args.kind (train_moved e)) c.args.self.now.events.now _ c.args.self.now.short
-    (net_there _ _ _ _ _ _ c.entry_of_train.ensures.entry (all.trains c.args.place c.args.kind))
+    (balance_there _ _ _ _ _ _ c.entry_of_train.ensures.entry (all.trains c.args.place c.args.kind))

@@ -3,8 +3,9 @@ use Rattle.events.specs.Event.{actor_of, floated_by, obeyed_of, office_of, opera
 use Rattle.events.specs.Event.{payment_of, phase_set, round_begun_by, square_set, sv_price_set, says_bankrupt}
 use Rattle.events.specs.Event.{says_broken, train_moved, transfer_of}
 use Rattle.events.specs.Orders.{limit_in, par_of_baltimore_in, said_by}
-use Rattle.totals.proofs.Noted.{bid_applied, flag_applied, net_applied, one_low, place_applied, round_flag_applied}
-use Rattle.totals.proofs.Noted.{round_word_applied, rulings_applied, said_applied, tokens_applied, word_applied}
+use Rattle.totals.proofs.Applied.{balance_applied, bid_applied, flag_applied, one_low, place_applied}
+use Rattle.totals.proofs.Applied.{round_flag_applied}
+use Rattle.totals.proofs.Applied.{round_word_applied, rulings_applied, said_applied, tokens_applied, word_applied}
 use Rattle.totals.specs.LookBack.{owner_said, paid_by, paid_to}
 use Rattle.totals.specs.Operating.{turn_said}
 use Rattle.totals.specs.Shares.{brought_to, float_said, par_said, president_said, sale_said, square_said, taken_from}
@@ -16,7 +17,8 @@ pub returns : goal.returns
 returns c = λ events short before.
     let event = c.args.event.now in
     record {
-      told = omega (arith, before.told, short, c.saturating_add-self.ensures, length-append events (event ∷ []));
+      event_count = omega (arith, before.event_count, short, c.saturating_add-self.ensures, length-append events
+          (event ∷ []));
       owners = λ private. word_applied (λ e. owner_said private (ownership_of e)) events event _ _
           (c.apply.ensures private) (before.owners private);
       bids = λ private number low.
@@ -35,26 +37,26 @@ returns c = λ events short before.
       presidents = λ company.
           word_applied (λ e. president_said company (office_of e)) events event _ _
           (c.apply_president.ensures company) (before.presidents company);
-      arrivals = λ company. place_applied (λ e. square_said company (square_set e)) events event _ _ _ before.told
-          (c.apply_arrival.ensures company) (before.arrivals company);
+      arrivals = λ company. place_applied (λ e. square_said company (square_set e)) events event _ _ _
+          before.event_count (c.apply_arrival.ensures company) (before.arrivals company);
       floats = λ company. word_applied (λ e. float_said company (floated_by e)) events event _ _
           (c.apply_float.ensures company) (before.floats company);
       cash = λ party has.
-          net_applied (λ e. paid_to party (payment_of e)) (λ e. paid_by party (payment_of e)) events event _ _ short
+          balance_applied (λ e. paid_to party (payment_of e)) (λ e. paid_by party (payment_of e)) events event _ _ short
           (c.apply_payment.ensures.to party)
           (c.apply_payment.ensures.by party) (c.apply_payment.ensures.moved party has) (before.cash party has);
       shares = λ company place has.
-          net_applied (λ e. brought_to company place (transfer_of e)) (λ e. taken_from company place (transfer_of e))
-          events event _ _ short
+          balance_applied (λ e. brought_to company place (transfer_of e))
+          (λ e. taken_from company place (transfer_of e)) events event _ _ short
           (c.apply_transfer.ensures.to company place) (c.apply_transfer.ensures.by company place)
           (c.apply_transfer.ensures.moved company place has) (before.shares company place has);
       trains = λ place kind.
-          net_applied (λ e. one_if (train_comes place kind (train_moved e)))
+          balance_applied (λ e. one_if (train_comes place kind (train_moved e)))
           (λ e. one_if (train_goes place kind (train_moved e))) events event _ _ short
           (one_low (train_comes place kind (train_moved event))) (one_low (train_goes place kind (train_moved event)))
           (c.apply_train.ensures place kind) (before.trains place kind);
       train_owners = λ owner.
-          net_applied (λ e. one_if (any_comes owner (train_moved e))) (λ e. one_if (any_goes owner (train_moved e)))
+          balance_applied (λ e. one_if (any_comes owner (train_moved e))) (λ e. one_if (any_goes owner (train_moved e)))
           events event _ _ short
           (one_low (any_comes owner (train_moved event))) (one_low (any_goes owner (train_moved event)))
           (c.apply_train_owner.ensures owner) (before.train_owners owner);

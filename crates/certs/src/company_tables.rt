@@ -1,0 +1,63 @@
+//! Tables of what a game says of its companies, as the totals of the game have it.
+ghost use Rattle.certs.specs.CompanyTables.{AreCompanyTablesOf, AreSharesOf, IsRowOf};
+ghost use Rattle.certs.specs.Rows.{AreBounded, IsBounded};
+
+use crate::rows::Row;
+use history::{GameView, Shareholder};
+use tables::{Company, Seat, Square};
+
+/// What is said of each company, by its place in the roster.
+#[derive(Clone, Copy, Debug)]
+pub(crate) struct CompanyTables {
+    /// The shares of each company by their places.
+    pub shares: [Row; 8],
+    /// The president of each company, as it was said last.
+    pub presidents: [Option<Seat>; 8],
+    /// The square of each company.
+    pub squares: [Option<Square>; 8],
+}
+
+/// The tables of the companies of a game.
+pub(crate) fn company_tables_of(view: &GameView) -> CompanyTables
+    ensures { AreCompanyTablesOf view.now.events.now result }
+{
+    CompanyTables {
+        shares: rows_of(view),
+        presidents: view.presidents(),
+        squares: view.squares(),
+    }
+}
+
+/// The shares of each company.
+fn rows_of(view: &GameView) -> [Row; 8]
+    ensures shares { AreSharesOf view.now.events.now result }
+    ensures bounded { AreBounded result }
+{
+    [
+        row_of(view, Company::Pennsylvania),
+        row_of(view, Company::NewYorkCentral),
+        row_of(view, Company::CanadianPacific),
+        row_of(view, Company::BaltimoreOhio),
+        row_of(view, Company::ChesapeakeOhio),
+        row_of(view, Company::Erie),
+        row_of(view, Company::NewHaven),
+        row_of(view, Company::BostonMaine),
+    ]
+}
+
+/// The shares of a company.
+fn row_of(view: &GameView, company: Company) -> Row
+    ensures shares { IsRowOf view.now.events.now company result }
+    ensures bounded { IsBounded result }
+{
+    [
+        view.shares(company, Shareholder::InitialOffering),
+        view.shares(company, Shareholder::BankPool),
+        view.shares(company, Shareholder::Seat(Seat(0))),
+        view.shares(company, Shareholder::Seat(Seat(1))),
+        view.shares(company, Shareholder::Seat(Seat(2))),
+        view.shares(company, Shareholder::Seat(Seat(3))),
+        view.shares(company, Shareholder::Seat(Seat(4))),
+        view.shares(company, Shareholder::Seat(Seat(5))),
+    ]
+}

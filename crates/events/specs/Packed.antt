@@ -1,0 +1,69 @@
+-- Orders and rulings as events keep them, in few bytes; an order under a condition is behind a box.
+use Rattle.std.specs.Prelude.{◌≡◌, ◌<◌, false, length, Option, Some, None, ⊤}
+use Rattle.events.specs.PackedRun.{places_in}
+use Rattle.events.specs.declared.packed.PackedOrder.{PackedOrder}
+use Rattle.events.specs.declared.packed.PackedOrder.TheVariants as packed
+use Rattle.events.specs.declared.packed.OrderVerdict.{OrderVerdict}
+use Rattle.events.specs.declared.packed.OrderVerdict.TheVariants as by
+use Rattle.events.specs.declared.packed.PackedForm.{PackedForm}
+use Rattle.events.specs.declared.packed.PackedForm.TheVariants as packed_form
+use Rattle.events.specs.declared.packed.PackedRulingForm.{PackedRulingForm}
+use Rattle.events.specs.declared.packed.PackedRulingForm.TheVariants as ruled
+use Rattle.events.specs.declared.ruling.Ruling.{Ruling}
+use Rattle.events.specs.declared.ruling.Ruling.TheVariants.{Obeyed, Refused, Faulty}
+use Rattle.events.specs.declared.ruling.Verdict.{Verdict}
+use Rattle.events.specs.declared.ruling.Verdict.TheVariants as verdict
+use Rattle.order_grammar.specs.Condition.{Ordered, ordered}
+use Rattle.order_grammar.specs.Short.{has_short_form, order_in_short}
+use Rattle.order_grammar.specs.declared.condition.Condition.{Condition}
+use Rattle.order_grammar.specs.declared.order.Order.{Order}
+use Rattle.order_grammar.specs.declared.order.Order.TheVariants as order
+use Rattle.order_grammar.specs.declared.short.ShortOrder.{ShortOrder}
+
+-- an order that is packed behind a box: one under a condition, a run of over five places, or an order of no play
+abbrev pub TakesBox : Option Condition → Order → Type 0
+TakesBox None (order.Run kind run) = 5 < length run
+TakesBox None other = has_short_form other ≡ false
+TakesBox (Some condition) order = Unit {0}
+
+-- the order that is packed
+abbrev pub order_in : PackedOrder → Order
+order_in (packed.Short order) = order_in_short order
+order_in (packed.ShortRun kind run) = order.Run kind (places_in run)
+order_in (packed.LongRun kind run) = order.Run kind run.value
+order_in (packed.Boxed order) = order.value
+
+-- the order that is packed with its condition, if it has one
+abbrev pub ordered_in : PackedForm → Ordered
+ordered_in (packed_form.Plain order) = ordered None (order_in order)
+ordered_in (packed_form.Conditional order) = ordered (Some order.value.condition) (order_in order.value.order)
+
+-- an order with its condition, if it has one, and its verdict
+abbrev pub ruling_by : OrderVerdict → Option Condition → Order → Ruling
+ruling_by by.Obeyed condition order = Obeyed condition order
+ruling_by (by.Refused rule) condition order = Refused rule condition order
+
+-- the ruling that is packed
+abbrev pub ruling_in : PackedRulingForm → Ruling
+ruling_in (ruled.Short verdict order) = ruling_by verdict None (order_in_short order)
+ruling_in (ruled.ShortRun verdict kind run) = ruling_by verdict None (order.Run kind (places_in run))
+ruling_in (ruled.LongRun verdict kind run) = ruling_by verdict None (order.Run kind run.value)
+ruling_in (ruled.Boxed verdict order) = ruling_by verdict None order.value
+ruling_in (ruled.Conditional verdict order) =
+    ruling_by verdict (Some order.value.condition) (order_in order.value.order)
+ruling_in (ruled.Faulty fault) = Faulty fault
+
+-- what became of an order
+abbrev pub verdict_in : OrderVerdict → Verdict
+verdict_in by.Obeyed = verdict.Obeyed
+verdict_in (by.Refused rule) = verdict.Refused rule
+
+-- an order, if there is one, takes no few bytes
+abbrev pub IsLong : Option Order → Type 0
+IsLong None = ⊤
+IsLong (Some order) = has_short_form order ≡ false
+
+-- the short form of an order, if there is one that has it
+abbrev pub IsShortOf : Option Order → Option ShortOrder → Type 0
+IsShortOf order None = IsLong order
+IsShortOf order (Some short) = order ≡ Some (order_in_short short)

@@ -1,0 +1,492 @@
+//! Orders and rulings as events keep them, in few bytes; an order under a condition is behind a box
+//! with it.
+ghost use Rattle.std.specs.Prelude.{◌≡◌, ◌++◌, None, Some, MatchResult, OnOk};
+ghost use Rattle.std.specs.Option.{option_copied};
+ghost use Rattle.events.specs.Event.{acts, order_obeyed};
+ghost use Rattle.events.specs.Packed.{IsShortOf, TakesBox, order_in, ruling_by, verdict_in};
+ghost use Rattle.events.specs.Offers.{offer_obeyed, offer_said, same_offer, same_terms};
+ghost use Rattle.events.specs.Orders.{limit_obeyed, limit_said, par_of_baltimore_in, par_of_baltimore_obeyed};
+ghost use Rattle.events.specs.RulingText.{order_text, verdict_of};
+ghost use Rattle.events.specs.declared.ruling.Ruling.TheVariants.{Faulty, Obeyed, Refused};
+ghost use Rattle.order_grammar.specs.Condition.{ordered};
+ghost use Rattle.order_grammar.specs.Print.{spelling_of};
+ghost use Rattle.order_grammar.specs.declared.order.Order.TheVariants as order;
+
+use crate::packed_place::PackedPlace;
+use crate::packed_run::{LongRun, ShortRun, print_places};
+use crate::ruling::{Refusal, Ruling, Verdict};
+use map_tables::Run;
+use order_grammar::{
+    Condition, Fault, Offer, Order, ShortOrder, print_condition, print_order, print_run_prefix,
+    print_short_order,
+};
+use std::alloc::{AllocError, Global};
+use std::marker::Model;
+use tables::{Amount, Company, Kind, Private, par_square};
+
+/// An order that is to be ruled, with its condition if it has one, in few bytes; contracts see the
+/// two.
+#[derive(Debug, Drop)]
+pub struct PackedLine {
+    packed: PackedForm,
+}
+
+/// An order without a condition, or one under a condition behind a box.
+#[derive(Debug, Drop)]
+enum PackedForm {
+    Plain(PackedOrder),
+    Conditional(Box<PackedConditional>),
+}
+
+/// An order under its condition.
+#[derive(Debug, Drop)]
+struct PackedConditional {
+    condition: Condition,
+    order: PackedOrder,
+}
+
+/// An order of few bytes, a run of few places, any other run behind a box, or any other order
+/// behind one.
+#[derive(Debug, Drop)]
+enum PackedOrder {
+    Short(ShortOrder),
+    ShortRun { kind: Kind, run: ShortRun },
+    LongRun { kind: Kind, run: Box<LongRun> },
+    Boxed(Box<Order>),
+}
+
+impl Model for PackedLine {
+    ghost use Rattle.events.specs.Packed.{ordered_in};
+    ghost use Rattle.order_grammar.specs.Condition.{Ordered};
+
+    ghost Value = { Ordered };
+
+    ghost view = { λ a. ordered_in a.packed };
+}
+
+impl PackedLine {
+    /// Packs a copy of an order with its condition, if it has one. An `Err` comes only where a box
+    /// gets no memory; of the orders that are ruled, only one under a condition and a run of more
+    /// than five places need one.
+    pub fn pack(
+        alloc: Global,
+        condition: Option<&Condition>,
+        order: &Order,
+    ) -> Result<PackedLine, AllocError>
+        ensures { MatchResult result
+            (λ packed. packed ≡ ordered (option_copied condition.entry) order.now)
+            (λ _. TakesBox (option_copied condition.entry) order.now) }
+    {
+        let order = PackedOrder::pack(alloc, order)?;
+        let packed = match condition {
+            None => PackedForm::Plain(order),
+            Some(condition) => {
+                let condition = *condition;
+                PackedForm::Conditional(Box::new(alloc, PackedConditional { condition, order })?)
+            }
+        };
+        Ok(PackedLine { packed })
+    }
+}
+
+impl PackedOrder {
+    /// Packs a copy of an order.
+    fn pack(alloc: Global, order: &Order) -> Result<PackedOrder, AllocError>
+        ensures { MatchResult result (λ packed. order_in packed ≡ order.now)
+            (λ _. TakesBox None order.now) }
+    {
+        let packed = match order {
+            Order::Run { kind, run } => match ShortRun::pack(run) {
+                Some(run) => PackedOrder::ShortRun { kind: *kind, run },
+                None => PackedOrder::LongRun {
+                    kind: *kind,
+                    run: Box::new(alloc, LongRun::pack(alloc, run)?)?,
+                },
+            },
+            other => match ShortOrder::of(other) {
+                Some(short) => PackedOrder::Short(short),
+                None => PackedOrder::Boxed(Box::new(alloc, other.duplicate())?),
+            },
+        };
+        Ok(packed)
+    }
+
+    /// The order that is packed.
+    fn order(&self) -> Order
+        ensures { result ≡ order_in self.now }
+    {
+        match self {
+            PackedOrder::Short(order) => order.order(),
+            PackedOrder::ShortRun { kind, run } => run_order(*kind, run.run()),
+            PackedOrder::LongRun { kind, run } => run_order(*kind, run.run()),
+            PackedOrder::Boxed(order) => order.duplicate(),
+        }
+    }
+
+    /// The order, if it is one of few bytes.
+    fn short(&self) -> Option<ShortOrder>
+        ensures { IsShortOf (Some (order_in self.now)) result }
+    {
+        match self {
+            PackedOrder::Short(order) => Some(*order),
+            PackedOrder::Boxed(order) => ShortOrder::of(order),
+            _ => None,
+        }
+    }
+
+    /// Adds the spelling of the order.
+    fn print(&self, text: &mut Vec<u8>) -> Result<(), AllocError>
+        ensures { OnOk result (text.new.items
+            ≡ text.old.items ++ spelling_of (order_in self.now)) }
+    {
+        match self {
+            PackedOrder::Short(order) => print_short_order(text, *order),
+            PackedOrder::ShortRun { kind, run } => print_run(text, *kind, run.places()),
+            PackedOrder::LongRun { kind, run } => print_run(text, *kind, run.places()),
+            PackedOrder::Boxed(order) => print_order(text, order),
+        }
+    }
+}
+
+/// A ruling as an event keeps it, in few bytes; contracts see the ruling.
+#[derive(Debug, Drop)]
+pub struct PackedRuling {
+    packed: PackedRulingForm,
+}
+
+/// What became of an order.
+#[derive(Clone, Copy, Debug)]
+enum OrderVerdict {
+    Obeyed,
+    Refused(Refusal),
+}
+
+impl OrderVerdict {
+    fn verdict(self) -> Verdict
+        ensures { result ≡ verdict_in self }
+    {
+        match self {
+            OrderVerdict::Obeyed => Verdict::Obeyed,
+            OrderVerdict::Refused(rule) => Verdict::Refused(rule),
+        }
+    }
+}
+
+/// A packed order with its verdict, or what is wrong with the line.
+#[derive(Debug, Drop)]
+enum PackedRulingForm {
+    Short {
+        verdict: OrderVerdict,
+        order: ShortOrder,
+    },
+    ShortRun {
+        verdict: OrderVerdict,
+        kind: Kind,
+        run: ShortRun,
+    },
+    LongRun {
+        verdict: OrderVerdict,
+        kind: Kind,
+        run: Box<LongRun>,
+    },
+    Boxed {
+        verdict: OrderVerdict,
+        order: Box<Order>,
+    },
+    Conditional {
+        verdict: OrderVerdict,
+        order: Box<PackedConditional>,
+    },
+    Faulty(Fault),
+}
+
+// The verdict is beside the order's form, so that a ruling takes no more than an order.
+const _: () = prove!(size_of::<PackedRuling>() <= 16);
+
+impl Model for PackedRuling {
+    ghost use Rattle.events.specs.Packed.{ruling_in};
+    ghost use Rattle.events.specs.declared.ruling.Ruling.{Ruling};
+
+    ghost Value = { Ruling };
+
+    ghost view = { λ a. ruling_in a.packed };
+}
+
+impl PackedRuling {
+    /// The order was carried out; its condition held, if it has one.
+    pub fn obeyed(order: PackedLine) -> PackedRuling
+        ensures { result ≡ Obeyed order.condition order.order }
+    {
+        PackedRuling::of(OrderVerdict::Obeyed, order)
+    }
+
+    /// The order breaks a rule of play, of which this is the first.
+    pub fn refused(rule: Refusal, order: PackedLine) -> PackedRuling
+        ensures { result ≡ Refused rule order.condition order.order }
+    {
+        PackedRuling::of(OrderVerdict::Refused(rule), order)
+    }
+
+    /// The line has a fault by itself or has no place where it is.
+    pub fn faulty(fault: Fault) -> PackedRuling
+        ensures { result ≡ Faulty fault }
+    {
+        PackedRuling {
+            packed: PackedRulingForm::Faulty(fault),
+        }
+    }
+
+    /// An order with its verdict.
+    fn of(verdict: OrderVerdict, order: PackedLine) -> PackedRuling
+        ensures { result ≡ ruling_by verdict order.condition order.order }
+    {
+        let packed = match order.packed {
+            PackedForm::Plain(PackedOrder::Short(order)) => PackedRulingForm::Short {
+                verdict,
+                order,
+            },
+            PackedForm::Plain(PackedOrder::ShortRun { kind, run }) => {
+                PackedRulingForm::ShortRun { verdict, kind, run }
+            }
+            PackedForm::Plain(PackedOrder::LongRun { kind, run }) => {
+                PackedRulingForm::LongRun { verdict, kind, run }
+            }
+            PackedForm::Plain(PackedOrder::Boxed(order)) => PackedRulingForm::Boxed {
+                verdict,
+                order,
+            },
+            PackedForm::Conditional(order) => PackedRulingForm::Conditional { verdict, order },
+        };
+        PackedRuling { packed }
+    }
+
+    /// The ruling that is packed.
+    pub fn ruling(&self) -> Ruling
+        ensures { result ≡ self.now }
+    {
+        match &self.packed {
+            PackedRulingForm::Short { verdict, order } => ruling_of(*verdict, None, order.order()),
+            PackedRulingForm::ShortRun { verdict, kind, run } => {
+                ruling_of(*verdict, None, run_order(*kind, run.run()))
+            }
+            PackedRulingForm::LongRun { verdict, kind, run } => {
+                ruling_of(*verdict, None, run_order(*kind, run.run()))
+            }
+            PackedRulingForm::Boxed { verdict, order } => ruling_of(
+                *verdict,
+                None,
+                order.duplicate(),
+            ),
+            PackedRulingForm::Conditional { verdict, order } => {
+                ruling_of(*verdict, Some(order.condition), order.order.order())
+            }
+            PackedRulingForm::Faulty(fault) => Ruling::Faulty(*fault),
+        }
+    }
+
+    /// What became of the line, without the order.
+    pub fn verdict(&self) -> Verdict
+        ensures { result ≡ verdict_of self.now }
+    {
+        match &self.packed {
+            PackedRulingForm::Short { verdict, .. } => verdict.verdict(),
+            PackedRulingForm::ShortRun { verdict, .. } => verdict.verdict(),
+            PackedRulingForm::LongRun { verdict, .. } => verdict.verdict(),
+            PackedRulingForm::Boxed { verdict, .. } => verdict.verdict(),
+            PackedRulingForm::Conditional { verdict, .. } => verdict.verdict(),
+            PackedRulingForm::Faulty(fault) => Verdict::Faulty(*fault),
+        }
+    }
+
+    /// Adds the spelling of its order under the condition, if it has one: upper case, single
+    /// spaces, no leading zeros. Nothing for a fault. An error where memory is refused.
+    pub fn print_order(&self, text: &mut Vec<u8>) -> Result<(), AllocError>
+        ensures { OnOk result (text.new.items ≡ text.old.items ++ order_text self.now) }
+    {
+        match &self.packed {
+            PackedRulingForm::Short { order, .. } => print_short_order(text, *order),
+            PackedRulingForm::ShortRun { kind, run, .. } => print_run(text, *kind, run.places()),
+            PackedRulingForm::LongRun { kind, run, .. } => print_run(text, *kind, run.places()),
+            PackedRulingForm::Boxed { order, .. } => print_order(text, order),
+            PackedRulingForm::Conditional { order, .. } => {
+                print_condition(text, Some(&order.condition))?;
+                order.order.print(text)
+            }
+            PackedRulingForm::Faulty(_) => Ok(()),
+        }
+    }
+
+    /// The order that it obeys, if it obeys one that takes few bytes: any but a run through places.
+    #[inline(always)]
+    pub fn short_obeyed(&self) -> Option<ShortOrder>
+        ensures { IsShortOf (order_obeyed self.now) result }
+    {
+        match &self.packed {
+            PackedRulingForm::Short {
+                verdict: OrderVerdict::Obeyed,
+                order,
+            } => Some(*order),
+            PackedRulingForm::Boxed {
+                verdict: OrderVerdict::Obeyed,
+                order,
+            } => ShortOrder::of(order),
+            PackedRulingForm::Conditional {
+                verdict: OrderVerdict::Obeyed,
+                order,
+            } => order.order.short(),
+            _ => None,
+        }
+    }
+
+    /// Whether it obeys an order that is by itself an act of a turn: the purchase of a private, a
+    /// bid on one, or a sale of shares. The purchase of shares shows by its event.
+    pub fn is_act(&self) -> bool
+        ensures { result ≡ acts self.now }
+    {
+        matches!(
+            self.short_obeyed(),
+            Some(ShortOrder::BuyPrivate(_) | ShortOrder::Bid { .. } | ShortOrder::Sell { .. })
+        )
+    }
+
+    /// The private in whose auction the order that it obeys says how far to go, and how far, if it
+    /// does.
+    pub fn limit(&self) -> Option<(Private, Amount)>
+        ensures { (private : Private) →
+            limit_said private result ≡ limit_obeyed private self.now }
+    {
+        match self.short_obeyed() {
+            Some(ShortOrder::Limit { private, amount }) => Some((private, amount)),
+            _ => None,
+        }
+    }
+
+    /// How far the order that it obeys says to go in an auction of a private, if it does.
+    pub fn limit_on(&self, private: Private) -> Option<Amount>
+        ensures { result ≡ limit_obeyed private self.now }
+    {
+        limit_said(private, self.limit())
+    }
+
+    /// The sale that the order that it obeys offers, if it does.
+    pub fn offer(&self) -> Option<Offer>
+        ensures { (sale : Offer) → offer_said sale result ≡ offer_obeyed sale self.now }
+    {
+        match self.short_obeyed() {
+            Some(ShortOrder::Offer(sale)) => Some(sale),
+            _ => None,
+        }
+    }
+
+    /// A sale, if the order that it obeys offers it.
+    pub fn offer_of(&self, sale: Offer) -> Option<Offer>
+        ensures { result ≡ offer_obeyed sale self.now }
+    {
+        match self.offer() {
+            Some(other) if is_offer(other, sale) => Some(other),
+            _ => None,
+        }
+    }
+
+    /// The par value that the order that it obeys says BO is to have, if it does.
+    pub fn par_of_baltimore(&self) -> Option<Amount>
+        ensures { result ≡ par_of_baltimore_obeyed self.now }
+    {
+        match self.short_obeyed() {
+            Some(ShortOrder::Par { company, price }) => par_of_baltimore(company, price),
+            _ => None,
+        }
+    }
+}
+
+/// How far to go in the auction of a private, where that is the one that is named with a sum.
+fn limit_said(private: Private, said: Option<(Private, Amount)>) -> Option<Amount>
+    ensures { result ≡ limit_said private said }
+{
+    match said {
+        Some((other, amount)) if other == private => Some(amount),
+        _ => None,
+    }
+}
+
+/// Whether two sales that are offered are the same.
+pub fn is_offer(one: Offer, sale: Offer) -> bool
+    ensures { result ≡ same_offer one sale }
+{
+    match one {
+        Offer::Private {
+            private,
+            buyer,
+            price,
+        } => match sale {
+            Offer::Private {
+                private: of,
+                buyer: to,
+                price: sum,
+            } => private == of && is_on_terms(buyer, price, to, sum),
+            Offer::Train { .. } => false,
+        },
+        Offer::Train {
+            kind,
+            seller,
+            buyer,
+            price,
+        } => match sale {
+            Offer::Private { .. } => false,
+            Offer::Train {
+                kind: of,
+                seller: from,
+                buyer: to,
+                price: sum,
+            } => kind == of && seller == from && is_on_terms(buyer, price, to, sum),
+        },
+    }
+}
+
+/// Whether two sales are to the same buyer at the same price.
+fn is_on_terms(buyer: Company, price: Amount, to: Company, sum: Amount) -> bool
+    ensures { result ≡ same_terms buyer price to sum }
+{
+    buyer == to && price == sum
+}
+
+/// The ruling of an order.
+fn ruling_of(verdict: OrderVerdict, condition: Option<Condition>, order: Order) -> Ruling
+    ensures { result ≡ ruling_by verdict condition order }
+{
+    match verdict {
+        OrderVerdict::Obeyed => Ruling::Obeyed { condition, order },
+        OrderVerdict::Refused(rule) => Ruling::Refused {
+            rule,
+            condition,
+            order,
+        },
+    }
+}
+
+/// Adds the spelling of the order to run a train.
+fn print_run(text: &mut Vec<u8>, kind: Kind, places: &[PackedPlace]) -> Result<(), AllocError>
+    ensures { OnOk result (text.new.items
+        ≡ text.old.items ++ spelling_of (order.Run kind places.now)) }
+{
+    print_run_prefix(text, kind)?;
+    print_places(text, places)
+}
+
+/// The order to run a train.
+fn run_order(kind: Kind, run: Run) -> Order
+    ensures { result ≡ order.Run kind run }
+{
+    Order::Run { kind, run }
+}
+
+/// The par value that BO is to have where a company is to have this one.
+fn par_of_baltimore(company: Company, price: Amount) -> Option<Amount>
+    ensures { result ≡ par_of_baltimore_in (order.Par company price) }
+{
+    if company == Company::BaltimoreOhio && par_square(price).is_some() {
+        Some(price)
+    } else {
+        None
+    }
+}

@@ -1,0 +1,163 @@
+//! Tables of balances: what came to each entry, minus what went from it. The entries are those of
+//! the bank, the companies and six seats; a further seat has an entry behind the table's end.
+ghost use Rattle.std.specs.Prelude.{◌≡◌, ◌==◌, ◌<◌, ◌≤◌, ◌+ℤ◌, ◌-ℤ◌, ◌≤ℤ◌, ◌^◌, ℕ, if◌then◌else◌, length, neg_ℤ, pos};
+ghost use Rattle.std.specs.Prelude.{Option};
+ghost use Rattle.events.specs.Event.{payment_of, train_moved, transfer_of};
+ghost use Rattle.totals.specs.Totals.{HasEntry, HasShares, IsSafe, balance_at, cash_balance, party_entry};
+ghost use Rattle.totals.specs.Totals.{train_count_balance};
+ghost use Rattle.totals.specs.Totals.{shares_balance, shares_entry, train_balance, train_entry, train_row};
+ghost use Rattle.totals.specs.LookBack.{IsModerate, paid_by, paid_to};
+ghost use Rattle.totals.specs.Shares.{brought_to, taken_from};
+ghost use Rattle.totals.specs.Trains.{any_comes, any_goes, one_if, train_comes, train_goes};
+
+use events::{Event, Holder, Party, Shareholder, TrainPlace};
+use tables::{Amount, Company, Kind, Money};
+
+/// A balance with a change that is a sum of money, or less one.
+fn changed(balance: Money, change: Money) -> Money
+    requires not_under { neg_ℤ (pos (2 ^ 32)) ≤ℤ change }
+    requires not_over { change ≤ℤ pos (2 ^ 32) }
+    ensures { IsSafe balance → result ≡ balance +ℤ change }
+{
+    balance.saturating_add(change)
+}
+
+/// Changes an entry of a table, if it has that entry.
+fn change(balances: &mut [Money], at: usize, change: Money)
+    requires not_under { neg_ℤ (pos (2 ^ 32)) ≤ℤ change }
+    requires not_over { change ≤ℤ pos (2 ^ 32) }
+    ensures length { length balances.new ≡ length balances.old }
+    ensures changed { (entry : ℕ) → entry < length balances.old
+        → IsSafe (balance_at balances.old entry) →
+        balance_at balances.new entry ≡ balance_at balances.old entry +ℤ
+            (if at == entry then change else pos 0) }
+{
+    if at < balances.len() {
+        balances[at] = changed(balances[at], change);
+    }
+}
+
+/// Moves a sum from one entry of a table to another.
+fn move_sum(balances: &mut [Money], from: usize, to: usize, sum: Amount)
+    ensures length { length balances.new ≡ length balances.old }
+    ensures moved { (entry : ℕ) → entry < length balances.old
+        → IsModerate (balance_at balances.old entry) →
+        balance_at balances.new entry ≡ (balance_at balances.old entry +ℤ pos
+            (if to == entry then sum else 0))
+        -ℤ pos (if from == entry then sum else 0) }
+{
+    change(balances, to, Money::from(sum));
+    change(balances, from, -Money::from(sum));
+}
+
+/// The entry of a party in a table of cash.
+pub(crate) fn entry_of_party(party: Party) -> usize
+    ensures { result ≡ party_entry party }
+{
+    match party {
+        Party::Bank => 0,
+        Party::Holder(Holder::Company(company)) => 1 + company.place(),
+        Party::Holder(Holder::Seat(seat)) => 9 + seat.number(),
+    }
+}
+
+/// Applies the payment that an event makes.
+pub(crate) fn apply_payment(balances: &mut [Money; 15], event: &Event)
+    ensures moved { (party : Party) → HasEntry party → IsModerate (cash_balance balances.old party)
+        →
+        cash_balance balances.new party
+        ≡ (cash_balance balances.old party +ℤ pos (paid_to party (payment_of event.now)))
+        -ℤ pos (paid_by party (payment_of event.now)) }
+    ensures to { (party : Party) → paid_to party (payment_of event.now) < 2 ^ 32 }
+    ensures by { (party : Party) → paid_by party (payment_of event.now) < 2 ^ 32 }
+{
+    if let Some(payment) = event.payment() {
+        let from = entry_of_party(payment.from);
+        let to = entry_of_party(payment.to);
+        move_sum(balances, from, to, payment.amount);
+    }
+}
+
+/// The entry of the shares of a company at a place in a table of shares.
+pub(crate) fn entry_of_shares(company: Company, place: Shareholder) -> usize
+    ensures { result ≡ shares_entry company place }
+{
+    let row = match place {
+        Shareholder::InitialOffering => 0,
+        Shareholder::BankPool => 1,
+        Shareholder::Seat(seat) => 2 + seat.number(),
+    };
+    8 * row + company.place()
+}
+
+/// Applies the shares that an event moves.
+pub(crate) fn apply_transfer(balances: &mut [Money; 64], event: &Event)
+    ensures moved { (company : Company) (place : Shareholder) → HasShares place →
+        IsModerate (shares_balance balances.old company place)
+            → shares_balance balances.new company place
+        ≡ (shares_balance balances.old company place
+        +ℤ pos (brought_to company place (transfer_of event.now)))
+        -ℤ pos (taken_from company place (transfer_of event.now)) }
+    ensures to { (company : Company) (place : Shareholder) →
+        brought_to company place (transfer_of event.now) < 2 ^ 32 }
+    ensures by { (company : Company) (place : Shareholder) →
+        taken_from company place (transfer_of event.now) < 2 ^ 32 }
+{
+    if let Some(transfer) = event.transfer() {
+        let from = entry_of_shares(transfer.company, transfer.from);
+        let to = entry_of_shares(transfer.company, transfer.to);
+        move_sum(balances, from, to, Amount::from(transfer.shares));
+    }
+}
+
+/// The row of a place in a table of trains, and its entry in a table of how many it has.
+pub(crate) fn row_of_trains(place: TrainPlace) -> usize
+    ensures row { result ≡ train_row place }
+    ensures within { result < 11 }
+{
+    match place {
+        TrainPlace::Bank => 0,
+        TrainPlace::BankPool => 1,
+        TrainPlace::Company(company) => 2 + company.place(),
+        TrainPlace::OutOfPlay => 10,
+    }
+}
+
+/// The entry of the trains of a kind at a place in a table of trains.
+pub(crate) fn entry_of_train(place: TrainPlace, kind: Kind) -> usize
+    ensures entry { result ≡ train_entry place kind }
+    ensures within { result < 88 }
+{
+    8 * row_of_trains(place) + kind.place()
+}
+
+/// Applies the train that an event moves.
+pub(crate) fn apply_train(balances: &mut [Money; 88], event: &Event)
+    ensures { (place : TrainPlace) (kind : Kind) → IsModerate
+        (train_balance balances.old place kind) →
+        train_balance balances.new place kind
+        ≡ (train_balance balances.old place kind
+        +ℤ pos (one_if (train_comes place kind (train_moved event.now))))
+        -ℤ pos (one_if (train_goes place kind (train_moved event.now))) }
+{
+    if let Some(train) = event.train() {
+        let from = entry_of_train(train.from, train.kind);
+        let to = entry_of_train(train.to, train.kind);
+        move_sum(balances, from, to, 1);
+    }
+}
+
+/// Applies the train that an event moves, in a table of how many trains a place has.
+pub(crate) fn apply_train_owner(balances: &mut [Money; 11], event: &Event)
+    ensures { (owner : Option Company) → IsModerate (train_count_balance balances.old owner) →
+        train_count_balance balances.new owner
+        ≡ (train_count_balance balances.old owner
+        +ℤ pos (one_if (any_comes owner (train_moved event.now))))
+        -ℤ pos (one_if (any_goes owner (train_moved event.now))) }
+{
+    if let Some(train) = event.train() {
+        let from = row_of_trains(train.from);
+        let to = row_of_trains(train.to);
+        move_sum(balances, from, to, 1);
+    }
+}
