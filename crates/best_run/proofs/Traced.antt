@@ -174,7 +174,9 @@ takes_from task from assigned run leg prefix old middle new leads takes traces =
     record {
       grows = omega (arith, takes.grows, traces.amount);
       traced = found_before task from there prefix old middle new takes.grows takes.refused traces
-          (λ none. elim (takes.recorded none) [ inl before ↦ inl before | inr better ↦ inr (leads better.0, better.1)
+          (λ none. elim (takes.recorded none) [
+            | inl before ↦ inl before
+            | inr better ↦ inr (leads better.0, better.1)
           ]);
       known = λ known. known_traced task old.amount prefix middle new traces (takes.known known);
       most = λ known can moves completes. omega (arith, takes.most known can moves completes, traces.amount);

@@ -12,11 +12,11 @@
 //! that it and what counts are the same by the events of a game).
 #![tactic(auto)]
 
+mod company_tables;
 mod counted;
 mod deal;
 mod holdings;
 pub mod laws;
-mod company_tables;
 mod president;
 mod purchase;
 mod rows;

@@ -95,8 +95,12 @@ steps_written adds file (suc steps) play text written =
 -- they are steps
 are_steps : (steps : ℕ) (old new : Underway) (text : List ℕ) → IsTextOfSteps steps old new text → StepsPlay steps old new
 are_steps zero old new text written = written.0
-are_steps (suc steps) old new text written = (written.0, are_steps steps old written.0 written.1 written.2, written.3,
-    written.4)
+are_steps (suc steps) old new text written = (
+  written.0,
+  are_steps steps old written.0 written.1 written.2,
+  written.3,
+  written.4,
+)
 
 -- the report of an accepted file is that of its game
 of_game : (file whole : List ℕ) (content : Result Content FileFault) → IsOk content → IsReportOf file content whole

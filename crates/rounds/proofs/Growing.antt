@@ -144,8 +144,11 @@ by_steps step each (suc n) events =
 -- by one event that stands aside
 pub by_one_event : {test : Event → Bool} (events : List Event) (event : Event) → test event ≡ true →
     GrowsBy test events (events ++ event ∷ [])
-by_one_event events event aside = record { more = event ∷ []; longer = refl; aside = ap (λ (b : Bool). b && true) aside
-    }
+by_one_event events event aside = record {
+  more = event ∷ [];
+  longer = refl;
+  aside = ap (λ (b : Bool). b && true) aside;
+}
 
 -- by BROKEN, where the bank breaks
 pub broken_grows : (seats : ℕ) (events : List Event) → GrowsPlainly is_still events (with_broken seats events)

@@ -70,8 +70,12 @@ module _ (version : Version) (players body : List (List ℕ)) (sheets : SheetKey
       → CollectedSoFar version players body (line ∷ written_lines rest) None sheets unread good
       → Reaches version players body rest sheet sheets codes count
   reaches_by line rest None sheet codes count is b h s =
-      rw (h.0, h.1, h.2) (None, tt, collected_bad version players body sheets unread good line (written_lines rest) is b
-      s)
+      rw (h.0, h.1, h.2) (
+        None,
+        tt,
+        collected_bad version players body sheets unread good line (written_lines rest) is b
+            s,
+      )
   reaches_by line rest (Some sheet_key) None codes count is b h s = absurd h.0
   reaches_by line rest (Some sheet_key) (Some sheet) codes count is b h s =
       rw (h.2, h.3) (

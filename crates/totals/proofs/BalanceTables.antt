@@ -49,8 +49,15 @@ pub entry_changed :
     IsSafe (balance_at balances entry) → balance_at (set balances at value) entry
     ≡ balance_at balances entry +ℤ (if at == entry then change else pos 0)
 entry_changed balances at entry change value low is safe =
-    grind (arith, get_or-set_same, get_or-set_other, cases_eq at entry, eq-eqb at entry, plus_none
-    (balance_at balances entry))
+    grind (
+      arith,
+      get_or-set_same,
+      get_or-set_other,
+      cases_eq at entry,
+      eq-eqb at entry,
+      plus_none
+          (balance_at balances entry),
+    )
 
 -- two numbers are the same where the same is added to them
 plus_same : (k a b : ℕ) → (a == b) ≡ (k + a == k + b)

@@ -30,7 +30,7 @@ fn change(balances: &mut [Money], at: usize, change: Money)
     ensures changed { (entry : ℕ) → entry < length balances.old
         → IsSafe (balance_at balances.old entry) →
         balance_at balances.new entry ≡ balance_at balances.old entry +ℤ
-            (if at == entry then change else pos 0) }
+        (if at == entry then change else pos 0) }
 {
     if at < balances.len() {
         balances[at] = changed(balances[at], change);
@@ -43,7 +43,7 @@ fn move_sum(balances: &mut [Money], from: usize, to: usize, sum: Amount)
     ensures moved { (entry : ℕ) → entry < length balances.old
         → IsModerate (balance_at balances.old entry) →
         balance_at balances.new entry ≡ (balance_at balances.old entry +ℤ pos
-            (if to == entry then sum else 0))
+        (if to == entry then sum else 0))
         -ℤ pos (if from == entry then sum else 0) }
 {
     change(balances, to, Money::from(sum));
@@ -94,7 +94,7 @@ pub(crate) fn entry_of_shares(company: Company, place: Shareholder) -> usize
 pub(crate) fn apply_transfer(balances: &mut [Money; 64], event: &Event)
     ensures moved { (company : Company) (place : Shareholder) → HasShares place →
         IsModerate (shares_balance balances.old company place)
-            → shares_balance balances.new company place
+        → shares_balance balances.new company place
         ≡ (shares_balance balances.old company place
         +ℤ pos (brought_to company place (transfer_of event.now)))
         -ℤ pos (taken_from company place (transfer_of event.now)) }

@@ -17,9 +17,9 @@
 
 mod applying;
 mod aspect;
+mod balances;
 mod bids;
 mod look_back;
-mod balances;
 mod offers;
 mod operating;
 mod owners;

@@ -6,8 +6,8 @@ ghost use Rattle.totals.specs.Shares.{arrival_of, has_sold_in_round, is_floated,
 ghost use Rattle.totals.specs.Shares.{shares_of, square_of, start_shares};
 
 use crate::aspect::{InRound, balance, last_said};
-use crate::look_back::GameView;
 use crate::balances::entry_of_shares;
+use crate::look_back::GameView;
 use crate::topics::{SaleBy, Shares};
 use events::Shareholder;
 use tables::{Amount, Company, Money, PLAYERS_MOST, Seat, Square};

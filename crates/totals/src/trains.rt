@@ -3,8 +3,8 @@ ghost use Rattle.std.specs.Prelude.{◌≡◌};
 ghost use Rattle.totals.specs.LookBack.{IsModerate};
 ghost use Rattle.totals.specs.Trains.{phase_of, at_least_zero, train_count, trains_at, trains_held, trains_sold};
 
-use crate::look_back::GameView;
 use crate::balances::{entry_of_train, row_of_trains};
+use crate::look_back::GameView;
 use events::TrainPlace;
 use tables::{Company, Kind, Money};
 

@@ -81,7 +81,7 @@ choose-trains-preserved g t c = (
       let walk = c.set_out.ensures.walks assigned at_node here before in (
         omega (arith, ahead.0),
         up_over g.D.Decider.decides position tree c.args.value assigned at_node c.args.decider.now c.trains.decider
-        c.set_out.new.decider
+            c.set_out.new.decider
             c.args.first c.trains.place (node_from tree assigned c.args.first ∷ []) c.trains-test.true ahead.1
             (subst (λ (b : Bool). WalksOver g.D.Decider.decides position tree c.trains.decider
             (setting_out position tree.company (reached_in tree) (node_from tree assigned (c.trains.place - 1))) b

@@ -79,5 +79,10 @@ returns-in-Ended-clause-texts c =
     subst (λ (step : Step). StepLeads c.loop-texts.play (Ok step) c.step.new.self) c.in-Ended.is
     c.in_ok-step.ensures.step
     in
-    record { steps = at.rounds; last = c.loop-texts.play; is_text = at.is_text; end = c.in-Ended.field-0; stays = stays
+    record {
+      steps = at.rounds;
+      last = c.loop-texts.play;
+      is_text = at.is_text;
+      end = c.in-Ended.field-0;
+      stays = stays;
     }

@@ -17,8 +17,14 @@ pub returns : goal.returns
 returns c = λ events short before.
     let event = c.args.event.now in
     record {
-      event_count = omega (arith, before.event_count, short, c.saturating_add-self.ensures, length-append events
-          (event ∷ []));
+      event_count = omega (
+        arith,
+        before.event_count,
+        short,
+        c.saturating_add-self.ensures,
+        length-append events
+            (event ∷ []),
+      );
       owners = λ private. word_applied (λ e. owner_said private (ownership_of e)) events event _ _
           (c.apply.ensures private) (before.owners private);
       bids = λ private number low.
