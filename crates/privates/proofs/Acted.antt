@@ -76,7 +76,7 @@ order_says seats seat turn number condition (order.BuyPrivate private) kept =
     let sold : List Event = after_sale ruled private seat (price_of ruled private) in
     record {
       acts = true;
-      said =
+      says_who =
           in_both seat true false turn.events ruled (settled seats sold)
           (one_more seat true turn.events (event.Ruled seat number (Obeyed condition (order.BuyPrivate private)))
           refl)
@@ -88,7 +88,7 @@ order_says seats seat turn number condition (order.Bid private amount) kept =
     let ruled : List Event = recorded seat number (Obeyed condition (order.Bid private amount)) turn.events in
     record {
       acts = true;
-      said =
+      says_who =
           in_both seat true false turn.events ruled (ruled ++ event.Bids private seat amount ∷ [])
           (one_more seat true turn.events (event.Ruled seat number (Obeyed condition (order.Bid private amount)))
           refl)
