@@ -444,6 +444,58 @@ module _ (task : Task) (fit : IsFit task) (ready : AreReady task) (first reach s
     pub completes : Completes task state moves
     pub same : total_after task state moves ≡ total
 
+  -- a segment that may be run, and the moves after it, with other borders used
+  record MovedAlong (stop index : ℕ) (assigned : Assigned) (run : PartialRun) (others marks : List Bool)
+      (total : ℕ) : Type 0 where
+    pub segment : Segment
+    pub leads : LeadsFrom task stop index segment
+    pub can : can_take task (with_marks run marks) others segment ≡ true
+    pub moves : List Move
+    pub completes : Completes task (partial (using (with_used assigned others) segment)
+        (along task (with_marks run marks) segment)) moves
+    pub same : total_after task (partial (using (with_used assigned others) segment)
+        (along task (with_marks run marks) segment)) moves ≡ total
+
+  -- the leg that it begins, once the moves after a leg are
+  move_along : (stop : ℕ) → IsStop task stop → SetsOut task reach stop → (assigned : Assigned) (run : PartialRun)
+      (others marks : List Bool) → Shares assigned.used others → Sees run marks → length run.visited ≡ 744
+      → IsStop task run.home → (ends_in (node_at task run.home) ≡ false → SetsOut task reach run.home)
+      → (index : ℕ) (segment : Segment) (moves : List Move) → LeadsFrom task stop index segment
+      → can_take task run assigned.used segment ≡ true
+      → Completes task (partial (using assigned segment) (along task run segment)) moves
+      → ((later : List Move) → length later ≤ length moves → (state : State) (others marks : List Bool)
+      → GoesOn state others marks → Completes task state later
+      → Moved (state_with state others marks) (total_after task state later))
+      → MovedAlong stop index assigned run others marks
+      (total_after task (partial (using assigned segment) (along task run segment)) moves)
+  move_along stop is out assigned run others marks shares sees spots begins home index segment moves leads taken
+      completes next =
+      let legs = legs_at task stop in
+      let are = legs_of task ready stop is in
+      let by : ByLeg task fit stop is.1 legs are assigned run index segment moves =
+      by_leg task fit stop is.1 legs are assigned run shares.whole index segment moves leads taken completes in
+      let takes : Takes_it others marks run by.leg =
+      takes_it assigned.used others shares stop is out by.place_of by.leg by.is_leg run marks sees by.can in
+      let rest : Moved (partial (using (with_used assigned others) by.leg.segment)
+      (along task (with_marks run marks) by.leg.segment))
+      (total_after task (partial (using assigned by.leg.segment) (along task run by.leg.segment)) by.later) =
+      next by.later by.shorter (partial (using assigned by.leg.segment) (along task run by.leg.segment))
+      (marked_all others by.leg.segment.borders.items)
+      (marked_if (stop_in (node_at task by.leg.segment.to)) marks by.leg.segment.to)
+      (goes_next assigned run others marks shares sees spots begins home by.leg takes) by.completes in
+      let back : BySegments task fit stop is.1 legs are (with_used assigned others) (with_marks run marks) by.leg
+      rest.moves = by_segments task fit stop is.1 legs are (with_used assigned others) (with_marks run marks) by.leg
+      (among_place legs by.place_of by.leg by.is_leg) takes.can rest.moves rest.completes in
+      record {
+        segment = back.segment;
+        leads = subst (λ (n : ℕ). LeadsFrom task stop n back.segment) by.first back.leads;
+        can = back.can;
+        moves = back.moves;
+        completes = back.completes;
+        same = back.total ∙ (rest.same ∙ sym by.total);
+      }
+
+  -- and so are all moves
   move_by : (fuel : ℕ) (moves : List Move) → length moves ≤ fuel → (state : State) (others marks : List Bool)
       → GoesOn state others marks → Completes task state moves
       → Moved (state_with state others marks) (total_after task state moves)
@@ -461,44 +513,19 @@ module _ (task : Task) (fit : IsFit task) (ready : AreReady task) (first reach s
       let may = completes.0 in
       let is : IsStop task stop = is_stop task fit stop may.begins in
       let run = begun task assigned stop index in
-      let by : ByLeg task fit stop may.begins (legs_at task stop) (legs_of task ready stop is) assigned run index
-      segment moves =
-      by_leg task fit stop may.begins (legs_at task stop) (legs_of task ready stop is) assigned run goes.whole index
-      segment
-      moves may.leads may.taken completes.1 in
-      let marks = run.visited in
-      let spots : length marks ≡ 744 = length-set (own_before task stop) stop true ∙ own_length task stop in
-      let takes : Takes_it others marks run by.leg =
-      takes_it assigned.used others goes stop is (inl may.token) by.place_of by.leg by.is_leg run marks
-      (λ spot lies was. was) by.can in
-      let rest : Moved (partial (using (with_used assigned others) by.leg.segment)
-      (along task (with_marks run marks) by.leg.segment))
-      (total_after task (partial (using assigned by.leg.segment) (along task run by.leg.segment)) by.later) =
-      move_by fuel by.later (omega (arith, by.shorter, enough))
-      (partial (using assigned by.leg.segment) (along task run by.leg.segment))
-      (marked_all others by.leg.segment.borders.items)
-      (marked_if (stop_in (node_at task by.leg.segment.to)) marks by.leg.segment.to)
-      (goes_next assigned run others marks goes (λ spot lies was. was) spots is (λ passes. inl may.token) by.leg
-      takes) by.completes in
-      let back : BySegments task fit stop may.begins (legs_at task stop) (legs_of task ready stop is)
-      (with_used assigned others)
-      (with_marks run marks) by.leg rest.moves = by_segments task fit stop may.begins (legs_at task stop)
-      (legs_of task ready stop is) (with_used assigned others) (with_marks run marks) by.leg
-      (among_place (legs_at task stop) by.place_of by.leg by.is_leg) takes.can rest.moves rest.completes in
+      let spots : length run.visited ≡ 744 = length-set (own_before task stop) stop true ∙ own_length task stop in
+      let by : MovedAlong stop index assigned run others run.visited
+      (total_after task (partial (using assigned segment) (along task run segment)) moves) =
+      move_along stop is (inl may.token) assigned run others run.visited goes (λ spot lies was. was) spots is
+      (λ passes. inl may.token) index segment moves may.leads may.taken completes.1
+      (λ later shorter. move_by fuel later (omega (arith, shorter, enough))) in
       record {
-        moves = begin stop index back.segment ∷ back.moves;
+        moves = begin stop index by.segment ∷ by.moves;
         completes = (
-          record {
-            train = may.train;
-            begins = may.begins;
-            token = may.token;
-            leads =
-                subst (λ (n : ℕ). LeadsFrom task stop n back.segment) by.first back.leads;
-            taken = back.can;
-          },
-          back.completes,
+          record { train = may.train; begins = may.begins; token = may.token; leads = by.leads; taken = by.can },
+          by.completes,
         );
-        same = back.total ∙ (rest.same ∙ sym by.total);
+        same = by.same;
       }
   move_by (suc fuel) (begin stop index segment ∷ moves) enough (partial assigned run) others marks goes completes =
       absurd completes.0
@@ -506,79 +533,40 @@ module _ (task : Task) (fit : IsFit task) (ready : AreReady task) (first reach s
       absurd completes.0
   move_by (suc fuel) (go index segment ∷ moves) enough (partial assigned run) others marks goes completes =
       let may = completes.0 in
-      let stop = run.head in
-      let is : IsStop task stop = goes.head_is_stop in
-      let by : ByLeg task fit stop is.1 (legs_at task stop) (legs_of task ready stop is) assigned run index segment
-      moves =
-      by_leg task fit stop is.1 (legs_at task stop) (legs_of task ready stop is) assigned run goes.shares.whole index
-      segment
-      moves may.leads may.taken completes.1 in
-      let takes : Takes_it others marks run by.leg =
-      takes_it assigned.used others goes.shares stop is (goes.head may.passes) by.place_of by.leg by.is_leg run
-      marks goes.sees by.can in
-      let rest : Moved (partial (using (with_used assigned others) by.leg.segment)
-      (along task (with_marks run marks) by.leg.segment))
-      (total_after task (partial (using assigned by.leg.segment) (along task run by.leg.segment)) by.later) =
-      move_by fuel by.later (omega (arith, by.shorter, enough))
-      (partial (using assigned by.leg.segment) (along task run by.leg.segment))
-      (marked_all others by.leg.segment.borders.items)
-      (marked_if (stop_in (node_at task by.leg.segment.to)) marks by.leg.segment.to)
-      (goes_next assigned run others marks goes.shares goes.sees goes.spots goes.begins goes.home by.leg takes)
-      by.completes in
-      let back : BySegments task fit stop is.1 (legs_at task stop) (legs_of task ready stop is)
-      (with_used assigned others)
-      (with_marks run marks) by.leg rest.moves = by_segments task fit stop is.1 (legs_at task stop)
-      (legs_of task ready stop is) (with_used assigned others) (with_marks run marks) by.leg
-      (among_place (legs_at task stop) by.place_of by.leg by.is_leg) takes.can rest.moves rest.completes in
+      let by : MovedAlong run.head index assigned run others marks
+      (total_after task (partial (using assigned segment) (along task run segment)) moves) =
+      move_along run.head goes.head_is_stop (goes.head may.passes) assigned run others marks goes.shares goes.sees
+      goes.spots goes.begins goes.home index segment moves may.leads may.taken completes.1
+      (λ later shorter. move_by fuel later (omega (arith, shorter, enough))) in
       record {
-        moves = go by.leg.first back.segment ∷ back.moves;
-        completes = (record { passes = may.passes; leads = back.leads; taken = back.can }, back.completes);
-        same = back.total ∙ (rest.same ∙ sym by.total);
+        moves = go index by.segment ∷ by.moves;
+        completes = (record { passes = may.passes; leads = by.leads; taken = by.can }, by.completes);
+        same = by.same;
       }
   move_by (suc fuel) (turn index segment ∷ moves) enough (between assigned) others marks goes completes =
       absurd completes.0
-  move_by (suc fuel) (turn index segment ∷ moves) enough (partial assigned ran) others marks goes completes =
+  move_by (suc fuel) (turn index segment ∷ moves) enough (partial assigned run) others marks goes completes =
       let may = completes.0 in
-      let run = turned_back ran in
-      let stop = ran.home in
-      let is : IsStop task stop = goes.begins in
-      let by : ByLeg task fit stop is.1 (legs_at task stop) (legs_of task ready stop is) assigned run index segment
-      moves =
-      by_leg task fit stop is.1 (legs_at task stop) (legs_of task ready stop is) assigned run goes.shares.whole index
-      segment
-      moves may.leads may.taken completes.1 in
-      let takes : Takes_it others marks run by.leg =
-      takes_it assigned.used others goes.shares stop is (goes.home may.passes) by.place_of by.leg by.is_leg run
-      marks goes.sees by.can in
-      let rest : Moved (partial (using (with_used assigned others) by.leg.segment)
-      (along task (with_marks run marks) by.leg.segment))
-      (total_after task (partial (using assigned by.leg.segment) (along task run by.leg.segment)) by.later) =
-      move_by fuel by.later (omega (arith, by.shorter, enough))
-      (partial (using assigned by.leg.segment) (along task run by.leg.segment))
-      (marked_all others by.leg.segment.borders.items)
-      (marked_if (stop_in (node_at task by.leg.segment.to)) marks by.leg.segment.to)
-      (goes_next assigned run others marks goes.shares goes.sees goes.spots goes.begins goes.home by.leg takes)
-      by.completes in
-      let back : BySegments task fit stop is.1 (legs_at task stop) (legs_of task ready stop is)
-      (with_used assigned others)
-      (with_marks run marks) by.leg rest.moves = by_segments task fit stop is.1 (legs_at task stop)
-      (legs_of task ready stop is) (with_used assigned others) (with_marks run marks) by.leg
-      (among_place (legs_at task stop) by.place_of by.leg by.is_leg) takes.can rest.moves rest.completes in
+      let back = turned_back run in
+      let by : MovedAlong run.home index assigned back others marks
+      (total_after task (partial (using assigned segment) (along task back segment)) moves) =
+      move_along run.home goes.begins (goes.home may.passes) assigned back others marks goes.shares goes.sees goes.spots
+      goes.begins goes.home index segment moves may.leads may.taken completes.1
+      (λ later shorter. move_by fuel later (omega (arith, shorter, enough))) in
       record {
-        moves = turn by.leg.first back.segment ∷ back.moves;
+        moves = turn index by.segment ∷ by.moves;
         completes = (
           record {
             once = may.once;
             at_stop = may.at_stop;
-            later =
-                omega (arith, may.later, by.first);
+            later = may.later;
             passes = may.passes;
-            leads = back.leads;
-            taken = back.can;
+            leads = by.leads;
+            taken = by.can;
           },
-          back.completes,
+          by.completes,
         );
-        same = back.total ∙ (rest.same ∙ sym by.total);
+        same = by.same;
       }
   move_by (suc fuel) (finish ∷ moves) enough (between assigned) others marks goes completes = absurd completes.0
   move_by (suc fuel) (finish ∷ moves) enough (partial assigned run) others marks goes completes =

@@ -23,7 +23,7 @@ use tables::{Amount, Company, Kind, Money};
 use turns::record;
 
 /// A company that has no train buys the one that it must, or its president is bankrupt. The RAISE
-/// lines of its block are ruled first. It fails only if memory is refused.
+/// lines of its orders are ruled first. It fails only if memory is refused.
 #[tactic(auto, unfolding(crate::specs::Forced::after_forced))]
 pub fn buy_by_force(
     alloc: Global,

@@ -176,7 +176,7 @@ CompanyOrdersEnd file round company game None new = new ≡ game
 CompanyOrdersEnd file round company game (Some seat) new =
     EndLeads (record { company = company; president = seat }) (company_orders_for file round seat.0 company) game new
 
--- the orders of a company, these lines of its block, lead to new: line by line, then by what it withholds by itself,
+-- the orders of a company, these lines of its sheet, lead to new: line by line, then by what it withholds by itself,
 -- and by the end of its turn
 abbrev pub OrdersLead : Operator → List Numbered → InTurn → Game → Type 0
 OrdersLead by lines turn new =

@@ -109,7 +109,7 @@ TurnCalls file round company old =
     Then (Unasked Memory (λ game turn. turn ≡ begun game company))
     (BegunCalls file round company (president_of old.events company)) old
 
--- that of the orders of a company, these lines of its block
+-- that of the orders of a company, these lines of its sheet
 abbrev pub OrdersCall : Operator → Round → List Numbered → Course InTurn Game RunnerFault
 OrdersCall by round lines =
     Then (LinesCall by round lines)

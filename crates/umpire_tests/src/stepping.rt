@@ -11,6 +11,9 @@ use std::alloc::{AllocError, Global};
 use std::test::Fail;
 use tables::{Company, Round};
 
+/// What a step answers.
+type Answer = Result<Step, PlayFault>;
+
 /// A game in which ANN must buy PRR a 4 in OR3.1, and has nothing that she may sell for it.
 const BANKRUPT: &str = "GAME 1830 1
 PLAYERS ANN BOB CYD
@@ -150,119 +153,163 @@ SHEET BOB OR1.1
 SHEET CYD OR1.1
 ";
 
-/// What shows of a play: what the step that was taken last answered, if one was taken, what the
-/// play says of itself, and the text of the round that was played last.
-#[derive(Drop)]
+/// What shows of a play but the text of its last round.
+#[derive(Clone, Copy, PartialEq, Eq)]
 struct Shown {
-    answer: Option<Result<Step, PlayFault>>,
     last_round: Option<Round>,
     outcome: Option<End>,
     has_history: bool,
-    round_text: Vec<u8>,
 }
 
-/// What shows of a play, of which the last step has answered this.
-fn what_shows(
-    alloc: Global,
-    play: &Play,
-    answer: Option<Result<Step, PlayFault>>,
-) -> Result<Shown, AllocError> {
-    let round_text = next_text(alloc, play)?;
-    Ok(Shown {
-        answer,
+/// What shows of a play.
+fn what_shows(play: &Play) -> Shown {
+    Shown {
         last_round: play.last_round(),
         outcome: play.outcome(),
         has_history: play.history().is_some(),
-        round_text,
-    })
+    }
+}
+
+/// What a step answered, what shows after it, and whether the last round has a text.
+#[derive(Clone, Copy)]
+struct After {
+    answer: Answer,
+    shown: Shown,
+    has_text: bool,
 }
 
 /// Takes a step.
-fn step<R: Runner>(alloc: Global, play: &mut Play, runner: &mut R) -> Result<Shown, AllocError> {
+fn step<R: Runner>(alloc: Global, play: &mut Play, runner: &mut R) -> Result<After, AllocError> {
     let answer = play.step(runner);
-    what_shows(alloc, play, Some(answer))
+    Ok(After {
+        answer,
+        shown: what_shows(play),
+        has_text: has_text(alloc, play)?,
+    })
 }
 
-/// Takes a step: the end of the report, if it answers that play has stopped.
-fn end_at<R: Runner>(
-    alloc: Global,
-    play: &mut Play,
-    runner: &mut R,
-) -> Result<Option<Vec<u8>>, AllocError> {
-    match play.step(runner) {
-        Ok(Step::Ended(_)) => Ok(Some(end_text(alloc, play)?)),
-        Ok(Step::Played(_)) | Err(_) => Ok(None),
-    }
+/// Whether the round that was played last has a text.
+fn has_text(alloc: Global, play: &Play) -> Result<bool, AllocError> {
+    Ok(!next_text(alloc, play)?.is_empty())
 }
 
-/// What shows of the game of these sheets once this many steps are taken.
-fn after(alloc: Global, sheets: &Sheets, steps: u32) -> Result<Shown, AllocError> {
+/// Whether a play shows nothing before its first step.
+fn shows_nothing_before(alloc: Global, file: &str) -> Result<bool, AllocError> {
+    let Ok(sheets) = collect(alloc, file.as_bytes()) else {
+        return Ok(false);
+    };
+    let play = Play::start(alloc, &sheets)?;
+    let shown = what_shows(&play);
+    Ok(shown.last_round.is_none() && shown.outcome.is_none() && !has_text(alloc, &play)?)
+}
+
+/// The last of this many steps of a play, one at least; `None` where the file is refused.
+fn after_steps(alloc: Global, file: &str, steps: u32) -> Result<Option<After>, AllocError> {
+    let Ok(sheets) = collect(alloc, file.as_bytes()) else {
+        return Ok(None);
+    };
     let mut search = Search::new(alloc);
-    let mut play = Play::start(alloc, sheets)?;
-    let mut shown = what_shows(alloc, &play, None)?;
-    for _ in 0..steps {
-        shown = step(alloc, &mut play, &mut search)?;
+    let mut play = Play::start(alloc, &sheets)?;
+    let mut last = step(alloc, &mut play, &mut search)?;
+    for _ in 1..steps {
+        last = step(alloc, &mut play, &mut search)?;
     }
-    Ok(shown)
+    Ok(Some(last))
 }
 
-/// The end of the report, if the second step answers that play has stopped.
-fn end_at_second(alloc: Global, sheets: &Sheets) -> Result<Option<Vec<u8>>, AllocError> {
-    let mut search = Search::new(alloc);
-    let mut play = Play::start(alloc, sheets)?;
-    let _first = step(alloc, &mut play, &mut search)?;
-    end_at(alloc, &mut play, &mut search)
-}
-
-/// What shows once this many steps are taken with a runner that refuses to answer, and what shows
-/// after one more, with one that would answer.
-fn after_refusals(
+/// Whether the last of this many steps answers this, and the play then shows this round and this end.
+fn shows(
     alloc: Global,
-    sheets: &Sheets,
     steps: u32,
-) -> Result<(Shown, Shown), AllocError> {
-    let mut play = Play::start(alloc, sheets)?;
-    let mut refused = what_shows(alloc, &play, None)?;
-    for _ in 0..steps {
-        refused = step(alloc, &mut play, &mut Refusing)?;
-    }
-    let mut search = Search::new(alloc);
-    let later = step(alloc, &mut play, &mut search)?;
-    Ok((refused, later))
+    answer: Step,
+    last_round: Round,
+    outcome: Option<End>,
+) -> Result<bool, AllocError> {
+    let Some(last) = after_steps(alloc, FIRST, steps)? else {
+        return Ok(false);
+    };
+    Ok(
+        last.answer == Ok(answer)
+            && last.shown.last_round == Some(last_round)
+            && last.shown.outcome == outcome,
+    )
 }
 
-/// How many rounds the steps of a play make, and why it then stops.
-fn steps_to_end(alloc: Global, play: &mut Play) -> Result<(u32, Option<End>), PlayFault> {
-    let mut search = Search::new(alloc);
-    let mut rounds = 0;
-    for played in 0..1000 {
-        if let Step::Ended(end) = play.step(&mut search)? {
-            return Ok((played, Some(end)));
-        }
-        rounds = played;
-    }
-    Ok((rounds, None))
-}
-
-/// The same of the game of these sheets, and why play is then said to have stopped once more.
-fn end_of(alloc: Global, sheets: &Sheets) -> Result<(u32, Option<End>, Option<End>), PlayFault> {
-    let mut play = Play::start(alloc, sheets)?;
-    let (rounds, end) = steps_to_end(alloc, &mut play)?;
-    let (_, again) = steps_to_end(alloc, &mut play)?;
-    Ok((rounds, end, again))
-}
-
-/// Texts, one after another.
-fn joined(alloc: Global, texts: &[&str]) -> Result<Vec<u8>, AllocError> {
+/// The report of the first game, by its parts: the header, the text of the round, the end.
+fn report_by_parts(alloc: Global) -> Result<Vec<u8>, AllocError> {
     let mut all = Vec::new(alloc);
-    for text in texts {
-        all.extend_from_slice(text.as_bytes())?;
-    }
+    let Ok(sheets) = collect(alloc, FIRST.as_bytes()) else {
+        return Ok(all);
+    };
+    let mut play = Play::start(alloc, &sheets)?;
+    let mut search = Search::new(alloc);
+    add(&mut all, &header_text(alloc, &sheets)?)?;
+    let _played = play.step(&mut search);
+    add(&mut all, &next_text(alloc, &play)?)?;
+    let _ended = play.step(&mut search);
+    add(&mut all, &end_text(alloc, &play)?)?;
     Ok(all)
 }
 
+/// Adds a part to a text.
+fn add(all: &mut Vec<u8>, part: &[u8]) -> Result<(), AllocError> {
+    all.extend_from_slice(part)?;
+    Ok(())
+}
+
+/// The last of this many steps with a runner that refuses to answer, one at least, and one more, with
+/// one that searches; `None` where the file is refused.
+fn after_refusals(
+    alloc: Global,
+    file: &[u8],
+    steps: u32,
+) -> Result<Option<(After, After)>, AllocError> {
+    let Ok(sheets) = collect(alloc, file) else {
+        return Ok(None);
+    };
+    let mut play = Play::start(alloc, &sheets)?;
+    let mut last = step(alloc, &mut play, &mut Refusing)?;
+    for _ in 1..steps {
+        last = step(alloc, &mut play, &mut Refusing)?;
+    }
+    let mut search = Search::new(alloc);
+    Ok(Some((last, step(alloc, &mut play, &mut search)?)))
+}
+
+/// Whether a step answers with this fault, and the play then shows only that this round was the last.
+fn is_broken_off(after: &After, fault: PlayFault, last_round: Round) -> bool {
+    let shown = Shown {
+        last_round: Some(last_round),
+        outcome: None,
+        has_history: false,
+    };
+    after.answer == Err(fault) && after.shown == shown && !after.has_text
+}
+
+/// How many rounds a play has before it stops, and why it stops; `None` where it goes on.
+fn steps_to_end(alloc: Global, play: &mut Play) -> Result<Option<(u32, End)>, PlayFault> {
+    let mut search = Search::new(alloc);
+    for played in 0..1000 {
+        if let Step::Ended(end) = play.step(&mut search)? {
+            return Ok(Some((played, end)));
+        }
+    }
+    Ok(None)
+}
+
+/// Whether the game of a file stops after this many rounds, for this reason, and then stays so.
+fn ends(alloc: Global, file: &[u8], rounds: u32, end: End) -> Result<bool, PlayFault> {
+    let Ok(sheets) = collect(alloc, file) else {
+        return Ok(false);
+    };
+    let mut play = Play::start(alloc, &sheets)?;
+    let first = steps_to_end(alloc, &mut play)?;
+    let again = steps_to_end(alloc, &mut play)?;
+    Ok(first == Some((rounds, end)) && again == Some((0, end)))
+}
+
 /// The order file of the game that breaks the bank.
-fn file_of_bank(alloc: Global) -> Result<Vec<u8>, AllocError> {
+fn file_of_bank(alloc: Global) -> Result<String, AllocError> {
     let mut text = String::new(alloc);
     text.push_str(FIRST_OPENING)?;
     for round in 2..134 {
@@ -271,77 +318,63 @@ fn file_of_bank(alloc: Global) -> Result<Vec<u8>, AllocError> {
         }
     }
     text.push_str(LAST_ROUNDS)?;
-    joined(alloc, &[text.as_str()])
+    Ok(text)
 }
 
 #[test]
 fn steps_through_a_game(rt: HostRuntime) -> Result<(), Fail> {
-    let Ok(sheets) = collect(rt.alloc(), FIRST.as_bytes()) else {
+    let first = Round::Opening(1);
+    let awaiting = End::Awaiting(Round::Opening(2));
+    let ended = Step::Ended(awaiting);
+    assert!(rt; shows_nothing_before(rt.alloc(), FIRST)?);
+    assert!(rt; shows(rt.alloc(), 1, Step::Played(first), first, None)?);
+    assert!(rt; shows(rt.alloc(), 2, ended, first, Some(awaiting))?);
+    assert!(rt; shows(rt.alloc(), 3, ended, first, Some(awaiting))?);
+    Ok(())
+}
+
+#[test]
+fn writes_the_report_by_its_parts(rt: HostRuntime) -> Result<(), Fail> {
+    let text = report_by_parts(rt.alloc())?;
+    assert_eq!(rt; text.as_slice(), FIRST_REPORT.as_bytes());
+    Ok(())
+}
+
+#[test]
+fn plays_on_with_another_runner(rt: HostRuntime) -> Result<(), Fail> {
+    let file = file(rt.alloc(), "RUN BEST\n")?;
+    let Some((played, later)) = after_refusals(rt.alloc(), file.as_slice(), 4)? else {
         panic!(rt; "refused")
     };
-    let (header, rest) = FIRST_REPORT.split_once("ROUND").ok_or("the header")?;
-    let (round, end) = rest.split_once("AWAITING").ok_or("the end")?;
-    let round = joined(rt.alloc(), &["ROUND", round])?;
-    let end = joined(rt.alloc(), &["AWAITING", end])?;
-    let text = header_text(rt.alloc(), &sheets)?;
-    assert_eq!(rt; text.as_slice(), header.as_bytes());
-    let before = after(rt.alloc(), &sheets, 0)?;
-    assert_eq!(rt; (before.last_round, before.outcome), (None, None));
-    assert!(rt; before.round_text.is_empty());
-    let first = Round::Opening(1);
-    let played = after(rt.alloc(), &sheets, 1)?;
-    assert_eq!(rt; played.answer, Some(Ok(Step::Played(first))));
-    assert_eq!(rt; (played.last_round, played.outcome), (Some(first), None));
-    assert_eq!(rt; played.round_text.as_slice(), round.as_slice());
-    let awaiting = End::Awaiting(Round::Opening(2));
-    for steps in 2..4 {
-        let ended = after(rt.alloc(), &sheets, steps)?;
-        assert_eq!(rt; ended.answer, Some(Ok(Step::Ended(awaiting))));
-        assert_eq!(rt;
-            (ended.last_round, ended.outcome),
-            (Some(first), Some(awaiting))
-        );
-    }
-    let written = end_at_second(rt.alloc(), &sheets)?.ok_or("goes on")?;
-    assert_eq!(rt; written.as_slice(), end.as_slice());
+    let round = Round::Operating { set: 2, number: 1 };
+    assert!(rt; played.answer == Ok(Step::Played(Round::Stock(2))) && played.shown.has_history);
+    assert!(rt; later.answer == Ok(Step::Played(round)));
     Ok(())
 }
 
 #[test]
 fn stays_broken_off(rt: HostRuntime) -> Result<(), Fail> {
     let file = file(rt.alloc(), "RUN BEST\n")?;
-    let Ok(sheets) = collect(rt.alloc(), file.as_slice()) else {
+    let Some((broken, again)) = after_refusals(rt.alloc(), file.as_slice(), 5)? else {
         panic!(rt; "refused")
     };
-    let last = Round::Stock(2);
     let round = Round::Operating { set: 2, number: 1 };
     let refused = PlayFault::Refused(round, Company::Pennsylvania);
-    let (played, later) = after_refusals(rt.alloc(), &sheets, 4)?;
-    assert_eq!(rt; played.answer, Some(Ok(Step::Played(last))));
-    assert!(rt; played.has_history);
-    assert_eq!(rt; later.answer, Some(Ok(Step::Played(round))));
-    let (broken, again) = after_refusals(rt.alloc(), &sheets, 5)?;
-    for shown in [broken, again] {
-        assert_eq!(rt; shown.answer, Some(Err(refused)));
-        assert_eq!(rt; (shown.last_round, shown.outcome), (Some(last), None));
-        assert!(rt; !shown.has_history);
-        assert!(rt; shown.round_text.is_empty());
-    }
+    assert!(rt; is_broken_off(&broken, refused, Round::Stock(2)));
+    assert!(rt; is_broken_off(&again, refused, Round::Stock(2)));
     Ok(())
 }
 
 #[test]
-fn stops_at_the_end_of_a_game(rt: HostRuntime) -> Result<(), Fail> {
-    let Ok(sheets) = collect(rt.alloc(), BANKRUPT.as_bytes()) else {
-        panic!(rt; "refused")
-    };
-    let bankrupt = Some(End::Bankrupt);
-    assert_eq!(rt; end_of(rt.alloc(), &sheets), Ok((7, bankrupt, bankrupt)));
+fn stops_at_a_bankruptcy(rt: HostRuntime) {
+    let has_ended = ends(rt.alloc(), BANKRUPT.as_bytes(), 7, End::Bankrupt);
+    assert_eq!(rt; has_ended, Ok(true));
+}
+
+#[test]
+fn stops_where_the_bank_breaks(rt: HostRuntime) -> Result<(), Fail> {
     let file = file_of_bank(rt.alloc())?;
-    let Ok(sheets) = collect(rt.alloc(), file.as_slice()) else {
-        panic!(rt; "refused")
-    };
-    let bank = Some(End::Bank);
-    assert_eq!(rt; end_of(rt.alloc(), &sheets), Ok((136, bank, bank)));
+    let has_ended = ends(rt.alloc(), file.as_str().as_bytes(), 136, End::Bank);
+    assert_eq!(rt; has_ended, Ok(true));
     Ok(())
 }
