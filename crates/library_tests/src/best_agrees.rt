@@ -44,7 +44,7 @@ const LISTS: [&[Kind]; 12] = [
 ];
 
 /// The tiles of a board, as they lie.
-pub(crate) fn lays_of(alloc: Global, tiles: &[Tile]) -> Result<Vec<Lay>, AllocError> {
+fn lays_of(alloc: Global, tiles: &[Tile]) -> Result<Vec<Lay>, AllocError> {
     let mut lays = Vec::new(alloc);
     for (hex, tile, rot, swap) in tiles {
         lays.push(Lay {
@@ -58,10 +58,7 @@ pub(crate) fn lays_of(alloc: Global, tiles: &[Tile]) -> Result<Vec<Lay>, AllocEr
 }
 
 /// The tokens of a board, at their places.
-pub(crate) fn tokens_of(
-    alloc: Global,
-    tokens: &[Token],
-) -> Result<Vec<(Place, Company)>, AllocError> {
+fn tokens_of(alloc: Global, tokens: &[Token]) -> Result<Vec<(Place, Company)>, AllocError> {
     let mut places = Vec::new(alloc);
     for (hex, number, company) in tokens {
         let place = Place {
@@ -323,24 +320,46 @@ fn disagreement<N: Network>(
     Ok(None)
 }
 
+/// The board; `None` where the rules refuse it.
+pub(crate) fn board_of(alloc: Global, laid: &Laid) -> Result<Option<Board>, AllocError> {
+    let lays = lays_of(alloc, laid.tiles)?;
+    let tokens = tokens_of(alloc, laid.tokens)?;
+    match Board::of(alloc, &lays, &tokens, laid.phase) {
+        Ok(board) => Ok(Some(board)),
+        Err(_) => Ok(None),
+    }
+}
+
+/// Whether a company earns on a board with each list of trains what the slow search finds.
+fn agrees_on(alloc: Global, laid: &Laid, company: Company) -> Result<bool, AllocError> {
+    let Some(board) = board_of(alloc, laid)? else {
+        return Ok(false);
+    };
+    Ok(disagreement(alloc, &board, company)?.is_none())
+}
+
+/// Whether a company earns on a board with three 2s what was found by hand.
+fn earns_by_three_twos(alloc: Global, laid: &Laid, company: Company) -> Result<bool, AllocError> {
+    let Some(board) = board_of(alloc, laid)? else {
+        return Ok(false);
+    };
+    let best = revenue_of(alloc, &board, company, &[Kind::Two; 3])?;
+    Ok(best == Some(laid.by_three_twos))
+}
+
 /// Each company that is named on each board earns with each list of trains what the slow search finds.
 #[test]
 fn agrees_with_a_slow_search(rt: HostRuntime) -> Result<(), AllocError> {
     for laid in BOARDS.iter() {
         let name = laid.name;
-        let lays = lays_of(rt.alloc(), laid.tiles)?;
-        let tokens = tokens_of(rt.alloc(), laid.tokens)?;
-        let Ok(board) = Board::of(rt.alloc(), &lays, &tokens, laid.phase) else {
-            panic!(rt; "refused: {name}")
-        };
         for company in laid.companies {
-            let other = disagreement(rt.alloc(), &board, *company)?;
-            assert_eq!(rt; other, None, "{name}: {company:?}");
+            assert!(rt;
+                agrees_on(rt.alloc(), laid, *company)?,
+                "{name}: {company:?}"
+            );
         }
         if let Some(company) = laid.companies.first() {
-            let twos = [Kind::Two; 3];
-            let best = revenue_of(rt.alloc(), &board, *company, &twos)?;
-            assert_eq!(rt; best, Some(laid.by_three_twos), "{name}");
+            assert!(rt; earns_by_three_twos(rt.alloc(), laid, *company)?, "{name}");
         }
     }
     Ok(())

@@ -1,6 +1,6 @@
 //! The marks that are written are those of the choice tree by its definition, and they are accepted.
 
-use crate::best_agrees::{BOARDS, lays_of, tokens_of};
+use crate::best_agrees::{BOARDS, Laid, board_of};
 use crate::boards::{PRR, first, laid};
 use crate::choice_tree::tree_marks;
 use crate::four_stops::FourStops;
@@ -66,21 +66,32 @@ fn disagreement<N: Network>(
     Ok(None)
 }
 
-/// Each company that is named on each board, and three on a network that is no board.
+/// Whether the marks of a company on a board are those of the tree.
+fn agree_on(alloc: Global, laid: &Laid, company: Company) -> Result<bool, AllocError> {
+    let Some(board) = board_of(alloc, laid)? else {
+        return Ok(false);
+    };
+    Ok(disagreement(alloc, &board, company)?.is_none())
+}
+
+/// Each company that is named on each board.
 #[test]
 fn marks_are_those_of_the_tree(rt: HostRuntime) -> Result<(), AllocError> {
     for laid in BOARDS.iter() {
         let name = laid.name;
-        let lays = lays_of(rt.alloc(), laid.tiles)?;
-        let tokens = tokens_of(rt.alloc(), laid.tokens)?;
-        let Ok(board) = Board::of(rt.alloc(), &lays, &tokens, laid.phase) else {
-            panic!(rt; "refused: {name}")
-        };
         for company in laid.companies {
-            let other = disagreement(rt.alloc(), &board, *company)?;
-            assert_eq!(rt; other, None, "{name}: {company:?}");
+            assert!(rt;
+                agree_on(rt.alloc(), laid, *company)?,
+                "{name}: {company:?}"
+            );
         }
     }
+    Ok(())
+}
+
+/// Three companies on a network that is no board.
+#[test]
+fn marks_are_those_of_the_tree_on_four_stops(rt: HostRuntime) -> Result<(), AllocError> {
     for company in [PRR, Company::NewYorkCentral, Company::BostonMaine] {
         let other = disagreement(rt.alloc(), &FourStops, company)?;
         assert_eq!(rt; other, None, "{company:?}");
@@ -98,9 +109,9 @@ fn is_accepted_as_it_is<N: Network>(
 ) -> Result<bool, AllocError> {
     let found = best(alloc, network, PRR, trains)?;
     let marks = listed(alloc, &found.marks)?;
-    let mut stands = accepts(network, PRR, trains, &found.claim, &marks);
+    let mut is_right = accepts(network, PRR, trains, &found.claim, &marks);
     for count in 0..marks.len() {
-        stands &= !accepts(network, PRR, trains, &found.claim, &marks[..count]);
+        is_right &= !accepts(network, PRR, trains, &found.claim, &marks[..count]);
     }
     let less = Claim {
         revenue: found.claim.revenue.saturating_sub(1),
@@ -112,7 +123,7 @@ fn is_accepted_as_it_is<N: Network>(
     };
     let all = listed(alloc, &write_marks(alloc, network, PRR, trains, 0)?)?;
     Ok(
-        stands
+        is_right
             && !accepts(network, PRR, trains, &less, &marks)
             && !accepts(network, PRR, trains, &nothing, &marks)
             && !accepts(network, PRR, trains, &nothing, &all),

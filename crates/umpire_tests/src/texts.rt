@@ -3,34 +3,48 @@
 use crate::support::{FIRST, FIRST_REPORT};
 use report::{report, round_text};
 use rounds::play;
-use sheets::{Sheets, collect};
+use sheets::collect;
 use std::alloc::{AllocError, Global};
 use std::test::Fail;
 use tables::Round;
 
-/// The report of the game of some sheets.
-fn whole(alloc: Global, sheets: &Sheets) -> Result<Vec<u8>, AllocError> {
-    let game = play(alloc, sheets)?;
-    report(alloc, &game)
+/// Whether the report of the first game is this text.
+fn is_report(alloc: Global, owed: &str) -> Result<bool, AllocError> {
+    let Ok(sheets) = collect(alloc, FIRST.as_bytes()) else {
+        return Ok(false);
+    };
+    let game = play(alloc, &sheets)?;
+    let text = report(alloc, &game)?;
+    Ok(text.as_slice() == owed.as_bytes())
 }
 
-/// The text of one round of it.
-fn of_round(alloc: Global, sheets: &Sheets, round: Round) -> Result<Vec<u8>, AllocError> {
-    let game = play(alloc, sheets)?;
-    round_text(alloc, &game, round)
+/// Whether the text of a round of the first game is this.
+fn is_round(alloc: Global, round: Round, owed: &str) -> Result<bool, AllocError> {
+    let Ok(sheets) = collect(alloc, FIRST.as_bytes()) else {
+        return Ok(false);
+    };
+    let game = play(alloc, &sheets)?;
+    let text = round_text(alloc, &game, round)?;
+    Ok(text.as_slice() == owed.as_bytes())
+}
+
+/// What the report of the first game says of its first round.
+fn first_round() -> Option<&'static str> {
+    let (_, rest) = FIRST_REPORT.split_once("CYD\n")?;
+    let (round, _) = rest.split_once("AWAITING")?;
+    Some(round)
 }
 
 #[test]
-fn writes_a_game_and_a_round_of_it(rt: HostRuntime) -> Result<(), Fail> {
-    let Ok(sheets) = collect(rt.alloc(), FIRST.as_bytes()) else {
-        panic!(rt; "refused")
-    };
-    let text = whole(rt.alloc(), &sheets)?;
-    assert_eq!(rt; text.as_slice(), FIRST_REPORT.as_bytes());
-    let first = of_round(rt.alloc(), &sheets, Round::Opening(1))?;
-    let (_, written) = FIRST_REPORT.split_once("CYD\n").ok_or("the players")?;
-    let (written, _) = written.split_once("AWAITING").ok_or("the end")?;
-    assert_eq!(rt; first.as_slice(), written.as_bytes());
-    assert!(rt; of_round(rt.alloc(), &sheets, Round::Opening(2))?.is_empty());
+fn writes_a_game(rt: HostRuntime) -> Result<(), Fail> {
+    assert!(rt; is_report(rt.alloc(), FIRST_REPORT)?);
+    Ok(())
+}
+
+#[test]
+fn writes_a_round_of_it(rt: HostRuntime) -> Result<(), Fail> {
+    let owed = first_round().ok_or("the round")?;
+    assert!(rt; is_round(rt.alloc(), Round::Opening(1), owed)?);
+    assert!(rt; is_round(rt.alloc(), Round::Opening(2), "")?);
     Ok(())
 }
