@@ -194,40 +194,33 @@ fn has_text(alloc: Global, play: &Play) -> Result<bool, AllocError> {
 }
 
 /// Whether a play shows nothing before its first step.
-fn shows_nothing_before(alloc: Global, file: &str) -> Result<bool, AllocError> {
-    let Ok(sheets) = collect(alloc, file.as_bytes()) else {
-        return Ok(false);
-    };
-    let play = Play::start(alloc, &sheets)?;
+fn shows_nothing_before(alloc: Global, sheets: &Sheets) -> Result<bool, AllocError> {
+    let play = Play::start(alloc, sheets)?;
     let shown = what_shows(&play);
     Ok(shown.last_round.is_none() && shown.outcome.is_none() && !has_text(alloc, &play)?)
 }
 
-/// The last of this many steps of a play, one at least; `None` where the file is refused.
-fn after_steps(alloc: Global, file: &str, steps: u32) -> Result<Option<After>, AllocError> {
-    let Ok(sheets) = collect(alloc, file.as_bytes()) else {
-        return Ok(None);
-    };
+/// The last of this many steps of a play, one at least.
+fn after_steps(alloc: Global, sheets: &Sheets, steps: u32) -> Result<After, AllocError> {
     let mut search = Search::new(alloc);
-    let mut play = Play::start(alloc, &sheets)?;
+    let mut play = Play::start(alloc, sheets)?;
     let mut last = step(alloc, &mut play, &mut search)?;
     for _ in 1..steps {
         last = step(alloc, &mut play, &mut search)?;
     }
-    Ok(Some(last))
+    Ok(last)
 }
 
 /// Whether the last of this many steps answers this, and the play then shows this round and this end.
 fn shows(
     alloc: Global,
+    sheets: &Sheets,
     steps: u32,
     answer: Step,
     last_round: Round,
     outcome: Option<End>,
 ) -> Result<bool, AllocError> {
-    let Some(last) = after_steps(alloc, FIRST, steps)? else {
-        return Ok(false);
-    };
+    let last = after_steps(alloc, sheets, steps)?;
     Ok(
         last.answer == Ok(answer)
             && last.shown.last_round == Some(last_round)
@@ -235,15 +228,12 @@ fn shows(
     )
 }
 
-/// The report of the first game, by its parts: the header, the text of the round, the end.
-fn report_by_parts(alloc: Global) -> Result<Vec<u8>, AllocError> {
+/// The report of a game of one round, by its parts: the header, the text of the round, the end.
+fn report_by_parts(alloc: Global, sheets: &Sheets) -> Result<Vec<u8>, AllocError> {
     let mut all = Vec::new(alloc);
-    let Ok(sheets) = collect(alloc, FIRST.as_bytes()) else {
-        return Ok(all);
-    };
-    let mut play = Play::start(alloc, &sheets)?;
+    let mut play = Play::start(alloc, sheets)?;
     let mut search = Search::new(alloc);
-    add(&mut all, &header_text(alloc, &sheets)?)?;
+    add(&mut all, &header_text(alloc, sheets)?)?;
     let _played = play.step(&mut search);
     add(&mut all, &next_text(alloc, &play)?)?;
     let _ended = play.step(&mut search);
@@ -258,22 +248,19 @@ fn add(all: &mut Vec<u8>, part: &[u8]) -> Result<(), AllocError> {
 }
 
 /// The last of this many steps with a runner that refuses to answer, one at least, and one more, with
-/// one that searches; `None` where the file is refused.
+/// one that searches.
 fn after_refusals(
     alloc: Global,
-    file: &[u8],
+    sheets: &Sheets,
     steps: u32,
-) -> Result<Option<(After, After)>, AllocError> {
-    let Ok(sheets) = collect(alloc, file) else {
-        return Ok(None);
-    };
-    let mut play = Play::start(alloc, &sheets)?;
+) -> Result<(After, After), AllocError> {
+    let mut play = Play::start(alloc, sheets)?;
     let mut last = step(alloc, &mut play, &mut Refusing)?;
     for _ in 1..steps {
         last = step(alloc, &mut play, &mut Refusing)?;
     }
     let mut search = Search::new(alloc);
-    Ok(Some((last, step(alloc, &mut play, &mut search)?)))
+    Ok((last, step(alloc, &mut play, &mut search)?))
 }
 
 /// Whether a step answers with this fault, and the play then shows only that this round was the last.
@@ -297,12 +284,9 @@ fn steps_to_end(alloc: Global, play: &mut Play) -> Result<Option<(u32, End)>, Pl
     Ok(None)
 }
 
-/// Whether the game of a file stops after this many rounds, for this reason, and then stays so.
-fn ends(alloc: Global, file: &[u8], rounds: u32, end: End) -> Result<bool, PlayFault> {
-    let Ok(sheets) = collect(alloc, file) else {
-        return Ok(false);
-    };
-    let mut play = Play::start(alloc, &sheets)?;
+/// Whether the game of these sheets stops after this many rounds, for this reason, and then stays so.
+fn ends(alloc: Global, sheets: &Sheets, rounds: u32, end: End) -> Result<bool, PlayFault> {
+    let mut play = Play::start(alloc, sheets)?;
     let first = steps_to_end(alloc, &mut play)?;
     let again = steps_to_end(alloc, &mut play)?;
     Ok(first == Some((rounds, end)) && again == Some((0, end)))
@@ -323,19 +307,25 @@ fn file_of_bank(alloc: Global) -> Result<String, AllocError> {
 
 #[test]
 fn steps_through_a_game(rt: HostRuntime) -> Result<(), Fail> {
+    let Ok(sheets) = collect(rt.alloc(), FIRST.as_bytes()) else {
+        panic!(rt; "refused")
+    };
     let first = Round::Opening(1);
     let awaiting = End::Awaiting(Round::Opening(2));
     let ended = Step::Ended(awaiting);
-    assert!(rt; shows_nothing_before(rt.alloc(), FIRST)?);
-    assert!(rt; shows(rt.alloc(), 1, Step::Played(first), first, None)?);
-    assert!(rt; shows(rt.alloc(), 2, ended, first, Some(awaiting))?);
-    assert!(rt; shows(rt.alloc(), 3, ended, first, Some(awaiting))?);
+    assert!(rt; shows_nothing_before(rt.alloc(), &sheets)?);
+    assert!(rt; shows(rt.alloc(), &sheets, 1, Step::Played(first), first, None)?);
+    assert!(rt; shows(rt.alloc(), &sheets, 2, ended, first, Some(awaiting))?);
+    assert!(rt; shows(rt.alloc(), &sheets, 3, ended, first, Some(awaiting))?);
     Ok(())
 }
 
 #[test]
 fn writes_the_report_by_its_parts(rt: HostRuntime) -> Result<(), Fail> {
-    let text = report_by_parts(rt.alloc())?;
+    let Ok(sheets) = collect(rt.alloc(), FIRST.as_bytes()) else {
+        panic!(rt; "refused")
+    };
+    let text = report_by_parts(rt.alloc(), &sheets)?;
     assert_eq!(rt; text.as_slice(), FIRST_REPORT.as_bytes());
     Ok(())
 }
@@ -343,9 +333,10 @@ fn writes_the_report_by_its_parts(rt: HostRuntime) -> Result<(), Fail> {
 #[test]
 fn plays_on_with_another_runner(rt: HostRuntime) -> Result<(), Fail> {
     let file = file(rt.alloc(), "RUN BEST\n")?;
-    let Some((played, later)) = after_refusals(rt.alloc(), file.as_slice(), 4)? else {
+    let Ok(sheets) = collect(rt.alloc(), file.as_slice()) else {
         panic!(rt; "refused")
     };
+    let (played, later) = after_refusals(rt.alloc(), &sheets, 4)?;
     let round = Round::Operating { set: 2, number: 1 };
     assert!(rt; played.answer == Ok(Step::Played(Round::Stock(2))) && played.shown.has_history);
     assert!(rt; later.answer == Ok(Step::Played(round)));
@@ -355,9 +346,10 @@ fn plays_on_with_another_runner(rt: HostRuntime) -> Result<(), Fail> {
 #[test]
 fn stays_broken_off(rt: HostRuntime) -> Result<(), Fail> {
     let file = file(rt.alloc(), "RUN BEST\n")?;
-    let Some((broken, again)) = after_refusals(rt.alloc(), file.as_slice(), 5)? else {
+    let Ok(sheets) = collect(rt.alloc(), file.as_slice()) else {
         panic!(rt; "refused")
     };
+    let (broken, again) = after_refusals(rt.alloc(), &sheets, 5)?;
     let round = Round::Operating { set: 2, number: 1 };
     let refused = PlayFault::Refused(round, Company::Pennsylvania);
     assert!(rt; is_broken_off(&broken, refused, Round::Stock(2)));
@@ -367,14 +359,18 @@ fn stays_broken_off(rt: HostRuntime) -> Result<(), Fail> {
 
 #[test]
 fn stops_at_a_bankruptcy(rt: HostRuntime) {
-    let has_ended = ends(rt.alloc(), BANKRUPT.as_bytes(), 7, End::Bankrupt);
-    assert_eq!(rt; has_ended, Ok(true));
+    let Ok(sheets) = collect(rt.alloc(), BANKRUPT.as_bytes()) else {
+        panic!(rt; "refused")
+    };
+    assert_eq!(rt; ends(rt.alloc(), &sheets, 7, End::Bankrupt), Ok(true));
 }
 
 #[test]
 fn stops_where_the_bank_breaks(rt: HostRuntime) -> Result<(), Fail> {
     let file = file_of_bank(rt.alloc())?;
-    let has_ended = ends(rt.alloc(), file.as_str().as_bytes(), 136, End::Bank);
-    assert_eq!(rt; has_ended, Ok(true));
+    let Ok(sheets) = collect(rt.alloc(), file.as_str().as_bytes()) else {
+        panic!(rt; "refused")
+    };
+    assert_eq!(rt; ends(rt.alloc(), &sheets, 136, End::Bank), Ok(true));
     Ok(())
 }

@@ -3,27 +3,21 @@
 use crate::support::{FIRST, FIRST_REPORT};
 use report::{report, round_text};
 use rounds::play;
-use sheets::collect;
+use sheets::{Sheets, collect};
 use std::alloc::{AllocError, Global};
 use std::test::Fail;
 use tables::Round;
 
-/// Whether the report of the first game is this text.
-fn is_report(alloc: Global, owed: &str) -> Result<bool, AllocError> {
-    let Ok(sheets) = collect(alloc, FIRST.as_bytes()) else {
-        return Ok(false);
-    };
-    let game = play(alloc, &sheets)?;
+/// Whether the report of the game of some sheets is this text.
+fn is_report(alloc: Global, sheets: &Sheets, owed: &str) -> Result<bool, AllocError> {
+    let game = play(alloc, sheets)?;
     let text = report(alloc, &game)?;
     Ok(text.as_slice() == owed.as_bytes())
 }
 
-/// Whether the text of a round of the first game is this.
-fn is_round(alloc: Global, round: Round, owed: &str) -> Result<bool, AllocError> {
-    let Ok(sheets) = collect(alloc, FIRST.as_bytes()) else {
-        return Ok(false);
-    };
-    let game = play(alloc, &sheets)?;
+/// Whether the text of a round of it is this.
+fn is_round(alloc: Global, sheets: &Sheets, round: Round, owed: &str) -> Result<bool, AllocError> {
+    let game = play(alloc, sheets)?;
     let text = round_text(alloc, &game, round)?;
     Ok(text.as_slice() == owed.as_bytes())
 }
@@ -37,14 +31,20 @@ fn first_round() -> Option<&'static str> {
 
 #[test]
 fn writes_a_game(rt: HostRuntime) -> Result<(), Fail> {
-    assert!(rt; is_report(rt.alloc(), FIRST_REPORT)?);
+    let Ok(sheets) = collect(rt.alloc(), FIRST.as_bytes()) else {
+        panic!(rt; "refused")
+    };
+    assert!(rt; is_report(rt.alloc(), &sheets, FIRST_REPORT)?);
     Ok(())
 }
 
 #[test]
 fn writes_a_round_of_it(rt: HostRuntime) -> Result<(), Fail> {
     let owed = first_round().ok_or("the round")?;
-    assert!(rt; is_round(rt.alloc(), Round::Opening(1), owed)?);
-    assert!(rt; is_round(rt.alloc(), Round::Opening(2), "")?);
+    let Ok(sheets) = collect(rt.alloc(), FIRST.as_bytes()) else {
+        panic!(rt; "refused")
+    };
+    assert!(rt; is_round(rt.alloc(), &sheets, Round::Opening(1), owed)?);
+    assert!(rt; is_round(rt.alloc(), &sheets, Round::Opening(2), "")?);
     Ok(())
 }

@@ -9,7 +9,7 @@ loop-rest-init g c = record { left = leaves_all _ _; within = grind arith; unfai
 
 pub loop-rest-preserved : goal.loop-rest-preserved
 loop-rest-preserved g c =
-    let parted = unread_parted c.loop-rest.before c.min.result c.loop-rest.rest.now _ _ c.split_at.ensures.prefix
+    let parted = unread_parted c.loop-rest.before c.min.result c.loop-rest.rest.now _ _ c.split_at.ensures.front
     c.split_at.ensures.back in
     let bytes = rw c.as_slice.ensures.value at c.in_ok-write_text.ensures.ok in
     let written = rw c.in_ok-text.ensures at bytes in
@@ -25,7 +25,7 @@ returns-in_err-text-clause-prefix g c = on_err c.from_residual.result (prefix_of
 
 pub returns-in_err-write_text-clause-prefix : goal.returns-in_err-write_text-clause-prefix
 returns-in_err-write_text-clause-prefix g c =
-    let parted = unread_parted c.loop-rest.before c.min.result c.loop-rest.rest.now _ _ c.split_at.ensures.prefix
+    let parted = unread_parted c.loop-rest.before c.min.result c.loop-rest.rest.now _ _ c.split_at.ensures.front
     c.split_at.ensures.back in
     let bytes = rw c.as_slice.ensures.value at c.in_err-write_text.ensures.prefix in
     let prefix = rw c.in_ok-text.ensures at bytes in
