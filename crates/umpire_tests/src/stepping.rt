@@ -228,23 +228,42 @@ fn shows(
     )
 }
 
-/// The report of a game of one round, by its parts: the header, the text of the round, the end.
-fn report_by_parts(alloc: Global, sheets: &Sheets) -> Result<Vec<u8>, AllocError> {
-    let mut all = Vec::new(alloc);
-    let mut play = Play::start(alloc, sheets)?;
-    let mut search = Search::new(alloc);
-    add(&mut all, &header_text(alloc, sheets)?)?;
-    let _played = play.step(&mut search);
-    add(&mut all, &next_text(alloc, &play)?)?;
-    let _ended = play.step(&mut search);
-    add(&mut all, &end_text(alloc, &play)?)?;
-    Ok(all)
+/// Takes a step: the end of the report, if it answers that play has stopped.
+fn end_at<R: Runner>(
+    alloc: Global,
+    play: &mut Play,
+    runner: &mut R,
+) -> Result<Option<Vec<u8>>, AllocError> {
+    match play.step(runner) {
+        Ok(Step::Ended(_)) => Ok(Some(end_text(alloc, play)?)),
+        Ok(Step::Played(_)) | Err(_) => Ok(None),
+    }
 }
 
-/// Adds a part to a text.
-fn add(all: &mut Vec<u8>, part: &[u8]) -> Result<(), AllocError> {
-    all.extend_from_slice(part)?;
+/// Adds the text of the round that was played last.
+fn add_round(alloc: Global, play: &Play, all: &mut Vec<u8>) -> Result<(), AllocError> {
+    let round = next_text(alloc, play)?;
+    all.extend_from_slice(round.as_slice())?;
     Ok(())
+}
+
+/// Takes a step, and adds the end of the report where play has stopped.
+fn add_end(alloc: Global, play: &mut Play, all: &mut Vec<u8>) -> Result<(), AllocError> {
+    let mut search = Search::new(alloc);
+    if let Some(end) = end_at(alloc, play, &mut search)? {
+        all.extend_from_slice(end.as_slice())?;
+    }
+    Ok(())
+}
+
+/// The report of a game of one round, by its parts: the header, the text of the round, the end.
+fn report_by_parts(alloc: Global, sheets: &Sheets) -> Result<Vec<u8>, AllocError> {
+    let mut all = header_text(alloc, sheets)?;
+    let mut play = Play::start(alloc, sheets)?;
+    let _played = play.step(&mut Search::new(alloc));
+    add_round(alloc, &play, &mut all)?;
+    add_end(alloc, &mut play, &mut all)?;
+    Ok(all)
 }
 
 /// The last of this many steps with a runner that refuses to answer, one at least, and one more, with
