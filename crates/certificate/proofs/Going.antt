@@ -1,17 +1,21 @@
 -- A walk over the children of a node, group by group, and down the nodes at which no run is begun.
 use Rattle.std.proofs.Common.{◌≡◌, ℕ, suc, ◌+◌, ◌-◌, ◌<◌, ◌≤◌, Bool, true, false, inl, Option, Some, None, List, []}
 use Rattle.std.proofs.Common.{◌∷◌, ◌++◌, length, get_or, drop, refl, ap, sym, ◌∙◌, subst, arith, append-nil}
-use Rattle.std.proofs.Common.{append_assoc}
+use Rattle.std.proofs.Common.{append_assoc, option_map}
 use Rattle.std.proofs.lemmas.List.{drop_all, drop_more}
 use Rattle.map_tables.specs.declared.hex.Hex.{Hex}
 use Rattle.map_tables.specs.declared.hex.Hex.TheVariants.{A9, A11, I1, J2}
+use Rattle.map_tables.specs.Side.{facing_of}
 use Rattle.map_tables.specs.declared.place.Stop.{Stop}
+use Rattle.map_tables.specs.declared.place.StopNumber.TheVariants.{First}
+use Rattle.map_tables.specs.declared.side.Side.{Side}
+use Rattle.map_tables.specs.declared.side.Side.TheVariants.{SouthWest}
 use Rattle.map_tables.specs.declared.track.End.{End}
-use Rattle.map_tables.specs.declared.track.End.TheVariants.{Stop as AtStop}
+use Rattle.map_tables.specs.declared.track.End.TheVariants.{Side as AtSide, Stop as AtStop}
 use Rattle.map_tables.specs.declared.track.Link.{Link}
 use Rattle.reach.specs.Lawful.{IsLawful}
 use Rattle.reach.specs.Position.{IsAmong, Position, links_of}
-use Rattle.reach.specs.Walk.{entered_at}
+use Rattle.reach.specs.Walk.{entered_at, spot_at}
 use Rattle.reach.specs.declared.walk.Spot.{Spot}
 use Rattle.reach.specs.declared.walk.Step.{Step}
 use Rattle.tables.specs.declared.rolling_stock.Kind.{Kind}
@@ -30,6 +34,20 @@ use Rattle.certificate.specs.declared.tree.Tree.{Tree}
 use Rattle.certificate.proofs.Branching.{among_for_each, step_is}
 use Rattle.certificate.proofs.Places.{earned_is}
 use Rattle.certificate.proofs.Walked.{walks_both, walks_ended}
+
+-- what is read past the end of a list of stops, or of links
+abbrev pub default_stop : Stop
+default_stop = record { hex = A9; number = First }
+
+abbrev pub default_link : Link
+default_link = record { hex = A9; a = AtSide SouthWest; b = AtSide SouthWest }
+
+-- the hex beyond a border is the neighbour over it
+pub beyond_it : (side : Side) (beyond : Spot) (next : Option Hex) →
+    option_map (λ other. spot_at other (AtSide (facing_of side))) next ≡ Some beyond → Some beyond.hex ≡ next
+beyond_it side beyond None is = absurd cc
+beyond_it side beyond (Some other) is = let there : spot_at other (AtSide (facing_of side)) ≡ beyond =
+    cc in ap (λ (s : Spot). Some s.hex) (sym there)
 
 -- steps of two lists
 steps_both : (test : Step → Bool) (node : Node) (first second : List Step)

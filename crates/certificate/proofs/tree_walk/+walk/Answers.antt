@@ -1,14 +1,10 @@
 -- The walk goes over the children of each node, in their order, and leaves the marks as they were.
-use Rattle.std.proofs.Common.{◌≡◌, ◌<◌, rules, ℕ, ◌+◌, ◌-◌, Bool, true, false, not, ◌&&◌, count_by, option_map, if◌then◌else◌, Option, Some, None, List, [], ◌∷◌, ◌++◌, length, get_or, set, replicate, refl, ap, sym, ◌∙◌, subst, arith}
+use Rattle.std.proofs.Common.{◌≡◌, ◌<◌, rules, ℕ, ◌+◌, ◌-◌, Bool, true, false, not, ◌&&◌, count_by, option_map, if◌then◌else◌, Some, None, List, [], ◌∷◌, ◌++◌, length, get_or, set, replicate, refl, ap, sym, ◌∙◌, subst, arith}
 use Rattle.map_tables.specs.Border.{neighbour_of}
-use Rattle.map_tables.specs.Side.{facing_of}
 use Rattle.map_tables.specs.declared.hex.Hex.{Hex}
 use Rattle.map_tables.specs.Place.{stop_at}
-use Rattle.map_tables.specs.declared.hex.Hex.TheVariants.{A9}
 use Rattle.map_tables.specs.declared.place.Stop.{Stop}
-use Rattle.map_tables.specs.declared.place.StopNumber.TheVariants.{First}
 use Rattle.map_tables.specs.declared.side.Side.{Side}
-use Rattle.map_tables.specs.declared.side.Side.TheVariants.{SouthWest}
 use Rattle.map_tables.specs.declared.track.End.TheVariants.{Side as AtSide, Stop as AtStop}
 use Rattle.map_tables.specs.declared.track.Link.{Link}
 use Rattle.reach.proofs.Lists.{among_at}
@@ -31,7 +27,7 @@ use Rattle.certificate.specs.Walked.{capped}
 use Rattle.certificate.specs.Walking.{AreCrossed, Continues, LeavesOver, IsOnRun, WalksOver, earned_from, may_take, node_at, node_from, reached_in, trains_of_tree}
 use Rattle.certificate.proofs.Going.{hexes_steps, no_step_found, none_ahead, one_cut, one_end, one_hex, one_split}
 use Rattle.certificate.proofs.Going.{over_none, step_enters, step_found, thing_ends, thing_over, things_over, up_ends}
-use Rattle.certificate.proofs.Going.{up_over, up_whole}
+use Rattle.certificate.proofs.Going.{beyond_it, default_link, default_stop, up_over, up_whole}
 use Rattle.certificate.proofs.Places.{none_is}
 use Rattle.certificate.proofs.OnRun.{and_false, and_true, border_continues, children_at_border, children_at_stop, finished_crossed, finished_is_between, finishing_is, is_free, is_last, no_beyond, node_out, not_free, out_continues, same_node, seen_false, on_run_at_stop, on_run_from, on_run_over, same_state, stop_continues, takes_no_stop, takes_over, takes_stop, two_stops, with_run}
 use Rattle.certificate.proofs.Walked.{walks_both, walks_ended}
@@ -132,7 +128,7 @@ set_out-returns-then-not-whole-clause-walks g t c = λ assigned at_node crossed 
     let tree = c.args.tree.now in
     let node : Node = node_from tree assigned c.args.place in
     let items : List Stop = c.stops-stop-items.result.now in
-    let stop : Stop = get_or items c.loop-stop.stop-index (record { hex = A9; number = First }) in
+    let stop : Stop = get_or items c.loop-stop.stop-index default_stop in
     let begun = c.visiting-begun.result in
     let kind = c.in-Some.kind in
     let is : items ≡ reached_in tree = c.stops-stop-items.ensures.value in
@@ -153,7 +149,7 @@ set_out-returns-then-not-whole-clause-walks g t c = λ assigned at_node crossed 
     c.visiting-begun.ensures.value (c.visiting-begun.ensures.left ∙ ap (option_map (λ n. n - 1)) c.stops.ensures)
     c.visiting-begun.ensures.own) in
     let among : IsAmong stop (reached_in tree) = subst (λ (l : List Stop). IsAmong stop l) is
-    (among_at items c.loop-stop.stop-index (record { hex = A9; number = First }) c.loop-stop-test.true) in
+    (among_at items c.loop-stop.stop-index default_stop c.loop-stop-test.true) in
     let walk = c.leave-whole.ensures.walks assigned [] (stop ∷ []) there (λ step at. out_continues stop step at)
     (at_node.tree_is.named stop among) in
     let over : WalksOver g.D.Decider.decides position tree c.loop-stop.decider
@@ -165,7 +161,7 @@ set_out-returns-then-not-whole-clause-walks g t c = λ assigned at_node crossed 
     c.leave-whole.new.decider) (sym same) walk) in
     thing_ends g.D.Decider.decides position tree (steps_from position) (goes_over (taken_borders node)) node items
     c.args.decider.now c.loop-stop.decider c.leave-whole.new.decider
-    (setting_out position tree.company (reached_in tree) node) c.loop-stop.stop-index (record { hex = A9; number = First })
+    (setting_out position tree.company (reached_in tree) node) c.loop-stop.stop-index default_stop
     c.loop-stop-test.true (c.loop-stop.invariant.2 assigned at_node crossed low) over
 
 pub set_out-returns-then-not-whole-clause-used : goal.set_out-returns-then-not-whole-clause-used
@@ -174,7 +170,7 @@ set_out-returns-then-not-whole-clause-used g t c = c.leave-whole.ensures.used �
 pub set_out-loop-stop-preserved : goal.set_out-loop-stop-preserved
 set_out-loop-stop-preserved g t c = (
   c.leave-whole.ensures.used ∙ c.loop-stop.invariant.0,
-  let stop : Stop = get_or c.stops-stop-items.result.now c.loop-stop.stop-index (record { hex = A9; number = First }) in
+  let stop : Stop = get_or c.stops-stop-items.result.now c.loop-stop.stop-index default_stop in
       let marked : c.mark.new.self ≡ set (replicate 186 false) (stop_order stop) true =
       c.mark.ensures ∙ ap (λ (m : List Bool). set m (stop_order stop) true) c.loop-stop.invariant.1 in
       c.unmark.ensures ∙ (ap (λ (m : List Bool). set m (stop_order stop) false) (c.leave-whole.ensures.seen ∙ marked)
@@ -184,7 +180,7 @@ set_out-loop-stop-preserved g t c = (
       let tree = c.args.tree.now in
       let node : Node = node_from tree assigned c.args.place in
       let items : List Stop = c.stops-stop-items.result.now in
-      let stop : Stop = get_or items c.loop-stop.stop-index (record { hex = A9; number = First }) in
+      let stop : Stop = get_or items c.loop-stop.stop-index default_stop in
       let begun = c.visiting-begun.result in
       let kind = c.in-Some.kind in
       let is : items ≡ reached_in tree = c.stops-stop-items.ensures.value in
@@ -205,7 +201,7 @@ set_out-loop-stop-preserved g t c = (
       c.visiting-begun.ensures.value (c.visiting-begun.ensures.left ∙ ap (option_map (λ n. n - 1)) c.stops.ensures)
       c.visiting-begun.ensures.own) in
       let among : IsAmong stop (reached_in tree) = subst (λ (l : List Stop). IsAmong stop l) is
-      (among_at items c.loop-stop.stop-index (record { hex = A9; number = First }) c.loop-stop-test.true) in
+      (among_at items c.loop-stop.stop-index default_stop c.loop-stop-test.true) in
       let walk = c.leave-whole.ensures.walks assigned [] (stop ∷ []) there (λ step at. out_continues stop step at)
       (at_node.tree_is.named stop among) in
       let over : WalksOver g.D.Decider.decides position tree c.loop-stop.decider
@@ -217,7 +213,7 @@ set_out-loop-stop-preserved g t c = (
       c.leave-whole.new.decider) (sym same) walk) in
       thing_over g.D.Decider.decides position tree (steps_from position) (goes_over (taken_borders node)) node items
       c.args.decider.now c.loop-stop.decider c.leave-whole.new.decider
-      (setting_out position tree.company (reached_in tree) node) c.loop-stop.stop-index (record { hex = A9; number = First })
+      (setting_out position tree.company (reached_in tree) node) c.loop-stop.stop-index default_stop
       c.loop-stop-test.true (c.loop-stop.invariant.2 assigned at_node crossed low) over,
 )
 
@@ -330,16 +326,14 @@ follow-returns-then-not-take-clause-walks g t c = λ assigned steps stops at_nod
     let items : List Link = c.as_slice-link-items.result.now in
     let all : List Node = with_steps test node (steps_at position at.hex at.end) in
     let is : items ≡ links_of position at.hex = c.as_slice-link-items.ensures.value ∙ c.links-links.ensures in
-    let link : Link = get_or items c.loop-link.link-index (record { hex = A9; a = AtSide SouthWest; b = AtSide SouthWest }) in
+    let link : Link = get_or items c.loop-link.link-index default_link in
     let among : IsAmong link (links_of position at.hex) =
-    subst (λ (l : List Link). IsAmong link l) is (among_at items c.loop-link.link-index
-    (record { hex = A9; a = AtSide SouthWest; b = AtSide SouthWest }) c.loop-link-test.true) in
+    subst (λ (l : List Link). IsAmong link l) is (among_at items c.loop-link.link-index default_link c.loop-link-test.true) in
     let walk = c.take.ensures.walks assigned steps stops
     (same_state position tree c.args.begun.now c.args.used.now c.args.seen.now c.loop-link.used c.loop-link.seen
     assigned steps stops c.loop-link.invariant.0 c.loop-link.invariant.1 at_node) among continues in
     thing_ends g.D.Decider.decides position tree (steps_by at.end) test node items c.args.decider.now
-    c.loop-link.decider c.take.new.decider all c.loop-link.link-index (record
-    { hex = A9; a = AtSide SouthWest; b = AtSide SouthWest }) c.loop-link-test.true
+    c.loop-link.decider c.take.new.decider all c.loop-link.link-index default_link c.loop-link-test.true
     (c.loop-link.invariant.2 assigned steps stops at_node continues) (subst
     (λ (b : Bool). WalksOver g.D.Decider.decides position tree c.loop-link.decider
     (with_steps test node (steps_by at.end link)) b c.take.new.decider) c.if-not-take.true walk)
@@ -363,16 +357,14 @@ follow-loop-link-preserved g t c = (
       let items : List Link = c.as_slice-link-items.result.now in
       let all : List Node = with_steps test node (steps_at position at.hex at.end) in
       let is : items ≡ links_of position at.hex = c.as_slice-link-items.ensures.value ∙ c.links-links.ensures in
-      let link : Link = get_or items c.loop-link.link-index (record { hex = A9; a = AtSide SouthWest; b = AtSide SouthWest }) in
+      let link : Link = get_or items c.loop-link.link-index default_link in
       let among : IsAmong link (links_of position at.hex) =
-      subst (λ (l : List Link). IsAmong link l) is (among_at items c.loop-link.link-index
-      (record { hex = A9; a = AtSide SouthWest; b = AtSide SouthWest }) c.loop-link-test.true) in
+      subst (λ (l : List Link). IsAmong link l) is (among_at items c.loop-link.link-index default_link c.loop-link-test.true) in
       let walk = c.take.ensures.walks assigned steps stops
       (same_state position tree c.args.begun.now c.args.used.now c.args.seen.now c.loop-link.used c.loop-link.seen
       assigned steps stops c.loop-link.invariant.0 c.loop-link.invariant.1 at_node) among continues in
       thing_over g.D.Decider.decides position tree (steps_by at.end) test node items c.args.decider.now
-      c.loop-link.decider c.take.new.decider all c.loop-link.link-index (record
-      { hex = A9; a = AtSide SouthWest; b = AtSide SouthWest }) c.loop-link-test.true
+      c.loop-link.decider c.take.new.decider all c.loop-link.link-index default_link c.loop-link-test.true
       (c.loop-link.invariant.2 assigned steps stops at_node continues) (subst
       (λ (b : Bool). WalksOver g.D.Decider.decides position tree c.loop-link.decider
       (with_steps test node (steps_by at.end link)) b c.take.new.decider) c.if-not-take.false walk),
@@ -551,13 +543,6 @@ pub take-returns-clause-seen : goal.take-returns-clause-seen
 take-returns-clause-seen g t c = let stop : Stop = c.in-Some-stop.stop in
     c.unmark.ensures ∙ (ap (λ (m : List Bool). set m (stop_order stop) false) (c.at_stop-whole.ensures.seen ∙ c.mark.ensures)
     ∙ mark_undone c.args.seen.now (stop_order stop) (sym c.has.ensures ∙ c.if-has.false))
-
--- the hex beyond a border is the neighbour over it
-beyond_it : (side : Side) (beyond : Spot) (next : Option Hex) →
-    option_map (λ other. spot_at other (AtSide (facing_of side))) next ≡ Some beyond → Some beyond.hex ≡ next
-beyond_it side beyond None is = absurd cc
-beyond_it side beyond (Some other) is = let there : spot_at other (AtSide (facing_of side)) ≡ beyond =
-    cc in ap (λ (s : Spot). Some s.hex) (sym there)
 
 pub cross-border_to-number-requires : goal.cross-border_to-number-requires
 cross-border_to-number-requires g t c =
