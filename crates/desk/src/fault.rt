@@ -3,7 +3,7 @@ ghost use Rattle.desk.specs.Fault.{fault_of_file};
 ghost use Rattle.desk.specs.declared.fault.DeskFault.TheVariants.{Memory};
 
 use sheets::FileFault;
-use std::alloc::{AllocError, AllocFailed};
+use std::alloc::AllocError;
 use thiserror::Error;
 
 /// Why the desk has no answer.
@@ -24,14 +24,6 @@ impl From<AllocError> for DeskFault {
     ghost from_gives = { λ _ fault. fault ≡ Memory };
 
     fn from(_error: AllocError) -> DeskFault {
-        DeskFault::Memory
-    }
-}
-
-impl<T: Drop> From<AllocFailed<T>> for DeskFault {
-    ghost from_gives = { λ _ fault. fault ≡ Memory };
-
-    fn from(_error: AllocFailed<T>) -> DeskFault {
         DeskFault::Memory
     }
 }

@@ -15,12 +15,13 @@ use legal_runs::Claim;
 use std::alloc::{AllocError, Global};
 use tables::{Company, Kind, Money};
 
-/// Goes to the place behind this many events of a game. There are as many, which the prover does
-/// not see where they are gone through by number.
-pub(crate) fn go_behind(walk: &mut Walk, passed: usize) {
+/// The game of this many seats as it stood behind this many of the events along which a walk goes. There
+/// are as many, which the prover does not see where they are gone through by number.
+pub(crate) fn view_behind<'a>(walk: &'a mut Walk, passed: usize, seats: usize) -> GameView<'a> {
     if passed <= walk.events.len() {
         walk.go(passed);
     }
+    walk.view(seats)
 }
 
 /// The board as a game stood. It fails only if memory is refused.

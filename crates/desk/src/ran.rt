@@ -1,146 +1,124 @@
 //! What the trains of each company ran in a round, stop by stop.
 
 use crate::fault::DeskFault;
-use crate::map_state::{best_at, board_at, go_behind};
+use crate::map_state::{best_at, board_at, view_behind};
+use crate::told::{Told, tell};
 use board::Board;
-use desk_base::{push_company, push_words};
-use history::{Event, GameView, PackedRuling, Ruling, Walk};
-use legal_runs::ClaimedRun;
+use desk_base::Piece::{Number, Words};
+use desk_base::{Piece, fill, push};
+use history::{Event, GameView, History, Ruling, Walk};
 use map_tables::{Place, Run};
-use order_grammar::{Order, print_number, print_order, print_round};
+use order_grammar::{Order, print_order};
 use reach::Network;
-use rounds::{Game, play};
-use sheets::{Sheets, collect};
+use rounds::Game;
 use std::alloc::{AllocError, Global};
-use tables::{Amount, Company, Kind, Round};
+use tables::{Amount, Company, Kind, Money, Round};
 
 /// What each company ran in a round of the game of a file, as lines that a sheet could hold, each with
 /// what its stops are worth and their sum; under a RUN BEST that was obeyed, runs that earn the most.
 /// Without a round it is the last in which a company ran; empty where none has. `Round` where the round
 /// that is asked for is not played.
 pub fn runs(alloc: Global, file: &[u8], asked: Option<Round>) -> Result<Vec<u8>, DeskFault> {
-    let sheets = collect(alloc, file)?;
-    runs_in(alloc, &sheets, asked)
+    tell(alloc, file, asked, Told::Runs)
 }
 
-/// The same of some sheets.
-fn runs_in(alloc: Global, sheets: &Sheets, asked: Option<Round>) -> Result<Vec<u8>, DeskFault> {
-    let game = play(alloc, sheets)?;
-    runs_of(alloc, &game, asked)
-}
-
-/// The same of a game.
-fn runs_of(alloc: Global, game: &Game, asked: Option<Round>) -> Result<Vec<u8>, DeskFault> {
+/// What each company ran in a round of a game.
+pub(crate) fn runs_of(
+    alloc: Global,
+    game: &Game,
+    asked: Option<Round>,
+) -> Result<Vec<u8>, DeskFault> {
+    let round = asked_or_last(game.history().events(), asked)?;
     let mut out = Vec::new(alloc);
-    if let Some(round) = asked_or_last(game, asked)? {
-        push_round(alloc, &mut out, game, round)?;
+    if let Some(round) = round {
+        push_runs(alloc, &mut out, game.history(), round)?;
     }
     Ok(out)
 }
 
 /// The round that is asked for, if it is played; else the last in which a company ran, if one has.
-fn asked_or_last(game: &Game, asked: Option<Round>) -> Result<Option<Round>, DeskFault> {
-    let events = game.history().events();
-    match asked {
-        None => Ok(last_with_runs(events)),
-        Some(round) if is_played(events, round) => Ok(Some(round)),
-        Some(_) => Err(DeskFault::Round),
-    }
-}
-
-/// Whether a round is among those of a game.
-fn is_played(events: &[Event], round: Round) -> bool {
-    events
-        .iter()
-        .any(|event| event.round().is_some_and(|begun| begun == round))
-}
-
-/// The last round in which a company ran; `None` where none has.
-fn last_with_runs(events: &[Event]) -> Option<Round> {
-    let mut round = None;
-    let mut found = None;
+fn asked_or_last(events: &[Event], asked: Option<Round>) -> Result<Option<Round>, DeskFault> {
+    let mut begun = None;
+    let mut last = None;
     for event in events {
-        if event.round().is_some() {
-            round = event.round();
-        }
-        if matches!(event, Event::Runs { .. }) {
-            found = round;
+        match event {
+            Event::Round(round) if asked == Some(*round) => return Ok(asked),
+            Event::Round(round) => begun = Some(*round),
+            Event::Runs { .. } => last = begun,
+            _ => {}
         }
     }
-    found
+    match asked {
+        Some(_) => Err(DeskFault::Round),
+        None => Ok(last),
+    }
 }
 
-/// Adds a round, and what each company ran in it.
-fn push_round(
+/// Adds a round of a game, and what each company ran in it.
+fn push_runs(
     alloc: Global,
     out: &mut Vec<u8>,
-    game: &Game,
-    round: Round,
+    history: &History,
+    asked: Round,
 ) -> Result<(), AllocError> {
-    push_words(out, "ROUND ")?;
-    print_round(out, &round)?;
-    out.push(b'\n')?;
-    let history = game.history();
+    fill(out, "ROUND %\n", &[Piece::Round(asked)])?;
     let events = history.events();
     let mut walk = Walk::along(events);
     let mut within = false;
-    let mut ordered = None;
+    let mut last = None;
     for (passed, event) in events.iter().enumerate() {
-        if let Some(begun) = event.round() {
-            within = begun == round;
-        }
-        if let Event::Ruled { ruling, .. } = event {
-            ordered = order_obeyed(ruling);
-        }
-        if let (true, Event::Runs { company, revenue }, Some(order)) = (within, event, &ordered) {
-            go_behind(&mut walk, passed);
-            let view = walk.view(history.seats());
-            push_ran(alloc, out, &view, *company, *revenue, order)?;
+        match event {
+            Event::Round(round) => within = *round == asked,
+            Event::Ruled { ruling, .. } => last = Some(ruling),
+            Event::Runs { company, revenue } => {
+                if let (true, Some(last)) = (within, last) {
+                    let view = view_behind(&mut walk, passed, history.seats());
+                    push_ran(alloc, out, &view, *company, *revenue, &last.ruling())?;
+                }
+            }
+            _ => {}
         }
     }
     Ok(())
 }
 
-/// The order that a ruling obeys, if it obeys one.
-fn order_obeyed(ruling: &PackedRuling) -> Option<Order> {
-    match ruling.ruling() {
-        Ruling::Obeyed { order, .. } => Some(order),
-        _ => None,
-    }
-}
-
-/// Adds what a company earned by an order, and by which runs.
+/// Adds what a company earned by the order that a ruling obeys, and by which runs; nothing where it
+/// obeys none.
 fn push_ran(
     alloc: Global,
     out: &mut Vec<u8>,
     view: &GameView,
     company: Company,
     revenue: Amount,
-    order: &Order,
+    ruling: &Ruling,
 ) -> Result<(), AllocError> {
-    push_words(out, "RUNS ")?;
-    push_company(out, company)?;
-    out.push(b' ')?;
-    print_number(out, revenue)?;
-    let board = board_at(alloc, view)?;
+    let Ruling::Obeyed { order, .. } = ruling else {
+        return Ok(());
+    };
+    let words = match order {
+        Order::RunBest => "RUNS % % BEST\n",
+        _ => "RUNS % %\n",
+    };
+    let code = Words(company.code());
+    fill(out, words, &[code, Number(Money::from(revenue))])?;
     match order {
-        Order::Run { kind, run } => {
-            push_words(out, "\n")?;
-            push_run(out, &board, *kind, run)
-        }
-        Order::RunBest => {
-            push_words(out, " BEST\n")?;
-            let claim = best_at(alloc, view, company)?;
-            push_claimed(out, &board, claim.runs.as_slice())
-        }
-        _ => push_words(out, "\n"),
+        Order::Run { kind, run } => push_run(out, &board_at(alloc, view)?, *kind, run),
+        Order::RunBest => push_best(alloc, out, view, company),
+        _ => Ok(()),
     }
 }
 
-/// Adds the lines of some runs.
-fn push_claimed(out: &mut Vec<u8>, board: &Board, runs: &[ClaimedRun]) -> Result<(), AllocError> {
-    for claimed in runs {
-        push_run(out, board, claimed.kind, &claimed.run)?;
+/// Adds the lines of the runs by which a company's trains earn the most.
+fn push_best(
+    alloc: Global,
+    out: &mut Vec<u8>,
+    view: &GameView,
+    company: Company,
+) -> Result<(), AllocError> {
+    let claim = best_at(alloc, view, company)?;
+    let board = board_at(alloc, view)?;
+    for claimed in claim.runs.as_slice() {
+        push_run(out, &board, claimed.kind, &claimed.run)?;
     }
     Ok(())
 }
@@ -152,24 +130,9 @@ fn push_run(out: &mut Vec<u8>, board: &Board, kind: Kind, run: &Run) -> Result<(
         run: run.duplicate(),
     };
     print_order(out, &order)?;
-    push_words(out, "    ")?;
-    print_number(out, sum_of(board, run.as_slice()))?;
-    push_values(out, board, run.as_slice())?;
-    out.push(b'\n')?;
-    Ok(())
-}
-
-/// Adds what the stops of a run are worth, each behind a sign.
-fn push_values(out: &mut Vec<u8>, board: &Board, places: &[Place]) -> Result<(), AllocError> {
-    let mut sign = " = ";
-    for place in places {
-        if let Some(stop) = place.stop() {
-            push_words(out, sign)?;
-            print_number(out, board.value(stop))?;
-            sign = " + ";
-        }
-    }
-    Ok(())
+    let sum = sum_of(board, run.as_slice());
+    fill(out, "    %", &[Number(Money::from(sum))])?;
+    push_values(out, board, run.as_slice())
 }
 
 /// What the stops of a run are worth together, in dollars.
@@ -181,4 +144,16 @@ fn sum_of(board: &Board, places: &[Place]) -> Amount {
         }
     }
     sum
+}
+
+/// Adds what the stops of a run are worth, each behind a sign, and the end of the line.
+fn push_values(out: &mut Vec<u8>, board: &Board, places: &[Place]) -> Result<(), AllocError> {
+    let mut sign = " = ";
+    for place in places {
+        if let Some(stop) = place.stop() {
+            push(out, &[Words(sign), Number(Money::from(board.value(stop)))])?;
+            sign = " + ";
+        }
+    }
+    fill(out, "\n", &[])
 }

@@ -4,8 +4,11 @@ ghost use Rattle.desk.specs.RoundPart.{HasNoText, IsRoundFault, IsRoundPart, rou
 ghost use Rattle.report.specs.Report.{round_text_of};
 
 use crate::fault::DeskFault;
-use crate::map_state::go_behind;
+use crate::map_state::view_behind;
+use crate::told::{Told, tell};
 use crate::why::push_why;
+use desk_base::Piece::Bytes;
+use desk_base::{fill, push};
 use history::{Event, Walk};
 use report::round_text;
 use rounds::{Game, play};
@@ -31,18 +34,8 @@ fn part_in(alloc: Global, sheets: &Sheets, asked: Option<Round>) -> Result<Vec<u
     ensures fault { IfErr result (IsRoundFault sheets.now asked) }
 {
     let game = play(alloc, sheets)?;
-    let text = part_of(alloc, &game, asked)?;
-    Ok(text)
-}
-
-/// That part of the report of a game.
-fn part_of(alloc: Global, game: &Game, asked: Option<Round>) -> Result<Vec<u8>, DeskFault>
-    ensures part { IfOk result (λ text.
-        text.items ≡ text_of_round game.now (round_asked game.now asked)) }
-    ensures fault { IfErr result (HasNoText game.now (round_asked game.now asked)) }
-{
-    match round_asked(game, asked) {
-        Some(round) => text_of(alloc, game, round),
+    match round_asked(&game, asked) {
+        Some(round) => text_of(alloc, &game, round),
         None => Ok(Vec::new(alloc)),
     }
 }
@@ -54,17 +47,22 @@ pub fn round_with_rules(
     file: &[u8],
     asked: Option<Round>,
 ) -> Result<Vec<u8>, DeskFault> {
-    let sheets = collect(alloc, file)?;
-    rules_in(alloc, &sheets, asked)
+    tell(alloc, file, asked, Told::Rules)
 }
 
-/// That part of the report of some sheets, with these rules.
-fn rules_in(alloc: Global, sheets: &Sheets, asked: Option<Round>) -> Result<Vec<u8>, DeskFault> {
-    let game = play(alloc, sheets)?;
-    match round_asked(&game, asked) {
-        Some(round) => text_with_rules(alloc, &game, round),
-        None => Ok(Vec::new(alloc)),
-    }
+/// That part of the report of a game, with these rules.
+pub(crate) fn rules_of(
+    alloc: Global,
+    game: &Game,
+    asked: Option<Round>,
+) -> Result<Vec<u8>, DeskFault> {
+    let Some(round) = round_asked(game, asked) else {
+        return Ok(Vec::new(alloc));
+    };
+    let text = text_of(alloc, game, round)?;
+    let mut out = Vec::new(alloc);
+    push_with_rules(&mut out, game, round, text.as_slice())?;
+    Ok(out)
 }
 
 /// The text of a round of a game; `Round` where there is none.
@@ -78,14 +76,6 @@ fn text_of(alloc: Global, game: &Game, round: Round) -> Result<Vec<u8>, DeskFaul
         return Err(DeskFault::Round);
     }
     Ok(text)
-}
-
-/// The same with the rules that refused lines broke.
-fn text_with_rules(alloc: Global, game: &Game, round: Round) -> Result<Vec<u8>, DeskFault> {
-    let text = text_of(alloc, game, round)?;
-    let mut out = Vec::new(alloc);
-    push_with_rules(&mut out, game, round, text.as_slice())?;
-    Ok(out)
 }
 
 /// The round that is asked for; the last that was played, where none is; `None` before the first.
@@ -111,33 +101,20 @@ fn push_with_rules(
     let mut rest = text;
     let mut within = false;
     for (passed, event) in events.iter().enumerate() {
-        if let Some(begun) = event.round() {
-            within = begun == round;
+        if let Event::Round(begun) = event {
+            within = *begun == round;
         }
         if !within {
             continue;
         }
-        rest = push_first(out, rest)?;
+        if let Some(first) = first_line(rest) {
+            fill(out, "%\n", &[Bytes(first.line)])?;
+            rest = first.rest;
+        }
         if let Event::Ruled { seat, ruling, .. } = event {
-            go_behind(&mut walk, passed);
-            push_why(
-                out,
-                game.sheets(),
-                &walk.view(game.sheets().seats()),
-                *seat,
-                ruling,
-            )?;
+            let view = view_behind(&mut walk, passed, game.history().seats());
+            push_why(out, game.sheets(), &view, *seat, ruling)?;
         }
     }
-    out.extend_from_slice(rest)
-}
-
-/// Adds the first line of a text; what follows it.
-fn push_first<'a>(out: &mut Vec<u8>, text: &'a [u8]) -> Result<&'a [u8], AllocError> {
-    let Some(piece) = first_line(text) else {
-        return Ok(text);
-    };
-    out.extend_from_slice(piece.line)?;
-    out.push(b'\n')?;
-    Ok(piece.rest)
+    push(out, &[Bytes(rest)])
 }

@@ -2,210 +2,184 @@
 //! Each is added behind the rule, in brackets.
 
 use certs::{Holdings, market_price, share_price};
-use desk_base::{push_company, push_words};
+use desk_base::Piece::{Bytes, Number, Words};
+use desk_base::{fill, push};
 use history::{
     GameView, Holder, LayRule, OpeningRule, Party, PrivateRule, Refusal, Ruling, RunRule,
     Shareholder, StockRule, TokenRule, TrainRule,
 };
-use map_tables::{End, Lay, laid_links, neighbour};
-use order_grammar::{Condition, Order, print_number};
-use report::push_name;
+use map_tables::{End, Lay, Side, laid_links, neighbour};
+use order_grammar::{Condition, Order};
+use report::name;
 use sheets::Sheets;
 use std::alloc::AllocError;
 use tables::{
-    Company, Kind, Money, PLAYERS_MOST, Private, Seat, certificate_limit, face, limit, train,
+    Amount, Company, Kind, Money, PLAYERS_MOST, Private, Seat, certificate_limit, face, limit,
+    train,
 };
 
+/// An order of a seat that was refused, and the game before it.
+#[derive(Drop)]
+struct Refused<'a> {
+    sheets: &'a Sheets<'a>,
+    view: &'a GameView<'a>,
+    seat: Seat,
+    order: &'a Order,
+}
+
 /// Adds what was looked for, where an order of a seat was refused in a view of the game before it.
-pub(crate) fn push_sought(
+pub(crate) fn push_sought<'a>(
     out: &mut Vec<u8>,
-    sheets: &Sheets,
-    view: &GameView,
+    sheets: &'a Sheets<'a>,
+    view: &'a GameView<'a>,
     seat: Seat,
-    ruling: &Ruling,
+    ruling: &'a Ruling,
 ) -> Result<(), AllocError> {
-    match ruling {
-        Ruling::Refused {
-            rule,
-            condition,
-            order,
-        } => push_of_rule(out, sheets, view, seat, *rule, *condition, order),
-        _ => Ok(()),
-    }
-}
-
-/// Adds what was looked for by a rule.
-fn push_of_rule(
-    out: &mut Vec<u8>,
-    sheets: &Sheets,
-    view: &GameView,
-    seat: Seat,
-    rule: Refusal,
-    condition: Option<Condition>,
-    order: &Order,
-) -> Result<(), AllocError> {
+    let Ruling::Refused {
+        rule,
+        condition,
+        order,
+    } = ruling
+    else {
+        return Ok(());
+    };
+    let refused = Refused {
+        sheets,
+        view,
+        seat,
+        order,
+    };
     match rule {
-        Refusal::Opening(rule) => match private_of(order) {
-            Some(private) => push_of_opening(out, sheets, view, seat, rule, private),
-            None => Ok(()),
-        },
-        Refusal::Stock(rule) => match company_of(order) {
-            Some(company) => push_of_stock(out, sheets, view, seat, rule, company, order),
-            None => Ok(()),
-        },
-        Refusal::Lay(rule) => push_of_lay(out, view, seat, rule, order),
-        Refusal::Token(TokenRule::CashTooSmall) => push_presided(out, view, seat),
-        Refusal::Token(_) | Refusal::Pay(_) => Ok(()),
-        Refusal::Run(rule) => push_of_run(out, rule, order),
-        Refusal::Train(rule) => push_of_train(out, view, seat, rule),
-        Refusal::Private(rule) => push_of_private(out, view, seat, rule, order),
-        Refusal::Condition => push_of_condition(out, view, condition),
+        Refusal::Opening(rule) => refused.push_of_opening(out, *rule),
+        Refusal::Stock(rule) => refused.push_of_stock(out, *rule),
+        Refusal::Condition => push_of_condition(out, view, *condition),
+        _ => refused.push_of_operating(out, *rule),
     }
 }
 
-/// The private that an order names, if it names one.
-fn private_of(order: &Order) -> Option<Private> {
-    match order {
-        Order::BuyPrivate(private)
+impl<'a> Refused<'a> {
+    /// Adds what was looked for by a rule of an opening, where the order names a private.
+    fn push_of_opening(&self, out: &mut Vec<u8>, rule: OpeningRule) -> Result<(), AllocError> {
+        let (Order::BuyPrivate(private)
         | Order::Bid { private, .. }
-        | Order::Limit { private, .. }
-        | Order::BuyOwnedPrivate { private, .. } => Some(*private),
-        _ => None,
+        | Order::Limit { private, .. }) = self.order
+        else {
+            return Ok(());
+        };
+        match rule {
+            OpeningRule::Sold => {
+                let owner = match self.view.owner(*private) {
+                    Some(Holder::Seat(seat)) => Bytes(name(self.sheets, seat)),
+                    Some(Holder::Company(company)) => Words(company.code()),
+                    None => return Ok(()),
+                };
+                fill(out, " (% owns it)", &[owner])
+            }
+            OpeningRule::NotCheapest | OpeningRule::BidForCheapest => {
+                match self.view.cheapest_unsold() {
+                    Some(cheapest) => fill(out, " (that is %)", &[Words(cheapest.code())]),
+                    None => Ok(()),
+                }
+            }
+            OpeningRule::BidTooLow => {
+                let face = Number(Money::from(face(*private)));
+                let bid = Number(Money::from(highest_bid(self.view, *private)));
+                let words = " (the face value is %, the highest bid %)";
+                fill(out, words, &[face, bid])
+            }
+            OpeningRule::CashTooSmall => {
+                let name = Bytes(name(self.sheets, self.seat));
+                let cash = Number(self.view.cash(Party::of_seat(self.seat)));
+                let bids = Number(self.view.bids_elsewhere(self.seat, *private));
+                fill(out, " (% has %, less % bid elsewhere)", &[name, cash, bids])
+            }
+            OpeningRule::NotOfOpening | OpeningRule::TurnUsed => Ok(()),
+        }
     }
-}
 
-/// The company whose shares an order buys or sells, if it does.
-fn company_of(order: &Order) -> Option<Company> {
-    match order {
-        Order::Par { company, .. }
+    /// Adds what was looked for by a rule of a stock round, where the order names a company.
+    fn push_of_stock(&self, out: &mut Vec<u8>, rule: StockRule) -> Result<(), AllocError> {
+        let (Order::Par { company, .. }
         | Order::BuyShare { company, .. }
         | Order::Sell { company, .. }
-        | Order::Raise { company, .. } => Some(*company),
-        _ => None,
-    }
-}
-
-/// Adds what was looked for by a rule of an opening.
-fn push_of_opening(
-    out: &mut Vec<u8>,
-    sheets: &Sheets,
-    view: &GameView,
-    seat: Seat,
-    rule: OpeningRule,
-    private: Private,
-) -> Result<(), AllocError> {
-    match rule {
-        OpeningRule::Sold => push_owner(out, sheets, view, private),
-        OpeningRule::NotCheapest | OpeningRule::BidForCheapest => push_cheapest(out, view),
-        OpeningRule::BidTooLow => push_bids(out, view, private),
-        OpeningRule::CashTooSmall => {
-            push_words(out, " (")?;
-            push_has(out, sheets, seat, view.cash(Party::of_seat(seat)))?;
-            push_number(out, ", less ", view.bids_elsewhere(seat, private))?;
-            push_words(out, " bid elsewhere)")
+        | Order::Raise { company, .. }) = self.order
+        else {
+            return Ok(());
+        };
+        let name = Bytes(name(self.sheets, self.seat));
+        match rule {
+            StockRule::NotHeld | StockRule::OverSixShares => {
+                let shares = Number(self.view.shares(*company, Shareholder::Seat(self.seat)));
+                fill(out, " (% has %)", &[name, shares])
+            }
+            StockRule::PoolFull | StockRule::NoneThere => {
+                let ipo = Number(self.view.shares(*company, Shareholder::InitialOffering));
+                let pool = Number(self.view.shares(*company, Shareholder::BankPool));
+                fill(out, " (% are in IPO, % in POOL)", &[ipo, pool])
+            }
+            StockRule::CashTooSmall => {
+                let cost = Number(cost_of(self.view, self.order));
+                let cash = Number(self.view.free_cash(self.seat));
+                fill(out, " (it costs %, % has %)", &[cost, name, cash])
+            }
+            StockRule::CertificateLimit => {
+                let counted = Number(Holdings::at(self.view).counted(self.seat));
+                let most = Number(certificate_limit(self.view.seats) as Money);
+                fill(out, " (% has % of %)", &[name, counted, most])
+            }
+            _ => Ok(()),
         }
-        OpeningRule::NotOfOpening | OpeningRule::TurnUsed => Ok(()),
+    }
+
+    /// Adds what was looked for by a rule of an operating round.
+    fn push_of_operating(&self, out: &mut Vec<u8>, rule: Refusal) -> Result<(), AllocError> {
+        let (words, found) = match (rule, self.order) {
+            (Refusal::Lay(LayRule::ColourClosed) | Refusal::Private(PrivateRule::TooEarly), _) => {
+                (" (the phase is %)", Words(self.view.phase().code()))
+            }
+            (Refusal::Lay(LayRule::BadSide), Order::Lay(lay)) => match closed_side(*lay) {
+                Some(side) => (" (at side %)", Number(side.number() as Money)),
+                None => return Ok(()),
+            },
+            (Refusal::Run(RunRule::WrongNumber), Order::Run { kind, .. }) => match kind.stops() {
+                Some(most) => (" (which is %)", Number(most as Money)),
+                None => return Ok(()),
+            },
+            (Refusal::Train(TrainRule::NotOnSale), _) => match on_sale(self.view) {
+                Some(kind) => (" (the bank sells a %)", Words(kind.code())),
+                None => return Ok(()),
+            },
+            (Refusal::Train(TrainRule::TrainLimit), _) => {
+                (" (which is %)", Number(limit(self.view.phase()) as Money))
+            }
+            (Refusal::Private(PrivateRule::WrongPrice), Order::BuyOwnedPrivate { private, .. }) => {
+                (
+                    " (the face value is %)",
+                    Number(Money::from(face(*private))),
+                )
+            }
+            (
+                Refusal::Lay(LayRule::CashTooSmall)
+                | Refusal::Token(TokenRule::CashTooSmall)
+                | Refusal::Train(TrainRule::CashTooSmall)
+                | Refusal::Private(PrivateRule::CashTooSmall),
+                _,
+            ) => return push_presided(out, self.view, self.seat),
+            _ => return Ok(()),
+        };
+        fill(out, words, &[found])
     }
 }
 
-/// Adds who owns a private.
-fn push_owner(
-    out: &mut Vec<u8>,
-    sheets: &Sheets,
-    view: &GameView,
-    private: Private,
-) -> Result<(), AllocError> {
-    let Some(holder) = view.owner(private) else {
-        return Ok(());
-    };
-    push_words(out, " (")?;
-    match holder {
-        Holder::Seat(seat) => push_name(out, sheets, seat)?,
-        Holder::Company(company) => push_company(out, company)?,
-    }
-    push_words(out, " owns it)")
-}
-
-/// Adds which private is the cheapest unsold.
-fn push_cheapest(out: &mut Vec<u8>, view: &GameView) -> Result<(), AllocError> {
-    let Some(private) = view.cheapest_unsold() else {
-        return Ok(());
-    };
-    push_words(out, " (that is ")?;
-    push_words(out, private.code())?;
-    push_words(out, ")")
-}
-
-/// Adds the face value of a private and the highest bid on it.
-fn push_bids(out: &mut Vec<u8>, view: &GameView, private: Private) -> Result<(), AllocError> {
+/// The highest bid on a private, in dollars; 0 where there is none.
+fn highest_bid(view: &GameView, private: Private) -> Amount {
     let mut highest = 0;
     for seat in 0..PLAYERS_MOST {
-        highest = view
-            .standing_bid(private, Seat::at(seat))
-            .unwrap_or(0)
-            .max(highest);
+        if let Some(bid) = view.standing_bid(private, Seat::at(seat)) {
+            highest = bid.max(highest);
+        }
     }
-    push_number(out, " (the face value is ", Money::from(face(private)))?;
-    push_number(out, ", the highest bid ", Money::from(highest))?;
-    push_words(out, ")")
-}
-
-/// Adds what was looked for by a rule of a stock round.
-fn push_of_stock(
-    out: &mut Vec<u8>,
-    sheets: &Sheets,
-    view: &GameView,
-    seat: Seat,
-    rule: StockRule,
-    company: Company,
-    order: &Order,
-) -> Result<(), AllocError> {
-    match rule {
-        StockRule::NotHeld | StockRule::OverSixShares => {
-            push_words(out, " (")?;
-            push_has(
-                out,
-                sheets,
-                seat,
-                view.shares(company, Shareholder::Seat(seat)),
-            )?;
-            push_words(out, ")")
-        }
-        StockRule::PoolFull | StockRule::NoneThere => push_with_bank(out, view, company),
-        StockRule::CashTooSmall => {
-            push_number(out, " (it costs ", cost_of(view, order))?;
-            push_words(out, ", ")?;
-            push_has(out, sheets, seat, view.free_cash(seat))?;
-            push_words(out, ")")
-        }
-        StockRule::CertificateLimit => {
-            push_words(out, " (")?;
-            push_has(out, sheets, seat, Holdings::at(view).counted(seat))?;
-            push_number(out, " of ", certificate_limit(view.seats) as Money)?;
-            push_words(out, ")")
-        }
-        _ => Ok(()),
-    }
-}
-
-/// Adds how many a player has of what a rule asks for.
-fn push_has(
-    out: &mut Vec<u8>,
-    sheets: &Sheets,
-    seat: Seat,
-    count: Money,
-) -> Result<(), AllocError> {
-    push_name(out, sheets, seat)?;
-    push_number(out, " has ", count)
-}
-
-/// Adds how many shares of a company the bank has.
-fn push_with_bank(out: &mut Vec<u8>, view: &GameView, company: Company) -> Result<(), AllocError> {
-    let left = view.shares(company, Shareholder::InitialOffering);
-    let pool = view.shares(company, Shareholder::BankPool);
-    push_number(out, " (", left)?;
-    push_number(out, " are in IPO, ", pool)?;
-    push_words(out, " in POOL)")
+    highest
 }
 
 /// What an order to start a company, or to buy of one, costs, in dollars; nothing for other orders.
@@ -217,100 +191,30 @@ fn cost_of(view: &GameView, order: &Order) -> Money {
     }
 }
 
-/// Adds what was looked for by a rule of lays.
-fn push_of_lay(
-    out: &mut Vec<u8>,
-    view: &GameView,
-    seat: Seat,
-    rule: LayRule,
-    order: &Order,
-) -> Result<(), AllocError> {
-    match (rule, order) {
-        (LayRule::ColourClosed, _) => push_phase(out, view),
-        (LayRule::BadSide, Order::Lay(lay)) => push_border(out, *lay),
-        (LayRule::CashTooSmall, _) => push_presided(out, view, seat),
-        _ => Ok(()),
-    }
-}
-
-/// Adds the first side to which a tile's track would lead where no hex lies, or over a closed border; nothing
+/// The first side to which a tile's track would lead where no hex lies, or over a closed border; `None`
 /// where it has none.
-fn push_border(out: &mut Vec<u8>, lay: Lay) -> Result<(), AllocError> {
+fn closed_side(lay: Lay) -> Option<Side> {
     for link in laid_links(lay).as_slice() {
-        for end in [link.a, link.b] {
+        for end in &[link.a, link.b] {
             if let End::Side(side) = end {
-                if neighbour(lay.hex, side).is_none() {
-                    push_number(out, " (at side ", side.number() as Money)?;
-                    return push_words(out, ")");
+                if neighbour(lay.hex, *side).is_none() {
+                    return Some(*side);
                 }
             }
         }
     }
-    Ok(())
+    None
 }
 
-/// Adds what was looked for by a rule of runs: how many stops the train may visit.
-fn push_of_run(out: &mut Vec<u8>, rule: RunRule, order: &Order) -> Result<(), AllocError> {
-    let (RunRule::WrongNumber, Order::Run { kind, .. }) = (rule, order) else {
-        return Ok(());
-    };
-    let Some(most) = kind.stops() else {
-        return Ok(());
-    };
-    push_number(out, " (which is ", most as Money)?;
-    push_words(out, ")")
-}
-
-/// Adds what was looked for by a rule of trains.
-fn push_of_train(
-    out: &mut Vec<u8>,
-    view: &GameView,
-    seat: Seat,
-    rule: TrainRule,
-) -> Result<(), AllocError> {
-    match rule {
-        TrainRule::NotOnSale => push_on_sale(out, view),
-        TrainRule::TrainLimit => {
-            push_number(out, " (which is ", limit(view.phase()) as Money)?;
-            push_words(out, ")")
-        }
-        TrainRule::CashTooSmall => push_presided(out, view, seat),
-        _ => Ok(()),
-    }
-}
-
-/// Adds which train the bank sells: the first kind of which it has not sold all.
-fn push_on_sale(out: &mut Vec<u8>, view: &GameView) -> Result<(), AllocError> {
-    for kind in Kind::ALL {
-        if train(kind)
-            .number
-            .is_none_or(|number| view.trains_sold(kind) < usize::from(number))
-        {
-            push_words(out, " (the bank sells a ")?;
-            push_words(out, kind.code())?;
-            return push_words(out, ")");
+/// Which train the bank sells: the first kind of which it has not sold all.
+fn on_sale(view: &GameView) -> Option<Kind> {
+    for kind in &Kind::ALL {
+        match train(*kind).number {
+            Some(number) if view.trains_sold(*kind) >= usize::from(number) => {}
+            _ => return Some(*kind),
         }
     }
-    Ok(())
-}
-
-/// Adds what was looked for by a rule of privates that companies buy.
-fn push_of_private(
-    out: &mut Vec<u8>,
-    view: &GameView,
-    seat: Seat,
-    rule: PrivateRule,
-    order: &Order,
-) -> Result<(), AllocError> {
-    match (rule, private_of(order)) {
-        (PrivateRule::TooEarly, _) => push_phase(out, view),
-        (PrivateRule::WrongPrice, Some(private)) => {
-            push_number(out, " (the face value is ", Money::from(face(private)))?;
-            push_words(out, ")")
-        }
-        (PrivateRule::CashTooSmall, _) => push_presided(out, view, seat),
-        _ => Ok(()),
-    }
+    None
 }
 
 /// Adds what was looked for by a condition.
@@ -321,42 +225,29 @@ fn push_of_condition(
 ) -> Result<(), AllocError> {
     match condition {
         Some(Condition::Price(company, _)) => {
-            push_words(out, " (the price of ")?;
-            push_company(out, company)?;
-            push_number(out, " is ", Money::from(market_price(view, company)))?;
-            push_words(out, ")")
+            let price = Number(Money::from(market_price(view, company)));
+            fill(
+                out,
+                " (the price of % is %)",
+                &[Words(company.code()), price],
+            )
         }
-        Some(Condition::Phase(_)) => push_phase(out, view),
+        Some(Condition::Phase(_)) => {
+            fill(out, " (the phase is %)", &[Words(view.phase().code())])
+        }
         _ => Ok(()),
     }
 }
 
-/// Adds the phase.
-fn push_phase(out: &mut Vec<u8>, view: &GameView) -> Result<(), AllocError> {
-    push_words(out, " (the phase is ")?;
-    push_words(out, view.phase().code())?;
-    push_words(out, ")")
-}
-
 /// Adds what each floated company has over which a player presides.
 fn push_presided(out: &mut Vec<u8>, view: &GameView, seat: Seat) -> Result<(), AllocError> {
-    let mut sign = " (";
-    for company in Company::ALL {
-        if view.floated(company) && view.president(company) == Some(seat) {
-            push_words(out, sign)?;
-            push_company(out, company)?;
-            push_number(out, " has ", view.cash(Party::of_company(company)))?;
-            sign = ", ";
+    let (mut words, mut end) = (" (% has %", "");
+    for company in &Company::ALL {
+        if view.floated(*company) && view.president(*company) == Some(seat) {
+            let cash = Number(view.cash(Party::of_company(*company)));
+            fill(out, words, &[Words(company.code()), cash])?;
+            (words, end) = (", % has %", ")");
         }
     }
-    if sign == ", " {
-        return push_words(out, ")");
-    }
-    Ok(())
-}
-
-/// Adds words and a number behind them.
-fn push_number(out: &mut Vec<u8>, words: &str, number: Money) -> Result<(), AllocError> {
-    push_words(out, words)?;
-    print_number(out, number)
+    push(out, &[Words(end)])
 }

@@ -1,7 +1,8 @@
 //! Why a line was refused: the rule that it broke, and what was looked for where it is at hand.
 
 use crate::sought::push_sought;
-use desk_base::{explain, push_words};
+use desk_base::Piece::Words;
+use desk_base::{explain, fill};
 use history::{GameView, PackedRuling, Verdict};
 use sheets::Sheets;
 use std::alloc::AllocError;
@@ -9,36 +10,22 @@ use tables::Seat;
 
 /// Adds a line with the rule that a line of a seat's sheet broke, in a view of the game before it; nothing
 /// where it was obeyed.
-pub(crate) fn push_why(
+pub(crate) fn push_why<'a>(
     out: &mut Vec<u8>,
-    sheets: &Sheets,
-    view: &GameView,
+    sheets: &'a Sheets<'a>,
+    view: &'a GameView<'a>,
     seat: Seat,
     ruling: &PackedRuling,
 ) -> Result<(), AllocError> {
-    match ruling.verdict() {
-        Verdict::Obeyed => Ok(()),
-        Verdict::Faulty(fault) => {
-            push_rule(out, fault.code())?;
-            push_words(out, "\n")
-        }
-        Verdict::Refused(rule) => {
-            push_rule(out, rule.code())?;
-            push_sought(out, sheets, view, seat, &ruling.ruling())?;
-            push_words(out, "\n")
-        }
-    }
-}
-
-/// Adds a code and its rule in words.
-fn push_rule(out: &mut Vec<u8>, code: &str) -> Result<(), AllocError> {
-    push_words(out, "  ")?;
-    push_words(out, code)?;
+    let code = match ruling.verdict() {
+        Verdict::Obeyed => return Ok(()),
+        Verdict::Faulty(fault) => fault.code(),
+        Verdict::Refused(rule) => rule.code(),
+    };
     match explain(code) {
-        Some(entry) => {
-            push_words(out, ": ")?;
-            push_words(out, entry.rule)
-        }
-        None => Ok(()),
+        Some(entry) => fill(out, "  %: %", &[Words(code), Words(entry.rule)])?,
+        None => fill(out, "  %", &[Words(code)])?,
     }
+    push_sought(out, sheets, view, seat, &ruling.ruling())?;
+    fill(out, "\n", &[])
 }

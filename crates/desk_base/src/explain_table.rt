@@ -1,7 +1,7 @@
 //! The table of codes: what each means, in the words of `docs/formats.md`.
 
 /// A code with its rule in words.
-#[derive(Clone, Copy, Debug)]
+#[derive(Clone, Copy)]
 pub struct Entry {
     /// The code, as a report prints it.
     pub code: &'static str,
@@ -508,61 +508,17 @@ static PRIVATES: [Entry; 5] = [
 /// The entries of the codes that begin with this letter, in upper case; none for other letters.
 pub(crate) fn entries_of(letter: u8) -> &'static [Entry] {
     match letter {
-        b'F' => of_files(),
-        b'G' => of_lines(),
-        b'I' => of_conditions(),
-        b'A' => of_openings(),
-        b'S' => of_stock_rounds(),
-        b'L' => of_lays(),
-        b'K' => of_tokens(),
-        b'R' => of_runs(),
-        b'D' => of_dividends(),
-        b'T' => of_trains(),
-        b'P' => of_privates(),
+        b'F' => &FILES,
+        b'G' => &LINES,
+        b'I' => &CONDITIONS,
+        b'A' => &OPENINGS,
+        b'S' => &STOCK_ROUNDS,
+        b'L' => &LAYS,
+        b'K' => &TOKENS,
+        b'R' => &RUNS,
+        b'D' => &DIVIDENDS,
+        b'T' => &TRAINS,
+        b'P' => &PRIVATES,
         _ => &[],
     }
-}
-
-fn of_files() -> &'static [Entry] {
-    &FILES
-}
-
-fn of_lines() -> &'static [Entry] {
-    &LINES
-}
-
-fn of_conditions() -> &'static [Entry] {
-    &CONDITIONS
-}
-
-fn of_openings() -> &'static [Entry] {
-    &OPENINGS
-}
-
-fn of_stock_rounds() -> &'static [Entry] {
-    &STOCK_ROUNDS
-}
-
-fn of_lays() -> &'static [Entry] {
-    &LAYS
-}
-
-fn of_tokens() -> &'static [Entry] {
-    &TOKENS
-}
-
-fn of_runs() -> &'static [Entry] {
-    &RUNS
-}
-
-fn of_dividends() -> &'static [Entry] {
-    &DIVIDENDS
-}
-
-fn of_trains() -> &'static [Entry] {
-    &TRAINS
-}
-
-fn of_privates() -> &'static [Entry] {
-    &PRIVATES
 }

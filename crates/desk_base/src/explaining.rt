@@ -3,7 +3,8 @@ ghost use Rattle.std.specs.Prelude.{◌≡◌, ◌≢◌, All, MatchOption};
 ghost use Rattle.std.specs.Str.{str_to_ascii_lowercase};
 
 use crate::explain_table::{Entry, entries_of};
-use crate::text::push_words;
+use crate::text::Piece::Words;
+use crate::text::fill;
 use std::alloc::{AllocError, Global};
 
 /// The entry of a code, which may be in either case; `None` where there is no such code.
@@ -31,19 +32,11 @@ fn entry_among(entries: &'static [Entry], code: &str) -> Option<&'static Entry>
 /// What there is to say of a code, a line each: the rule, what to do about it, and the game.
 pub fn entry_text(alloc: Global, entry: &Entry) -> Result<Vec<u8>, AllocError> {
     let mut text = Vec::new(alloc);
-    push_words(&mut text, entry.code)?;
-    push_words(&mut text, ": ")?;
-    push_words(&mut text, entry.rule)?;
-    push_words(&mut text, "\nTo do: ")?;
-    push_words(&mut text, entry.advice)?;
-    push_words(&mut text, "\nGame: ")?;
+    let (code, rule, advice) = (Words(entry.code), Words(entry.rule), Words(entry.advice));
+    fill(&mut text, "%: %\nTo do: %\nGame: ", &[code, rule, advice])?;
     match entry.game {
-        Some(game) => {
-            push_words(&mut text, "games/codes/")?;
-            push_words(&mut text, game)?;
-            push_words(&mut text, ".orders\n")?;
-        }
-        None => push_words(&mut text, "too large to keep; games/make writes it\n")?,
+        Some(game) => fill(&mut text, "games/codes/%.orders\n", &[Words(game)])?,
+        None => fill(&mut text, "too large to keep; games/make writes it\n", &[])?,
     }
     Ok(text)
 }

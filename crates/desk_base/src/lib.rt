@@ -1,8 +1,8 @@
 //! What the desk's libraries share: what a code means, how many operating rounds a set has, which rounds can
-//! still come in a game, and words of a text.
+//! still come in a game, and a text piece by piece.
 //!
-//! Reading order: `text`, `explain_table` and `explaining` (`explain`), `set_number` (`number_in_set`), `coming`
-//! (`can_come`).
+//! Reading order: `text` (`Piece`, `push`, `fill`), `explain_table` and `explaining` (`explain`), `set_number`
+//! (`number_in_set`), `coming` (`can_come`).
 #![tactic(auto)]
 
 mod coming;
@@ -15,4 +15,4 @@ pub use coming::can_come;
 pub use explain_table::Entry;
 pub use explaining::{entry_text, explain};
 pub use set_number::number_in_set;
-pub use text::{push_company, push_cut, push_words};
+pub use text::{Piece, fill, push, width_in_hand};

@@ -1,26 +1,98 @@
-//! Words of a text. Each call adds at the end of the text, and fails only if memory is refused. Numbers, rounds
-//! and orders are written by `order_grammar`, names of players, squares and columns by `report`.
+//! A text, piece by piece. What is added stands at the end of the text; an error comes only if memory is
+//! refused.
 
+use order_grammar::{print_number, print_round};
 use std::alloc::AllocError;
-use tables::Company;
+use tables::{Money, Round};
 
 /// The least byte that is printed as it is, and the greatest.
 const PRINTABLE: (u8, u8) = (b' ', b'~');
 
-/// Adds words as they are.
-pub fn push_words(out: &mut Vec<u8>, words: &str) -> Result<(), AllocError> {
-    out.extend_from_slice(words.as_bytes())
+/// The place of a piece among words.
+const PLACE: u8 = b'%';
+
+/// A piece of a text.
+#[derive(Clone, Copy)]
+pub enum Piece<'a> {
+    /// Words as they are.
+    Words(&'a str),
+    /// Bytes as they are, of a name or a place.
+    Bytes(&'a [u8]),
+    /// A number in digits.
+    Number(Money),
+    /// A number at the right of a column of this many bytes.
+    Right(usize, Money),
+    /// A round: `OR2.1`.
+    Round(Round),
+    /// Spaces up to this column of the line in hand, the first being 0; none where the line is as long.
+    Column(usize),
+    /// A line of a file, cut to this many bytes. A byte that is no printable ASCII is `?`.
+    Cut(&'a [u8], usize),
 }
 
-/// Adds the code of a company: `PRR`.
-pub fn push_company(out: &mut Vec<u8>, company: Company) -> Result<(), AllocError> {
-    push_words(out, company.code())
+/// Adds words, with the next of some pieces at each `%`; nothing there where none is left.
+pub fn fill(out: &mut Vec<u8>, words: &str, pieces: &[Piece]) -> Result<(), AllocError> {
+    let mut left = pieces.iter();
+    for byte in words.as_bytes() {
+        if *byte != PLACE {
+            out.push(*byte)?;
+        } else if let Some(piece) = left.next() {
+            push_piece(out, *piece)?;
+        }
+    }
+    Ok(())
 }
 
-/// Adds a line of a file, cut to this many bytes. A byte that is no printable ASCII is `?`.
-pub fn push_cut(out: &mut Vec<u8>, line: &[u8], most: usize) -> Result<(), AllocError> {
-    let shown = line.get(..most).unwrap_or(line);
-    for byte in shown {
+/// Adds pieces, one behind the other.
+pub fn push(out: &mut Vec<u8>, pieces: &[Piece]) -> Result<(), AllocError> {
+    for piece in pieces {
+        push_piece(out, *piece)?;
+    }
+    Ok(())
+}
+
+/// Adds a piece.
+fn push_piece(out: &mut Vec<u8>, piece: Piece) -> Result<(), AllocError> {
+    match piece {
+        Piece::Words(words) => out.extend_from_slice(words.as_bytes()),
+        Piece::Bytes(bytes) => out.extend_from_slice(bytes),
+        Piece::Number(number) => print_number(out, number),
+        Piece::Right(width, number) => push_right(out, width, number),
+        Piece::Round(round) => print_round(out, &round),
+        Piece::Column(column) => push_spaces(out, column.saturating_sub(width_in_hand(out))),
+        Piece::Cut(line, most) => push_cut(out, line.get(..most).unwrap_or(line)),
+    }
+}
+
+/// How many bytes the line in hand has, which is the last of a text.
+pub fn width_in_hand(text: &[u8]) -> usize {
+    for (width, byte) in text.iter().rev().enumerate() {
+        if *byte == b'\n' {
+            return width;
+        }
+    }
+    text.len()
+}
+
+/// Adds a number at the right of a column of this many bytes. A wider number is printed whole.
+fn push_right(out: &mut Vec<u8>, width: usize, number: Money) -> Result<(), AllocError> {
+    let mut buffer = itoa::Buffer::new();
+    let digits = buffer.format(number).as_bytes();
+    push_spaces(out, width.saturating_sub(digits.len()))?;
+    out.extend_from_slice(digits)
+}
+
+/// Adds this many spaces.
+fn push_spaces(out: &mut Vec<u8>, count: usize) -> Result<(), AllocError> {
+    for _ in 0..count {
+        out.push(b' ')?;
+    }
+    Ok(())
+}
+
+/// Adds the bytes of a line of a file, each as it is printed.
+fn push_cut(out: &mut Vec<u8>, line: &[u8]) -> Result<(), AllocError> {
+    for byte in line {
         out.push(printed(*byte))?;
     }
     Ok(())

@@ -1,7 +1,8 @@
 -- Heads that come one after another.
 use Rattle.std.proofs.Common.{◌≡◌, ℕ, ◌+◌, List, [], ◌∷◌, ◌++◌, Option, Bool, true, false, Some, None, map, cond}
 use Rattle.std.proofs.Common.{is_some, refl, sym, ap, subst, ◌∙◌, append_assoc, add-one, true≢false}
-use Rattle.std.proofs.lemmas.Bool.{and_parts, eqb-true}
+use Rattle.std.proofs.Common.{zero, suc, ◌<◌, ◌≤◌, arith, inl, inr}
+use Rattle.std.proofs.lemmas.Bool.{and_parts, cases_Bool, eqb-true, ltb-false, ltb-true}
 use Rattle.std.proofs.lemmas.List.{append-nil, map-append}
 use Rattle.std.specs.Map.{lookup}
 use Rattle.std.specs.Option.{option_or}
@@ -11,7 +12,7 @@ use Rattle.desk_check.specs.declared.check_sheets.Head.{Head}
 use Rattle.desk_check.specs.declared.check_sheets.Sent.{Sent}
 use Rattle.sheets.specs.File.{begins, sheet_key_at, same_sheet_key}
 use Rattle.sheets.specs.declared.sheet_key.SheetKey.{SheetKey}
-use Rattle.std.specs.Prelude.{◌==◌, if◌then◌else◌}
+use Rattle.std.specs.Prelude.{◌==◌, if◌then◌else◌, nat_lt}
 use Rattle.tables.specs.Round.{same_round}
 use Rattle.tables.specs.declared.round.Round.{Round}
 use Rattle.tables.specs.declared.round.Round.TheVariants.{Opening, Stock, Operating}
@@ -98,6 +99,23 @@ first_with_one sheet_key (first ∷ heads) head =
       | false ↦ first_with_one sheet_key heads head
     ]
 
+-- a line behind another choice
+some_behind : (found : Option ℕ) (line : ℕ) → is_some (option_or found (Some line)) ≡ true
+some_behind None line = refl
+some_behind (Some other) line = refl
+
+-- a sheet that has a last head has a first
+pub last_as_first : (sheet_key : SheetKey) (heads : List HeadAt)
+    → is_some (last_line sheet_key heads) ≡ is_some (first_line sheet_key heads)
+last_as_first sheet_key [] = refl
+last_as_first sheet_key (first ∷ heads) =
+    elim (same_sheet_key first.sheet_key sheet_key) as (λ (test : Bool).
+    is_some (option_or (last_line sheet_key heads) (cond test (Some first.line) None))
+    ≡ is_some (cond test (Some first.line) (first_line sheet_key heads))) [
+      | true ↦ some_behind (last_line sheet_key heads) first.line
+      | false ↦ sym (ap is_some (or_none (last_line sheet_key heads))) ∙ last_as_first sheet_key heads
+    ]
+
 -- a line that is there before another
 there_before : (found : Option ℕ) (test : Bool) (line : ℕ) → (test ≡ true → is_some found ≡ true) →
     found ≡ option_or found (cond test (Some line) None)
@@ -149,6 +167,26 @@ pub complete_next : (seats : ℕ) (round : Round) (heads : List HeadAt) →
     later_of (complete_by seats round heads) (first_line (sheet_key_at seats round) heads)
     ≡ complete_by (seats + 1) round heads
 complete_next seats round heads = ap (λ n. complete_by n round heads) (sym (add-one seats))
+
+-- nothing is the later of a line and none
+later_of_none : (line : Option ℕ) → later_of line None ≡ None
+later_of_none None = refl
+later_of_none (Some line) = refl
+
+-- where one of the players had no sheet, there is no line by which each had one
+pub incomplete : (seats number : ℕ) (round : Round) (heads : List HeadAt) → number < seats
+    → first_line (sheet_key_at number round) heads ≡ None → complete_by seats round heads ≡ None
+incomplete zero number round heads below none = absurd (omega (arith, below))
+incomplete (suc seats) number round heads below none =
+    elim (cases_Bool (nat_lt number seats)) [
+      | inl less ↦ rw (incomplete seats number round heads (ltb-true number seats less) none) refl
+      | inr not_less ↦
+          let least : seats ≤ number = ltb-false number seats not_less in
+          let same : number ≡ seats = omega (arith, below, least) in
+          ap (later_of (complete_by seats round heads))
+          (subst (λ n. first_line (sheet_key_at n round) heads ≡ None) same none)
+          ∙ later_of_none (complete_by seats round heads)
+    ]
 
 -- the heads that came, once one more has come
 pub came_with_one : (heads : List Head) (head : Head)

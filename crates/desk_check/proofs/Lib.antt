@@ -1,6 +1,6 @@
 -- What the proofs of a look through a file share.
+pub mod FileLemmas
 pub mod HeadLemmas
 pub mod NameLemmas
 pub mod RoundLemmas
 pub mod SentLemmas
-pub mod Adding

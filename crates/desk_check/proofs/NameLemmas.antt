@@ -1,5 +1,5 @@
 -- The seat of a name is found by going through the seats.
-use Rattle.std.proofs.Common.{◌≡◌, ℕ, zero, suc, ◌+◌, Bool, true, false, ◌&&◌, List, [], ◌∷◌, drop, Option, Some, None}
+use Rattle.std.proofs.Common.{◌≡◌, ℕ, zero, suc, ◌+◌, Bool, true, false, ◌&&◌, List, [], ◌∷◌, drop, Some, None}
 use Rattle.std.proofs.Common.{refl, sym, ap, ◌∙◌, true≢false, add-one, length, ◌≤◌}
 use Rattle.std.proofs.lemmas.List.{drop_all}
 use Rattle.std.specs.Cmp.Lexicographic.{pointwise}
@@ -7,7 +7,6 @@ use Rattle.std.specs.Option.{option_map_or}
 use Rattle.std.specs.Prelude.{nat_eq, slice_get}
 use Rattle.order_grammar.specs.Words.{same_word}
 use Rattle.sheets.specs.File.{seat_from}
-use Rattle.tables.specs.declared.seat.Seat.{Seat}
 
 -- texts are compared byte by byte
 pub pointwise_is_same_word : (a b : List ℕ) → pointwise nat_eq a b ≡ same_word a b

@@ -1,5 +1,5 @@
 -- The lines of a file by their numbers in it, from 1, blank ones counted.
-use Rattle.std.specs.Prelude.{◌≡◌, ℕ, ◌+◌, List, [], ◌∷◌, length, drop, Option, Some, None}
+use Rattle.std.specs.Prelude.{◌≡◌, ◌+◌, [], ◌∷◌, Option, Some, None}
 use Rattle.desk_check.specs.declared.check_lines.FileLine.{FileLine}
 use Rattle.desk_check.specs.declared.check_lines.FileLines.{FileLines}
 use Rattle.sheets.specs.Text.{lines_of}

@@ -1,5 +1,5 @@
 -- What is kept of the good SHEET lines that have come.
-use Rattle.std.specs.Prelude.{◌≡◌, ◌≤◌, ℕ, List, [], ◌∷◌, ◌++◌, map}
+use Rattle.std.specs.Prelude.{◌≡◌, ◌≤◌, List, [], ◌∷◌, ◌++◌, map}
 use Rattle.std.specs.HashMap.{get}
 use Rattle.desk_check.specs.SheetLines.{HeadAt, ReplaceTheLast, first_line, head_at, last_line, sheet_key_of, same_sent}
 use Rattle.desk_check.specs.declared.check_lines.FileLine.{FileLine}
@@ -13,12 +13,6 @@ came heads = map head_at heads.heads.items
 -- the lines are the first of these heads that begin each sheet
 abbrev pub FirstsAre : Heads → List HeadAt → Type 0
 FirstsAre kept heads = (sent : Sent) → get same_sent kept.first sent ≡ first_line (sheet_key_of sent) heads
-
--- a line that begins a sheet is recorded, if it is the first that does
-abbrev pub RecordsFirst : Heads → Sent → ℕ → Heads → Type 0
-RecordsFirst old sent line new =
-    (heads : List HeadAt) → FirstsAre old heads → FirstsAre new
-    (heads ++ record { line = line; sheet_key = sheet_key_of sent } ∷ [])
 
 -- what is kept of them, in a game of at most six: the lines of the first and of the last that begin a sheet, and the sheet
 -- that each replaces

@@ -1,7 +1,7 @@
 -- The good SHEET lines of a file: whose sheet for which round each begins, where it is, and which line's sheet it
 -- replaces.
 use Rattle.std.specs.Prelude.{◌≡◌, ℕ, zero, suc, ◌+◌, ◌==◌, ◌&&◌, Bool, true, false, if◌then◌else◌, List, [], ◌∷◌, ◌++◌}
-use Rattle.std.specs.Prelude.{Option, Some, None, map, max, nat_lt, ⊤}
+use Rattle.std.specs.Prelude.{Option, Some, None, max, nat_lt, ⊤}
 use Rattle.std.specs.Option.{option_or}
 use Rattle.desk_check.specs.declared.check_sheets.Beginning.{Beginning}
 use Rattle.desk_check.specs.declared.check_sheets.Beginning.TheVariants.{Sheet, Closing, Other}

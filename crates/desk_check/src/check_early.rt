@@ -1,8 +1,7 @@
 //! Sheets for rounds that are not played yet: whether the round can come, and the faults of their lines.
 ghost use Rattle.std.specs.Prelude.{◌≡◌, Ok};
 ghost use Rattle.desk_check.specs.Heads.{AreKept};
-ghost use Rattle.desk_check.specs.Unplayed.{has_place, has_place_before, has_place_behind, has_place_in_orders};
-ghost use Rattle.desk_check.specs.Unplayed.{look_of};
+ghost use Rattle.desk_check.specs.Unplayed.{has_place, look_of};
 ghost use Rattle.sheets.specs.Part.{line_unread, opens_part};
 
 use crate::check_found::{Found, Matter};
@@ -28,7 +27,7 @@ pub(crate) fn find_unplayed<'a>(
 {
     let end = game.outcome();
     for head in &heads.heads {
-        if !heads.counts(head) || rounds.has(head.sent.round) {
+        if !heads.counts(head) || rounds.line(head.sent.round).is_some() {
             continue;
         }
         if !can_come(game, head.sent.round) {
@@ -54,7 +53,11 @@ fn find_faults<'a>(
 ) -> Result<(), AllocError> {
     let mut number = 0_u32;
     let mut is_open = false;
-    for line in FileLines::behind(&head.line) {
+    let lines = FileLines {
+        passed: head.line.number,
+        rest: head.line.rest,
+    };
+    for line in lines {
         if begins_with_word(line.text, b"SHEET") {
             break;
         }
@@ -118,48 +121,24 @@ fn is_head(round: Round, order: &Order) -> bool
 fn has_place(round: Round, order: &Order, is_open: bool) -> bool
     ensures { result ≡ has_place round is_open order.now }
 {
-    if is_open {
-        has_place_behind(round, order)
-    } else {
-        has_place_before(round, order)
-    }
-}
-
-/// Whether an order has a place before the first head of a sheet for a round.
-fn has_place_before(round: Round, order: &Order) -> bool
-    ensures { result ≡ has_place_before round order.now }
-{
     match round {
-        Round::Opening(_) => matches!(order, Order::Limit { .. } | Order::Par { .. }),
-        Round::Stock(_) => false,
-        Round::Operating { .. } => matches!(order, Order::Discard { .. } | Order::Offer(_)),
-    }
-}
-
-/// Whether an order has a place in a written turn or a company's orders of a sheet for a round.
-fn has_place_behind(round: Round, order: &Order) -> bool
-    ensures { result ≡ has_place_behind round order.now }
-{
-    match round {
+        Round::Opening(_) if !is_open => matches!(order, Order::Limit { .. } | Order::Par { .. }),
+        Round::Stock(_) if !is_open => false,
         Round::Opening(_) | Round::Stock(_) => !is_of_file(order),
-        Round::Operating { .. } => has_place_in_orders(order),
+        Round::Operating { .. } if !is_open => {
+            matches!(order, Order::Discard { .. } | Order::Offer(_))
+        }
+        Round::Operating { .. } => matches!(
+            order,
+            Order::Lay(_)
+                | Order::Token(_)
+                | Order::Run { .. }
+                | Order::RunBest
+                | Order::Pay
+                | Order::Withhold
+                | Order::BuyTrain { .. }
+                | Order::BuyOwnedPrivate { .. }
+                | Order::Raise { .. }
+        ),
     }
-}
-
-/// Whether an order has a place in a company's orders.
-fn has_place_in_orders(order: &Order) -> bool
-    ensures { result ≡ has_place_in_orders order.now }
-{
-    matches!(
-        order,
-        Order::Lay(_)
-            | Order::Token(_)
-            | Order::Run { .. }
-            | Order::RunBest
-            | Order::Pay
-            | Order::Withhold
-            | Order::BuyTrain { .. }
-            | Order::BuyOwnedPrivate { .. }
-            | Order::Raise { .. }
-    )
 }

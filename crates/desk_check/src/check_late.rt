@@ -1,15 +1,13 @@
 //! Sheets that replace others: whether the round was played, and how the game has changed since.
-ghost use Rattle.std.specs.Prelude.{◌≡◌, ℕ, ◌++◌, IfOk, List, OnOk, max, unwrap_or};
+ghost use Rattle.std.specs.Prelude.{◌≡◌, ℕ, ◌++◌, IfOk, List, OnOk, Some};
 ghost use Rattle.desk_check.specs.Heads.{AreKept};
-ghost use Rattle.desk_check.specs.Replaced.{AddsReplaced, IsTurn, TurnsAt, TurnsBefore, before, is_fresh_at, is_late};
-ghost use Rattle.desk_check.specs.Replaced.{findings_of, lateness_of, line_in_turn, standing_of, turned, turning_of};
-ghost use Rattle.desk_check.specs.Replaced.{turning_then};
-ghost use Rattle.desk_check.specs.RoundsPlayed.{AppliesEvent, AreRoundsOf, is_kept, line_kept};
+ghost use Rattle.desk_check.specs.Replaced.{AddsReplaced, before, findings_of, lateness_of};
+ghost use Rattle.desk_check.specs.Replaced.{standing_of, turning_of};
+ghost use Rattle.desk_check.specs.RoundsPlayed.{AppliesEvent, AreRoundsOf, line_kept};
 ghost use Rattle.desk_check.specs.SheetLines.{is_under};
 ghost use Rattle.std.specs.List.{flat_map};
 
 use crate::check_found::{Found, Lateness, Matter, Standing};
-use crate::check_lines::FileLine;
 use crate::check_sheets::{Head, Heads};
 use history::Event;
 use rounds::{Game, play};
@@ -52,32 +50,18 @@ impl Rounds {
             Some(round) => round,
             None => return Ok(()),
         };
-        self.by = with_line(self.by, heads.complete_by(round));
+        self.by = heads.complete_by(round).unwrap_or(0).max(self.by);
         self.lines.insert(round, self.by)?;
         Ok(())
     }
 
-    /// Whether a round was played.
-    pub(crate) fn has(&self, round: Round) -> bool
-        ensures { result ≡ is_kept self.now round }
-    {
-        self.lines.contains_key(&round)
-    }
-
     /// The number of the line by which every player had a sheet for a round and for each round before it;
     /// `None` where it was not played.
-    fn line(&self, round: Round) -> Option<usize>
+    pub(crate) fn line(&self, round: Round) -> Option<usize>
         ensures { result ≡ line_kept self.now round }
     {
         self.lines.get(&round).copied()
     }
-}
-
-/// The later of a line and another, if there is another.
-fn with_line(by: usize, line: Option<usize>) -> usize
-    ensures { result ≡ max (unwrap_or line 0) by }
-{
-    line.unwrap_or(0).max(by)
 }
 
 /// Whether a line, if there is one, comes before another.
@@ -112,7 +96,8 @@ struct Turn {
 }
 
 /// Finds the sheets that replace others: whether the round was played by then, and where the game turns how
-/// far it had come before, and comes now.
+/// far it had come before, and comes now. (What is before a line of a file that is not refused is not refused
+/// either, from its PLAYERS line on.)
 pub(crate) fn find_replaced<'a>(
     alloc: Global,
     file: &'a [u8],
@@ -125,8 +110,41 @@ pub(crate) fn find_replaced<'a>(
     ensures { OnOk result (AddsReplaced file.now heads.now rounds.now (standing_of game.now)
         found.old.findings.items found.new.findings.items) }
 {
-    let turn = turn_before(alloc, file, heads, turning_head(heads, rounds))?;
-    add_replaced(heads, rounds, &turn, standing_of(game), found)
+    let now = standing_of(game);
+    let Some(head) = turning_head(heads, rounds) else {
+        return add_replaced(heads, rounds, &None, now, found);
+    };
+    let length = file.len().saturating_sub(head.line.from.len());
+    match collect(alloc, &file[..length]) {
+        Ok(sheets) => add_turned(alloc, &sheets, heads, &head, rounds, now, found),
+        Err(FileFault::Memory) => Err(AllocError),
+        Err(_) => add_replaced(heads, rounds, &None, now, found),
+    }
+}
+
+/// Adds each sheet that replaces another, where the game turns at this head and these sheets are before it.
+fn add_turned<'a>(
+    alloc: Global,
+    sheets: &Sheets,
+    heads: &Heads<'a>,
+    head: &Head<'a>,
+    rounds: &Rounds,
+    now: Standing,
+    found: &mut Found<'a>,
+) -> Result<(), AllocError>
+    requires { AreKept heads.now }
+    ensures { OnOk result ((file : List ℕ) → sheets.now ≡ before file head.now.line
+        → (turning_of heads.now rounds.now).head ≡ Some head.now
+        → AddsReplaced file heads.now rounds.now now
+        found.old.findings.items found.new.findings.items) }
+{
+    let game = play(alloc, sheets)?;
+    let turn = Some(Turn {
+        line: head.line.number,
+        rounds: Rounds::of(alloc, heads, &game)?,
+        standing: standing_of(&game),
+    });
+    add_replaced(heads, rounds, &turn, now, found)
 }
 
 /// Adds each sheet that replaces another.
@@ -142,34 +160,22 @@ fn add_replaced<'a>(
         ++ flat_map (findings_of heads.now rounds.now turn.now now) heads.now.heads.items) }
 {
     for head in &heads.heads {
-        add_head(heads, rounds, turn, now, head, found)?;
+        let Some(line) = head.replaces else {
+            continue;
+        };
+        let turn_here = match turn {
+            Some(turn) if turn.line == head.line.number => Some((turn.standing, now)),
+            _ => None,
+        };
+        let matter = Matter::Replaces {
+            line,
+            round: head.sent.round,
+            lateness: lateness_of(head, heads, rounds, turn),
+            turn: turn_here,
+        };
+        found.add(&head.line, matter)?;
     }
     Ok(())
-}
-
-/// Adds that a sheet replaces another, if it does.
-fn add_head<'a>(
-    heads: &Heads<'a>,
-    rounds: &Rounds,
-    turn: &Option<Turn>,
-    now: Standing,
-    head: &Head<'a>,
-    found: &mut Found<'a>,
-) -> Result<(), AllocError>
-    requires { AreKept heads.now }
-    ensures { OnOk result (found.new.findings.items ≡ found.old.findings.items
-        ++ findings_of heads.now rounds.now turn.now now head.now) }
-{
-    let Some(line) = head.replaces else {
-        return Ok(());
-    };
-    let matter = Matter::Replaces {
-        line,
-        round: head.sent.round,
-        lateness: lateness_of(head, heads, rounds, turn),
-        turn: turned(turn, head.line.number, now),
-    };
-    found.add(&head.line, matter)
 }
 
 /// What was there of a round when a line replaced a sheet for it.
@@ -180,32 +186,16 @@ fn lateness_of(head: &Head, heads: &Heads, rounds: &Rounds, turn: &Option<Turn>)
 {
     let round = head.sent.round;
     let line = head.line.number;
-    if is_under(rounds.line(round), line) || is_under(line_in_turn(turn, round), line) {
+    let line_in_turn = match turn {
+        Some(turn) => turn.rounds.line(round),
+        None => None,
+    };
+    if is_under(rounds.line(round), line) || is_under(line_in_turn, line) {
         Lateness::Played
     } else if is_under(heads.complete_by(round), line) {
         Lateness::NotReached
     } else {
         Lateness::Open
-    }
-}
-
-/// The line that was kept of a round of the game before the line at which the game turns, if it turns.
-fn line_in_turn(turn: &Option<Turn>, round: Round) -> Option<usize>
-    ensures { result ≡ line_in_turn turn.now round }
-{
-    match turn {
-        Some(turn) => turn.rounds.line(round),
-        None => None,
-    }
-}
-
-/// How far the game had come before a line and how far it comes now, if it turns at that line.
-fn turned(turn: &Option<Turn>, line: usize, now: Standing) -> Option<(Standing, Standing)>
-    ensures { result ≡ turned turn.now line now }
-{
-    match turn {
-        Some(turn) if turn.line == line => Some((turn.standing, now)),
-        _ => None,
     }
 }
 
@@ -216,39 +206,6 @@ struct Turning<'a> {
     head: Option<Head<'a>>,
     /// Whether no late line has come since a line by which all players had a sheet for a round.
     is_fresh: bool,
-}
-
-impl<'a> Turning<'a> {
-    /// With the next SHEET line.
-    fn then(self, heads: &Heads, rounds: &Rounds, head: &Head<'a>) -> Turning<'a>
-        requires { AreKept heads.now }
-        ensures { result ≡ turning_then heads.now rounds.now self.entry head.now }
-    {
-        let is_fresh = self.is_fresh_at(heads, head);
-        if !is_late(rounds, head) {
-            return Turning { is_fresh, ..self };
-        }
-        Turning {
-            head: if is_fresh { Some(*head) } else { self.head },
-            is_fresh: false,
-        }
-    }
-
-    /// Whether no late line has come before a line since one by which all players had a sheet for a round.
-    fn is_fresh_at(self, heads: &Heads, head: &Head) -> bool
-        requires { AreKept heads.now }
-        ensures { result ≡ is_fresh_at heads.now self.entry head.now }
-    {
-        self.is_fresh || heads.complete_by(head.sent.round) == Some(head.line.number)
-    }
-}
-
-/// Whether a line replaced a sheet for a round after every player had one for it and for each round before
-/// it.
-fn is_late(rounds: &Rounds, head: &Head) -> bool
-    ensures { result ≡ is_late rounds.now head.now }
-{
-    head.replaces.is_some() && is_under(rounds.line(head.sent.round), head.line.number)
 }
 
 /// The line before which the game is looked at: of the lines that replaced sheets for played rounds the
@@ -263,63 +220,17 @@ fn turning_head<'a>(heads: &Heads<'a>, rounds: &Rounds) -> Option<Head<'a>>
         is_fresh: true,
     };
     for head in &heads.heads {
-        turning = turning.then(heads, rounds, head);
+        let round = head.sent.round;
+        let line = head.line.number;
+        let is_fresh = turning.is_fresh || heads.complete_by(round) == Some(line);
+        if head.replaces.is_none() || !is_under(rounds.line(round), line) {
+            turning.is_fresh = is_fresh;
+            continue;
+        }
+        turning = Turning {
+            head: if is_fresh { Some(*head) } else { turning.head },
+            is_fresh: false,
+        };
     }
     turning.head
-}
-
-/// The game of what is before a line, if there is such a line.
-fn turn_before(
-    alloc: Global,
-    file: &[u8],
-    heads: &Heads,
-    head: Option<Head>,
-) -> Result<Option<Turn>, AllocError>
-    requires { AreKept heads.now }
-    ensures { IfOk result (λ turn. TurnsBefore file.now heads.now head.entry turn) }
-{
-    match head {
-        Some(head) => turn_at(alloc, file, heads, &head),
-        None => Ok(None),
-    }
-}
-
-/// The game of what is before a line; `None` where that is refused, which no prefix of a file is from
-/// its PLAYERS line on, if the file is not.
-fn turn_at(
-    alloc: Global,
-    file: &[u8],
-    heads: &Heads,
-    head: &Head,
-) -> Result<Option<Turn>, AllocError>
-    requires { AreKept heads.now }
-    ensures { IfOk result (TurnsAt file.now heads.now head.now) }
-{
-    match collect(alloc, before(file, &head.line)) {
-        Ok(sheets) => Ok(Some(turn_of(alloc, &sheets, heads, head)?)),
-        Err(FileFault::Memory) => Err(AllocError),
-        Err(_) => Ok(None),
-    }
-}
-
-/// The game of the sheets that are before a line.
-fn turn_of(alloc: Global, sheets: &Sheets, heads: &Heads, head: &Head) -> Result<Turn, AllocError>
-    requires { AreKept heads.now }
-    ensures { IfOk result (λ turn. (file : List ℕ) → sheets.now ≡ before file head.now.line
-        → IsTurn file heads.now head.now turn) }
-{
-    let game = play(alloc, sheets)?;
-    Ok(Turn {
-        line: head.line.number,
-        rounds: Rounds::of(alloc, heads, &game)?,
-        standing: standing_of(&game),
-    })
-}
-
-/// What is in a file before a line of it.
-fn before<'a>(file: &'a [u8], line: &FileLine) -> &'a [u8]
-    ensures { result.now ≡ before file.now line.now }
-{
-    let length = file.len().saturating_sub(line.from.len());
-    &file[..length]
 }

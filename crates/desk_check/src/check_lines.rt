@@ -30,31 +30,6 @@ pub(crate) struct FileLines<'a> {
     ghost few: { passed + length rest.now ≤ file_most },
 }
 
-impl<'a> FileLines<'a> {
-    /// The lines of a file.
-    pub(crate) fn of(file: &'a [u8]) -> FileLines<'a>
-        requires { length file.now ≤ file_most }
-        ensures passed { result.passed ≡ 0 }
-        ensures rest { result.rest.now ≡ file.now }
-    {
-        FileLines {
-            passed: 0,
-            rest: file,
-        }
-    }
-
-    /// The lines behind a line.
-    pub(crate) fn behind(line: &FileLine<'a>) -> FileLines<'a>
-        ensures passed { result.passed ≡ line.now.number }
-        ensures rest { result.rest.now ≡ line.now.rest.now }
-    {
-        FileLines {
-            passed: line.number,
-            rest: line.rest,
-        }
-    }
-}
-
 impl<'a> Iterator for FileLines<'a> {
     ghost use Rattle.std.specs.Iterator.{at_most};
     ghost use Rattle.desk_check.specs.FileLines.{TakesFileLine};

@@ -1,8 +1,8 @@
 //! One pass over the lines of a file: its SHEET lines, and what is outside of sheets or looks like mail.
-ghost use Rattle.std.specs.Prelude.{◌≡◌, ◌≤◌, ◌++◌, IfOk, Ok, OnOk, length};
+ghost use Rattle.std.specs.Prelude.{◌≡◌, ◌≤◌, ◌++◌, IfOk, OnOk, length};
 ghost use Rattle.desk_check.specs.Heads.{AreKept, came};
 ghost use Rattle.desk_check.specs.SheetLines.{head_here, heads_in};
-ghost use Rattle.sheets.specs.File.{begins, fault_of_reading, players_of, unread_fault, version_of};
+ghost use Rattle.sheets.specs.File.{begins, players_of, unread_fault, version_of};
 ghost use Rattle.sheets.specs.Limits.{file_most};
 ghost use Rattle.sheets.specs.Text.{lines_of};
 
@@ -22,11 +22,11 @@ const PREAMBLE: usize = 2;
 
 /// How far a pass over a file has come.
 #[derive(Drop)]
-struct Pass<'a> {
+pub(crate) struct Pass<'a> {
     /// The good SHEET lines.
-    heads: Heads<'a>,
+    pub(crate) heads: Heads<'a>,
     /// What was found.
-    found: Found<'a>,
+    pub(crate) found: Found<'a>,
     /// How many lines of the preamble have come.
     preamble: usize,
     /// The number of the line that begins the sheet that is open; `None` where none is.
@@ -39,12 +39,12 @@ pub(crate) fn pass_over<'a>(
     alloc: Global,
     sheets: &Sheets,
     file: &'a [u8],
-) -> Result<(Heads<'a>, Found<'a>), AllocError>
+) -> Result<Pass<'a>, AllocError>
     requires { length file.now ≤ file_most }
-    ensures heads { IfOk result (λ passed. came passed.0
+    ensures heads { IfOk result (λ pass. came pass.heads
         ≡ heads_in (players_of sheets.now) 0 (lines_of file.now)) }
-    ensures seats { IfOk result (λ passed. passed.0.seats ≡ length (players_of sheets.now)) }
-    ensures kept { IfOk result (λ passed. AreKept passed.0) }
+    ensures seats { IfOk result (λ pass. pass.heads.seats ≡ length (players_of sheets.now)) }
+    ensures kept { IfOk result (λ pass. AreKept pass.heads) }
 {
     let mut pass = Pass {
         heads: Heads::none(alloc, sheets.seats()),
@@ -52,10 +52,14 @@ pub(crate) fn pass_over<'a>(
         preamble: 0,
         open: None,
     };
-    for line in FileLines::of(file) {
+    let lines = FileLines {
+        passed: 0,
+        rest: file,
+    };
+    for line in lines {
         pass.take(sheets, line)?;
     }
-    Ok((pass.heads, pass.found))
+    Ok(pass)
 }
 
 impl<'a> Pass<'a> {
@@ -70,29 +74,19 @@ impl<'a> Pass<'a> {
         match begun_by(sheets, line.text) {
             Beginning::Sheet(sent) => {
                 self.open = Some(line.number);
-                self.heads.take(line, sent)?;
-                Ok(())
+                self.heads.take(line, sent)
             }
             Beginning::Closing => {
                 self.open = None;
-                self.take_loose(sheets, &line)?;
-                Ok(())
+                self.take_loose(sheets, &line)
             }
-            Beginning::Other => {
-                self.take_other(sheets, &line)?;
-                Ok(())
-            }
-        }
-    }
-
-    /// Takes a line that is no SHEET line.
-    fn take_other(&mut self, sheets: &Sheets, line: &FileLine<'a>) -> Result<(), AllocError>
-        ensures { self.new.heads ≡ self.old.heads }
-    {
-        match self.open {
-            None => self.take_loose(sheets, line),
-            Some(sheet) if is_mail(line.text) => self.found.add_line(line, Matter::Mail(sheet)),
-            Some(_) => Ok(()),
+            Beginning::Other => match self.open {
+                None => self.take_loose(sheets, &line),
+                Some(sheet) if is_mail(line.text) => {
+                    self.found.add_line(&line, Matter::Mail(sheet))
+                }
+                Some(_) => Ok(()),
+            },
         }
     }
 
@@ -130,24 +124,17 @@ fn look_at_names<'a>(
     Ok(())
 }
 
-/// The code of a line that is in no sheet.
+/// The code of a line that is in no sheet: its own fault, or that it is a sheet of nobody who plays, or out
+/// of place.
 #[tactic(auto, unfolding(sheets::specs::File::unread_fault))]
 fn unread_fault(sheets: &Sheets, line: &[u8]) -> Fault
     ensures { result ≡ unread_fault (version_of sheets.now) line.now }
 {
     match &read_line_in(sheets.version(), line) {
         Err(fault) => *fault,
-        Ok(line) => fault_of_order(&line.order),
-    }
-}
-
-/// The code of a line with this order that is in no sheet: it is a sheet of nobody who plays, or out
-/// of place.
-fn fault_of_order(order: &Order) -> Fault
-    ensures { result ≡ fault_of_reading (Ok order.now) }
-{
-    match order {
-        Order::Sheet { .. } => Fault::UnknownPlayer,
-        _ => Fault::OutOfPlace,
+        Ok(line) => match &line.order {
+            Order::Sheet { .. } => Fault::UnknownPlayer,
+            _ => Fault::OutOfPlace,
+        },
     }
 }

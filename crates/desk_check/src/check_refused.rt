@@ -4,58 +4,38 @@ use crate::check_lines::{FileLine, FileLines, is_blank};
 use crate::check_mail::is_mail;
 use order_grammar::{Fault, NAME_MOST, Order, begins_with_word, read_line};
 use sheets::{FILE_MOST, FileFault};
-use std::alloc::{AllocError, Global};
 use tables::{PLAYERS_LEAST, PLAYERS_MOST};
 
 /// What some editors write before the first line of a text.
 const BYTE_ORDER_MARK: &[u8] = b"\xEF\xBB\xBF";
 
+/// The most words of a PLAYERS line.
+const WORDS_MOST: usize = 1 + PLAYERS_MOST;
+
 /// The game that is played, as its header line names it.
 const GAME: u32 = 1830;
+
+/// What is wrong with a line of a mail.
+const MAIL: &str = "it is of a mail; cut it off, or put # before it";
+
+/// What is wrong with a line of too many bytes.
+const TOO_LONG: &str = "it has over 1,024 bytes";
+
+/// What is wrong with a line that has a stray byte before its comment.
+const STRAY_BYTE: &str = "it has a byte that is no printable ASCII, as a tab or a hard space";
+
+/// What is wrong with a line that is no header.
+const NO_HEADER: &str = "the first line is to be GAME 1830 1 or GAME 1830 2";
 
 /// Why a file is refused.
 #[derive(Clone, Copy)]
 pub(crate) enum Cause<'a> {
-    /// The file as a whole is too large.
-    TooLarge,
-    /// It has too many good SHEET lines.
-    TooManySheets,
-    /// It has no line that is not blank.
-    Empty,
-    /// A byte order mark is before the first line.
-    ByteOrderMark,
-    /// The text is UTF-16.
-    Wide,
-    /// The line is a mail's.
-    Mail,
-    /// The line has too many bytes.
-    TooLong,
-    /// A byte before its comment is no printable ASCII.
-    StrayByte,
-    /// It is no GAME line.
-    NoHeader,
-    /// It is of another game.
-    OtherGame,
-    /// It names another version.
-    OtherVersion,
-    /// What follows GAME is wrong otherwise.
-    WrongHeader,
-    /// No line follows the header.
-    NoPlayers,
-    /// The line after the header is no PLAYERS line.
-    OtherLine,
-    /// Too few players, or too many.
+    /// What is wrong with the line, or with the file as a whole.
+    Said(&'static str),
+    /// Too few players are named, or too many.
     Number(usize),
-    /// This name is too long.
-    LongName(&'a [u8]),
-    /// This name begins with another byte than a letter.
-    NoLetterFirst(&'a [u8]),
-    /// This name has another byte than a letter or a digit.
-    OtherLetter(&'a [u8]),
-    /// This name is twice.
-    NameTwice(&'a [u8]),
-    /// What follows PLAYERS is wrong otherwise.
-    WrongPlayers,
+    /// This name, and what is wrong with it.
+    Name(&'a [u8], &'static str),
 }
 
 /// A cause, with the line that it is about, if it is about one.
@@ -66,36 +46,22 @@ pub(crate) struct Refusal<'a> {
 }
 
 /// Why a file is refused by this fault.
-pub(crate) fn refusal_of<'a>(
-    alloc: Global,
-    file: &'a [u8],
-    fault: FileFault,
-) -> Result<Refusal<'a>, AllocError> {
-    Ok(match fault {
-        FileFault::TooLong | FileFault::Memory => whole(Cause::TooLarge),
-        FileFault::TooManySheets => whole(Cause::TooManySheets),
-        FileFault::Header => match written_line(file, 0) {
-            Some(line) => of_line(line, cause_of_header(file, line.text)),
-            None => whole(Cause::Empty),
-        },
-        FileFault::Players => match written_line(file, 1) {
-            Some(line) => of_line(line, cause_of_players(alloc, line.text)?),
-            None => whole(Cause::NoPlayers),
-        },
-    })
-}
-
-/// A cause that is about no line.
-fn whole<'a>(cause: Cause<'a>) -> Refusal<'a> {
-    Refusal { line: None, cause }
-}
-
-/// A cause that is about a line.
-fn of_line<'a>(line: FileLine<'a>, cause: Cause<'a>) -> Refusal<'a> {
-    Refusal {
-        line: Some(line),
-        cause,
-    }
+pub(crate) fn refusal_of(file: &[u8], fault: FileFault) -> Refusal<'_> {
+    let (line, cause) = match fault {
+        FileFault::TooLong | FileFault::Memory => {
+            (None, Cause::Said("it has over 67,108,864 bytes"))
+        }
+        FileFault::TooManySheets => (None, Cause::Said("it has over 65,536 good SHEET lines")),
+        FileFault::Header => {
+            let line = written_line(file, 0);
+            (line, Cause::Said(cause_of_header(file, line)))
+        }
+        FileFault::Players => {
+            let line = written_line(file, 1);
+            (line, cause_of_players(line))
+        }
+    };
+    Refusal { line, cause }
 }
 
 /// The line of a file behind this many that are not blank.
@@ -103,111 +69,141 @@ fn written_line(file: &[u8], before: usize) -> Option<FileLine<'_>> {
     if file.len() > FILE_MOST {
         return None;
     }
-    FileLines::of(file)
-        .filter(|line| !is_blank(line.text))
-        .nth(before)
+    let mut left = before;
+    let lines = FileLines {
+        passed: 0,
+        rest: file,
+    };
+    for line in lines {
+        if is_blank(line.text) {
+            continue;
+        }
+        if left == 0 {
+            return Some(line);
+        }
+        left -= 1;
+    }
+    None
 }
 
 /// What is wrong with the first line of a file that is not blank.
-fn cause_of_header<'a>(file: &'a [u8], line: &'a [u8]) -> Cause<'a> {
-    if line.starts_with(BYTE_ORDER_MARK) {
-        return Cause::ByteOrderMark;
+fn cause_of_header(file: &[u8], line: Option<FileLine>) -> &'static str {
+    let Some(FileLine { text, .. }) = line else {
+        return "it has no line that is not blank; the first is to be GAME 1830 1";
+    };
+    if text.starts_with(BYTE_ORDER_MARK) {
+        return "a byte order mark stands before it; save the file without one";
     }
     if is_wide(file) {
-        return Cause::Wide;
+        return "the file is UTF-16; save it as plain text";
     }
-    if is_mail(line) {
-        return Cause::Mail;
+    if is_mail(text) {
+        return MAIL;
     }
-    match read_line(line) {
-        Ok(read) => cause_of_order(&read.order),
-        Err(Fault::TooLong) => Cause::TooLong,
-        Err(Fault::StrayByte) => Cause::StrayByte,
-        Err(_) if begins_with_word(line, b"GAME") => Cause::WrongHeader,
-        Err(_) => Cause::NoHeader,
-    }
-}
-
-/// What is wrong with a header line that has this order.
-fn cause_of_order<'a>(order: &Order) -> Cause<'a> {
-    match order {
-        Order::Game { game: GAME, .. } => Cause::OtherVersion,
-        Order::Game { .. } => Cause::OtherGame,
-        _ => Cause::NoHeader,
+    match &read_line(text) {
+        Ok(read) => match &read.order {
+            Order::Game { game: GAME, .. } => "it is of another version than 1 and 2",
+            Order::Game { .. } => "it is of another game than 1830",
+            _ => NO_HEADER,
+        },
+        Err(Fault::TooLong) => TOO_LONG,
+        Err(Fault::StrayByte) => STRAY_BYTE,
+        Err(_) if begins_with_word(text, b"GAME") => {
+            "the words after GAME are not 1830 1 and not 1830 2"
+        }
+        Err(_) => NO_HEADER,
     }
 }
 
 /// Whether a text is UTF-16: it begins with its mark, or has a zero byte in front.
 fn is_wide(file: &[u8]) -> bool {
-    file.starts_with(b"\xFF\xFE")
-        || file.starts_with(b"\xFE\xFF")
-        || matches!(file, [0, ..] | [_, 0, ..])
+    matches!(
+        file,
+        [0xFF, 0xFE, ..] | [0xFE, 0xFF, ..] | [0, ..] | [_, 0, ..]
+    )
 }
 
 /// What is wrong with the line after the header.
-fn cause_of_players<'a>(alloc: Global, line: &'a [u8]) -> Result<Cause<'a>, AllocError> {
-    if is_mail(line) {
-        return Ok(Cause::Mail);
+fn cause_of_players<'a>(line: Option<FileLine<'a>>) -> Cause<'a> {
+    let Some(FileLine { text, .. }) = line else {
+        return Cause::Said("no PLAYERS line follows the header");
+    };
+    if is_mail(text) {
+        return Cause::Said(MAIL);
     }
-    if !begins_with_word(line, b"PLAYERS") {
-        return Ok(Cause::OtherLine);
+    if !begins_with_word(text, b"PLAYERS") {
+        return Cause::Said("a PLAYERS line is to follow the header");
     }
-    match read_line(line) {
-        Err(Fault::TooLong) => Ok(Cause::TooLong),
-        Err(Fault::StrayByte) => Ok(Cause::StrayByte),
-        _ => {
-            let names = names_of(alloc, line)?;
-            Ok(cause_of_names(names.as_slice()))
-        }
+    match &read_line(text) {
+        Err(Fault::TooLong) => Cause::Said(TOO_LONG),
+        Err(Fault::StrayByte) => Cause::Said(STRAY_BYTE),
+        _ => cause_of_names(text),
     }
 }
 
 /// What is wrong with the names of a PLAYERS line.
-fn cause_of_names<'a>(names: &[&'a [u8]]) -> Cause<'a> {
-    if names.len() < PLAYERS_LEAST || names.len() > PLAYERS_MOST {
-        return Cause::Number(names.len());
-    }
+fn cause_of_names(line: &[u8]) -> Cause<'_> {
+    let (words, count) = words_of(line);
+    let names = match words.get(1..count) {
+        Some(names) if names.len() >= PLAYERS_LEAST => names,
+        _ => return Cause::Number(count.saturating_sub(1)),
+    };
     for (place, name) in names.iter().enumerate() {
-        if let Some(cause) = cause_of_name(*name) {
-            return cause;
-        }
-        if is_among(&names[..place], name) {
-            return Cause::NameTwice(*name);
+        if let Some(words) = cause_of_name(name, &names[..place]) {
+            return Cause::Name(name, words);
         }
     }
-    Cause::WrongPlayers
+    Cause::Said("it names no 3 to 6 different players")
 }
 
-/// Whether a name is among others, in either case.
-fn is_among(names: &[&[u8]], name: &[u8]) -> bool {
-    for other in names {
-        if other.eq_ignore_ascii_case(name) {
-            return true;
+/// What is wrong with a name behind others; `None` where it is one.
+fn cause_of_name(name: &[u8], others: &[&[u8]]) -> Option<&'static str> {
+    for byte in name {
+        if !byte.is_ascii_alphanumeric() {
+            return Some(" has another byte than the letters A to Z and digits");
         }
     }
-    false
-}
-
-/// What is wrong with a name; `None` where it is one.
-fn cause_of_name<'a>(name: &'a [u8]) -> Option<Cause<'a>> {
-    let first = name.first()?;
-    if !name.iter().all(u8::is_ascii_alphanumeric) {
-        return Some(Cause::OtherLetter(name));
-    }
-    if !first.is_ascii_alphabetic() {
-        return Some(Cause::NoLetterFirst(name));
+    if !name.first()?.is_ascii_alphabetic() {
+        return Some(" does not begin with a letter");
     }
     if name.len() > NAME_MOST {
-        return Some(Cause::LongName(name));
+        return Some(" has over 8 letters and digits");
+    }
+    for other in others {
+        if other.eq_ignore_ascii_case(name) {
+            return Some(" stands twice");
+        }
     }
     None
 }
 
-/// The words of a line after the first.
-fn names_of<'a>(alloc: Global, line: &'a [u8]) -> Result<Vec<&'a [u8]>, AllocError> {
-    let text = line.split(|byte| *byte == b'#').next().unwrap_or(line);
-    text.split(|byte| *byte == b' ')
-        .filter(|word| !word.is_empty())
-        .skip(1)
-        .collect(alloc)
+/// The first words of a line before its comment, and how many it has there.
+fn words_of(line: &[u8]) -> ([&[u8]; WORDS_MOST], usize) {
+    let mut words: [&[u8]; WORDS_MOST] = [b""; WORDS_MOST];
+    let mut count = 0;
+    let mut is_inside = false;
+    for (at, byte) in line.iter().enumerate() {
+        if *byte == b'#' {
+            break;
+        }
+        let is_space = *byte == b' ';
+        if !is_inside && !is_space {
+            if count < WORDS_MOST {
+                words[count] = word_in_front(&line[at..]);
+            }
+            count += 1;
+        }
+        is_inside = !is_space;
+    }
+    (words, count)
+}
+
+/// What of a text is before its first space or comment.
+fn word_in_front(text: &[u8]) -> &[u8] {
+    for (length, byte) in text.iter().enumerate() {
+        if *byte == b' ' || *byte == b'#' {
+            return &text[..length];
+        }
+    }
+    text
 }

@@ -1,11 +1,9 @@
 //! The SHEET lines of a file: whose sheet for which round each begins, and which it replaces.
-ghost use Rattle.std.specs.Prelude.{◌≡◌, ◌≤◌, OnOk, [], false, option_map, slice_get};
-ghost use Rattle.std.specs.Option.{option_map_or};
-ghost use Rattle.desk_check.specs.Heads.{AreKept, RecordsFirst, came, with_head};
-ghost use Rattle.desk_check.specs.SheetLines.{Begins, complete_by, first_line, is_at, last_line, later_of};
+ghost use Rattle.std.specs.Prelude.{◌≡◌, ◌≤◌, OnOk, [], option_map};
+ghost use Rattle.desk_check.specs.Heads.{AreKept, came, with_head};
+ghost use Rattle.desk_check.specs.SheetLines.{Begins, complete_by, is_at, last_line};
 ghost use Rattle.desk_check.specs.SheetLines.{sheet_key_of};
 ghost use Rattle.order_grammar.specs.Line.{reading_of};
-ghost use Rattle.order_grammar.specs.Words.{same_word};
 ghost use Rattle.sheets.specs.File.{players_of, sheet_key_begun, seat_from};
 
 use crate::check_lines::FileLine;
@@ -69,27 +67,16 @@ impl<'a> Heads<'a> {
         ensures seats { self.new.seats ≡ self.old.seats }
         ensures kept { OnOk result (AreKept self.new) }
     {
-        self.record_first(sent, line.number)?;
         let replaces = self.last.insert(sent, line.number)?;
         self.heads.push(Head {
             line,
             sent,
             replaces,
         })?;
-        Ok(())
-    }
-
-    /// Records the line with this number, which begins a sheet, if it is the first that does.
-    fn record_first(&mut self, sent: Sent, line: usize) -> Result<(), AllocError>
-        ensures first { OnOk result (RecordsFirst self.old sent line self.new) }
-        ensures heads { self.new.heads ≡ self.old.heads }
-        ensures seats { self.new.seats ≡ self.old.seats }
-        ensures last { self.new.last ≡ self.old.last }
-    {
-        if self.first.contains_key(&sent) {
+        if replaces.is_some() {
             return Ok(());
         }
-        self.first.insert(sent, line)?;
+        self.first.insert(sent, line.number)?;
         Ok(())
     }
 
@@ -98,19 +85,13 @@ impl<'a> Heads<'a> {
         requires { AreKept self.now }
         ensures { result ≡ complete_by self.now.seats round (came self.now) }
     {
-        let mut by = Some(0);
+        let mut by = 0;
         for number in 0..self.seats {
-            by = later_of(by, self.first_of(Seat::at(number), round));
+            let seat = Seat::at(number);
+            let first = self.first.get(&Sent { seat, round })?;
+            by = by.max(*first);
         }
-        by
-    }
-
-    /// The number of the first line that begins the sheet of a seat for a round; `None` where none does.
-    fn first_of(&self, seat: Seat, round: Round) -> Option<usize>
-        requires { AreKept self.now }
-        ensures { result ≡ first_line (record { seat = seat; round = round }) (came self.now) }
-    {
-        self.first.get(&Sent { seat, round }).copied()
+        Some(by)
     }
 
     /// Whether the sheet that a line begins counts: no later one replaces it.
@@ -123,16 +104,6 @@ impl<'a> Heads<'a> {
             Some(last) => *last == head.line.number,
             None => false,
         }
-    }
-}
-
-/// The later of two lines, if there are both.
-fn later_of(a: Option<usize>, b: Option<usize>) -> Option<usize>
-    ensures { result ≡ later_of a b }
-{
-    match (a, b) {
-        (Some(a), Some(b)) => Some(a.max(b)),
-        _ => None,
     }
 }
 
@@ -182,26 +153,17 @@ fn sheet_named(sheets: &Sheets, line: &[u8]) -> Option<Sent>
 }
 
 /// The seat of the player with a name; `None` where nobody who plays has it.
+#[tactic(auto, using(crate::proofs::NameLemmas::pointwise_is_same_word))]
 fn seat_of(sheets: &Sheets, name: &Name) -> Option<Seat>
     ensures { result ≡ seat_from 0 (players_of sheets.now) name.now }
 {
     for number in 0..sheets.seats() {
         let seat = Seat::at(number);
-        if is_named(sheets, seat, name) {
+        if let Some(player) = sheets.name(seat)
+            && player == name.text()
+        {
             return Some(seat);
         }
     }
     None
-}
-
-/// Whether a seat's player has this name.
-#[tactic(auto, using(crate::proofs::NameLemmas::pointwise_is_same_word))]
-fn is_named(sheets: &Sheets, seat: Seat, name: &Name) -> bool
-    ensures { result ≡ option_map_or (λ player. same_word player name.now)
-        (slice_get (players_of sheets.now) seat.0) false }
-{
-    match sheets.name(seat) {
-        Some(player) => player == name.text(),
-        None => false,
-    }
 }

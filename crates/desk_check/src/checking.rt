@@ -1,14 +1,17 @@
 //! What a report does not tell of a file, before it hurts.
 ghost use Rattle.std.specs.Prelude.{◌≤◌, length};
+ghost use Rattle.desk_check.specs.Heads.{AreKept};
 ghost use Rattle.sheets.specs.Limits.{file_most};
 
 use crate::check_early::find_unplayed;
+use crate::check_found::Found;
 use crate::check_late::{Rounds, find_replaced};
-use crate::check_pass::pass_over;
+use crate::check_pass::{Pass, pass_over};
 use crate::check_refused::refusal_of;
-use crate::check_text::{found_text, refusal_text};
-use rounds::play;
-use sheets::{FILE_MOST, FileFault, Sheets, collect};
+use crate::check_sheets::Heads;
+use crate::check_text::{push_found, push_refusal};
+use rounds::{Game, play};
+use sheets::{FileFault, Sheets, collect};
 use std::alloc::{AllocError, Global};
 
 /// What there is to tell of a file.
@@ -28,36 +31,64 @@ pub struct Findings {
 ///
 /// It fails only if memory is refused.
 pub fn check(alloc: Global, file: &[u8]) -> Result<Findings, AllocError> {
-    if file.len() > FILE_MOST {
-        return refused(alloc, file, FileFault::TooLong);
-    }
+    let mut findings = Findings {
+        text: Vec::new(alloc),
+        refused: None,
+    };
+    look_through(alloc, file, &mut findings)?;
+    Ok(findings)
+}
+
+/// Adds what there is to tell of a file.
+fn look_through(alloc: Global, file: &[u8], findings: &mut Findings) -> Result<(), AllocError> {
     match collect(alloc, file) {
-        Ok(sheets) => Ok(Findings {
-            text: look_through(alloc, file, &sheets)?,
-            refused: None,
-        }),
+        Ok(sheets) => look_at_sheets(alloc, file, &sheets, &mut findings.text),
         Err(FileFault::Memory) => Err(AllocError),
-        Err(fault) => refused(alloc, file, fault),
+        Err(fault) => {
+            findings.refused = Some(fault);
+            push_refusal(&mut findings.text, fault, refusal_of(file, fault))
+        }
     }
 }
 
-/// What there is to tell of a file that is refused.
-fn refused(alloc: Global, file: &[u8], fault: FileFault) -> Result<Findings, AllocError> {
-    Ok(Findings {
-        text: refusal_text(alloc, fault, &refusal_of(alloc, file, fault)?)?,
-        refused: Some(fault),
-    })
-}
-
-/// What there is to tell of the file of some sheets.
-fn look_through(alloc: Global, file: &[u8], sheets: &Sheets) -> Result<Vec<u8>, AllocError>
+/// Adds what there is to tell of the file of some sheets.
+fn look_at_sheets(
+    alloc: Global,
+    file: &[u8],
+    sheets: &Sheets,
+    text: &mut Vec<u8>,
+) -> Result<(), AllocError>
     requires { length file.now ≤ file_most }
 {
+    let mut pass = pass_over(alloc, sheets, file)?;
+    look_at_game(alloc, file, sheets, &mut pass)?;
+    push_found(text, sheets, &mut pass.found)
+}
+
+/// Finds what there is to tell of the game of some sheets, by the SHEET lines of their file.
+fn look_at_game<'a>(
+    alloc: Global,
+    file: &'a [u8],
+    sheets: &Sheets,
+    pass: &mut Pass<'a>,
+) -> Result<(), AllocError>
+    requires { AreKept pass.old.heads }
+{
     let game = play(alloc, sheets)?;
-    let (heads, mut found) = pass_over(alloc, sheets, file)?;
-    let rounds = Rounds::of(alloc, &heads, &game)?;
-    find_replaced(alloc, file, &heads, &game, &rounds, &mut found)?;
-    find_unplayed(&heads, &game, &rounds, &mut found)?;
-    found.sort()?;
-    found_text(alloc, sheets, &found)
+    look_at_rounds(alloc, file, &pass.heads, &game, &mut pass.found)
+}
+
+/// Finds the sheets that replace others, and those for rounds that are not played.
+fn look_at_rounds<'a>(
+    alloc: Global,
+    file: &'a [u8],
+    heads: &Heads<'a>,
+    game: &Game,
+    found: &mut Found<'a>,
+) -> Result<(), AllocError>
+    requires { AreKept heads.now }
+{
+    let rounds = Rounds::of(alloc, heads, game)?;
+    find_replaced(alloc, file, heads, game, &rounds, found)?;
+    find_unplayed(heads, game, &rounds, found)
 }

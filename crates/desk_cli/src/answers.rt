@@ -2,12 +2,10 @@
 
 use crate::streams::StreamFault;
 use crate::task::Task;
-use desk::{DeskFault, round, round_with_rules, runs};
+use desk::{DeskFault, round, round_with_rules, runs, state};
 use desk_base::{Entry, entry_text};
 use desk_check::check;
-use desk_state::state;
 use report::refusal_text;
-use sheets::FileFault;
 use std::alloc::Global;
 
 /// The status where the answer is written.
@@ -35,24 +33,33 @@ pub(crate) struct Answer {
 
 /// The answer to a task for an order file.
 pub(crate) fn answer_to(alloc: Global, file: &[u8], task: Task) -> Result<Answer, StreamFault> {
-    let answer = match task {
+    match task {
         Task::Round {
             round: asked,
             why: false,
-        } => round(alloc, file, asked),
+        } => answer_with(alloc, round(alloc, file, asked)),
         Task::Round {
             round: asked,
             why: true,
-        } => round_with_rules(alloc, file, asked),
-        Task::Check => return checked(alloc, file),
-        Task::Explain(entry) => return explained(alloc, entry),
-        Task::State => return stated(alloc, file),
-        Task::Runs { round: asked } => runs(alloc, file, asked),
-    };
-    match answer {
+        } => answer_with(alloc, round_with_rules(alloc, file, asked)),
+        Task::Check => checked(alloc, file),
+        Task::Explain(entry) => explained(alloc, entry),
+        Task::State => answer_with(alloc, stated(alloc, file)),
+        Task::Runs { round: asked } => answer_with(alloc, runs(alloc, file, asked)),
+    }
+}
+
+/// The answer with what is told of a game, or with why nothing is. For a refused file it is the line that
+/// its report has.
+fn answer_with(alloc: Global, told: Result<Vec<u8>, DeskFault>) -> Result<Answer, StreamFault> {
+    match told {
         Ok(text) => Ok(written(text)),
-        Err(DeskFault::File(fault)) => refused(alloc, fault),
-        Err(DeskFault::Round) => Ok(not_played(alloc)),
+        Err(DeskFault::File(fault)) => Ok(Answer {
+            text: refusal_text(alloc, fault)?,
+            note: "",
+            status: REFUSED,
+        }),
+        Err(DeskFault::Round) => Ok(misused(alloc, "the round is not played")),
         Err(DeskFault::Memory) => Err(StreamFault::Memory),
     }
 }
@@ -71,32 +78,18 @@ fn written(text: Vec<u8>) -> Answer {
     }
 }
 
-/// The answer for a refused file: the line that its report has.
-fn refused(alloc: Global, fault: FileFault) -> Result<Answer, StreamFault> {
-    let text = refusal_text(alloc, fault)?;
-    Ok(Answer {
-        text,
-        note: "",
-        status: REFUSED,
-    })
-}
-
-/// The answer of `state`: how the game stands.
-fn stated(alloc: Global, file: &[u8]) -> Result<Answer, StreamFault> {
-    match state(alloc, file) {
-        Ok(text) => Ok(written(text)),
-        Err(FileFault::Memory) => Err(StreamFault::Memory),
-        Err(fault) => refused(alloc, fault),
-    }
-}
-
-/// The answer where the round that is asked for is not played.
-fn not_played(alloc: Global) -> Answer {
+/// The answer where a command line asks for what there is not.
+fn misused(alloc: Global, note: &'static str) -> Answer {
     Answer {
         text: Vec::new(alloc),
-        note: "the round is not played",
+        note,
         status: MISUSED,
     }
+}
+
+/// How the game of a file stands.
+fn stated(alloc: Global, file: &[u8]) -> Result<Vec<u8>, DeskFault> {
+    Ok(state(alloc, file)?)
 }
 
 /// The answer of `check`: its findings.
@@ -119,15 +112,7 @@ fn checked(alloc: Global, file: &[u8]) -> Result<Answer, StreamFault> {
 /// The answer of `explain`: what a code means.
 fn explained(alloc: Global, entry: Option<&Entry>) -> Result<Answer, StreamFault> {
     match entry {
-        Some(entry) => Ok(Answer {
-            text: entry_text(alloc, entry)?,
-            note: "",
-            status: WRITTEN,
-        }),
-        None => Ok(Answer {
-            text: Vec::new(alloc),
-            note: "there is no such code",
-            status: MISUSED,
-        }),
+        Some(entry) => Ok(written(entry_text(alloc, entry)?)),
+        None => Ok(misused(alloc, "there is no such code")),
     }
 }

@@ -6,7 +6,7 @@ use std::io;
 use std::io::{Read, Write};
 
 /// Why the program ends without its answer.
-#[derive(Clone, Copy, Debug, PartialEq, Eq)]
+#[derive(Clone, Copy)]
 pub(crate) enum StreamFault {
     /// A read failed.
     Read,

@@ -11,5 +11,6 @@ pub returns : goal.returns
 returns c = λ events are.
     one_applied c.args.heads.now c.args.self.now _ events c.args.event.now c.in-Some.round
     (sym c.in-Some.ensures) c.in_ok-insert.ensures.updates.0
-    (c.with_line-self.ensures ∙ ap (λ line. max (unwrap_or line 0) c.args.self.now.by) c.complete_by.ensures)
+    (c.max-self.ensures
+    ∙ ap (λ line. max line c.args.self.now.by) (c.unwrap_or.ensures ∙ ap (λ line. unwrap_or line 0) c.complete_by.ensures))
     are

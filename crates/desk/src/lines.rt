@@ -1,0 +1,30 @@
+//! Where a line of a text goes on, and where it ends.
+ghost use Rattle.std.specs.Prelude.{◌<◌};
+
+use desk_base::Piece::{Column, Words};
+use desk_base::{Piece, fill, width_in_hand};
+use std::alloc::AllocError;
+
+/// The most bytes of a line of tiles.
+const LINE_MOST: usize = 80;
+
+/// What goes on to the next place of the line in hand, where places have this width, or to the next line
+/// where the place would end past the greatest width of a line.
+pub(crate) fn next_place<'a>(text: &[u8], width: usize) -> Piece<'a>
+    requires { 0 < width }
+{
+    let begin = width_in_hand(text).div_ceil(width).saturating_mul(width);
+    if begin.saturating_add(width) > LINE_MOST {
+        Words("\n")
+    } else {
+        Column(begin)
+    }
+}
+
+/// Ends the line in hand, if anything is on it.
+pub(crate) fn end_open_line(out: &mut Vec<u8>) -> Result<(), AllocError> {
+    if width_in_hand(out) == 0 {
+        return Ok(());
+    }
+    fill(out, "\n", &[])
+}

@@ -1,0 +1,96 @@
+//! The stock market as text, with the tokens of the companies.
+ghost use Rattle.std.specs.Prelude.{◌<◌};
+
+use crate::lines::end_open_line;
+use crate::stack::company_at;
+use desk_base::Piece::{Bytes, Column, Right, Words};
+use desk_base::{fill, push};
+use history::{GameView, History};
+use std::alloc::AllocError;
+use tables::{Company, Money, Zone, price, square, zone};
+
+/// How many rows the chart has.
+const ROWS: u8 = 11;
+
+/// The column behind the last of the longest row; the first is 1.
+const COLUMNS_END: u8 = 20;
+
+/// The width of a square.
+const SQUARE: usize = 4;
+
+/// How many tokens of a stack a line shows.
+const SHOWN: usize = 3;
+
+/// The letters that stand for the companies' tokens, in the order of the companies.
+const LETTERS: [&str; 8] = ["P", "N", "C", "B", "O", "E", "H", "M"];
+
+/// The letter that stands for a company's token.
+pub(crate) fn letter(company: Company) -> &'static str {
+    LETTERS[company.place()]
+}
+
+/// Adds the stock market: the prices of each row, with the zones, and below them the tokens.
+pub(crate) fn push_chart(out: &mut Vec<u8>, history: &History) -> Result<(), AllocError> {
+    push(
+        out,
+        &[
+            Words(
+                "\nSTOCK MARKET\n\
+                y yellow, o orange, b brown zone. Below a price its tokens, the earliest first.\n\
+                Tokens:  P PRR  N NYC  C CPR  B BO  O CO  E ERIE  H NYNH  M BM\n",
+            ),
+            Column(6),
+            Words("1   2   3   4   5   6   7   8   9  10  11  12  13  14  15  16  17  18  19\n"),
+        ],
+    )?;
+    for row in 0..ROWS {
+        push(out, &[Bytes(&[b'A' + row])])?;
+        for column in 1..COLUMNS_END {
+            if let Some(square) = square(row, column) {
+                push(
+                    out,
+                    &[
+                        Column(SQUARE * usize::from(column)),
+                        Right(3, Money::from(price(square))),
+                        Words(mark(zone(square))),
+                    ],
+                )?;
+            }
+        }
+        fill(out, "\n", &[])?;
+        for line in 0..SHOWN {
+            push_tokens(out, &history.now(), row, line * SHOWN)?;
+        }
+    }
+    Ok(())
+}
+
+/// The mark of a zone; none where a square lies in no zone.
+fn mark(zone: Zone) -> &'static str {
+    match zone {
+        Zone::White => "",
+        Zone::Yellow => "y",
+        Zone::Orange => "o",
+        Zone::Brown => "b",
+    }
+}
+
+/// Adds the tokens on the squares of a row that lie below this many others, as many as a line shows;
+/// no line where there are none.
+fn push_tokens(out: &mut Vec<u8>, view: &GameView, row: u8, above: usize) -> Result<(), AllocError>
+    requires { above < 9 }
+{
+    for column in 1..COLUMNS_END {
+        if let Some(square) = square(row, column) {
+            for place in above..above + SHOWN {
+                if let Some(company) = company_at(view, square, place) {
+                    push(
+                        out,
+                        &[Column(SQUARE * usize::from(column)), Words(letter(company))],
+                    )?;
+                }
+            }
+        }
+    }
+    end_open_line(out)
+}

@@ -1,0 +1,182 @@
+//! What each company has: its place on the stock market, its figures, its shares and its tokens.
+
+use crate::earnings::earnings_of;
+use crate::stack::{before_in_stack, operates};
+use crate::state_players::push_privates;
+use crate::stock_left::tokens_left;
+use desk_base::Piece::{Bytes, Column, Number, Right, Words};
+use desk_base::{Piece, fill, push};
+use history::{History, Holder, Party, Shareholder, at_least_zero};
+use report::name;
+use rounds::Game;
+use sheets::Sheets;
+use std::alloc::AllocError;
+use tables::{Company, Kind, Money, Seat, price};
+
+/// The column of a company's square.
+const SQUARE: usize = 15;
+
+/// The column of the place in its stack.
+const PLACE: usize = 22;
+
+/// The column of its president.
+const PRESIDENT: usize = 28;
+
+/// The column of its cash.
+const CASH: usize = 37;
+
+/// The column of the round that its last revenue is of.
+const ROUND: usize = 55;
+
+/// The column in front of its trains.
+const TRAINS: usize = 61;
+
+/// The column in front of its privates.
+const PRIVATES: usize = 70;
+
+/// The width of a column of shares.
+const SHARES: usize = 5;
+
+/// The column in front of a company's tokens.
+const TOKENS: usize = 13;
+
+/// The column of the first player's shares.
+const PLAYERS: usize = 23;
+
+/// The width of a player's shares.
+const PLAYER: usize = 9;
+
+/// Adds what the companies have, in this order: their figures, their shares, and how many tokens they have
+/// left, with where those lie that they have placed.
+pub(crate) fn push_companies(
+    out: &mut Vec<u8>,
+    game: &Game,
+    order: &[Company],
+) -> Result<(), AllocError> {
+    fill(
+        out,
+        "\nCOMPANY PRICE  SQUARE PLACE PRESIDENT    CASH REVENUE ROUND  TRAINS   PRIVATES\n",
+        &[],
+    )?;
+    for company in order {
+        push_figures(out, game, *company)?;
+    }
+    push_share_heading(out, game.sheets())?;
+    for company in order {
+        push_shares(out, game, *company)?;
+    }
+    fill(out, "\nTOKENS  LEFT  PLACED\n", &[])?;
+    for company in order {
+        let left = tokens_left(&game.history().now(), *company) as Money;
+        push(out, &[Words(company.code()), Column(8), Right(4, left)])?;
+        for token in game.history().tokens() {
+            if token.1 == *company {
+                let place = token.0.text();
+                fill(out, "% %", &[Column(TOKENS), Bytes(place.as_slice())])?;
+            }
+        }
+        fill(out, "\n", &[])?;
+    }
+    Ok(())
+}
+
+/// Adds the line of a company's figures: its price, its square, the place of its token in the stack there,
+/// its president, and what it has. One that has not floated has few, and one that is not started none.
+fn push_figures(out: &mut Vec<u8>, game: &Game, company: Company) -> Result<(), AllocError> {
+    let view = game.history().now();
+    push(out, &[Words(company.code())])?;
+    if let Some(square) = view.square(company) {
+        let above = before_in_stack(&view, square, company);
+        push(
+            out,
+            &[
+                Column(8),
+                Right(5, Money::from(price(square))),
+                Column(SQUARE),
+                Bytes(&[b'A'.saturating_add(square.row)]),
+                Number(Money::from(square.column)),
+                Column(PLACE),
+                Number(above as Money + 1),
+            ],
+        )?;
+    }
+    let president = match view.president(company) {
+        Some(president) => Bytes(name(game.sheets(), president)),
+        None => Words(""),
+    };
+    push(out, &[Column(PRESIDENT), president])?;
+    if operates(&view, company) {
+        push_treasury(out, game.history(), company)?;
+    } else if view.is_started(company) {
+        fill(out, "% not floated", &[Column(TRAINS)])?;
+    } else {
+        fill(out, "% not started", &[Column(TRAINS)])?;
+    }
+    push_privates(out, game.history(), Holder::Company(company), PRIVATES)
+}
+
+/// Adds a company's cash, its last revenue with the round that it is of, and its trains.
+fn push_treasury(out: &mut Vec<u8>, history: &History, company: Company) -> Result<(), AllocError> {
+    let cash = history.cash(Party::of_company(company));
+    push(out, &[Column(CASH), Right(8, cash)])?;
+    let earnings = earnings_of(history.events(), company);
+    if let Some(round) = earnings.round {
+        let dollars = earnings.dollars as Money;
+        push(
+            out,
+            &[Right(8, dollars), Column(ROUND), Piece::Round(round)],
+        )?;
+    }
+    for kind in &Kind::ALL {
+        for _ in 0..history.trains(Some(company), *kind) {
+            fill(out, "% %", &[Column(TRAINS), Words(kind.code())])?;
+        }
+    }
+    Ok(())
+}
+
+/// Adds the heading of the table of shares.
+fn push_share_heading(out: &mut Vec<u8>, sheets: &Sheets) -> Result<(), AllocError> {
+    fill(out, "\nSHARES    PAR  IPO POOL", &[])?;
+    for seat in 0..sheets.seats() {
+        let seat = Seat::at(seat);
+        let column = Column(PLAYERS + PLAYER * seat.number());
+        fill(out, "% %", &[column, Bytes(name(sheets, seat))])?;
+    }
+    fill(out, "\n", &[])
+}
+
+/// Adds a company's par and its shares by their holders; those of its president are marked.
+fn push_shares(out: &mut Vec<u8>, game: &Game, company: Company) -> Result<(), AllocError> {
+    let history = game.history();
+    let par = match history.par(company) {
+        Some(par) => Right(SHARES, par),
+        None => Words("    -"),
+    };
+    push(
+        out,
+        &[
+            Words(company.code()),
+            Column(8),
+            par,
+            Right(
+                SHARES,
+                history.shares(company, Shareholder::InitialOffering),
+            ),
+            Right(SHARES, history.shares(company, Shareholder::BankPool)),
+        ],
+    )?;
+    let president = history.now().president(company);
+    for seat in 0..game.sheets().seats() {
+        let seat = Seat::at(seat);
+        push(
+            out,
+            &[
+                Column(PLAYERS + PLAYER * seat.number()),
+                Right(4, history.shares(company, Shareholder::Seat(seat))),
+                Words(if president == Some(seat) { "*" } else { "" }),
+            ],
+        )?;
+    }
+    fill(out, "\n", &[])
+}

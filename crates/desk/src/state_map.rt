@@ -1,0 +1,131 @@
+//! The map as text, with the tiles and the tokens that lie on it.
+
+use crate::lines::end_open_line;
+use crate::state_chart::letter;
+use crate::stock_left::{has_token, tile_on};
+use desk_base::Piece::{Bytes, Column, Number, Words};
+use desk_base::{fill, push};
+use history::History;
+use map_tables::{
+    Hex, HexKind, Lay, Stop, StopNumber, TileKind, hex_kind, printed_slots, printed_stops, tile,
+};
+use std::alloc::AllocError;
+use tables::{Company, Money};
+
+/// The letter of the row that lies behind the last of the map.
+const ROWS_END: u8 = b'L';
+
+/// The width of a column, of which a hex takes two.
+const COLUMN: usize = 3;
+
+/// Adds the map: a row of hexes with what is on each, and below it the tokens of its cities.
+pub(crate) fn push_map(out: &mut Vec<u8>, history: &History) -> Result<(), AllocError> {
+    push(
+        out,
+        &[
+            Words(
+                "\nMAP\n\
+                57/2 is a tile and its rotation, 59/2s one with its stops swapped. Without a\n\
+                tile: .. plain; town, towns, city, B, NY, OO as printed; grey and red take none.\n\
+                Below are the tokens of a city, - a free slot, / between two cities.\n",
+            ),
+            Column(2),
+            Words("1  2  3  4  5  6  7  8  9  10 11 12 13 14 15 16 17 18 19 20 21 22 23 24\n"),
+        ],
+    )?;
+    for row in b'A'..ROWS_END {
+        push(out, &[Bytes(&[row])])?;
+        for hex in &Hex::ALL {
+            if hex.row() == row {
+                push_tile(out, history.lays(), *hex)?;
+            }
+        }
+        fill(out, "\n", &[])?;
+        for hex in &Hex::ALL {
+            if hex.row() == row {
+                push_cities(out, history, *hex)?;
+            }
+        }
+        end_open_line(out)?;
+    }
+    Ok(())
+}
+
+/// The column at which a hex begins.
+fn column_of(hex: Hex) -> usize {
+    COLUMN * usize::from(hex.column()) - 1
+}
+
+/// Adds what is on a hex: the number and the rotation of the tile that lies there, or what is printed.
+fn push_tile(out: &mut Vec<u8>, lays: &[Lay], hex: Hex) -> Result<(), AllocError> {
+    match tile_on(lays, hex) {
+        Some(lay) => fill(
+            out,
+            "%%/%%",
+            &[
+                Column(column_of(hex)),
+                Number(Money::from(lay.tile.number())),
+                Number(lay.rot.turns() as Money),
+                Words(if lay.swap { "s" } else { "" }),
+            ],
+        ),
+        None => push(out, &[Column(column_of(hex)), Words(print_of(hex))]),
+    }
+}
+
+/// The words for what is printed on a hex.
+fn print_of(hex: Hex) -> &'static str {
+    match hex_kind(hex) {
+        HexKind::Grey => "grey",
+        HexKind::Red => "red",
+        HexKind::Open(kind) => match kind {
+            TileKind::Plain => "..",
+            TileKind::Town => "town",
+            TileKind::TwoTowns => "towns",
+            TileKind::City => "city",
+            TileKind::CityB => "B",
+            TileKind::CitiesNY => "NY",
+            TileKind::CitiesOO => "OO",
+        },
+    }
+}
+
+/// Adds the tokens in the cities of a hex, if it has any, and a mark for each slot that is free.
+fn push_cities(out: &mut Vec<u8>, history: &History, hex: Hex) -> Result<(), AllocError> {
+    let slots = slots_on(history.lays(), hex);
+    if slots == 0 {
+        return Ok(());
+    }
+    for number in &[StopNumber::First, StopNumber::Second] {
+        if number.index() < printed_stops(hex) {
+            let before = match number {
+                StopNumber::First => Column(column_of(hex)),
+                StopNumber::Second => Words("/"),
+            };
+            push(out, &[before])?;
+            let city = Stop {
+                hex,
+                number: *number,
+            };
+            let mut free = slots;
+            for company in &Company::ALL {
+                if has_token(history, city, *company) {
+                    push(out, &[Words(letter(*company))])?;
+                    free = free.saturating_sub(1);
+                }
+            }
+            for _ in 0..free {
+                fill(out, "-", &[])?;
+            }
+        }
+    }
+    Ok(())
+}
+
+/// How many slots each city of a hex has.
+fn slots_on(lays: &[Lay], hex: Hex) -> u8 {
+    match tile_on(lays, hex) {
+        Some(lay) => tile(lay.tile).slots,
+        None => printed_slots(hex),
+    }
+}

@@ -1,0 +1,119 @@
+//! What each player has, and who owns each private.
+ghost use Rattle.std.specs.Prelude.{◌≡◌};
+ghost use Rattle.privates.specs.Judgement.{price_of};
+
+use crate::purse::purse_of;
+use desk_base::Piece::{Bytes, Column, Number, Right, Words};
+use desk_base::{fill, push};
+use history::{GameView, History, Holder};
+use report::name;
+use rounds::Game;
+use std::alloc::AllocError;
+use tables::{Amount, Money, Private, Seat, face};
+
+/// The width of a column of figures.
+const FIGURES: usize = 8;
+
+/// The column behind a player's figures.
+const PRIVATES: usize = 41;
+
+/// The column of a private's owner.
+const OWNER: usize = 21;
+
+/// The column in front of the bids on a private.
+const BIDS: usize = 29;
+
+/// Adds what each player has: cash, certificates, worth and privates.
+pub(crate) fn push_players(out: &mut Vec<u8>, game: &Game) -> Result<(), AllocError> {
+    fill(
+        out,
+        "\nPLAYER      CASH    FREE   CERTS   WORTH  PRIVATES\n",
+        &[],
+    )?;
+    for seat in 0..game.sheets().seats() {
+        let seat = Seat::at(seat);
+        let purse = purse_of(game.history(), seat);
+        push(
+            out,
+            &[
+                Bytes(name(game.sheets(), seat)),
+                Column(8),
+                Right(FIGURES, purse.cash),
+                Right(FIGURES, purse.free),
+                Right(FIGURES, purse.certificates),
+                Right(FIGURES, purse.worth),
+            ],
+        )?;
+        push_privates(out, game.history(), Holder::Seat(seat), PRIVATES)?;
+    }
+    Ok(())
+}
+
+/// Adds the codes of the privates that a player or a company owns, each after a space, from a column on,
+/// and ends the line.
+pub(crate) fn push_privates(
+    out: &mut Vec<u8>,
+    history: &History,
+    holder: Holder,
+    column: usize,
+) -> Result<(), AllocError> {
+    for private in &Private::ALL {
+        if history.owner(*private) == Some(holder) {
+            fill(out, "% %", &[Column(column), Words(private.code())])?;
+        }
+    }
+    fill(out, "\n", &[])
+}
+
+/// Adds who owns each private; of those that are unsold the price, and the bids that are held.
+pub(crate) fn push_owners(out: &mut Vec<u8>, game: &Game) -> Result<(), AllocError> {
+    fill(out, "\nPRIVATE FACE  PRICE  OWNER    BIDS\n", &[])?;
+    for private in &Private::ALL {
+        push_owner(out, game, *private)?;
+        for seat in 0..game.sheets().seats() {
+            let seat = Seat::at(seat);
+            if let Some(bid) = game.history().bid(*private, seat) {
+                let name = Bytes(name(game.sheets(), seat));
+                fill(out, "% % %", &[Column(BIDS), name, Number(bid)])?;
+            }
+        }
+        fill(out, "\n", &[])?;
+    }
+    Ok(())
+}
+
+/// Adds a private with its face and its owner; with its price, where it is unsold.
+fn push_owner(out: &mut Vec<u8>, game: &Game, private: Private) -> Result<(), AllocError> {
+    let view = game.history().now();
+    let (price, unowned) = if view.is_sold(private) {
+        (Words(""), "closed")
+    } else {
+        (Right(7, Money::from(price_of(&view, private))), "unsold")
+    };
+    let owner = match view.owner(private) {
+        Some(Holder::Seat(seat)) => Bytes(name(game.sheets(), seat)),
+        Some(Holder::Company(company)) => Words(company.code()),
+        None => Words(unowned),
+    };
+    push(
+        out,
+        &[
+            Words(private.code()),
+            Column(8),
+            Right(4, Money::from(face(private))),
+            price,
+            Column(OWNER),
+            owner,
+        ],
+    )
+}
+
+/// The price of an unsold private: its face, but for SV, whose price falls.
+fn price_of(view: &GameView, private: Private) -> Amount
+    ensures { result ≡ price_of view.now.events.now private }
+{
+    match private {
+        Private::SchuylkillValley => view.sv_price(),
+        _ => face(private),
+    }
+}

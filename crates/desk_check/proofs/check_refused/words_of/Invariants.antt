@@ -1,0 +1,6 @@
+use Rattle.std.proofs.Common.{◌≤◌}
+use Rattle.desk_check.proofs.check_refused.words_of.Given as goal
+
+-- each word has a byte of its own
+abbrev pub invariant-loop-at : goal.invariant-loop-at
+invariant-loop-at l = l.count ≤ l.at
