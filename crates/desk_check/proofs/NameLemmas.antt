@@ -1,6 +1,6 @@
 -- The seat of a name is found by going through the seats.
-use Rattle.std.proofs.Common.{◌≡◌, ℕ, zero, suc, ◌+◌, Bool, true, false, ◌&&◌, List, [], ◌∷◌, drop, Some, None}
-use Rattle.std.proofs.Common.{refl, sym, ap, ◌∙◌, true≢false, add-one, length, ◌≤◌}
+use Rattle.std.proofs.Common.{◌≡◌, ℕ, zero, suc, Bool, true, false, ◌&&◌, List, [], ◌∷◌, drop, Some, None}
+use Rattle.std.proofs.Common.{refl, sym, ap, true≢false, length, ◌≤◌}
 use Rattle.std.proofs.lemmas.List.{drop_all}
 use Rattle.std.specs.Cmp.Lexicographic.{pointwise}
 use Rattle.std.specs.Option.{option_map_or}
@@ -18,19 +18,6 @@ pointwise_is_same_word (x ∷ a) (y ∷ b) = ap (λ t. nat_eq x y && t) (pointwi
 -- the player of a seat has this name
 abbrev pub is_named : List (List ℕ) → ℕ → List ℕ → Bool
 is_named players seat name = option_map_or (λ player. same_word player name) (slice_get players seat) false
-
--- a seat whose player has another name is passed
-passed : (k : ℕ) (players : List (List ℕ)) (n : ℕ) (name : List ℕ) →
-    is_named players n name ≡ false → seat_from k (drop n players) name ≡ seat_from (k + 1) (drop (suc n) players) name
-passed k [] zero name h = refl
-passed k [] (suc n) name h = refl
-passed k (player ∷ players) zero name h = rw h refl
-passed k (player ∷ players) (suc n) name h = passed k players n name h
-
-pub seat_passed : (k : ℕ) (players : List (List ℕ)) (n : ℕ) (name : List ℕ) →
-    is_named players n name ≡ false → seat_from k (drop n players) name ≡ seat_from (k + 1) (drop (n + 1) players) name
-seat_passed k players n name h = passed k players n name h
-    ∙ ap (λ m. seat_from (k + 1) (drop m players) name) (sym (add-one n))
 
 -- the seat whose player has the name is found
 pub seat_found : (k : ℕ) (players : List (List ℕ)) (n : ℕ) (name : List ℕ) →
