@@ -14,7 +14,8 @@ is_back : Option Hex → Hex → Bool
 is_back None hex = false
 is_back (Some back) hex = same_hex back hex
 
--- whether the neighbour over a side, if there is one, has the hex as its neighbour over the facing side
+-- whether the neighbour over a side, if there is one, has the hex as its neighbour over the facing
+-- side
 leads_back : Option Hex → Side → Hex → Bool
 leads_back None side hex = true
 leads_back (Some other) side hex = is_back (neighbour_of other (facing_of side)) hex

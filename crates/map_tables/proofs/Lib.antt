@@ -12,4 +12,5 @@ mod Turning
 mod Turns
 mod Values
 pub mod Texts
+mod Neighbours
 pub mod NothingFits

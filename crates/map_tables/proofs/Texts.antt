@@ -1,4 +1,4 @@
--- A text names a hex, a place, a tile or a rotation exactly where it is the text of that.
+-- A text names a hex, a place, a tile or a rotation exactly if it is the text of that.
 use Rattle.std.proofs.Common.{◌≡◌, ℕ, ◌+◌, ◌*◌, ◌-◌, ◌/◌, ◌%◌, ◌^◌, ◌<◌, ◌≤◌, ◌==◌, ◌&&◌, ltb, nat_le, nat_lt, true}
 use Rattle.std.proofs.Common.{cond, inl, inr, List, [], ◌∷◌, ◌++◌, Option, Some, None, length, take, drop, decimal}
 use Rattle.std.proofs.Common.{append_assoc, refl, sym, ap, ◌∙◌, arith}
@@ -152,7 +152,7 @@ pub hex_named : (text : List ℕ) (hex : Hex) → hex_of_text text ≡ Some hex 
 hex_named [] hex e = absurd cc
 hex_named (row ∷ digits) hex e = row_named row digits (short_number digits) hex refl e
 
--- the number of a stop behind its hex
+-- the number of a stop after its hex
 stop_read : (number : StopNumber) → stop_of_text (stop_text (Some number)) ≡ Some number
 stop_read First = ap (λ (digits : List ℕ). stop_of_text (46 ∷ digits)) (decimal_digit 0 (omega arith))
 stop_read Second = ap (λ (digits : List ℕ). stop_of_text (46 ∷ digits)) (decimal_digit 1 (omega arith))
@@ -183,7 +183,7 @@ stop_named (point ∷ digit ∷ []) number e =
     ]
 stop_named (a ∷ b ∷ c ∷ rest) number e = absurd cc
 
--- a hex with a stop behind it is no hex
+-- a hex with a stop after it is no hex
 long_number : (digits : List ℕ) (b : ℕ) → short_number (digits ++ 46 ∷ b ∷ []) ≡ None
 long_number [] b = refl
 long_number (d ∷ []) b = refl

@@ -1,9 +1,8 @@
--- Which hexes are neighbours. The hex to the east is two columns on, the one to the north-east one row
--- up and one column on. Some borders between neighbours are closed: no track crosses them.
+-- Which hexes are neighbours. The hex to the east is two columns on, the one to the north-east one
+-- row up and one column on. Some borders between neighbours are closed: no track crosses them.
 use Rattle.std.specs.Prelude.{◌+◌, ◌-◌, Bool, ◌&&◌, ◌||◌, if◌then◌else◌, Option, Some, None, option_and_then, List, []}
 use Rattle.std.specs.Prelude.{◌∷◌}
 use Rattle.std.specs.List.{list_any}
-use Rattle.map_tables.specs.declared.border.Border.{Border}
 use Rattle.map_tables.specs.declared.hex.Hex.{Hex}
 use Rattle.map_tables.specs.declared.hex.Hex.TheVariants.{E7, F8, C11, D12, C13, B16, C17}
 use Rattle.map_tables.specs.declared.side.Side.{Side}
@@ -19,17 +18,13 @@ adjacent hex NorthEast = hex_at (row_of hex - 1) (column_of hex + 1)
 adjacent hex East = hex_at (row_of hex) (column_of hex + 2)
 adjacent hex SouthEast = hex_at (row_of hex + 1) (column_of hex + 1)
 
-abbrev border : Hex → Hex → Border
-border a b = record { one = a; other = b }
-
 -- the closed borders
-abbrev pub closed_borders : List Border
-closed_borders = border E7 F8 ∷ border C11 D12 ∷ border C13 D12 ∷ border B16 C17 ∷ []
+abbrev pub closed_borders : List (Hex × Hex)
+closed_borders = (E7, F8) ∷ (C11, D12) ∷ (C13, D12) ∷ (B16, C17) ∷ []
 
 -- whether a border is the one between two hexes
-abbrev pub joins : Hex → Hex → Border → Bool
-joins a b border =
-    (same_hex border.one a && same_hex border.other b) || (same_hex border.one b && same_hex border.other a)
+abbrev pub joins : Hex → Hex → Hex × Hex → Bool
+joins a b (one, other) = (same_hex one a && same_hex other b) || (same_hex one b && same_hex other a)
 
 -- whether the border between two hexes is closed
 abbrev pub is_closed : Hex → Hex → Bool
@@ -39,6 +34,6 @@ is_closed a b = list_any (joins a b) closed_borders
 abbrev pub open_to : Hex → Hex → Option Hex
 open_to hex other = if is_closed hex other then None else Some other
 
--- the neighbour at a side of a hex: none off the map, or where the border is closed
+-- the neighbour at a side of a hex: none off the map, or if the border is closed
 unfoldable pub neighbour_of : Hex → Side → Option Hex
 neighbour_of hex side = option_and_then (open_to hex) (adjacent hex side)

@@ -1,8 +1,9 @@
--- What may lie on the map at all. A tile is of its hex's kind, and its stops are swapped only where there are two; grey
--- and red hexes take none. None of its track leads to a bad side: off the map, to a closed border, or to a grey or red
--- hex without track at the side that faces it. Each token has a slot of its own, in a city. Colours, the stock and kept
--- slots are no matter here. A slot of each company's home is kept until its token lies there, so in a game the map
--- state has to fit with the home tokens that are still to come.
+-- What may lie on the map at all. A tile is of its hex's kind, and its stops are swapped only if
+-- there are two; grey and red hexes take none. None of its track leads to a bad side. That is a
+-- side off the map, at a closed border, or at a grey or red hex without track at the side that
+-- faces it. Each token has a slot of its own, in a city. Colours, the stock and kept slots do not
+-- matter here. A slot of each company's home is kept until its token lies there. So in a game the
+-- map state has to fit with the home tokens that are still to come.
 use Rattle.std.specs.Prelude.{◌≡◌, ℕ, ◌==◌, ◌&&◌, ◌||◌, Bool, true, false, not, nat_lt, List, [], ◌++◌, map, Option}
 use Rattle.std.specs.Prelude.{Some, None}
 use Rattle.std.specs.List.{filter, list_any}
@@ -44,7 +45,7 @@ takes (Open kind) tile = place_of_tile_kind kind == place_of_tile_kind tile
 takes Grey tile = false
 takes Red tile = false
 
--- whether a tile is of another kind than its hex, or its stops are swapped where there are not two
+-- whether a tile is of another kind than its hex, or its stops are swapped though there are not two
 unfoldable pub is_wrong_kind : Lay → Bool
 is_wrong_kind lay =
     not (takes (print_of lay.hex).kind (entry_of lay.tile).kind) || (lay.swap && not ((print_of lay.hex).stops == 2))

@@ -1,4 +1,5 @@
--- How the code finds a hex by its row and column: it counts the columns from the first hex of the row.
+-- How the code finds a hex by its row and column: it counts the columns from the first hex of the
+-- row.
 use Rattle.std.specs.Prelude.{ℕ, ◌+◌, ◌-◌, ◌/◌, ◌==◌, ◌&&◌, nat_lt, if◌then◌else◌, Option, Some, None, option_and_then}
 use Rattle.std.specs.Prelude.{slice_index_or}
 use Rattle.map_tables.specs.declared.hex.Hex.{Hex}

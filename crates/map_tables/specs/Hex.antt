@@ -209,39 +209,51 @@ pub record Site : Type 0 where
   pub row : ℕ
   pub column : ℕ
 
+-- a site of row A, in this column
 abbrev row_a : ℕ → Site
 row_a column = record { row = 65; column = column }
 
+-- a site of row B, in this column
 abbrev row_b : ℕ → Site
 row_b column = record { row = 66; column = column }
 
+-- a site of row C, in this column
 abbrev row_c : ℕ → Site
 row_c column = record { row = 67; column = column }
 
+-- a site of row D, in this column
 abbrev row_d : ℕ → Site
 row_d column = record { row = 68; column = column }
 
+-- a site of row E, in this column
 abbrev row_e : ℕ → Site
 row_e column = record { row = 69; column = column }
 
+-- a site of row F, in this column
 abbrev row_f : ℕ → Site
 row_f column = record { row = 70; column = column }
 
+-- a site of row G, in this column
 abbrev row_g : ℕ → Site
 row_g column = record { row = 71; column = column }
 
+-- a site of row H, in this column
 abbrev row_h : ℕ → Site
 row_h column = record { row = 72; column = column }
 
+-- a site of row I, in this column
 abbrev row_i : ℕ → Site
 row_i column = record { row = 73; column = column }
 
+-- a site of row J, in this column
 abbrev row_j : ℕ → Site
 row_j column = record { row = 74; column = column }
 
+-- a site of row K, in this column
 abbrev row_k : ℕ → Site
 row_k column = record { row = 75; column = column }
 
+-- the row and the column of each hex
 unfoldable pub site_of : Hex → Site
 site_of A9 = row_a 9
 site_of A11 = row_a 11

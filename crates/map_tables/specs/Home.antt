@@ -1,5 +1,5 @@
--- What the roster says of the map: the stop where each company's first token is placed, and the hexes
--- of each private.
+-- What the roster says of the map: the stop where each company's first token is placed, and the
+-- hexes of each private.
 use Rattle.std.specs.Prelude.{List, [], ◌∷◌}
 use Rattle.tables.specs.declared.roster.Company.{Company}
 use Rattle.tables.specs.declared.roster.Company.TheVariants.{Pennsylvania, NewYorkCentral, CanadianPacific}

@@ -28,7 +28,8 @@ NeighboursPair =
     (hex : Hex) (side : Side) (other : Hex) → neighbour_of hex side ≡ Some other
     → neighbour_of other (facing_of side) ≡ Some hex
 
--- the list of hexes has 93, each at its index, which is below 93; and each is the hex at its row and column
+-- the list of hexes has 93, each at its index, which is below 93; and each is the hex at its row
+-- and column
 pub record IsHexListed (hex : Hex) : Type 0 where
   pub below : index_of hex < 93
   pub there : slice_get hexes (index_of hex) ≡ Some hex
@@ -37,11 +38,12 @@ pub record IsHexListed (hex : Hex) : Type 0 where
 abbrev pub HexesAreListedOnce : Type 0
 HexesAreListedOnce = (length hexes ≡ 93) × ((hex : Hex) → IsHexListed hex)
 
--- hexes pass for one exactly where they are one
+-- hexes pass for one exactly if they are one
 abbrev pub HexesAreToldApart : Type 0
 HexesAreToldApart = (a b : Hex) → (same_hex a b ≡ true) ↔ (a ≡ b)
 
--- the list of tiles has 46, each at its index, which is below 46; and each is the tile of its number
+-- the list of tiles has 46, each at its index, which is below 46; and each is the tile of its
+-- number
 pub record IsTileListed (tile : TileNo) : Type 0 where
   pub below : tile_index_of tile < 46
   pub there : slice_get tiles (tile_index_of tile) ≡ Some tile
@@ -68,7 +70,8 @@ TurnsAddUp =
 abbrev pub link_order : Link → ℕ
 link_order link = 8 * end_order link.a + end_order link.b
 
--- whether a link's first end is a side and comes before its second; so the two differ, and are not both stops
+-- whether a link's first end is a side and comes before its second; so the two differ, and are not
+-- both stops
 abbrev pub is_link : Link → Bool
 is_link link = nat_lt (end_order link.a) 6 && nat_lt (end_order link.a) (end_order link.b)
 

@@ -1,4 +1,4 @@
--- A tile on a hex: its track is turned, and its stops 0 and 1 are swapped where that is ordered.
+-- A tile on a hex: its track is turned, and its stops 0 and 1 are swapped if that is ordered.
 use Rattle.std.specs.Prelude.{List, if◌then◌else◌}
 use Rattle.map_tables.specs.declared.lay.Lay.{Lay}
 use Rattle.map_tables.specs.declared.track.Segment.{Segment}

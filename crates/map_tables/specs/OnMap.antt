@@ -1,6 +1,6 @@
--- What lies on the map by a list of tiles and a list of tokens that were laid, each oldest first. The last tile
--- that was laid on a hex lies there; those before it are back in the stock. Where no tile lies, the hex shows its
--- print.
+-- What lies on the map by a list of tiles and a list of tokens that were laid, each oldest first.
+-- The last tile that was laid on a hex lies there; those before it are back in the stock. Where no
+-- tile lies, the hex shows its print.
 use Rattle.std.specs.Prelude.{ℕ, ◌==◌, ◌&&◌, Bool, false, nat_lt, if◌then◌else◌, List, map, reverse, Option, Some, None}
 use Rattle.std.specs.List.{count_by, filter, find, list_any}
 use Rattle.map_tables.specs.Hex.{same_hex}
@@ -30,7 +30,7 @@ by_tile printed laid (Some lay) = laid lay
 abbrev pub links_on : List Lay → Hex → List Link
 links_on lays hex = by_tile (printed_links_of hex) laid_links_of (tile_on lays hex)
 
--- its colour
+-- the colour of a hex
 abbrev pub colour_on : List Lay → Hex → Colour
 colour_on lays hex = by_tile (print_of hex).colour (λ lay. (entry_of lay.tile).colour) (tile_on lays hex)
 
@@ -42,7 +42,7 @@ slots_on lays hex = by_tile (print_of hex).slots (λ lay. (entry_of lay.tile).sl
 abbrev pub is_stop : Stop → Bool
 is_stop stop = nat_lt (stop_index_of stop.number) (print_of stop.hex).stops
 
--- how many tokens a stop takes; none where there is no such stop
+-- how many tokens a stop takes; none if there is no such stop
 abbrev pub slots_at : List Lay → Stop → ℕ
 slots_at lays stop =
     let joined = joined_stop_of stop in if is_stop joined then slots_on lays joined.hex else 0

@@ -30,7 +30,8 @@ place_of stop = record { hex = stop.hex; stop = Some stop.number }
 abbrev pub stop_of : Place → Option Stop
 stop_of place = option_map (stop_at place.hex) place.stop
 
--- The Gulf lies in J2 and I1 and is one stop, J2.0; the Canadian West lies in A11 and A9 and is A11.0.
+-- The Gulf lies in J2 and I1 and is one stop, J2.0; the Canadian West lies in A11 and A9 and is
+-- A11.0.
 abbrev pub joined_hex : Hex → Hex
 joined_hex I1 = J2
 joined_hex A9 = A11

@@ -1,5 +1,5 @@
--- What is printed on the hexes of the map: of each group of hexes with the same print its kind, the
--- cost of its terrain, its stops with their value and the tokens that they take, and its track.
+-- What is printed on the hexes of the map. Each group of hexes with the same print has its kind,
+-- the cost of its terrain, its track, and its stops with their value and the tokens that they take.
 use Rattle.std.specs.Prelude.{ℕ, Bool, false, ◌||◌, if◌then◌else◌, List, [], ◌∷◌, ◌++◌}
 use Rattle.map_tables.specs.declared.hex.Hex.{Hex}
 use Rattle.map_tables.specs.declared.hex.Hex.TheVariants.{
@@ -124,6 +124,7 @@ pub record Print : Type 0 where
 abbrev pub always : ℕ → PrintedValue
 always value = record { before_phase_five = value; from_phase_five = value }
 
+-- a value before phase 5, and another from then on
 abbrev pub at_first_and_later : ℕ → ℕ → PrintedValue
 at_first_and_later before from = record { before_phase_five = before; from_phase_five = from }
 
@@ -151,6 +152,7 @@ red_of before from track =
       track = track;
     }
 
+-- a red area with track from its stop to these sides
 abbrev red : ℕ → ℕ → List ℕ → Print
 red before from sides = red_of before from (in_order (city_track sides))
 
@@ -159,15 +161,19 @@ abbrev pub grey_of : ℕ → ℕ → ℕ → List Segment → Print
 grey_of stops slots value track =
     record { kind = Grey; cost = 0; colour = White; stops = stops; slots = slots; value = always value; track = track }
 
+-- a grey hex with a city, and track past it
 abbrev grey_city_and_track : ℕ → List ℕ → List Segment → Print
 grey_city_and_track value sides track = grey_of 1 1 value (in_order (city_track sides ++ track))
 
+-- a grey hex with a city
 abbrev grey_city : ℕ → List ℕ → Print
 grey_city value sides = grey_of 1 1 value (in_order (city_track sides))
 
+-- a grey hex with a town
 abbrev grey_town : ℕ → List ℕ → Print
 grey_town value sides = grey_of 1 0 value (in_order (city_track sides))
 
+-- a grey hex with through track alone
 abbrev grey_track : List Segment → Print
 grey_track track = grey_of 0 0 0 (in_order track)
 
@@ -185,9 +191,11 @@ yellow_of kind cost value track =
       track = track;
     }
 
+-- a hex with one printed yellow city
 abbrev yellow_city : TileKind → ℕ → List ℕ → Print
 yellow_city kind value sides = yellow_of kind 0 value (in_order (city_track sides))
 
+-- a hex with two printed yellow cities
 abbrev yellow_cities : TileKind → ℕ → ℕ → List ℕ → List ℕ → Print
 yellow_cities kind cost value first second = yellow_of kind cost value (in_order (two_city_track first second))
 
@@ -210,6 +218,7 @@ pub record Group : Type 0 where
   pub hexes : List Hex
   pub print : Print
 
+-- some hexes, and the print that each of them has
 abbrev for_hexes : List Hex → Print → Group
 for_hexes hexes print = record { hexes = hexes; print = print }
 
@@ -270,6 +279,7 @@ abbrev pub print_among : List Group → Hex → Print
 print_among [] hex = white Plain 0
 print_among (g ∷ gs) hex = if is_one_of hex g.hexes then g.print else print_among gs hex
 
+-- the print of a hex
 unfoldable pub print_of : Hex → Print
 print_of hex = print_among groups hex
 

@@ -1,5 +1,5 @@
--- The rules that a lay, a token or a run may break have codes: L, K and R, each with the rule's place in the order in
--- which rules are asked.
+-- The rules that a lay, a token or a run may break have codes: L, K or R, and the rule's place in
+-- the order in which the rules are checked.
 use Rattle.std.specs.Prelude.{ℕ, List, codes}
 use Rattle.map_tables.specs.declared.rules.LayRule.{LayRule}
 use Rattle.map_tables.specs.declared.rules.LayRule.TheVariants as lay_rule

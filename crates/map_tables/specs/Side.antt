@@ -36,7 +36,8 @@ sides_on (suc n) side = next_side (sides_on n side)
 abbrev pub side : ℕ → Side
 side n = sides_on n SouthWest
 
--- the side of the neighbour that lies at this side: it has the number that is greater by three, modulo six
+-- the side of the neighbour that lies at this side: it has the number that is greater by three,
+-- modulo six
 abbrev pub facing_of : Side → Side
 facing_of s = sides_on 3 s
 

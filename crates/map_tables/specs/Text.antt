@@ -1,5 +1,5 @@
--- The texts that name hexes, places, tiles and rotations in order sheets and reports, and what a text
--- in upper case names.
+-- The texts that name hexes, places, tiles and rotations in order sheets and reports, and what a
+-- text in upper case names.
 use Rattle.std.specs.Prelude.{◌≡◌, ◌↔◌, ℕ, ◌+◌, ◌*◌, ◌-◌, ◌==◌, Bool, ◌&&◌, nat_lt, nat_le, if◌then◌else◌, List, []}
 use Rattle.std.specs.Prelude.{◌∷◌, ◌++◌, length, take, drop, decimal, Option, Some, None, option_and_then}
 use Rattle.map_tables.specs.Hex.{column_of, hex_at, row_of}
@@ -17,7 +17,7 @@ use Rattle.map_tables.specs.declared.tiles.TileNo.{TileNo}
 abbrev pub text_of_hex : Hex → List ℕ
 text_of_hex hex = row_of hex ∷ decimal (column_of hex)
 
--- the number of a stop behind its hex, if a place names one
+-- the number of a stop after its hex, if a place names one
 abbrev pub stop_text : Option StopNumber → List ℕ
 stop_text None = []
 stop_text (Some number) = 46 ∷ decimal (stop_index_of number)
@@ -34,6 +34,7 @@ text_of_tile tile = decimal (number_of_tile tile)
 abbrev pub text_of_rotation : Rotation → List ℕ
 text_of_rotation rotation = decimal (turns_of rotation)
 
+-- a byte is a digit
 abbrev pub is_digit : ℕ → Bool
 is_digit byte = nat_le 48 byte && nat_le byte 57
 
@@ -49,18 +50,18 @@ abbrev pub hex_of_text : List ℕ → Option Hex
 hex_of_text [] = None
 hex_of_text (row ∷ digits) = option_and_then (hex_at row) (short_number digits)
 
--- the number of a stop behind its hex
+-- the number of a stop after its hex
 abbrev pub stop_of_text : List ℕ → Option StopNumber
 stop_of_text (point ∷ digit ∷ []) =
     if point == 46 && digit == 48 then Some First else if point == 46 && digit == 49 then Some Second else None
 stop_of_text other = None
 
--- a stop of a hex, where there are both
+-- a stop of a hex, if there are both
 abbrev pub place_from : Option Hex → Option StopNumber → Option Place
 place_from (Some hex) (Some number) = Some (record { hex = hex; stop = Some number })
 place_from hex number = None
 
--- the place that a text names: a hex, or one with the number of a stop behind it
+-- the place that a text names: a hex, or one with the number of a stop after it
 abbrev pub place_of_text : List ℕ → Option Place
 place_of_text text =
     elim (hex_of_text text) [
@@ -76,7 +77,7 @@ tile_of_text text = option_and_then tile_numbered (short_number text)
 abbrev pub rotation_of_text : List ℕ → Option Rotation
 rotation_of_text text = option_and_then rotation_of (short_number text)
 
--- a text names something exactly where it is its text
+-- a text names something exactly if it is its text
 pub record TextsAreRead : Type 0 where
   pub hexes : (text : List ℕ) (hex : Hex) → (hex_of_text text ≡ Some hex) ↔ (text ≡ text_of_hex hex)
   pub places : (text : List ℕ) (place : Place) → (place_of_text text ≡ Some place) ↔ (text ≡ text_of_place place)

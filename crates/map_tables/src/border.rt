@@ -1,78 +1,350 @@
 ghost use Rattle.std.specs.Prelude.{◌≡◌};
-ghost use Rattle.map_tables.specs.Border.{adjacent, is_closed, joins, neighbour_of};
+ghost use Rattle.map_tables.specs.Border.{neighbour_of};
 
-use crate::hex::Hex;
+use crate::hex::Hex::*;
+use crate::hex::{HEXES, Hex};
 use crate::side::Side;
 
-/// The border between two hexes.
-#[derive(Clone, Copy)]
-struct Border {
-    one: Hex,
-    other: Hex,
-}
-
-/// The borders that no track crosses.
-const CLOSED: [Border; 4] = [
-    Border {
-        one: Hex::E7,
-        other: Hex::F8,
-    },
-    Border {
-        one: Hex::C11,
-        other: Hex::D12,
-    },
-    Border {
-        one: Hex::C13,
-        other: Hex::D12,
-    },
-    Border {
-        one: Hex::B16,
-        other: Hex::C17,
-    },
+/// The hexes at the sides of each hex, south-west first; `None` off the map, and if the border
+/// between the two is closed. A hex here is found at once, and not by its row and column.
+static NEIGHBOURS: [[Option<Hex>; 6]; HEXES] = [
+    [None, None, None, None, Some(A11), Some(B10)],
+    [Some(B10), Some(A9), None, None, None, Some(B12)],
+    [Some(B16), None, None, None, Some(A19), Some(B18)],
+    [Some(B18), Some(A17), None, None, None, Some(B20)],
+    [Some(C9), None, Some(A9), Some(A11), Some(B12), Some(C11)],
+    [Some(C11), Some(B10), Some(A11), None, Some(B14), Some(C13)],
+    [Some(C13), Some(B12), None, None, Some(B16), Some(C15)],
+    [Some(C15), Some(B14), None, Some(A17), Some(B18), None],
+    [
+        Some(C17),
+        Some(B16),
+        Some(A17),
+        Some(A19),
+        Some(B20),
+        Some(C19),
+    ],
+    [Some(C19), Some(B18), Some(A19), None, Some(B22), Some(C21)],
+    [Some(C21), Some(B20), None, None, Some(B24), Some(C23)],
+    [Some(C23), Some(B22), None, None, None, None],
+    [Some(D6), None, None, None, Some(C9), Some(D8)],
+    [Some(D8), Some(C7), None, Some(B10), Some(C11), Some(D10)],
+    [Some(D10), Some(C9), Some(B10), Some(B12), Some(C13), None],
+    [None, Some(C11), Some(B12), Some(B14), Some(C15), Some(D14)],
+    [
+        Some(D14),
+        Some(C13),
+        Some(B14),
+        Some(B16),
+        Some(C17),
+        Some(D16),
+    ],
+    [Some(D16), Some(C15), None, Some(B18), Some(C19), Some(D18)],
+    [
+        Some(D18),
+        Some(C17),
+        Some(B18),
+        Some(B20),
+        Some(C21),
+        Some(D20),
+    ],
+    [
+        Some(D20),
+        Some(C19),
+        Some(B20),
+        Some(B22),
+        Some(C23),
+        Some(D22),
+    ],
+    [Some(D22), Some(C21), Some(B22), Some(B24), None, Some(D24)],
+    [None, None, None, None, Some(D4), Some(E3)],
+    [Some(E3), Some(D2), None, None, Some(D6), Some(E5)],
+    [Some(E5), Some(D4), None, Some(C7), Some(D8), Some(E7)],
+    [Some(E7), Some(D6), Some(C7), Some(C9), Some(D10), Some(E9)],
+    [
+        Some(E9),
+        Some(D8),
+        Some(C9),
+        Some(C11),
+        Some(D12),
+        Some(E11),
+    ],
+    [Some(E11), Some(D10), None, None, Some(D14), Some(E13)],
+    [
+        Some(E13),
+        Some(D12),
+        Some(C13),
+        Some(C15),
+        Some(D16),
+        Some(E15),
+    ],
+    [
+        Some(E15),
+        Some(D14),
+        Some(C15),
+        Some(C17),
+        Some(D18),
+        Some(E17),
+    ],
+    [
+        Some(E17),
+        Some(D16),
+        Some(C17),
+        Some(C19),
+        Some(D20),
+        Some(E19),
+    ],
+    [
+        Some(E19),
+        Some(D18),
+        Some(C19),
+        Some(C21),
+        Some(D22),
+        Some(E21),
+    ],
+    [
+        Some(E21),
+        Some(D20),
+        Some(C21),
+        Some(C23),
+        Some(D24),
+        Some(E23),
+    ],
+    [Some(E23), Some(D22), Some(C23), None, None, None],
+    [Some(F2), None, Some(D2), Some(D4), Some(E5), Some(F4)],
+    [Some(F4), Some(E3), Some(D4), Some(D6), Some(E7), Some(F6)],
+    [Some(F6), Some(E5), Some(D6), Some(D8), Some(E9), None],
+    [
+        Some(F8),
+        Some(E7),
+        Some(D8),
+        Some(D10),
+        Some(E11),
+        Some(F10),
+    ],
+    [
+        Some(F10),
+        Some(E9),
+        Some(D10),
+        Some(D12),
+        Some(E13),
+        Some(F12),
+    ],
+    [
+        Some(F12),
+        Some(E11),
+        Some(D12),
+        Some(D14),
+        Some(E15),
+        Some(F14),
+    ],
+    [
+        Some(F14),
+        Some(E13),
+        Some(D14),
+        Some(D16),
+        Some(E17),
+        Some(F16),
+    ],
+    [
+        Some(F16),
+        Some(E15),
+        Some(D16),
+        Some(D18),
+        Some(E19),
+        Some(F18),
+    ],
+    [
+        Some(F18),
+        Some(E17),
+        Some(D18),
+        Some(D20),
+        Some(E21),
+        Some(F20),
+    ],
+    [
+        Some(F20),
+        Some(E19),
+        Some(D20),
+        Some(D22),
+        Some(E23),
+        Some(F22),
+    ],
+    [Some(F22), Some(E21), Some(D22), Some(D24), None, Some(F24)],
+    [None, None, None, Some(E3), Some(F4), Some(G3)],
+    [Some(G3), Some(F2), Some(E3), Some(E5), Some(F6), Some(G5)],
+    [Some(G5), Some(F4), Some(E5), Some(E7), Some(F8), Some(G7)],
+    [Some(G7), Some(F6), None, Some(E9), Some(F10), Some(G9)],
+    [
+        Some(G9),
+        Some(F8),
+        Some(E9),
+        Some(E11),
+        Some(F12),
+        Some(G11),
+    ],
+    [
+        Some(G11),
+        Some(F10),
+        Some(E11),
+        Some(E13),
+        Some(F14),
+        Some(G13),
+    ],
+    [
+        Some(G13),
+        Some(F12),
+        Some(E13),
+        Some(E15),
+        Some(F16),
+        Some(G15),
+    ],
+    [
+        Some(G15),
+        Some(F14),
+        Some(E15),
+        Some(E17),
+        Some(F18),
+        Some(G17),
+    ],
+    [
+        Some(G17),
+        Some(F16),
+        Some(E17),
+        Some(E19),
+        Some(F20),
+        Some(G19),
+    ],
+    [Some(G19), Some(F18), Some(E19), Some(E21), Some(F22), None],
+    [None, Some(F20), Some(E21), Some(E23), Some(F24), None],
+    [None, Some(F22), Some(E23), None, None, None],
+    [Some(H2), None, Some(F2), Some(F4), Some(G5), Some(H4)],
+    [Some(H4), Some(G3), Some(F4), Some(F6), Some(G7), Some(H6)],
+    [Some(H6), Some(G5), Some(F6), Some(F8), Some(G9), Some(H8)],
+    [
+        Some(H8),
+        Some(G7),
+        Some(F8),
+        Some(F10),
+        Some(G11),
+        Some(H10),
+    ],
+    [
+        Some(H10),
+        Some(G9),
+        Some(F10),
+        Some(F12),
+        Some(G13),
+        Some(H12),
+    ],
+    [
+        Some(H12),
+        Some(G11),
+        Some(F12),
+        Some(F14),
+        Some(G15),
+        Some(H14),
+    ],
+    [
+        Some(H14),
+        Some(G13),
+        Some(F14),
+        Some(F16),
+        Some(G17),
+        Some(H16),
+    ],
+    [
+        Some(H16),
+        Some(G15),
+        Some(F16),
+        Some(F18),
+        Some(G19),
+        Some(H18),
+    ],
+    [Some(H18), Some(G17), Some(F18), Some(F20), None, None],
+    [Some(I1), None, None, Some(G3), Some(H4), Some(I3)],
+    [Some(I3), Some(H2), Some(G3), Some(G5), Some(H6), Some(I5)],
+    [Some(I5), Some(H4), Some(G5), Some(G7), Some(H8), Some(I7)],
+    [Some(I7), Some(H6), Some(G7), Some(G9), Some(H10), Some(I9)],
+    [
+        Some(I9),
+        Some(H8),
+        Some(G9),
+        Some(G11),
+        Some(H12),
+        Some(I11),
+    ],
+    [
+        Some(I11),
+        Some(H10),
+        Some(G11),
+        Some(G13),
+        Some(H14),
+        Some(I13),
+    ],
+    [
+        Some(I13),
+        Some(H12),
+        Some(G13),
+        Some(G15),
+        Some(H16),
+        Some(I15),
+    ],
+    [
+        Some(I15),
+        Some(H14),
+        Some(G15),
+        Some(G17),
+        Some(H18),
+        Some(I17),
+    ],
+    [Some(I17), Some(H16), Some(G17), Some(G19), None, Some(I19)],
+    [None, None, None, Some(H2), Some(I3), Some(J2)],
+    [Some(J2), Some(I1), Some(H2), Some(H4), Some(I5), Some(J4)],
+    [Some(J4), Some(I3), Some(H4), Some(H6), Some(I7), Some(J6)],
+    [Some(J6), Some(I5), Some(H6), Some(H8), Some(I9), Some(J8)],
+    [
+        Some(J8),
+        Some(I7),
+        Some(H8),
+        Some(H10),
+        Some(I11),
+        Some(J10),
+    ],
+    [
+        Some(J10),
+        Some(I9),
+        Some(H10),
+        Some(H12),
+        Some(I13),
+        Some(J12),
+    ],
+    [
+        Some(J12),
+        Some(I11),
+        Some(H12),
+        Some(H14),
+        Some(I15),
+        Some(J14),
+    ],
+    [Some(J14), Some(I13), Some(H14), Some(H16), Some(I17), None],
+    [None, Some(I15), Some(H16), Some(H18), Some(I19), None],
+    [None, Some(I17), Some(H18), None, None, None],
+    [None, None, Some(I1), Some(I3), Some(J4), None],
+    [None, Some(J2), Some(I3), Some(I5), Some(J6), None],
+    [None, Some(J4), Some(I5), Some(I7), Some(J8), None],
+    [None, Some(J6), Some(I7), Some(I9), Some(J10), None],
+    [None, Some(J8), Some(I9), Some(I11), Some(J12), None],
+    [None, Some(J10), Some(I11), Some(I13), Some(J14), Some(K13)],
+    [Some(K13), Some(J12), Some(I13), Some(I15), None, Some(K15)],
+    [None, None, Some(J12), Some(J14), Some(K15), None],
+    [None, Some(K13), Some(J14), None, None, None],
 ];
 
-/// The hex that lies at a side of a hex; `None` off the map, or where the border between the two is
-/// closed.
-#[tactic(auto, unfolding(crate::specs::Border::neighbour_of))]
+/// Returns the hex that lies at a side of a hex; `None` off the map, or if the border between the
+/// two is closed.
 pub fn neighbour(hex: Hex, side: Side) -> Option<Hex>
     ensures { result ≡ neighbour_of hex side }
 {
-    let other = adjacent(hex, side)?;
-    if is_closed(hex, other) {
-        None
-    } else {
-        Some(other)
-    }
-}
-
-/// The hex that lies at a side of a hex, whether or not the border is closed.
-#[tactic(auto, unfolding(crate::specs::Border::adjacent))]
-fn adjacent(hex: Hex, side: Side) -> Option<Hex>
-    ensures { result ≡ adjacent hex side }
-{
-    let (row, column) = (hex.row(), hex.column());
-    match side {
-        Side::SouthWest => Hex::at(row + 1, column.saturating_sub(1)),
-        Side::West => Hex::at(row, column.saturating_sub(2)),
-        Side::NorthWest => Hex::at(row - 1, column.saturating_sub(1)),
-        Side::NorthEast => Hex::at(row - 1, column + 1),
-        Side::East => Hex::at(row, column + 2),
-        Side::SouthEast => Hex::at(row + 1, column + 1),
-    }
-}
-
-/// Whether the border between two hexes is closed.
-fn is_closed(hex: Hex, other: Hex) -> bool
-    ensures { result ≡ is_closed hex other }
-{
-    CLOSED.iter().any(|border| border.joins(hex, other))
-}
-
-impl Border {
-    /// Whether it is the border between these two.
-    fn joins(&self, a: Hex, b: Hex) -> bool
-        ensures { result ≡ joins a b self.now }
-    {
-        (self.one.is(a) && self.other.is(b)) || (self.one.is(b) && self.other.is(a))
-    }
+    NEIGHBOURS[hex.index()][side.number()]
 }

@@ -214,7 +214,7 @@ impl Hex {
         Hex::K15,
     ];
 
-    /// The place of the hex in the order of the hexes, from 0 up to 92.
+    /// Returns the place of the hex in the order of the hexes, from 0 up to 92.
     pub fn index(self) -> usize
         ensures value { result ≡ index_of self }
         ensures bound { result < 93 }
@@ -222,7 +222,7 @@ impl Hex {
         self as usize
     }
 
-    /// The hex at a place in the order of the hexes, from 0 up to 92.
+    /// Returns the hex at a place in the order of the hexes, from 0 up to 92.
     pub fn at_index(index: usize) -> Hex
         requires { index < 93 }
         ensures { index_of result ≡ index }
@@ -231,14 +231,14 @@ impl Hex {
         all[index]
     }
 
-    /// Whether it is the same hex.
+    /// Returns whether it is the same hex.
     pub(crate) fn is(self, other: Hex) -> bool
         ensures { result ≡ same_hex self other }
     {
         self.index() == other.index()
     }
 
-    /// The letter of the row, from `b'A'` in the north to `b'K'` in the south.
+    /// Returns the letter of the row, from `b'A'` in the north to `b'K'` in the south.
     pub fn row(self) -> u8
         ensures value { result ≡ row_of self }
         ensures least { 65 ≤ result }
@@ -247,8 +247,8 @@ impl Hex {
         ROWS[self.index()]
     }
 
-    /// The number of the column, from 1 in the west to 24 in the east. The next hex of a row is two
-    /// columns farther.
+    /// Returns the number of the column, from 1 in the west to 24 in the east. The next hex of a
+    /// row is two columns farther.
     pub fn column(self) -> u8
         ensures value { result ≡ column_of self }
         ensures least { 1 ≤ result }
@@ -257,7 +257,8 @@ impl Hex {
         COLUMNS[self.index()]
     }
 
-    /// The hex in a row, by its letter in upper case, and a column; `None` where the map has none.
+    /// Returns the hex in a row, by its letter in upper case, and a column; `None` if the map has
+    /// none.
     pub fn at(row: u8, column: u8) -> Option<Hex>
         ensures { result ≡ hex_at row column }
     {
@@ -270,7 +271,7 @@ impl Hex {
     }
 }
 
-/// The one hex that may be the one in this row and column; `None` where no hex may be.
+/// Returns the only hex that may lie in this row and column; `None` if none may.
 #[tactic(auto, unfolding(crate::specs::Hex::hexes))]
 fn guess(row: u8, column: u8) -> Option<Hex>
     ensures { result ≡ guess_at row column }
@@ -285,7 +286,7 @@ fn guess(row: u8, column: u8) -> Option<Hex>
     }
 }
 
-/// The first hex of a row, which has no gap between it and the column. Row A has a gap in the
+/// Returns the first hex of a row, with no gap between it and the column. Row A has a gap in the
 /// middle.
 fn first_of_row(row: u8, column: u8) -> Option<Hex>
     ensures { result ≡ first_at row column }

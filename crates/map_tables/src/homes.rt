@@ -5,7 +5,7 @@ use crate::hex::Hex;
 use crate::place::{Stop, StopNumber};
 use tables::{Company, Private};
 
-/// Where a company's first token is placed.
+/// Returns where a company's first token is placed.
 pub fn home(company: Company) -> Stop
     ensures { result ≡ home_of company }
 {
@@ -25,7 +25,7 @@ pub fn home(company: Company) -> Stop
     }
 }
 
-/// The hexes on which no tile is laid while a player owns the private.
+/// Returns the hexes on which no tile is laid while a player owns the private.
 pub fn private_hexes(private: Private) -> &'static [Hex]
     ensures { result.now ≡ hexes_of_private private }
 {

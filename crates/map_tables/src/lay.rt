@@ -17,7 +17,7 @@ pub struct Lay {
     pub swap: bool,
 }
 
-/// The links that a tile gives its hex, in order.
+/// Returns the links that a tile gives its hex, in order.
 #[tactic(auto, unfolding(crate::specs::Lay::laid_links_of))]
 pub fn laid_links(lay: Lay) -> Links
     ensures { result.items ≡ laid_links_of lay }
@@ -25,7 +25,7 @@ pub fn laid_links(lay: Lay) -> Links
     links_in(lay.hex, laid_track(lay).as_slice())
 }
 
-/// The track of a tile as it lies.
+/// Returns the track of a tile as it lies.
 #[tactic(auto, unfolding(crate::specs::Lay::laid_track_of))]
 fn laid_track(lay: Lay) -> Track
     ensures track { result.items ≡ laid_track_of lay }

@@ -1,14 +1,14 @@
 //! The map and the tiles of 1830 as they are played here, as tables.
 //!
-//! Each call answers its entry of a table, in a few steps and without memory. `specs/` has each
+//! Each call returns an entry of a table, in a few steps, and allocates nothing. `specs/` has each
 //! table once, in the order and the words in which the rules print it.
 //!
 //! Reading order: `hex` (the hexes of the map), `side` (sides and rotations), `border` (which hexes
 //! are neighbours), `place` (stops), `track` (what joins sides and stops), `print` (what is printed
-//! on the map), `tiles`, `segments` (each piece of
-//! track by its ends), `lay` (a tile on a hex), `run` (the places of a run), `homes` (what the
-//! roster says of the map), `rules` (of lays, tokens and runs: which one is broken), `text` (the
-//! texts of hexes, places, tiles and rotations), `laws` (what holds of all these tables).
+//! on the map), `tiles`, `segments` (each piece of track by its ends), `lay` (a tile on a hex),
+//! `run` (the places of a run), `homes` (what the roster says of the map), `rules` (of lays, tokens
+//! and runs: which one is broken), `text` (the texts of hexes, places, tiles and rotations), `laws`
+//! (what holds of all these tables).
 #![tactic(auto)]
 
 mod border;

@@ -14,7 +14,7 @@ pub enum StopNumber {
 }
 
 impl StopNumber {
-    /// 0 or 1.
+    /// Returns the number: 0 or 1.
     pub fn index(self) -> usize
         ensures value { result ≡ stop_index_of self }
         ensures bound { result < 2 }
@@ -22,7 +22,7 @@ impl StopNumber {
         self as usize
     }
 
-    /// The other number.
+    /// Returns the other number.
     pub fn other(self) -> StopNumber
         ensures { result ≡ other_stop self }
     {
@@ -41,7 +41,7 @@ pub struct Stop {
 }
 
 impl Stop {
-    /// The place that names the stop: `H12.0`.
+    /// Returns the place that names the stop: `H12.0`.
     pub fn place(self) -> Place
         ensures { result ≡ place_of self }
     {
@@ -60,7 +60,7 @@ pub struct Place {
 }
 
 impl Place {
-    /// The stop that the place names; `None` for a hex.
+    /// Returns the stop that the place names; `None` for a hex.
     pub fn stop(self) -> Option<Stop>
         ensures { result ≡ stop_of self }
     {
@@ -72,8 +72,9 @@ impl Place {
     }
 }
 
-/// The stop that a stop is: the Gulf is one stop, named J2.0, and its part in I1 is that stop too;
-/// the Canadian West is A11.0, and its part in A9 is that stop too. Every other stop is itself.
+/// Returns the stop that names a stop. The Gulf is one stop, named J2.0, and its part in I1 is that
+/// stop too; the Canadian West is A11.0, and its part in A9 is that stop too. Every other stop
+/// names itself.
 pub fn joined_stop(stop: Stop) -> Stop
     ensures { result ≡ joined_stop_of stop }
 {
@@ -91,7 +92,7 @@ pub fn joined_stop(stop: Stop) -> Stop
 impl Default for Place {
     ghost is_default = { λ p. p ≡ record { hex = A9; stop = None } };
 
-    /// What fills a run that has room for more.
+    /// Returns the filler for the unused room of a run.
     fn default() -> Place {
         Place {
             hex: Hex::A9,

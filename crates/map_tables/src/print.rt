@@ -8,7 +8,7 @@ use crate::tiles::{Colour, TileKind};
 use crate::track::{Links, Segment, links_in};
 use tables::Amount;
 
-/// What a hex is for those who lay tiles.
+/// What tiles a hex takes.
 #[derive(Clone, Copy, Debug, PartialEq, Eq)]
 pub enum HexKind {
     /// Tiles of this kind may be laid on it.
@@ -19,57 +19,57 @@ pub enum HexKind {
     Red,
 }
 
-/// What a printed stop is worth, in dollars. The two differ at red stops alone.
+/// What a printed stop is worth, in dollars. The two values differ only at red stops.
 #[derive(Clone, Copy, Debug, PartialEq, Eq)]
 pub struct PrintedValue {
     pub before_phase_five: Amount,
     pub from_phase_five: Amount,
 }
 
-/// What tiles a hex takes.
+/// Returns what tiles a hex takes.
 pub fn hex_kind(hex: Hex) -> HexKind
     ensures { result ≡ (print_of hex).kind }
 {
     print(hex).kind
 }
 
-/// What the terrain of a hex costs, paid with its first tile, in dollars.
+/// Returns the cost of the terrain of a hex, in dollars, paid with its first tile.
 pub fn terrain_cost(hex: Hex) -> Amount
     ensures { result ≡ (print_of hex).cost }
 {
     print(hex).cost
 }
 
-/// The colour of a hex on which no tile lies. Grey and red hexes, on which none ever does, are
-/// white.
+/// Returns the colour of a hex on which no tile lies. Grey and red hexes, on which none ever lies,
+/// are white.
 pub fn printed_colour(hex: Hex) -> Colour
     ensures { result ≡ (print_of hex).colour }
 {
     print(hex).colour
 }
 
-/// How many stops a hex has, from 0 to 2; tiles do not change it.
+/// Returns how many stops a hex has, from 0 to 2; tiles do not change it.
 pub fn printed_stops(hex: Hex) -> usize
     ensures { result ≡ (print_of hex).stops }
 {
     print(hex).stops
 }
 
-/// How many tokens each stop of a hex takes until a tile lies.
+/// Returns how many tokens each stop of a hex takes until a tile lies.
 pub fn printed_slots(hex: Hex) -> u8
     ensures { result ≡ (print_of hex).slots }
 {
     print(hex).slots
 }
 
-/// What each stop of a hex is worth until a tile lies.
+/// Returns what each stop of a hex is worth until a tile lies.
 pub fn printed_value(hex: Hex) -> PrintedValue
     ensures { result ≡ (print_of hex).value }
 {
     print(hex).value
 }
 
-/// The links that are printed on a hex, in order.
+/// Returns the links that are printed on a hex, in order.
 #[tactic(auto, unfolding(crate::specs::Print::printed_links_of))]
 pub fn printed_links(hex: Hex) -> Links
     ensures { result.items ≡ printed_links_of hex }
@@ -89,8 +89,8 @@ struct PrintedHex {
     track: &'static [Segment],
 }
 
-/// A red area, whose one stop takes no token: what the stop is worth before phase 5 and from then on,
-/// and the track.
+/// A red area, whose one stop takes no token: what the stop is worth before phase 5 and from then
+/// on, and the track.
 macro_rules! red {
     ($before:expr, $from:expr, $track:expr) => {
         &PrintedHex {
@@ -108,7 +108,8 @@ macro_rules! red {
     };
 }
 
-/// A grey hex: how many stops it has, how many tokens each takes and what it is worth, and the track.
+/// A grey hex: how many stops it has, how many tokens each takes and what it is worth, and the
+/// track.
 macro_rules! grey {
     ($stops:expr, $slots:expr, $value:expr, $track:expr) => {
         &PrintedHex {
@@ -126,8 +127,8 @@ macro_rules! grey {
     };
 }
 
-/// A hex whose print is a yellow tile with cities, each of which takes one token: the tiles that it
-/// takes, how many cities it has, its cost, what each is worth, and the track.
+/// A hex whose print is a yellow tile with cities, each of which takes one token. It has the tiles
+/// that it takes, how many cities it has, its cost, what each is worth, and the track.
 macro_rules! yellow {
     ($kind:expr, $stops:expr, $cost:expr, $value:expr, $track:expr) => {
         &PrintedHex {
@@ -145,8 +146,8 @@ macro_rules! yellow {
     };
 }
 
-/// A hex without track, whose stops are worth nothing until a tile lies: the tiles that it takes, how
-/// many stops it has and how many tokens each takes, and its cost.
+/// A hex without track, whose stops are worth nothing until a tile lies. It has the tiles that it
+/// takes, how many stops it has and how many tokens each takes, and its cost.
 macro_rules! white {
     ($kind:expr, $stops:expr, $slots:expr, $cost:expr) => {
         &PrintedHex {
@@ -164,7 +165,7 @@ macro_rules! white {
     };
 }
 
-/// The printed hex.
+/// Returns the printed hex.
 #[tactic(auto, unfolding(crate::specs::Hex::index_of, crate::specs::Print::groups, crate::specs::Print::plain_hexes, crate::specs::Print::print_of))]
 fn print(hex: Hex) -> &'static PrintedHex
     ensures { print_seen result.now ≡ print_of hex }

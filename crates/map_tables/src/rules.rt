@@ -1,46 +1,36 @@
 ghost use Rattle.std.specs.Prelude.{◌≡◌};
 ghost use Rattle.map_tables.specs.RuleCodes.{code_of_lay_rule, code_of_run_rule, code_of_token_rule};
 
+use std::fmt::{self, Display, Formatter, Write};
 use thiserror::Error;
 
-/// A rule that the lay of a tile may break.
+/// A rule that the lay of a tile may break. `sentence` returns what each asks.
 #[derive(Clone, Copy, Debug, PartialEq, Eq, Drop, Error)]
 pub enum LayRule {
-    /// L1: the turn is past its lay, or the lay is used.
-    #[error("the turn is past its lay, or the lay is used")]
+    /// L1.
     StepUsed,
-    /// L2: the hex is grey or red.
-    #[error("the hex is grey or red")]
+    /// L2.
     GreyOrRed,
-    /// L3: the stock has no such tile left.
-    #[error("no such tile is left")]
+    /// L3.
     NoneLeft,
-    /// L4: the tile's colour has not come yet.
-    #[error("the colour of the tile has not come yet")]
+    /// L4.
     ColourClosed,
-    /// L5: the tile is of another kind than the hex, or not of its next colour, or its stops are to
-    /// be swapped where there are not two.
-    #[error("the tile is of another kind or colour than the hex takes")]
+    /// L5.
     WrongTile,
-    /// L6: some track of the hex is not on the tile.
-    #[error("the tile does not keep all track of the hex")]
+    /// L6.
     TrackLost,
-    /// L7: the track of the tile leads to a bad side.
-    #[error("the track of the tile leads to a bad side")]
+    /// L7.
     BadSide,
-    /// L8: a player owns the private of the hex.
-    #[error("a player owns the private of the hex")]
+    /// L8.
     Blocked,
-    /// L9: the company would reach no piece of the tile.
-    #[error("the company would reach no piece of the tile")]
+    /// L9.
     NotReached,
-    /// L10: the terrain costs more than the company has.
-    #[error("the terrain costs more than the company has")]
+    /// L10.
     CashTooSmall,
 }
 
 impl LayRule {
-    /// The code that a report prints.
+    /// Returns the code that a report prints.
     pub fn code(self) -> &'static str
         ensures { result.now ≡ code_of_lay_rule self }
     {
@@ -57,33 +47,59 @@ impl LayRule {
             LayRule::CashTooSmall => "L10",
         }
     }
+
+    /// Returns what is wrong, in a player's words. The desk and the tables of the docs print no
+    /// other.
+    pub fn sentence(self) -> &'static str {
+        match self {
+            LayRule::StepUsed => "the lay of the turn is used, or its step is past",
+            LayRule::GreyOrRed => "the hex is grey or red",
+            LayRule::NoneLeft => "no such tile is left",
+            LayRule::ColourClosed => "the colour has not come yet",
+            LayRule::WrongTile => {
+                "the tile is not of the hex's next colour or kind; or SWAP stands where there \
+                    are not two stops"
+            }
+            LayRule::TrackLost => "track that the hex has would be lost",
+            LayRule::BadSide => {
+                "track would lead off the map, over a closed border, or to a grey or red hex \
+                    that has none there"
+            }
+            LayRule::Blocked => "a player owns the private of that hex",
+            LayRule::NotReached => {
+                "the company reaches neither the tile's track nor a stop of the hex"
+            }
+            LayRule::CashTooSmall => "it costs more than the company's cash",
+        }
+    }
 }
 
-/// A rule that the placing of a token may break.
+/// Its sentence.
+impl Display for LayRule {
+    fn fmt<W: Write>(&self, f: &mut Formatter<W>) -> fmt::Result {
+        f.write_str(self.sentence())
+    }
+}
+
+/// A rule that the placing of a token may break. `sentence` returns what each asks.
 #[derive(Clone, Copy, Debug, PartialEq, Eq, Drop, Error)]
 pub enum TokenRule {
-    /// K1: the turn is past its token.
-    #[error("the turn is past its token")]
+    /// K1.
     StepUsed,
-    /// K2: the company has no token left.
-    #[error("the company has no token left")]
+    /// K2.
     NoTokenLeft,
-    /// K3: the place is no city, or its slots are all taken or kept.
-    #[error("the place has no free slot")]
+    /// K3.
     NoFreeSlot,
-    /// K4: the company has a token in the hex.
-    #[error("the company has a token in the hex")]
+    /// K4.
     InHexAlready,
-    /// K5: the company does not reach the city.
-    #[error("the company does not reach the city")]
+    /// K5.
     NotReached,
-    /// K6: the token costs more than the company has.
-    #[error("the token costs more than the company has")]
+    /// K6.
     CashTooSmall,
 }
 
 impl TokenRule {
-    /// The code that a report prints.
+    /// Returns the code that a report prints.
     pub fn code(self) -> &'static str
         ensures { result.now ≡ code_of_token_rule self }
     {
@@ -96,35 +112,59 @@ impl TokenRule {
             TokenRule::CashTooSmall => "K6",
         }
     }
+
+    /// Returns what is wrong, in a player's words. The desk and the tables of the docs print no
+    /// other.
+    pub fn sentence(self) -> &'static str {
+        match self {
+            TokenRule::StepUsed => "the step of the token is past",
+            TokenRule::NoTokenLeft => "the company has no token left",
+            TokenRule::NoFreeSlot => {
+                "it is at no stop of a city, or no slot is free; one that is kept for a home \
+                    counts as taken"
+            }
+            TokenRule::InHexAlready => "the company has a token in the hex",
+            TokenRule::NotReached => "the company does not reach the stop",
+            TokenRule::CashTooSmall => {
+                "it costs more than the company's cash: 40 the second, 100 each later one"
+            }
+        }
+    }
+}
+
+/// Its sentence.
+impl Display for TokenRule {
+    fn fmt<W: Write>(&self, f: &mut Formatter<W>) -> fmt::Result {
+        f.write_str(self.sentence())
+    }
 }
 
 /// A rule that the run of a train may break: the first two ask what the turn has done, the others
 /// the tiles and tokens on the map.
-#[derive(Clone, Copy, Debug, PartialEq, Eq)]
+#[derive(Clone, Copy, Debug, PartialEq, Eq, Drop, Error)]
 pub enum RunRule {
-    /// R1: the turn is past its run.
+    /// R1.
     StepUsed,
-    /// R2: the company has no train of the kind that has not run in this turn.
+    /// R2.
     NoTrain,
-    /// R3: there is no such track, or an end of the run is no stop.
+    /// R3.
     NoTrack,
-    /// R4: the run visits under two stops, or more than the train may; a stop that it visits again
-    /// counts again.
+    /// R4.
     WrongNumber,
-    /// R5: the run visits a stop twice.
+    /// R5.
     StopTwice,
-    /// R6: the run crosses a border that it, or another train of the company, has crossed before.
+    /// R6.
     BorderTwice,
-    /// R7: the run passes a city whose slots all hold tokens of others.
+    /// R7.
     PassesFull,
-    /// R8: the company has no token at any stop of the run.
+    /// R8.
     NoToken,
-    /// R9: the run passes a red stop.
+    /// R9.
     RedInside,
 }
 
 impl RunRule {
-    /// The code that a report prints.
+    /// Returns the code that a report prints.
     pub fn code(self) -> &'static str
         ensures { result.now ≡ code_of_run_rule self }
     {
@@ -139,5 +179,33 @@ impl RunRule {
             RunRule::NoToken => "R8",
             RunRule::RedInside => "R9",
         }
+    }
+
+    /// Returns what is wrong, in a player's words. The desk and the tables of the docs print no
+    /// other.
+    pub fn sentence(self) -> &'static str {
+        match self {
+            RunRule::StepUsed => "the step of the runs is past",
+            RunRule::NoTrain => {
+                "no train of the kind is left that has not run; of RUN BEST: the company has \
+                    no train, or one has run"
+            }
+            RunRule::NoTrack => "there is no such track, or an end is no stop",
+            RunRule::WrongNumber => "it visits under two stops, or more than the train may",
+            RunRule::StopTwice => "it visits a stop twice",
+            RunRule::BorderTwice => {
+                "it crosses a border that it or another run of the turn has crossed"
+            }
+            RunRule::PassesFull => "it passes a city that is full of other companies' tokens",
+            RunRule::NoToken => "it visits no token of the company",
+            RunRule::RedInside => "it passes a red area",
+        }
+    }
+}
+
+/// Its sentence.
+impl Display for RunRule {
+    fn fmt<W: Write>(&self, f: &mut Formatter<W>) -> fmt::Result {
+        f.write_str(self.sentence())
     }
 }

@@ -45,7 +45,7 @@ impl Model for Run {
 }
 
 impl Run {
-    /// A run of two places.
+    /// Returns a run of two places.
     pub fn new(first: Place, second: Place) -> Run
         ensures { result ≡ first ∷ second ∷ [] }
     {
@@ -55,7 +55,7 @@ impl Run {
         Run { places }
     }
 
-    /// The run of these places; `None` where they are fewer than two.
+    /// Returns the run of these places; `None` if they are fewer than two.
     pub fn from_places(places: ArrayVec<Place, RUN_MOST>) -> Option<Run>
         ensures { result ≡ (if nat_le 2 (length places.items) then Some places.items else None) }
     {
@@ -65,7 +65,7 @@ impl Run {
         Some(Run { places })
     }
 
-    /// Whether it has 280 places.
+    /// Returns whether it has 280 places.
     pub fn is_full(&self) -> bool
         ensures full { IsTrue result ↔ (length self.now ≡ 280) }
         ensures bound { length self.now ≤ 280 }
@@ -81,7 +81,7 @@ impl Run {
         self.places.push(place);
     }
 
-    /// The places, in order.
+    /// Returns the places, in order.
     pub fn as_slice(&self) -> &[Place]
         ensures places { result.now ≡ self.now }
         ensures least { 2 ≤ length self.now }
@@ -90,7 +90,7 @@ impl Run {
         self.places.as_slice()
     }
 
-    /// An equal run.
+    /// Returns an equal run.
     pub fn duplicate(&self) -> Run
         ensures { result ≡ self.now }
     {

@@ -23,7 +23,7 @@ impl Side {
         Side::SouthEast,
     ];
 
-    /// The number of the side, from 0 to 5.
+    /// Returns the number of the side, from 0 to 5.
     pub fn number(self) -> usize
         ensures value { result ≡ number_of self }
         ensures bound { result < 6 }
@@ -31,7 +31,7 @@ impl Side {
         self as usize
     }
 
-    /// The side of the neighbour at which this side lies: three sides on.
+    /// Returns the side of the neighbour at which this side lies: three sides on.
     pub fn facing(self) -> Side
         ensures { result ≡ facing_of self }
     {
@@ -45,7 +45,7 @@ impl Side {
         }
     }
 
-    /// The side that this side of a tile becomes when the tile is turned.
+    /// Returns the side that this side of a tile becomes when the tile is turned.
     pub fn turned(self, rotation: Rotation) -> Side
         ensures { result ≡ turned_side rotation self }
     {
@@ -75,7 +75,7 @@ impl Rotation {
         Rotation::Five,
     ];
 
-    /// How many sixths of a turn it is, from 0 to 5.
+    /// Returns how many sixths of a turn it is, from 0 to 5.
     pub fn turns(self) -> usize
         ensures value { result ≡ turns_of self }
         ensures bound { result < 6 }
@@ -83,7 +83,7 @@ impl Rotation {
         self as usize
     }
 
-    /// The rotation by this many sixths of a turn; `None` for six or more.
+    /// Returns the rotation by this many sixths of a turn; `None` for six or more.
     pub fn from_turns(turns: usize) -> Option<Rotation>
         ensures { result ≡ rotation_of turns }
     {

@@ -26,7 +26,7 @@ pub const PLACE_TEXT_MOST: usize = 5;
 pub type PlaceText = ArrayVec<u8, PLACE_TEXT_MOST>;
 
 impl Hex {
-    /// Its text: the letter of its row, and its column, as in `H12`.
+    /// Returns its text: the letter of its row, and its column, as in `H12`.
     pub fn text(self) -> PlaceText
         ensures text { result.items ≡ text_of_hex self }
         ensures bound { length result.items ≤ 3 }
@@ -38,7 +38,7 @@ impl Hex {
         text
     }
 
-    /// The hex that a text names, in either case; `None` where it names none.
+    /// Returns the hex that a text names, in either case; `None` if it names none.
     pub fn from_text(text: &[u8]) -> Option<Hex>
         ensures { result ≡ hex_of_text (map to_ascii_uppercase text.now) }
     {
@@ -51,7 +51,7 @@ impl Hex {
 }
 
 impl Place {
-    /// Its text: that of the hex, and behind that the number of the stop if it names one, as in
+    /// Returns its text: that of the hex, then the number of the stop if it names one, as in
     /// `H12.0`.
     pub fn text(self) -> PlaceText
         ensures { result.items ≡ text_of_place self }
@@ -65,7 +65,7 @@ impl Place {
         text
     }
 
-    /// The place that a text names, in either case; `None` where it names none.
+    /// Returns the place that a text names, in either case; `None` if it names none.
     pub fn from_text(text: &[u8]) -> Option<Place>
         ensures { result ≡ place_of_text (map to_ascii_uppercase text.now) }
     {
@@ -81,7 +81,7 @@ impl Place {
 }
 
 impl TileNo {
-    /// The tile that a text names by its number; `None` where it names none.
+    /// Returns the tile that a text names by its number; `None` if it names none.
     pub fn from_text(text: &[u8]) -> Option<TileNo>
         ensures { result ≡ tile_of_text (map to_ascii_uppercase text.now) }
     {
@@ -91,7 +91,7 @@ impl TileNo {
 }
 
 impl Rotation {
-    /// The rotation that a text names, from `0` to `5`; `None` where it names none.
+    /// Returns the rotation that a text names, from `0` to `5`; `None` if it names none.
     pub fn from_text(text: &[u8]) -> Option<Rotation>
         ensures { result ≡ rotation_of_text (map to_ascii_uppercase text.now) }
     {
@@ -100,7 +100,7 @@ impl Rotation {
     }
 }
 
-/// The digit of a stop's number.
+/// Returns the digit of a stop's number.
 fn digit_of(number: StopNumber) -> u8
     ensures { result ≡ 48 + stop_index_of number }
 {
@@ -110,7 +110,7 @@ fn digit_of(number: StopNumber) -> u8
     }
 }
 
-/// The stop that a text names behind its hex: `.0` or `.1`.
+/// Returns the stop that a text names after its hex: `.0` or `.1`.
 fn stop_from_text(text: &[u8]) -> Option<StopNumber>
     ensures { result ≡ stop_of_text (map to_ascii_uppercase text.now) }
 {
@@ -121,7 +121,7 @@ fn stop_from_text(text: &[u8]) -> Option<StopNumber>
     }
 }
 
-/// The number of one or two digits, without leading zeros; `None` for any other text.
+/// Returns the number of one or two digits, without leading zeros; `None` for any other text.
 fn short_number(text: &[u8]) -> Option<u8>
     ensures number { result ≡ short_number (map to_ascii_uppercase text.now) }
     ensures bound { IfSome result (λ number. number < 100) }

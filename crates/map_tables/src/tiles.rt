@@ -19,7 +19,7 @@ pub enum Colour {
     Brown,
 }
 
-/// What a tile shows, and what a hex must be for the tile to be laid on it.
+/// What a tile shows. It is laid only on hexes of its kind.
 #[derive(Clone, Copy, Debug, PartialEq, Eq)]
 pub enum TileKind {
     /// Track alone.
@@ -39,7 +39,7 @@ pub enum TileKind {
 }
 
 impl TileKind {
-    /// How many stops it has, from 0 to 2.
+    /// Returns how many stops it has, from 0 to 2.
     pub fn stops(self) -> usize
         ensures { result ≡ stops_of_kind self }
     {
@@ -162,7 +162,7 @@ impl TileNo {
         TileNo::T70,
     ];
 
-    /// The place of the tile in that order, from 0 up to 45.
+    /// Returns the place of the tile in that order, from 0 to 45.
     pub fn index(self) -> usize
         ensures value { result ≡ tile_index_of self }
         ensures bound { result < 46 }
@@ -170,14 +170,14 @@ impl TileNo {
         self as usize
     }
 
-    /// The number that is printed on the tile.
+    /// Returns the number that is printed on the tile.
     pub fn number(self) -> u8
         ensures { result ≡ number_of_tile self }
     {
         NUMBERS[self.index()]
     }
 
-    /// The tile of this number; `None` where there is none.
+    /// Returns the tile of this number; `None` if there is none.
     pub fn from_number(number: u8) -> Option<TileNo>
         ensures { result ≡ tile_numbered number }
     {
@@ -191,7 +191,7 @@ impl TileNo {
 /// A tile's entry in the manifest.
 #[derive(Clone, Copy, Debug, PartialEq, Eq)]
 pub struct TileEntry {
-    /// How many there are of it.
+    /// How many of it there are.
     pub count: u8,
     pub colour: Colour,
     pub kind: TileKind,
@@ -201,7 +201,7 @@ pub struct TileEntry {
     pub slots: u8,
 }
 
-/// The entry of a tile in the manifest.
+/// Returns the entry of a tile in the manifest.
 #[tactic(auto, unfolding(crate::specs::Tile::printed))]
 pub fn tile(tile: TileNo) -> TileEntry
     ensures { result ≡ entry_of tile }
@@ -256,7 +256,7 @@ pub fn tile(tile: TileNo) -> TileEntry
     }
 }
 
-/// The track of a tile that is not turned, in order.
+/// Returns the track of a tile that is not turned, in order.
 #[tactic(auto, unfolding(crate::specs::Tile::printed))]
 pub fn tile_track(tile: TileNo) -> &'static [Segment]
     ensures track { result.now ≡ tile_track_of tile }
@@ -312,7 +312,7 @@ pub fn tile_track(tile: TileNo) -> &'static [Segment]
     }
 }
 
-/// An entry of the manifest.
+/// Returns an entry of the manifest.
 fn entry(count: u8, colour: Colour, kind: TileKind, value: Amount, slots: u8) -> TileEntry
     ensures { result ≡ entry count colour kind value slots }
 {

@@ -1,5 +1,5 @@
--- What is repeated until it is over: its first step by itself, the end where it is over, that there is
--- at most one end, and one where it is over after some number of steps.
+-- What is repeated until it is over: its first step by itself, and the end where it is over. There
+-- is at most one end, and there is one if it is over after some number of steps.
 use Rattle.std.proofs.Common.{◌≡◌, ℕ, zero, suc, ◌+◌, ◌<◌, ◌≤◌, Bool, true, false, refl, sym, ap, ◌∙◌, inl, inr, arith}
 use Rattle.std.proofs.lemmas.Bool.{cases_order}
 use Rattle.tables.specs.Steps.{iterate, LeadsTo, Ends}
@@ -33,7 +33,7 @@ ends_once step over a y z first second =
 pub leads_here : {A : Type 0} (step : A → A) (over : A → Bool) (a : A) → LeadsTo step over a a
 leads_here step over a = record { steps = 0; reached = refl; not_before = λ k less. absurd (omega arith) }
 
--- it is not over before the last of one step more
+-- it is not over before the last of one more step
 not_before_next : {A : Type 0} (step : A → A) (over : A → Bool) (a z : A) (leads : LeadsTo step over a z) (k : ℕ)
     → over z ≡ false → k < suc leads.steps → over (iterate step k a) ≡ false
 not_before_next step over a z leads k going less =

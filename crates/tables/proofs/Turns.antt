@@ -1,5 +1,5 @@
--- Turns to the left: each lap of the table takes a written turn of each seat, so that after 512 laps none is left, and
--- in the next lap all pass.
+-- Turns to the left. Each lap of the table takes a written turn of each seat. So after 512 laps
+-- none is left, and in the next lap all pass.
 use Rattle.std.proofs.Common.{◌≡◌, ℕ, zero, suc, ◌+◌, ◌-◌, ◌*◌, ◌<◌, ◌≤◌, Bool, true, false, nat_le, nat_lt, min}
 use Rattle.std.proofs.Common.{if◌then◌else◌, List, [], length, drop, set, sum_by, unwrap_or, refl, sym, subst, ap, ◌∙◌}
 use Rattle.std.proofs.Common.{inl, inr, arith}

@@ -1,5 +1,5 @@
--- The stock market. Each square has a price; some lie in a zone, y yellow, o orange or b brown; p marks
--- the par values, w what has no mark, and x is no square.
+-- The stock market. Each square has a price, and some lie in a zone: y is yellow, o orange, b
+-- brown. p marks the par values, w a square without a mark, and x is no square.
 use Rattle.std.specs.Prelude.{ℕ, zero, suc, ◌+◌, ◌==◌, Bool, true, false, if◌then◌else◌, List, [], ◌∷◌, ◌++◌, map}
 use Rattle.std.specs.Prelude.{Option, Some, None, slice_get, unwrap_or, is_some, find}
 use Rattle.tables.specs.declared.chart.Entry.{Entry}
@@ -7,8 +7,8 @@ use Rattle.tables.specs.declared.squares.Square.{Square}
 use Rattle.tables.specs.declared.squares.Zone.{Zone}
 use Rattle.tables.specs.declared.squares.Zone.TheVariants.{White, Yellow, Orange, Brown}
 
--- what is printed at a place of the chart: a price in a zone, or no square; and whether it is marked as a
--- par value
+-- what is printed at a place of the chart: a price in a zone, or no square; and whether it is
+-- marked as a par value
 pub record Printed : Type 0 where
   pub entry : Option Entry
   pub par : Bool
@@ -82,7 +82,7 @@ square_at row column =
 abbrev pub is_on_chart : Square → Bool
 is_on_chart square = is_some (entry_at square.row square.column)
 
--- the price of an entry; 0 where there is none
+-- the price of an entry; 0 if there is none
 abbrev pub price_in : Option Entry → ℕ
 price_in None = 0
 price_in (Some entry) = entry.price

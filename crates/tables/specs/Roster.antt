@@ -1,6 +1,6 @@
--- The roster: the companies and the private companies in order, their codes and tokens, each private's
--- face value and revenue, the money that the players and the bank begin with, and the limit of
--- certificates.
+-- The roster: the companies and the private companies in order, their codes and tokens, and each
+-- private's face value and revenue. Also the money that the players and the bank begin with, and
+-- the limit of certificates.
 use Rattle.std.specs.Prelude.{ℕ, ◌-◌, ◌*◌, ◌==◌, Bool, if◌then◌else◌, List, [], ◌∷◌, codes}
 use Rattle.tables.specs.declared.roster.Company.{Company}
 use Rattle.tables.specs.declared.roster.Company.TheVariants as company
@@ -101,7 +101,7 @@ certificate_limit_of players =
     if players == 3 then 20 else if players == 4 then 16 else if players == 5 then 13 else if players ==
     6 then 11 else 0
 
--- how many tokens a company has, its home token among them
+-- how many tokens a company has, including its home token
 abbrev pub token_supply_of : Company → ℕ
 token_supply_of company.Pennsylvania = 4
 token_supply_of company.NewYorkCentral = 4
@@ -112,7 +112,7 @@ token_supply_of company.Erie = 3
 token_supply_of company.NewHaven = 2
 token_supply_of company.BostonMaine = 2
 
--- the price of a company's next token when this many lie: the home token is free, the second costs 40 and each later
--- one 100
+-- the price of a company's next token when this many lie: the home token is free, the second costs
+-- 40 and each later one 100
 abbrev pub token_price_of : ℕ → ℕ
 token_price_of laid = if laid == 0 then 0 else if laid == 1 then 40 else 100

@@ -1,4 +1,5 @@
--- Rounds: their limits, and their order. PR1, PR2, .. come first; then SR1, OR1.1, OR1.2, OR1.3, SR2, ..
+-- Rounds: their limits, and their order. PR1, PR2, .. come first; then SR1, OR1.1, OR1.2, OR1.3,
+-- SR2, ..
 use Rattle.std.specs.Prelude.{◌≡◌, ℕ, ◌+◌, ◌*◌, ◌≤◌, ◌<◌, ◌==◌, Bool, true, false, ◌&&◌, nat_lt}
 use Rattle.tables.specs.declared.round.Round.{Round}
 use Rattle.tables.specs.declared.round.Round.TheVariants.{Opening, Stock, Operating}

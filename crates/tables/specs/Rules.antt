@@ -23,7 +23,7 @@ BreaksFirst code [] = ⊥
 BreaksFirst code (rule ∷ rules) = ((rule.broken ≡ true) × (rule.code ≡ code))
     ⊎ ((rule.broken ≡ false) × BreaksFirst code rules)
 
--- where no rule of a table is broken, each is kept
+-- if no rule of a table is broken, each is kept
 abbrev pub KeptWhereNoneIsBroken : Type 0 → Type 0
 KeptWhereNoneIsBroken Code = (rules : List (Rule Code)) → first_broken rules ≡ None → AreKept rules
 

@@ -11,7 +11,8 @@ seat_at number = record { 0 = number }
 abbrev pub all_seats : ℕ → List Seat
 all_seats seats = map seat_at (range_with_len 0 seats)
 
--- the seat at the left of a seat: the next, and after the last the first; no seat has a number over 255
+-- the seat at the left of a seat: the next, and after the last the first; no seat has a number over
+-- 255
 abbrev pub left_of : ℕ → Seat → Seat
 left_of seats seat = if nat_lt (seat.0 + 1) (min seats 256) then seat_at (seat.0 + 1) else seat_at 0
 

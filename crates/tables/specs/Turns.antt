@@ -1,6 +1,6 @@
--- Turns to the left until all pass. In a turn a seat takes the next written turn of its sheet, or none where no written
--- turn is left; the lines are ruled, and where the seat does not act in them it passes. The turns are over once all
--- seats have passed in succession, or something else ends them.
+-- Turns to the left until all pass. In a turn a seat takes the next written turn of its sheet, or
+-- none if no written turn is left. The lines are ruled, and the seat passes if it does not act in
+-- them. The turns are over once all seats have passed in succession, or something else ends them.
 use Rattle.std.specs.Prelude.{◌≡◌, ℕ, ◌+◌, ◌-◌, ◌*◌, ◌≤◌, ◌<◌, Bool, false, ◌||◌, nat_le, min, if◌then◌else◌, List, []}
 use Rattle.std.specs.Prelude.{◌∷◌, length, sum_by, drop, slice_get, slice_set, unwrap_or}
 use Rattle.tables.specs.Seat.{left_of, seat_at}
@@ -12,16 +12,16 @@ pub record Turned (State : Type 0) : Type 0 where
   pub state : State
   pub acted : Bool
 
--- what turns do: the number of seats, what a seat's written turn does, what a pass does, and what ends the turns before
--- all have passed
+-- what turns do: the number of seats, what a seat's written turn does, what a pass does, and what
+-- ends the turns before all have passed
 pub record Play (State Line : Type 0) : Type 0 where
   pub seats : ℕ
   pub turn : Seat → List Line → State → Turned State
   pub pass : Seat → State → State
   pub over : State → Bool
 
--- turns in play: the state so far, whose turn it is, how many have passed in succession, and each seat's written turns
--- that are still to come
+-- turns in play: the state so far, whose turn it is, how many have passed in succession, and each
+-- seat's written turns that are still to come
 pub record InPlay (State Line : Type 0) : Type 0 where
   pub now : State
   pub seat : ℕ
@@ -68,12 +68,14 @@ IsIdleWithoutLines {State} play = (seat : Seat) (state : State) → (play.turn s
 abbrev pub written_turns_most : ℕ
 written_turns_most = 512
 
--- turns can begin here: the seat is at the table, if there is one, and no seat has more written turns than there can be
+-- turns can begin here: the seat is at the table, if there is one, and no seat has more written
+-- turns than there can be
 pub record CanBegin {State Line : Type 0} (play : Play State Line) (start : InPlay State Line) : Type 0 where
   pub at_table : 0 < play.seats → start.seat < min play.seats 256
   pub few_written_turns : (seat : ℕ) → length (written_turns_at start.written_turns seat) ≤ written_turns_most
 
--- the turns end, after at most one for each written turn and a pass for each seat, which is 513 a seat
+-- the turns end, after at most one for each written turn and a pass for each seat, which is 513 a
+-- seat
 pub record EndSoon {State Line : Type 0} (play : Play State Line) (start : InPlay State Line) : Type 0 where
   pub last : InPlay State Line
   pub ends : TurnsEnd play start last
@@ -83,7 +85,8 @@ pub record EndSoon {State Line : Type 0} (play : Play State Line) (start : InPla
 abbrev pub written_turns_left : {State Line : Type 0} → InPlay State Line → ℕ
 written_turns_left at = sum_by (λ written_turns. length written_turns) at.written_turns
 
--- a bound on the turns that are still to come: no rule of the game, but the measure by which they end
+-- a bound on the turns that are still to come: it is no rule of the game, but the measure that
+-- shows that they end
 abbrev pub turns_most : {State Line : Type 0} → Play State Line → InPlay State Line → ℕ
 turns_most play at = written_turns_left at * play.seats + (play.seats - at.passes)
 
@@ -92,13 +95,13 @@ abbrev pub TurnsEndOnce : Type 0 → Type 0 → Type 0
 TurnsEndOnce State Line =
     (play : Play State Line) (start a b : InPlay State Line) → TurnsEnd play start a → TurnsEnd play start b → a ≡ b
 
--- turns have an outcome soon, where no seat acts without lines and none has over 512 written turns
+-- turns have an outcome soon, if no seat acts without lines and none has over 512 written turns
 abbrev pub TurnsEndSoon : Type 0 → Type 0 → Type 0
 TurnsEndSoon State Line =
     (play : Play State Line) (start : InPlay State Line) → IsIdleWithoutLines play → CanBegin play start
     → EndSoon play start
 
--- each turn brings the end nearer, where no seat acts without lines
+-- each turn brings the end nearer, if no seat acts without lines
 abbrev pub TurnsComeNearer : Type 0 → Type 0 → Type 0
 TurnsComeNearer State Line =
     (play : Play State Line) (at : InPlay State Line) → IsIdleWithoutLines play → turns_over play at ≡ false

@@ -4,7 +4,8 @@ ghost use Rattle.tables.specs.Chart.{entry_at, is_on_chart, par_square_of, price
 use crate::seat::Amount;
 use crate::squares::{Square, Zone};
 
-/// The square at a row from 0 (the printed A) and a column from 1; `None` where the chart has none.
+/// Returns the square at a row from 0 (the printed A) and a column from 1; `None` if the chart has
+/// none.
 pub fn square(row: u8, column: u8) -> Option<Square>
     ensures { result ≡ square_at row column }
 {
@@ -12,21 +13,21 @@ pub fn square(row: u8, column: u8) -> Option<Square>
     entry_at(square).map(|_| square)
 }
 
-/// The price of a square, in dollars; 0 off the chart.
+/// Returns the price of a square, in dollars; 0 off the chart.
 pub fn price(square: Square) -> Amount
     ensures { result ≡ price_of square }
 {
     entry_at(square).map_or(0, |entry| entry.price)
 }
 
-/// The zone in which a square lies; `White` off the chart.
+/// Returns the zone in which a square lies; `White` off the chart.
 pub fn zone(square: Square) -> Zone
     ensures { result ≡ zone_of square }
 {
     entry_at(square).map_or(Zone::White, |entry| entry.zone)
 }
 
-/// The square of a par value; `None` where it is no par value.
+/// Returns the square of a par value; `None` if it is no par value.
 pub fn par_square(par: Amount) -> Option<Square>
     ensures square { result ≡ par_square_of par }
     ensures price { IfSome result (λ square. price_of square ≡ par) }
@@ -67,7 +68,8 @@ macro_rules! row {
     ($($mark:ident $price:literal)*) => { &[$(entry!($mark $price)),*] };
 }
 
-/// The chart, row by row: a row from 0 (the printed A) downwards. There is none past the eleventh.
+/// Returns a row of the chart, by its number from 0 (the printed A) downwards; it is empty past the
+/// eleventh.
 fn row_at(row: u8) -> &'static [Option<Entry>]
     ensures { result.now ≡ row_at row }
 {
@@ -90,7 +92,7 @@ fn row_at(row: u8) -> &'static [Option<Entry>]
     }
 }
 
-/// What the chart has on a square; `None` off the chart.
+/// Returns what the chart has on a square; `None` off the chart.
 fn entry_at(square: Square) -> Option<Entry>
     ensures { result ≡ entry_at square.row square.column }
 {

@@ -1,4 +1,4 @@
-//! Laws of the definitions, each the contract of a function that does nothing.
+//! The laws of the definitions. Each is the contract of a function that does nothing.
 ghost use Rattle.std.specs.Prelude.{◌≡◌, map};
 ghost use Rattle.std.specs.List.{range_with_len};
 ghost use Rattle.tables.specs.Roster.{companies, place_of_company, place_of_private, privates};
@@ -11,7 +11,8 @@ ghost use Rattle.tables.specs.Turns.{TurnsComeNearer, TurnsEndOnce, TurnsEndSoon
 use crate::rolling_stock::Kind;
 use crate::roster::{Company, Private};
 
-/// The lists of all companies, privates and kinds of trains are in order: each is at its place.
+/// States that the lists of all companies, privates and kinds of trains are in order: each is at
+/// its place.
 pub fn rosters_in_order()
     ensures companies { Company.ALL ≡ companies }
     ensures company_places { map place_of_company companies ≡ range_with_len 0 8 }
@@ -21,35 +22,36 @@ pub fn rosters_in_order()
     ensures kind_places { map place_of_kind kinds ≡ range_with_len 0 6 }
 {}
 
-/// Rounds are in order: the openings, then each stock round followed by the operating rounds of its
-/// set.
+/// States that rounds are in order: the openings, then each stock round followed by the operating
+/// rounds of its set.
 pub fn rounds_in_order()
     ensures { RoundsAreInOrder }
 {}
 
-/// A step that is repeated until it is over leads to at most one end, whatever is stepped.
+/// States that a step that is repeated until it is over leads to at most one end, whatever is
+/// stepped.
 pub fn one_end<T>()
     ensures { StepsEndOnce T }
 {}
 
-/// Turns to the left have at most one outcome, whatever a turn does.
+/// States that turns to the left have at most one outcome, whatever a turn does.
 pub fn one_end_of_turns<S, L>()
     ensures { TurnsEndOnce S L }
 {}
 
-/// Turns to the left have an outcome, after at most 513 turns for each seat, where no seat acts
-/// without lines and none has over 512 written turns.
+/// States that turns to the left have an outcome, if no seat acts without lines and none has over
+/// 512 written turns. There are at most 513 turns for each seat.
 pub fn turns_end_soon<S, L>()
     ensures { TurnsEndSoon S L }
 {}
 
-/// Each turn brings the end nearer, where no seat acts without lines.
+/// States that each turn brings the end nearer, if no seat acts without lines.
 pub fn each_turn_is_nearer_the_end<S, L>()
     ensures { TurnsComeNearer S L }
 {}
 
-/// Where no rule of a table is broken each rule is kept, and else the code is that of a rule which
-/// is broken while each before it is kept.
+/// States that each rule of a table is kept if none is broken. Otherwise the code is that of a
+/// broken rule, and each rule before it is kept.
 pub fn first_rule_broken<C>()
     ensures none { KeptWhereNoneIsBroken C }
     ensures some { FirstOfThoseBroken C }

@@ -1,9 +1,9 @@
 //! The tables of 1830 as it is played here: seats, companies, private companies, rounds, money,
 //! trains and the chart of the stock market.
 //!
-//! Each call answers its entry of a table and takes no memory. `specs/` also holds the few general
-//! words that several crates share: a step that is repeated until it is over, turns to the left
-//! until all pass, and the first rule of a table that is broken.
+//! Each call returns an entry of a table and allocates nothing. `specs/` also holds the few general
+//! definitions that several crates share: a step that is repeated until it is over, turns to the
+//! left until all pass, and the first rule of a table that is broken.
 //!
 //! Reading order: `roster` (companies and privates), `seat` (players, their money and the limit of
 //! certificates), `round`, `rolling_stock`, `squares` and `chart` (the stock market), `laws` (what

@@ -4,8 +4,8 @@ ghost use Rattle.tables.specs.Train.{trains_of};
 
 use crate::seat::Amount;
 
-/// A kind of train, also the phase that the first train of the kind begins. A game begins in the
-/// phase of the first kind.
+/// A kind of train. It is also the phase that the first train of the kind begins. A game begins in
+/// the phase of the first kind.
 #[derive(Clone, Copy, Debug, PartialEq, Eq, Default)]
 pub enum Kind {
     #[default]
@@ -18,12 +18,12 @@ pub enum Kind {
     Diesel,
 }
 
-/// The trains of a kind: what the bank asks for one, and how many there are.
+/// The trains of a kind: the price of one at the bank, and how many there are.
 #[derive(Clone, Copy, Debug, PartialEq, Eq)]
 pub struct Trains {
     /// In dollars.
     pub price: Amount,
-    /// `None` where the number has no limit.
+    /// `None` if the number has no limit.
     pub number: Option<u8>,
 }
 
@@ -38,7 +38,7 @@ impl Kind {
         Kind::Diesel,
     ];
 
-    /// The code that order sheets and reports use.
+    /// Returns the code that order sheets and reports use.
     pub fn code(self) -> &'static str
         ensures { result.now ≡ code_of_kind self }
     {
@@ -52,7 +52,7 @@ impl Kind {
         }
     }
 
-    /// Its place among the kinds, from 0: its place in `ALL`.
+    /// Returns its place among the kinds, from 0: its place in `ALL`.
     pub fn place(self) -> usize
         ensures place { result ≡ place_of_kind self }
         ensures within { result < 6 }
@@ -67,7 +67,7 @@ impl Kind {
         }
     }
 
-    /// The most stops that a train of the kind visits in a run; `None` for any number.
+    /// Returns the most stops that a train of the kind visits in a run; `None` means any number.
     pub fn stops(self) -> Option<usize>
         ensures { result ≡ stops_of self }
     {
@@ -82,7 +82,7 @@ impl Kind {
     }
 }
 
-/// The trains of a kind.
+/// Returns the price and the number of the trains of a kind.
 pub fn train(kind: Kind) -> Trains
     ensures { result ≡ trains_of kind }
 {
@@ -97,7 +97,7 @@ pub fn train(kind: Kind) -> Trains
     Trains { price, number }
 }
 
-/// The kind whose first train rusts all trains of this kind; `None` where they never rust.
+/// Returns the kind whose first train rusts all trains of this kind; `None` if they never rust.
 pub fn rusts(kind: Kind) -> Option<Kind>
     ensures { result ≡ rusting_of kind }
 {
@@ -109,7 +109,7 @@ pub fn rusts(kind: Kind) -> Option<Kind>
     }
 }
 
-/// The most trains that a company may hold in a phase.
+/// Returns the most trains that a company may hold in a phase.
 pub fn limit(phase: Kind) -> usize
     ensures { result ≡ limit_of phase }
 {
@@ -120,7 +120,7 @@ pub fn limit(phase: Kind) -> usize
     }
 }
 
-/// How many operating rounds a set has that begins in a phase.
+/// Returns how many operating rounds a set has that begins in a phase.
 pub fn rounds_in_set(phase: Kind) -> u8
     ensures { result ≡ rounds_in_set_of phase }
 {

@@ -39,7 +39,7 @@ impl Company {
         Company::BostonMaine,
     ];
 
-    /// The code that order sheets and reports use, in upper case.
+    /// Returns the code that order sheets and reports use, in upper case.
     pub fn code(self) -> &'static str
         ensures { result.now ≡ code_of_company self }
     {
@@ -55,7 +55,7 @@ impl Company {
         }
     }
 
-    /// The company's place in the roster, from 0: its place in `ALL`.
+    /// Returns the company's place in the roster, from 0: its place in `ALL`.
     pub fn place(self) -> usize
         ensures place { result ≡ place_of_company self }
         ensures within { result < 8 }
@@ -101,7 +101,7 @@ impl Private {
         Private::BaltimoreOhio,
     ];
 
-    /// The code that order sheets and reports use, in upper case.
+    /// Returns the code that order sheets and reports use, in upper case.
     pub fn code(self) -> &'static str
         ensures { result.now ≡ code_of_private self }
     {
@@ -115,7 +115,7 @@ impl Private {
         }
     }
 
-    /// The private's place in the roster, from 0: its place in `ALL`.
+    /// Returns the private's place in the roster, from 0: its place in `ALL`.
     pub fn place(self) -> usize
         ensures place { result ≡ place_of_private self }
         ensures within { result < 6 }
@@ -131,7 +131,7 @@ impl Private {
     }
 }
 
-/// The face value of a private, which is its price in the opening unless it has fallen.
+/// Returns the face value of a private, which is its price in the opening unless it has fallen.
 pub fn face(private: Private) -> Amount
     ensures { result ≡ face_of private }
 {
@@ -145,7 +145,7 @@ pub fn face(private: Private) -> Amount
     }
 }
 
-/// What the bank pays the owner of a private, once in a round that pays.
+/// Returns what the bank pays the owner of a private, in dollars, once in a round that pays.
 pub fn revenue(private: Private) -> Amount
     ensures { result ≡ revenue_of private }
 {
@@ -159,7 +159,7 @@ pub fn revenue(private: Private) -> Amount
     }
 }
 
-/// How many tokens a company has, its home token among them.
+/// Returns how many tokens a company has, including its home token.
 pub fn tokens(company: Company) -> usize
     ensures { result ≡ token_supply_of company }
 {
@@ -170,8 +170,8 @@ pub fn tokens(company: Company) -> usize
     }
 }
 
-/// What a company pays for its next token when this many of its tokens lie: nothing for the home
-/// token, 40 for the second and 100 for each later one.
+/// Returns what a company pays for its next token, in dollars, when this many of its tokens lie.
+/// The home token is free, the second costs 40 and each later one 100.
 pub fn token_price(laid: usize) -> Amount
     ensures { result ≡ token_price_of laid }
 {

@@ -19,8 +19,8 @@ pub enum Round {
 }
 
 impl Round {
-    /// The place of the round among all rounds whose numbers are at most 99,999: the openings come
-    /// first, then SR1, OR1.1, OR1.2, OR1.3, SR2 and so on.
+    /// Returns the place of the round among all rounds whose numbers are at most 99,999. The
+    /// openings come first, then SR1, OR1.1, OR1.2, OR1.3, SR2 and so on.
     pub fn rank(self) -> u64
         ensures { result ≡ rank_of self }
     {
@@ -31,7 +31,7 @@ impl Round {
         }
     }
 
-    /// Whether the round comes before another.
+    /// Returns whether the round comes before another.
     pub fn is_before(self, other: Round) -> bool
         ensures { result ≡ is_before self other }
     {
@@ -39,7 +39,7 @@ impl Round {
     }
 }
 
-/// The place of a stock round among all rounds.
+/// Returns the place of a stock round among all rounds.
 fn stock_rank(set: u32) -> u64
     ensures place { result ≡ stock_rank set }
     ensures within { result < 2 ^ 40 }

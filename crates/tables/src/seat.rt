@@ -2,11 +2,11 @@ ghost use Rattle.std.specs.Prelude.{◌≡◌, ◌<◌};
 ghost use Rattle.tables.specs.Roster.{bank_start_of, certificate_limit_of, start_money_of};
 ghost use Rattle.tables.specs.Seat.{left_of, seat_at};
 
-/// Dollars that are added up: wide enough for every list of events that memory can hold.
-/// The bank's may be under 0.
+/// Dollars that are added up. The type is wide enough for every list of events that memory can
+/// hold. The bank's cash may be under 0.
 pub type Money = i128;
 
-/// A sum of dollars as a table, an order or an event names it, never under 0.
+/// A sum of dollars in a table, an order or an event; never under 0.
 pub type Amount = u32;
 
 /// A seat at the table, numbered from 0 in the order of the players line.
@@ -14,7 +14,7 @@ pub type Amount = u32;
 pub struct Seat(pub u8);
 
 impl Seat {
-    /// The seat with this number, which is under 256.
+    /// Returns the seat with this number, which is under 256.
     pub fn at(number: usize) -> Seat
         requires { number < 256 }
         ensures { result ≡ seat_at number }
@@ -22,7 +22,7 @@ impl Seat {
         Seat(number as u8)
     }
 
-    /// Its number, from 0.
+    /// Returns its number, from 0.
     pub fn number(self) -> usize
         ensures number { result ≡ self.0 }
         ensures within { result < 256 }
@@ -30,7 +30,8 @@ impl Seat {
         usize::from(self.0)
     }
 
-    /// The seat at its left at a table of this many: the next, and after the last the first.
+    /// Returns the seat at its left at a table of this many seats: the next, and after the last the
+    /// first.
     pub fn left(self, seats: usize) -> Seat
         ensures { result ≡ left_of seats self }
     {
@@ -47,8 +48,8 @@ pub const PLAYERS_LEAST: usize = 3;
 /// The most players of a game.
 pub const PLAYERS_MOST: usize = 6;
 
-/// What each player begins with, paid by the bank: 800, 600, 480 or 400 for 3, 4, 5 or 6 players,
-/// and 0 for any other number, with which nobody plays.
+/// Returns the money that each player begins with, in dollars, paid by the bank. It is 800, 600,
+/// 480 or 400 for 3, 4, 5 or 6 players. It is 0 for any other number, with which nobody plays.
 pub fn start_money(players: usize) -> Amount
     ensures { result ≡ start_money_of players }
 {
@@ -61,8 +62,8 @@ pub fn start_money(players: usize) -> Amount
     }
 }
 
-/// What the bank has of its 12,000 once the players have their start money: 9,600 for 3 to 6
-/// players, and all of it for any other number.
+/// Returns what the bank has left of its 12,000 dollars once the players have their start money. It
+/// is 9,600 for 3 to 6 players, and all of it for any other number.
 pub fn bank_start(players: usize) -> Amount
     ensures { result ≡ bank_start_of players }
 {
@@ -72,8 +73,8 @@ pub fn bank_start(players: usize) -> Amount
     }
 }
 
-/// How many certificates a player may hold that count: 20, 16, 13 or 11 for 3, 4, 5 or 6 players,
-/// and 0 for any other number, with which nobody plays.
+/// Returns how many certificates that count a player may hold: 20, 16, 13 or 11 for 3, 4, 5 or 6
+/// players. It is 0 for any other number, with which nobody plays.
 pub fn certificate_limit(players: usize) -> usize
     ensures { result ≡ certificate_limit_of players }
 {

@@ -5,15 +5,15 @@ pub struct Square {
     pub column: u8,
 }
 
-/// A zone of the stock market, by which some limits do not hold for a company.
+/// A zone of the stock market. In a zone some limits do not hold for a company.
 #[derive(Clone, Copy, Debug, PartialEq, Eq)]
 pub enum Zone {
     /// No zone.
     White,
-    /// Certificates are not counted against the limit.
+    /// Certificates do not count against the limit.
     Yellow,
-    /// Nor does the limit of six shares hold.
+    /// Also, the limit of six shares does not hold.
     Orange,
-    /// Several certificates may be bought in a turn, too.
+    /// Also, a player may buy several certificates in a turn.
     Brown,
 }
