@@ -74,7 +74,7 @@ reaches =
       reached = inr (into_city ∷ out_of_home ∷ [], walk, inl (inr refl));
     }
 
--- with 39 the token there is too dear
+-- with 39 the token there costs too much
 too_dear : Err CashTooSmall ≡ cost_or (token_cost_of pennsylvania_at_home.tokens (beginner Pennsylvania (pos 39)) H10)
     (first_broken (token_rules pennsylvania_at_home (beginner Pennsylvania (pos 39)) city_beside true))
 unfolding is_dh_token is_token_used has_none_left has_token_in is_no_free_slot kept_at laid_by token_cost_of tile_on

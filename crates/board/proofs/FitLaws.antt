@@ -59,7 +59,8 @@ fits_without_homes laid fit =
           omega arith);
     })
 
--- one more token that names a stop, for which each stop has room beside the slots that are kept then
+-- one more token that names a stop, for which each stop has room beside the slots that are kept
+-- then
 one_more : (laid : MapState) (token : Place × Company) → Fits laid → ((stop : Stop) × (stop_of token.0 ≡ Some stop))
     → ((stop : Stop) → taken_at (laid.tokens ++ token ∷ []) stop
     + kept_at (laid.tokens ++ token ∷ []) (joined_stop_of stop) ≤ slots_at laid.lays stop)

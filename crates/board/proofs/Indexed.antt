@@ -98,7 +98,7 @@ order_apart a b apart same =
     let alike : same_stop a b ≡ true = stop_is_same a b (same_order a b (sym same)) in
     let wrong : true ≡ false = sym alike ∙ apart in cc
 
--- the counts with one token more, at a stop
+-- the counts with one more token, at a stop
 count_next : (counts : List ℕ) (part : Stop) (stop : Stop) → stop_order (joined_stop_of part) < length counts
     → (same : Bool) → same_stop (joined_stop_of part) stop ≡ same
     → get_or (counting (Some part) counts) (stop_order stop) 0 ≡ get_or counts (stop_order stop) 0 + cond same 1 0

@@ -1,4 +1,4 @@
--- The answer to a lay that breaks a rule.
+-- The outcome of a lay that breaks a rule.
 use Rattle.std.proofs.Common.{◌≡◌, ◌∙◌, ap, sym, true, Some, None, Err}
 use Rattle.board_state.specs.MapState.{MapState}
 use Rattle.board.specs.LayRules.{IsLayAnswer, cost_or, map_rules, lay_cost_of, reach_rules}

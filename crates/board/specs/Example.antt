@@ -1,7 +1,8 @@
--- Two small examples. The Erie has its token at home, on the hex E11 with its two cities. In phase 2 it may
--- not lay the green tile 59 there. In phase 3 it may, with the stops swapped: that costs nothing, and its own
--- token is reached. The Pennsylvania has its token at home in H12, and a yellow city lies on H10 beside it.
--- A token there costs 40: with 39 it can't be placed, with 40 it can.
+-- Two small examples. The Erie has its token at home, on the hex E11 with its two cities. In phase
+-- 2 it may not lay the green tile 59 there. In phase 3 it may, with the stops swapped: that costs
+-- nothing, and its own token is reached. The Pennsylvania has its token at home in H12, and a
+-- yellow city lies on H10 beside it. A token there costs 40: with 39 it can't be placed, with 40 it
+-- can.
 use Rattle.std.specs.Prelude.{Bool, true, false, [], ◌∷◌, Some, Ok, Err, ℤ, pos, replicate}
 use Rattle.board_state.specs.MapState.{MapState, map_state_of}
 use Rattle.board.specs.LayRules.{IsLayAnswer}
@@ -48,7 +49,7 @@ pennsylvania_at_home =
     map_state_of (record { hex = H10; tile = T57; rot = One; swap = false } ∷ [])
     ((record { hex = H12; stop = Some First }, Pennsylvania) ∷ []) Two
 
--- that city
+-- the city beside the Pennsylvania's home
 abbrev pub city_beside : Place
 city_beside = record { hex = H10; stop = Some First }
 

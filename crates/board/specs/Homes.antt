@@ -1,5 +1,5 @@
--- What lies on the map fits, with the home tokens that are still to come. A lay and a token by the rules, and a
--- home token, keep it so; and what fits with them is no fault of a board.
+-- What lies on the map fits, with the home tokens that are still to come. A lay and a token by the
+-- rules, and a home token, keep it so. What fits with them is no fault of a board.
 use Rattle.std.specs.Prelude.{◌≡◌, false, None}
 use Rattle.board_state.specs.Fit.{board_fault_of}
 use Rattle.board_state.specs.MapState.{MapState, with_lay, with_token}

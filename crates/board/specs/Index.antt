@@ -1,6 +1,7 @@
--- What a board keeps beside the lists of what was laid, so that a tile or a token is found at once: the tile on each
--- hex, by the number of the hex, and the links that it gives the hex; how many tokens name each stop, by the order of
--- the stops; and whether a company's does, by stop and company.
+-- What a board keeps beside the lists of what was laid, so that it finds a tile or a token at once.
+-- It keeps the tile on each hex, by the number of the hex, and the links that it gives the hex. It
+-- keeps how many tokens name each stop, by the order of the stops, and whether a company's does, by
+-- stop and company.
 use Rattle.std.specs.Prelude.{◌≡◌, ℕ, ◌+◌, ◌*◌, Bool, true, false, List, [], Option, Some, None, get_or, set}
 use Rattle.std.specs.List.{count_by}
 use Rattle.map_tables.specs.Hex.{index_of}
@@ -20,7 +21,7 @@ use Rattle.tables.specs.declared.roster.Company.{Company}
 abbrev pub holder_order : Stop → Company → ℕ
 holder_order stop company = 8 * stop_order stop + place_of_company company
 
--- these have the map state
+-- an index has a map state
 pub record IsIndex (lays : List Lay) (laid : List (Place × Company)) (tiles : List (Option Lay))
     (links : List (List Link)) (counts : List ℕ) (holders : List Bool) : Type 0 where
   pub tile : (hex : Hex) → get_or tiles (index_of hex) None ≡ tile_on lays hex
@@ -35,7 +36,7 @@ counting None counts = counts
 counting (Some part) counts =
     let order = stop_order (joined_stop_of part) in set counts order (get_or counts order 0 + 1)
 
--- and whose tokens lie
+-- which companies' tokens lie once a token is placed that names a stop, or names none
 abbrev pub holding : Option Stop → Company → List Bool → List Bool
 holding None company holders = holders
 holding (Some part) company holders = set holders (holder_order (joined_stop_of part) company) true

@@ -1,9 +1,16 @@
--- The rules of a lay. It needs the first step of the turn and the turn's one lay, which CS's lay does not use; a
--- hex that is not grey or red; a tile in the stock; a colour that has come, green with phase 3 and brown with
--- phase 5; the hex's kind and its next colour, the stops swapped only where there are two; all old track of the
--- hex; no bad side; a hex of no private that a player owns; some piece of the tile reached in the position after
--- the lay, which CS's lay and DH's do not need; and the cash for the terrain, which is paid with the first tile
--- of a hex.
+-- The rules of a lay. It needs, in this order:
+--
+-- - the first step of the turn and the turn's one lay, which CS's lay does not use;
+-- - a hex that is not grey or red;
+-- - a tile in the stock;
+-- - a colour that has come, green with phase 3 and brown with phase 5;
+-- - the hex's kind and its next colour, the stops swapped only if there are two;
+-- - all old track of the hex;
+-- - no bad side;
+-- - a hex of no private that a player owns;
+-- - some piece of the tile reached in the position after the lay, which CS's lay and DH's do not
+--   need;
+-- - the cash for the terrain, which is paid with the first tile of a hex.
 use Rattle.std.specs.Prelude.{◌≡◌, ℕ, ◌+◌, ◌==◌, ◌&&◌, ◌||◌, ◌⊎◌, ◌↔◌, Bool, false, not, nat_lt, nat_le, IsTrue, List}
 use Rattle.std.specs.Prelude.{[], ◌∷◌, ◌++◌, Option, Some, None, Result, Ok, Err, ℤ, pos, slice_index_or, count_by}
 use Rattle.std.specs.Int.Signed.{lt_z}
@@ -43,7 +50,7 @@ use Rattle.tables.specs.declared.roster.Company.{Company}
 use Rattle.tables.specs.declared.rolling_stock.Kind.{Kind}
 use Rattle.tables.specs.declared.rolling_stock.Kind.TheVariants.{Three, Five}
 
--- whether the step of the lay is over, or its lay is used, which CS's lay does not ask
+-- whether the step of the lay is over, or its lay is used, which does not matter for CS's lay
 unfoldable pub is_lay_used : List Lay → Asker → Hex → Bool
 is_lay_used lays asker hex =
     not (place_of_step asker.pointer == place_of_step step.Lay) || (asker.lay_used && not (is_cs_lay lays asker hex))
@@ -78,7 +85,7 @@ place_of_colour Yellow = 1
 place_of_colour Green = 2
 place_of_colour Brown = 3
 
--- whether a tile has not the colour that comes next on its hex
+-- whether a tile does not have the colour that comes next on its hex
 unfoldable pub is_wrong_colour : List Lay → Lay → Bool
 is_wrong_colour lays lay =
     not (place_of_colour (entry_of lay.tile).colour == place_of_colour (colour_on lays lay.hex) + 1)
@@ -114,7 +121,7 @@ ShareLink links others = (link : Link) × IsAmong link links × IsAmong link oth
 abbrev pub HaveStopIn : Hex → List Stop → Type 0
 HaveStopIn hex stops = (number : StopNumber) × IsAmong (stop_at hex number) stops
 
--- the rules that ask nothing of what is reached
+-- the rules that do not depend on what is reached
 abbrev pub map_rules : MapState → Asker → Lay → List (Rule LayRule)
 map_rules laid asker lay =
     record { code = rule.StepUsed; broken = is_lay_used laid.lays asker lay.hex }
@@ -143,20 +150,22 @@ abbrev pub cost_or : {Fault : Type 0} → ℕ → Option Fault → Result ℤ Fa
 cost_or cost None = Ok (pos cost)
 cost_or cost (Some fault) = Err fault
 
--- the cost of a lay, or the first rule that it breaks, where it is known whether some piece of the tile is reached
+-- the cost of a lay, or the first rule that it breaks, given whether some piece of the tile is
+-- reached
 abbrev pub lay_answer_of : MapState → Asker → Lay → Bool → Result ℤ LayRule
 lay_answer_of laid asker lay reached =
     cost_or (lay_cost_of laid.lays lay.hex) (first_broken (lay_rules laid asker lay reached))
 
--- the answer to a lay: its cost, or the first rule that it breaks. Where the rules before it are kept, what
--- is reached is looked at, in the position after the lay.
+-- the outcome of a lay: its cost, or the first rule that it breaks. If the rules before it are
+-- kept, what is reached is looked at, in the position after the lay.
 pub record IsLayAnswer (laid : MapState) (asker : Asker) (lay : Lay) (answer : Result ℤ LayRule) : Type 0 where
   pub reached : Bool
   pub exact : first_broken (map_rules laid asker lay) ≡ None
       → IsTrue reached ↔ IsConnected (position_of (with_lay laid lay)) asker.company lay
   pub given : answer ≡ lay_answer_of laid asker lay reached
 
--- the outcome of a call for a lay: that answer; or memory is refused, where the rules before what is reached are kept
+-- the outcome of a call for a lay: that of the lay; or allocation fails, if the rules before what
+-- is reached are kept
 abbrev pub IsLayOutcome : MapState → Asker → Lay → Result ℤ LayFault → Type 0
 IsLayOutcome laid asker lay (Ok cost) = IsLayAnswer laid asker lay (Ok cost)
 IsLayOutcome laid asker lay (Err (fault.Rule rule)) = IsLayAnswer laid asker lay (Err rule)

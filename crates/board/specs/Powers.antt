@@ -1,6 +1,7 @@
--- The powers of two privates, in the hands of a company that owns them. With CS it lays on B20, while no tile
--- lies there, beside the lay of its turn and without connection. With DH it may lay 57 on F16 without connection,
--- which is the lay of its turn, and its next token there in that turn costs nothing and needs no connection.
+-- The powers of two privates, used by a company that owns them. With CS it lays on B20, while no
+-- tile lies there, beside the lay of its turn and without connection. With DH it may lay 57 on F16
+-- without connection, which is the lay of its turn. Its next token there in that turn costs nothing
+-- and needs no connection.
 use Rattle.std.specs.Prelude.{◌==◌, Bool, true, false, ◌&&◌, List, slice_index_or}
 use Rattle.board.specs.declared.asker.Asker.{Asker}
 use Rattle.map_tables.specs.Hex.{same_hex}
@@ -14,7 +15,7 @@ use Rattle.tables.specs.Roster.{place_of_private}
 use Rattle.tables.specs.declared.roster.Private.{Private}
 use Rattle.tables.specs.declared.roster.Private.TheVariants.{ChamplainStLawrence, DelawareHudson}
 
--- the company that asks owns a private
+-- the company owns a private
 abbrev pub is_owner : Asker → Private → Bool
 is_owner asker private = slice_index_or asker.own_privates (place_of_private private) false
 

@@ -1,8 +1,12 @@
--- The rules of a token. It needs the second step of the turn or the first; a token that the company has not
--- placed; a free slot of a city, where a slot that is kept for a company counts as taken; a hex without a
--- token of the company; a stop that is reached, which DH's token does not need; and its price, which goes by how
--- many tokens of the company lie, and is nothing for DH's. One slot of each company's home is kept for it until its
--- token lies there.
+-- The rules of a token. One slot of each company's home is kept for it until its token lies there.
+-- A token needs, in this order:
+--
+-- - the second step of the turn or the first;
+-- - a token that the company has not placed;
+-- - a free slot of a city, where a slot that is kept for a company counts as taken;
+-- - a hex without a token of the company;
+-- - a stop that is reached, which DH's token does not need;
+-- - its price, by how many tokens of the company lie, and nothing for DH's.
 use Rattle.std.specs.Prelude.{◌≡◌, ℕ, ◌+◌, ◌&&◌, ◌||◌, if◌then◌else◌, ◌↔◌, Bool, true, not, nat_lt, nat_le, IsTrue}
 use Rattle.std.specs.Prelude.{List, [], ◌∷◌, ◌++◌, Option, Some, None, Result, Ok, Err, ℤ, pos, count_by}
 use Rattle.std.specs.Int.Signed.{lt_z}
@@ -56,6 +60,7 @@ is_full_at laid None = true
 is_full_at laid (Some stop) =
     nat_le (slots_at laid.lays stop) (taken_at laid.tokens stop + kept_at laid.tokens (joined_stop_of stop))
 
+-- a place is no stop of a city, or none of its slots is free
 unfoldable pub is_no_free_slot : MapState → Place → Bool
 is_no_free_slot laid place = is_full_at laid (stop_of place)
 
@@ -63,7 +68,7 @@ is_no_free_slot laid place = is_full_at laid (stop_of place)
 unfoldable pub has_token_in : List (Place × Company) → Hex → Company → Bool
 has_token_in tokens hex company = list_any (λ token. same_hex token.0.hex hex && same_company token.1 company) tokens
 
--- what the company's next token costs on a hex: its price, but nothing where it is DH's
+-- what the company's next token costs on a hex: its price, or nothing if it is DH's
 unfoldable pub token_cost_of : List (Place × Company) → Asker → Hex → ℕ
 token_cost_of tokens asker hex = if is_dh_token asker hex then 0 else token_price_of (laid_by tokens asker.company)
 
@@ -73,7 +78,7 @@ pub record IsReachedPlace (position : Position) (company : Company) (place : Pla
   pub is : stop_of place ≡ Some stop
   pub reached : ReachesStop position company (joined_stop_of stop)
 
--- the rules that ask nothing of what is reached
+-- the rules that do not depend on what is reached
 abbrev pub slot_rules : MapState → Asker → Place → List (Rule TokenRule)
 slot_rules laid asker place =
     record { code = rule.StepUsed; broken = is_token_used asker }
@@ -93,20 +98,21 @@ reach_rules laid asker place reached =
 abbrev pub token_rules : MapState → Asker → Place → Bool → List (Rule TokenRule)
 token_rules laid asker place reached = slot_rules laid asker place ++ reach_rules laid asker place reached
 
--- the cost of a token, or the first rule that it breaks, where it is known whether the stop is reached
+-- the cost of a token, or the first rule that it breaks, given whether the stop is reached
 abbrev pub token_answer_of : MapState → Asker → Place → Bool → Result ℤ TokenRule
 token_answer_of laid asker place reached =
     cost_or (token_cost_of laid.tokens asker place.hex) (first_broken (token_rules laid asker place reached))
 
--- the answer to a token: its cost, or the first rule that it breaks. Where the rules before it are kept, what
--- is reached is looked at.
+-- the outcome of a token: its cost, or the first rule that it breaks. If the rules before it are
+-- kept, what is reached is looked at.
 pub record IsTokenAnswer (laid : MapState) (asker : Asker) (place : Place) (answer : Result ℤ TokenRule) : Type 0 where
   pub reached : Bool
   pub exact : first_broken (slot_rules laid asker place) ≡ None
       → IsTrue reached ↔ IsReachedPlace (position_of laid) asker.company place
   pub given : answer ≡ token_answer_of laid asker place reached
 
--- the outcome of a call for a token: that answer; or memory is refused, where the rules before what is reached are kept
+-- the outcome of a call for a token: that of the token; or allocation fails, if the rules before
+-- what is reached are kept
 abbrev pub IsTokenOutcome : MapState → Asker → Place → Result ℤ TokenFault → Type 0
 IsTokenOutcome laid asker place (Ok cost) = IsTokenAnswer laid asker place (Ok cost)
 IsTokenOutcome laid asker place (Err (fault.Rule rule)) = IsTokenAnswer laid asker place (Err rule)

@@ -5,7 +5,7 @@ use board_state::{OnMap, same_hex};
 use map_tables::{Hex, Lay, Links, Stop, laid_links};
 use tables::{Company, Kind};
 
-/// A board with one tile more, which is not laid yet: to ask what a company would reach.
+/// A board with one more tile, which is not laid yet. It shows what a company would reach.
 #[derive(Drop)]
 pub(crate) struct After<'a> {
     pub(crate) board: &'a Board,

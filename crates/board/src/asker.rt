@@ -14,7 +14,7 @@ pub enum TurnStep {
 }
 
 impl TurnStep {
-    /// Its number, from 1.
+    /// Returns its number, from 1.
     pub fn number(self) -> u8
         ensures { result ≡ place_of_step self }
     {
@@ -28,11 +28,11 @@ impl TurnStep {
     }
 }
 
-/// The company that asks to lay a tile or to place a token, and how far its turn has come.
+/// The company that wants to lay a tile or to place a token, and how far its turn has come.
 #[derive(Clone, Copy, Debug, PartialEq, Eq)]
 pub struct Asker {
     pub company: Company,
-    /// What it has to spend, in dollars.
+    /// What it can spend, in dollars.
     pub cash: Money,
     /// The first step that its turn may still take.
     pub pointer: TurnStep,

@@ -13,9 +13,9 @@ use tables::{Company, Kind};
 /// How many tokens there are: 25, of all companies.
 const TOKENS: usize = 25;
 
-/// The tiles and tokens that lie on the map, in a phase. To a contract it is those that were laid,
-/// oldest first: what is replaced is remembered. Beside the lists it keeps an index, so that it
-/// takes no longer to find a tile or a token where more was laid.
+/// The tiles and tokens that lie on the map, in a phase. In a contract it is all that were laid,
+/// oldest first, replaced tiles included. Beside the lists it keeps an index, so that finding a
+/// tile or a token takes no longer if more was laid.
 #[derive(Drop)]
 pub struct Board {
     pub(crate) lays: Vec<Lay>,
@@ -40,9 +40,9 @@ impl Model for Board {
 }
 
 impl Board {
-    /// The board after these lays and tokens, oldest first, in a phase. It is refused by the first
-    /// of `Kind`, `BadSide` and `NoSlot` that holds of the two lists. Where none does they are
-    /// copied, and the error is `Memory`.
+    /// Returns the board after these lays and tokens, oldest first, in a phase. The error is the
+    /// first of `Kind`, `BadSide` and `NoSlot` that holds of the two lists. If none does they are
+    /// copied, and the error is `Memory` if that allocation fails.
     pub fn of(
         alloc: Global,
         lays: &[Lay],
@@ -61,7 +61,7 @@ impl Board {
         Ok(board)
     }
 
-    /// The board after these lays and tokens, whether or not they fit.
+    /// Returns the board after these lays and tokens, whether or not they fit.
     fn with(
         alloc: Global,
         lays: &[Lay],
@@ -80,7 +80,7 @@ impl Board {
         Ok(board)
     }
 
-    /// A board on which nothing lies.
+    /// Returns a board on which nothing lies.
     pub fn empty(alloc: Global, phase: Kind) -> Board
         ensures { result ≡ map_state_of [] [] phase }
     {
@@ -92,28 +92,28 @@ impl Board {
         }
     }
 
-    /// How many tiles were laid, those that were replaced among them.
+    /// Returns how many tiles were laid, including those that were replaced.
     pub fn tiles_laid(&self) -> usize
         ensures { result ≡ length self.now.lays }
     {
         self.lays.len()
     }
 
-    /// How many tokens were placed.
+    /// Returns how many tokens were placed.
     pub fn tokens_placed(&self) -> usize
         ensures { result ≡ length self.now.tokens }
     {
         self.tokens.len()
     }
 
-    /// A phase begins.
+    /// Begins a phase.
     pub fn put_phase(&mut self, phase: Kind)
         ensures { self.new ≡ map_state_of self.old.lays self.old.tokens phase }
     {
         self.phase = phase;
     }
 
-    /// Lays a tile. An `Err` leaves the board as it was.
+    /// Lays a tile. Fails only if allocation fails, which leaves the board as it was.
     pub fn put_lay(&mut self, lay: Lay) -> Result<(), AllocError>
         ensures ok { OnOk result (self.new ≡ with_lay self.old lay) }
         ensures err { OnErr result (self.new ≡ self.old) }
@@ -123,13 +123,14 @@ impl Board {
         Ok(())
     }
 
-    /// Places a token. An `Err` leaves the board as it was.
+    /// Places a token. Fails only if allocation fails, which leaves the board as it was.
     pub fn put_token(&mut self, place: Place, company: Company) -> Result<(), AllocError>
         ensures ok { OnOk result (self.new ≡ with_token self.old place company) }
         ensures err { OnErr result (self.new ≡ self.old) }
     {
         self.tokens.push((place, company))?;
-        // For the proof alone: there are no more tokens than a length can say, so no count of the index overflows.
+        // For the proof alone: there are no more tokens than the length of a list can be, so no
+        // count of the index overflows.
         let _lie = self.tokens.len();
         self.index.add_token(place, company);
         Ok(())

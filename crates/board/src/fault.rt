@@ -6,24 +6,25 @@ use map_tables::{LayRule, TokenRule};
 use std::alloc::AllocError;
 use thiserror::Error;
 
-/// Why a lay has no cost: it breaks a rule, or memory was refused, which says nothing of it.
+/// Why a lay has no cost: it breaks a rule, or an allocation failed, which says nothing of the lay.
 #[derive(Clone, Copy, Debug, PartialEq, Eq, Drop, Error)]
 pub enum LayFault {
     /// The first rule that the lay breaks.
     #[error(transparent)]
     Rule(LayRule),
-    /// Memory was refused, after L8 and before L9.
+    /// An allocation failed, after L8 and before L9.
     #[error(transparent)]
     Memory(AllocError),
 }
 
-/// Why a token has no cost: it breaks a rule, or memory was refused, which says nothing of it.
+/// Why a token has no cost: it breaks a rule, or an allocation failed, which says nothing of the
+/// token.
 #[derive(Clone, Copy, Debug, PartialEq, Eq, Drop, Error)]
 pub enum TokenFault {
     /// The first rule that the token breaks.
     #[error(transparent)]
     Rule(TokenRule),
-    /// Memory was refused, after K4 and before K5.
+    /// An allocation failed, after K4 and before K5.
     #[error(transparent)]
     Memory(AllocError),
 }
@@ -40,6 +41,7 @@ impl From<AllocError> for LayFault {
     ghost from_gives = { λ error fault. fault ≡ lay_fault.Memory error };
 
     fn from(error: AllocError) -> LayFault {
+        // An allocation failed: passed on.
         LayFault::Memory(error)
     }
 }
@@ -56,6 +58,7 @@ impl From<AllocError> for TokenFault {
     ghost from_gives = { λ error fault. fault ≡ token_fault.Memory error };
 
     fn from(error: AllocError) -> TokenFault {
+        // An allocation failed: passed on.
         TokenFault::Memory(error)
     }
 }

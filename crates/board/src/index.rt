@@ -14,11 +14,11 @@ use tables::Company;
 /// How many places there are for stops on the map: two in each hex.
 const STOPS: usize = 2 * HEXES;
 
-/// And how many for tokens: one of each company at each stop.
+/// How many places there are for tokens: one of each company at each stop.
 const HOLDERS: usize = 8 * STOPS;
 
-/// What lies, so that it is found at once: the tile on each hex with its links, how many tokens name
-/// each stop, and whose.
+/// What lies, so that it is found at once: the tile on each hex with its links, how many tokens
+/// name each stop, and whose.
 #[derive(Clone, Copy)]
 pub(crate) struct Index {
     tiles: [Option<Lay>; HEXES],
@@ -27,7 +27,7 @@ pub(crate) struct Index {
     holders: [bool; HOLDERS],
 }
 
-/// The place of a stop in the order of the map.
+/// Returns the place of a stop in the order of the map.
 fn order_of(stop: Stop) -> usize
     ensures order { result ≡ stop_order stop }
     ensures low { result < 186 }
@@ -35,7 +35,7 @@ fn order_of(stop: Stop) -> usize
     2 * stop.hex.index() + stop.number.index()
 }
 
-/// The place of a company at a stop.
+/// Returns the place of a company at a stop.
 fn holder_of(stop: Stop, company: Company) -> usize
     ensures order { result ≡ holder_order stop company }
     ensures low { result < 1488 }
@@ -44,7 +44,7 @@ fn holder_of(stop: Stop, company: Company) -> usize
 }
 
 impl Index {
-    /// Nothing lies.
+    /// Returns the index of an empty map.
     pub(crate) fn none() -> Index
         ensures { IsIndex [] [] result.tiles (map held result.links) result.counts result.holders }
     {
@@ -56,35 +56,35 @@ impl Index {
         }
     }
 
-    /// The tile on a hex.
+    /// Returns the tile on a hex.
     pub(crate) fn tile_on(&self, hex: Hex) -> Option<Lay>
         ensures { result ≡ slice_index_or self.now.tiles (index_of hex) None }
     {
         self.tiles[hex.index()]
     }
 
-    /// The links of the tile on a hex; none where no tile lies.
+    /// Returns the links of the tile on a hex; none if no tile lies there.
     pub(crate) fn links_of_tile(&self, hex: Hex) -> Links
         ensures { result.items ≡ slice_index_or (map held self.now.links) (index_of hex) [] }
     {
         self.links[hex.index()].links()
     }
 
-    /// How many tokens name a stop.
+    /// Returns how many tokens name a stop.
     pub(crate) fn count_at(&self, stop: Stop) -> usize
         ensures { result ≡ slice_index_or self.now.counts (stop_order stop) 0 }
     {
         self.counts[order_of(stop)]
     }
 
-    /// Whether a token of a company names a stop.
+    /// Returns whether a token of a company names a stop.
     pub(crate) fn holds(&self, stop: Stop, company: Company) -> bool
         ensures { result ≡ slice_index_or self.now.holders (holder_order stop company) false }
     {
         self.holders[holder_of(stop, company)]
     }
 
-    /// A tile is laid.
+    /// Adds a tile that is laid.
     pub(crate) fn add_lay(&mut self, lay: Lay)
         ensures tiles { self.new.tiles ≡ slice_set self.old.tiles (index_of lay.hex) (Some lay) }
         ensures links { map held self.new.links
@@ -96,7 +96,7 @@ impl Index {
         self.links[lay.hex.index()] = KeptLinks::of(&laid_links(lay));
     }
 
-    /// A token is placed.
+    /// Adds a token that is placed.
     pub(crate) fn add_token(&mut self, place: Place, company: Company)
         requires { (stop : Stop) → slice_index_or self.old.counts (stop_order stop) 0 + 1 < 2 ^ 64 }
         ensures tiles { self.new.tiles ≡ self.old.tiles }

@@ -12,7 +12,7 @@ pub(crate) struct KeptLinks {
 }
 
 impl KeptLinks {
-    /// No links.
+    /// Returns no links.
     pub(crate) fn none() -> KeptLinks
         ensures links { held result ≡ [] }
         ensures count { result.count ≡ 0 }
@@ -23,7 +23,7 @@ impl KeptLinks {
         }
     }
 
-    /// These links.
+    /// Returns these links.
     pub(crate) fn of(links: &Links) -> KeptLinks
         ensures { held result ≡ links.now.items }
     {
@@ -45,7 +45,7 @@ impl KeptLinks {
         self.count += 1;
     }
 
-    /// The links that it keeps.
+    /// Returns the links that it keeps.
     pub(crate) fn links(&self) -> Links
         ensures { result.items ≡ held self.now }
     {
@@ -57,7 +57,7 @@ impl KeptLinks {
         links
     }
 
-    /// They, as a slice.
+    /// Returns the links as a slice.
     fn as_slice(&self) -> &[Link]
         ensures links { result.now ≡ held self.now }
         ensures few { length result.now ≤ 6 }

@@ -28,9 +28,9 @@ use std::alloc::{AllocError, Global};
 use tables::{Amount, Company, Kind, Money, Private};
 
 impl Board {
-    /// What a lay costs, in dollars, or the first rule that it breaks. `Memory`, for what is
-    /// reached, comes only where L1 to L8 are kept. The company has to reach some piece of the tile
-    /// in the position after the lay; the board stays as it is.
+    /// Returns what a lay costs, in dollars, or the first rule that it breaks. The company has to
+    /// reach some piece of the tile in the position after the lay. The board stays as it is.
+    /// `Memory` is the error only if L1 to L8 are kept and an allocation fails.
     pub fn try_lay(&self, asker: &Asker, lay: Lay) -> Result<Money, LayFault>
         ensures { IsLayOutcome self.now asker.now lay result }
     {
@@ -42,8 +42,8 @@ impl Board {
         Ok(cost)
     }
 
-    /// What a lay costs that keeps the rules before what is reached, or the first rule that it
-    /// breaks, where it is known whether some piece of the tile is reached.
+    /// Returns what a lay costs, in dollars, or the first rule that it breaks, given whether some
+    /// piece of the tile is reached. The lay keeps the rules before that one.
     fn lay_answer(&self, asker: &Asker, lay: Lay, reached: bool) -> Result<Money, LayRule>
         requires { first_broken (map_rules self.now asker.now lay) ≡ None }
         ensures { result ≡ lay_answer_of self.now asker.now lay reached }
@@ -58,7 +58,7 @@ impl Board {
         Ok(cost)
     }
 
-    /// The first rule that a lay breaks, of those that ask nothing of what is reached.
+    /// Returns the first rule that a lay breaks, of those that do not depend on what is reached.
     fn ground_rule(&self, asker: &Asker, lay: Lay) -> Option<LayRule>
         ensures { result ≡ first_broken (map_rules self.now asker.now lay) }
     {
@@ -90,7 +90,7 @@ impl Board {
         None
     }
 
-    /// Whether a company would reach some piece of a tile once it lies.
+    /// Returns whether a company would reach some piece of a tile once it lies.
     fn would_reach(&self, company: Company, lay: Lay) -> Result<bool, AllocError>
         ensures { let after = position_of (with_lay self.now lay) in
             IfOk result (λ reached. IsTrue reached ↔ IsConnected after company lay) }
@@ -104,19 +104,19 @@ impl Board {
         Ok(have_stop_in(reach.stops(), lay.hex))
     }
 
-    /// What a company reaches.
+    /// Returns what a company reaches.
     pub(crate) fn reach(&self, company: Company) -> Result<Reach, AllocError>
         ensures { IfOk result (IsReach (position_of self.now) company) }
     {
         reached(self.allocator(), self, company)
     }
 
-    /// The source of the board's memory.
+    /// Returns the allocator of the board.
     fn allocator(&self) -> Global {
         *self.lays.allocator()
     }
 
-    /// What a lay on a hex costs: its terrain, with the first tile.
+    /// Returns what a lay on a hex costs, in dollars: its terrain, with the first tile.
     #[tactic(auto, unfolding(crate::specs::LayRules::lay_cost_of))]
     fn lay_cost(&self, hex: Hex) -> Amount
         ensures { result ≡ lay_cost_of self.now.lays hex }
@@ -127,7 +127,8 @@ impl Board {
         }
     }
 
-    /// Whether the step of the lay is over, or its lay is used, which CS's lay does not ask.
+    /// Returns whether the step of the lay is over, or its lay is used, which does not matter for
+    /// CS's lay.
     #[tactic(auto, unfolding(crate::specs::LayRules::is_lay_used))]
     fn is_lay_used(&self, asker: &Asker, hex: Hex) -> bool
         ensures { result ≡ is_lay_used self.now.lays asker.now hex }
@@ -136,14 +137,14 @@ impl Board {
             || (asker.lay_used && !self.is_cs_lay(asker, hex))
     }
 
-    /// Whether a lay needs no connection: it is CS's, or DH's.
+    /// Returns whether a lay needs no connection: it is CS's, or DH's.
     fn needs_no_track(&self, asker: &Asker, lay: Lay) -> bool
         ensures { result ≡ needs_no_track self.now.lays asker.now lay }
     {
         self.is_cs_lay(asker, lay.hex) || is_dh_lay(asker, lay)
     }
 
-    /// Whether the stock has none left of a tile.
+    /// Returns whether the stock has no tile of a number left.
     #[tactic(auto, unfolding(crate::specs::LayRules::is_none_left))]
     fn is_none_left(&self, number: TileNo) -> bool
         ensures { result ≡ is_none_left self.now.lays number }
@@ -151,7 +152,7 @@ impl Board {
         usize::from(tile(number).count) <= self.on_map_of(number)
     }
 
-    /// How many tiles of a number lie on the map.
+    /// Returns how many tiles of a number lie on the map.
     fn on_map_of(&self, number: TileNo) -> usize
         ensures { result ≡ on_map_of self.now.lays number }
     {
@@ -159,7 +160,7 @@ impl Board {
         self.count_of(number, &Hex::ALL)
     }
 
-    /// On how many of some hexes a tile of a number lies.
+    /// Counts the hexes, of some, on which a tile of a number lies.
     fn count_of(&self, number: TileNo, hexes: &[Hex]) -> usize
         ensures { result ≡ count_by (λ hex. is_tile number (tile_on self.now.lays hex)) hexes.now }
     {
@@ -169,7 +170,7 @@ impl Board {
             .count()
     }
 
-    /// Whether a tile of a number lies on a hex.
+    /// Returns whether a tile of a number lies on a hex.
     fn has_tile(&self, hex: Hex, number: TileNo) -> bool
         ensures { result ≡ is_tile number (tile_on self.now.lays hex) }
     {
@@ -179,7 +180,7 @@ impl Board {
         }
     }
 
-    /// The colour of a hex.
+    /// Returns the colour of a hex.
     fn colour_on(&self, hex: Hex) -> Colour
         ensures { result ≡ colour_on self.now.lays hex }
     {
@@ -189,7 +190,7 @@ impl Board {
         }
     }
 
-    /// Whether a tile has not the colour that comes next on its hex.
+    /// Returns whether a tile does not have the colour that comes next on its hex.
     #[tactic(auto, unfolding(crate::specs::LayRules::is_wrong_colour))]
     fn is_wrong_colour(&self, lay: Lay) -> bool
         ensures { result ≡ is_wrong_colour self.now.lays lay }
@@ -197,7 +198,7 @@ impl Board {
         place_of_colour(tile(lay.tile).colour) != place_of_colour(self.colour_on(lay.hex)) + 1
     }
 
-    /// Whether some link of the hex is not one of the tile's.
+    /// Returns whether some link of the hex is not one of the tile's.
     #[tactic(auto, unfolding(crate::specs::LayRules::loses_track))]
     fn loses_track(&self, lay: Lay) -> bool
         ensures { result ≡ loses_track self.now.lays lay }
@@ -210,7 +211,7 @@ impl Board {
     }
 }
 
-/// Whether a colour has not come yet.
+/// Returns whether a colour has not come yet.
 #[tactic(auto, unfolding(crate::specs::LayRules::is_colour_closed))]
 fn is_colour_closed(phase: Kind, colour: Colour) -> bool
     ensures { result ≡ is_colour_closed phase colour }
@@ -222,7 +223,7 @@ fn is_colour_closed(phase: Kind, colour: Colour) -> bool
     }
 }
 
-/// The place of a colour in the order of colours.
+/// Returns the place of a colour in the order of colours.
 fn place_of_colour(colour: Colour) -> u8
     ensures place { result ≡ place_of_colour colour }
     ensures few { result ≤ 3 }
@@ -235,7 +236,7 @@ fn place_of_colour(colour: Colour) -> u8
     }
 }
 
-/// Whether a link of a hex is one of these.
+/// Returns whether a link of a hex is one of these.
 fn is_kept(links: &[Link], old: Link) -> bool
     ensures { result ≡ is_kept links.now old }
 {
@@ -244,14 +245,14 @@ fn is_kept(links: &[Link], old: Link) -> bool
         .any(|link| link_order(*link) == link_order(old))
 }
 
-/// The place of a link in the order of a hex's links.
+/// Returns the place of a link in the order of a hex's links.
 fn link_order(link: Link) -> usize
     ensures { result ≡ link_order link }
 {
     8 * end_order(link.a) + end_order(link.b)
 }
 
-/// The place of an end in the order of a hex's ends.
+/// Returns the place of an end in the order of a hex's ends.
 fn end_order(end: End) -> usize
     ensures place { result ≡ end_order end }
     ensures few { result < 8 }
@@ -262,7 +263,7 @@ fn end_order(end: End) -> usize
     }
 }
 
-/// Whether a hex is one of a private that a player owns.
+/// Returns whether a hex is one of a private that a player owns.
 #[tactic(auto, unfolding(crate::specs::LayRules::is_blocked))]
 fn is_blocked(asker: &Asker, hex: Hex) -> bool
     ensures { result ≡ is_blocked asker.now hex }
@@ -271,14 +272,14 @@ fn is_blocked(asker: &Asker, hex: Hex) -> bool
         && is_one_of(hex, private_hexes(*private)))
 }
 
-/// Whether a hex is one of some.
+/// Returns whether a hex is one of some.
 fn is_one_of(hex: Hex, hexes: &[Hex]) -> bool
     ensures { result ≡ list_any (λ one. same_hex one hex) hexes.now }
 {
     hexes.iter().any(|one| same_hex(*one, hex))
 }
 
-/// Whether some of these links is reached.
+/// Returns whether one of these links is reached.
 fn share_link(links: &[Link], reach: &Reach) -> bool
     ensures { IsTrue result ↔ ShareLink links.now reach.now.links }
 {
@@ -290,7 +291,7 @@ fn share_link(links: &[Link], reach: &Reach) -> bool
     false
 }
 
-/// Whether some of these stops is one of a hex.
+/// Returns whether one of these stops is in a hex.
 fn have_stop_in(stops: &[Stop], hex: Hex) -> bool
     ensures { IsTrue result ↔ HaveStopIn hex stops.now }
 {

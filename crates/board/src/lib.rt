@@ -1,23 +1,23 @@
-//! The board of 1830's operating rounds: the tiles and tokens that lie on the map, and the rules
-//! by which a company lays more.
+//! The board of 1830's operating rounds: the tiles and tokens that lie on the map, and the rules by
+//! which a company lays more.
 //!
-//! What a map state is, its position and what may lie at all is in `board_state`. To a contract a
-//! `Board` is a map state. `Board::of` refuses what may not lie on the map. `try_lay` and `try_token`
-//! give the cost of a tile or a token, or the first rule that it breaks, and change nothing;
-//! `put_lay` and `put_token` lay it. A board that begins with `Board::empty` gets so the map state,
-//! tile by tile, and by `put_phase` the phase.
+//! `board_state` has what a map state is, its position and what may lie at all. In a contract a
+//! `Board` is a map state. `Board::of` refuses what may not lie on the map. `try_lay` and
+//! `try_token` return the cost of a tile or a token, or the first rule that it breaks, and change
+//! nothing; `put_lay` and `put_token` lay it. A board that begins with `Board::empty` gets the map
+//! state tile by tile in this way, and the phase by `put_phase`.
 //!
-//! The definitions, in `specs/`: `LayRules` and `TokenRules` (each rule beside its code, in order), `Powers`
-//! (of CS and DH), `Homes` and `Stock` (what the rules keep: a slot for each home token, and no more tiles
-//! than there are), and two small examples, `Example`.
+//! The definitions, in `specs/`: `LayRules` and `TokenRules` (each rule beside its code, in order),
+//! `Powers` (of CS and DH), `Homes` and `Stock` (what the rules keep: a slot for each home token,
+//! and no more tiles than there are), and two small examples, `Example`.
 //!
-//! A `Board` keeps an index beside its lists, by which a tile or a token is found at once, with the
-//! links of each tile that lies, turned as it was laid. It is the same to a contract as a
-//! `PlainBoard`, which has the lists alone, and is shorter to read.
+//! A `Board` keeps an index beside its lists. It finds a tile or a token at once, with the links of
+//! each tile that lies, turned as it was laid. In a contract it is the same as a `PlainBoard`,
+//! which has only the lists and is shorter to read.
 //!
-//! Reading order: `fault`, `kept` (the links of a hex as a value), `index`,
-//! `board`, `after` (a board with one tile more), `network` (the position that is kept), `asker`,
-//! `powers` (of CS and DH), `lay`, `token`, `laws`.
+//! Reading order: `fault`, `kept` (the links of a hex as a value), `index`, `board`, `after` (a
+//! board with one more tile), `network` (the position that is kept), `asker`, `powers` (of CS and
+//! DH), `lay`, `token`, `laws`.
 #![tactic(auto)]
 
 mod after;

@@ -1,4 +1,4 @@
-//! The powers of CS and DH, in the hands of a company that owns them.
+//! The powers of CS and DH, used by a company that owns them.
 ghost use Rattle.std.specs.Prelude.{◌≡◌};
 ghost use Rattle.board.specs.Powers.{has_no_tile, is_cs_lay, is_dh_lay, is_dh_token, is_owner};
 
@@ -9,8 +9,8 @@ use map_tables::{Hex, Lay, TileNo};
 use tables::Private;
 
 impl Board {
-    /// Whether a lay on a hex is CS's: the company that owns CS lays on B20, while no tile lies
-    /// there. Such a lay does not use the lay of the turn, and needs no connection.
+    /// Returns whether a lay on a hex is CS's: the company that owns CS lays on B20, while no tile
+    /// lies there. Such a lay does not use the lay of the turn, and needs no connection.
     #[tactic(auto, unfolding(crate::specs::Powers::is_cs_lay))]
     pub fn is_cs_lay(&self, asker: &Asker, hex: Hex) -> bool
         ensures { result ≡ is_cs_lay self.now.lays asker.now hex }
@@ -20,7 +20,7 @@ impl Board {
             && self.has_no_tile(Hex::B20)
     }
 
-    /// Whether no tile lies on a hex.
+    /// Returns whether no tile lies on a hex.
     fn has_no_tile(&self, hex: Hex) -> bool
         ensures { result ≡ has_no_tile self.now.lays hex }
     {
@@ -31,8 +31,8 @@ impl Board {
     }
 }
 
-/// Whether a lay is DH's: the company that owns DH lays 57 on F16. It needs no connection, and
-/// neither does a token there in the same turn, which costs nothing.
+/// Returns whether a lay is DH's: the company that owns DH lays 57 on F16. It needs no connection,
+/// and neither does a token there in the same turn, which costs nothing.
 #[tactic(auto, unfolding(crate::specs::Powers::is_dh_lay))]
 pub fn is_dh_lay(asker: &Asker, lay: Lay) -> bool
     ensures { result ≡ is_dh_lay asker.now lay }
@@ -42,7 +42,7 @@ pub fn is_dh_lay(asker: &Asker, lay: Lay) -> bool
         && lay.tile.index() == TileNo::T57.index()
 }
 
-/// Whether a token for a hex is DH's: DH's lay was made in this turn, and this is its hex.
+/// Returns whether a token for a hex is DH's: DH's lay was made in this turn, and this is its hex.
 #[tactic(auto, unfolding(crate::specs::Powers::is_dh_token))]
 pub(crate) fn is_dh_token(asker: &Asker, hex: Hex) -> bool
     ensures { result ≡ is_dh_token asker.now hex }
@@ -50,7 +50,7 @@ pub(crate) fn is_dh_token(asker: &Asker, hex: Hex) -> bool
     asker.dh_laid && same_hex(hex, Hex::F16)
 }
 
-/// Whether the company that asks owns a private.
+/// Returns whether the company owns a private.
 fn is_owner(asker: &Asker, private: Private) -> bool
     ensures { result ≡ is_owner asker.now private }
 {

@@ -16,8 +16,8 @@ use std::alloc::AllocError;
 use tables::{Amount, Company, Money, token_price, tokens};
 
 impl Board {
-    /// What a token costs, in dollars, or the first rule that it breaks. `Memory`, for what is
-    /// reached, comes only where K1 to K4 are kept. The board stays as it is.
+    /// Returns what a token costs, in dollars, or the first rule that it breaks. The board stays as
+    /// it is. `Memory` is the error only if K1 to K4 are kept and an allocation fails.
     pub fn try_token(&self, asker: &Asker, place: Place) -> Result<Money, TokenFault>
         ensures { IsTokenOutcome self.now asker.now place result }
     {
@@ -29,8 +29,8 @@ impl Board {
         Ok(cost)
     }
 
-    /// What a token costs that keeps the rules before what is reached, or the first rule that it
-    /// breaks, where it is known whether the stop is reached.
+    /// Returns what a token costs, in dollars, or the first rule that it breaks, given whether the
+    /// stop is reached. The token keeps the rules before that one.
     fn token_answer(&self, asker: &Asker, place: Place, reached: bool) -> Result<Money, TokenRule>
         requires { first_broken (slot_rules self.now asker.now place) ≡ None }
         ensures { result ≡ token_answer_of self.now asker.now place reached }
@@ -45,7 +45,7 @@ impl Board {
         Ok(cost)
     }
 
-    /// The first rule that a token breaks, of those that ask nothing of what is reached.
+    /// Returns the first rule that a token breaks, of those that do not depend on what is reached.
     fn slot_rule(&self, asker: &Asker, place: Place) -> Option<TokenRule>
         ensures { result ≡ first_broken (slot_rules self.now asker.now place) }
     {
@@ -64,7 +64,7 @@ impl Board {
         None
     }
 
-    /// Whether a company reaches the stop that a place names.
+    /// Returns whether a company reaches the stop that a place names.
     fn reaches(&self, company: Company, place: Place) -> Result<bool, AllocError>
         ensures { let position = position_of self.now in
             IfOk result (λ reached. IsTrue reached ↔ IsReachedPlace position company place) }
@@ -76,7 +76,7 @@ impl Board {
         Ok(is_among(joined_stop(stop), reach.stops()))
     }
 
-    /// How many tokens of a company lie.
+    /// Returns how many tokens of a company lie.
     #[tactic(auto, unfolding(crate::specs::TokenRules::laid_by))]
     fn laid_by(&self, company: Company) -> usize
         ensures { result ≡ laid_by self.now.tokens company }
@@ -88,7 +88,8 @@ impl Board {
             .count()
     }
 
-    /// What the company's next token costs on a hex: its price, but nothing where it is DH's.
+    /// Returns what the company's next token costs on a hex, in dollars: its price, or 0 if it is
+    /// DH's.
     #[tactic(auto, unfolding(crate::specs::TokenRules::token_cost_of))]
     fn token_cost(&self, asker: &Asker, hex: Hex) -> Amount
         ensures { result ≡ token_cost_of self.now.tokens asker.now hex }
@@ -99,7 +100,7 @@ impl Board {
         token_price(self.laid_by(asker.company))
     }
 
-    /// Whether a company has no token left.
+    /// Returns whether a company has no token left.
     #[tactic(auto, unfolding(crate::specs::TokenRules::has_none_left))]
     fn has_none_left(&self, company: Company) -> bool
         ensures { result ≡ has_none_left self.now.tokens company }
@@ -107,7 +108,7 @@ impl Board {
         tokens(company) <= self.laid_by(company)
     }
 
-    /// Whether a place is no city, or all slots of it are taken or kept.
+    /// Returns whether a place is no city, or all slots of it are taken or kept.
     #[tactic(auto, unfolding(crate::specs::TokenRules::is_no_free_slot))]
     fn is_no_free_slot(&self, place: Place) -> bool
         ensures { result ≡ is_no_free_slot self.now place }
@@ -118,7 +119,7 @@ impl Board {
         }
     }
 
-    /// Whether all slots of a stop are taken or kept.
+    /// Returns whether all slots of a stop are taken or kept.
     fn is_taken_up(&self, stop: Stop) -> bool
         ensures { result ≡ is_full_at self.now (Some stop) }
     {
@@ -127,7 +128,7 @@ impl Board {
         slots <= taken || slots - taken <= self.kept_at(joined_stop(stop))
     }
 
-    /// How many slots of a stop are kept for companies whose token does not lie there yet.
+    /// Returns how many slots of a stop are kept for companies whose token does not lie there yet.
     #[tactic(auto, unfolding(crate::specs::TokenRules::kept_at))]
     fn kept_at(&self, stop: Stop) -> usize
         ensures { result ≡ kept_at self.now.tokens stop }
@@ -138,14 +139,14 @@ impl Board {
             .count()
     }
 
-    /// Whether a slot of a stop is kept for a company.
+    /// Returns whether a slot of a stop is kept for a company.
     fn is_kept_for(&self, stop: Stop, company: Company) -> bool
         ensures { result ≡ is_kept_for self.now.tokens stop company }
     {
         same_stop(home(company), stop) && !self.holds(stop, company)
     }
 
-    /// Whether a company has a token in a hex.
+    /// Returns whether a company has a token in a hex.
     #[tactic(auto, unfolding(crate::specs::TokenRules::has_token_in))]
     fn has_token_in(&self, hex: Hex, company: Company) -> bool
         ensures { result ≡ has_token_in self.now.tokens hex company }
@@ -155,7 +156,7 @@ impl Board {
     }
 }
 
-/// Whether the step of the token is over.
+/// Returns whether the step of the token is over.
 #[tactic(auto, unfolding(crate::specs::TokenRules::is_token_used))]
 fn is_token_used(asker: &Asker) -> bool
     ensures { result ≡ is_token_used asker.now }
@@ -163,7 +164,7 @@ fn is_token_used(asker: &Asker) -> bool
     TurnStep::Token.number() < asker.pointer.number()
 }
 
-/// Whether a stop is one of some.
+/// Returns whether a stop is one of some.
 fn is_among(stop: Stop, stops: &[Stop]) -> bool
     ensures { IsTrue result ↔ IsAmong stop stops.now }
 {

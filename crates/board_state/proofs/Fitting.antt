@@ -54,7 +54,7 @@ count_none p (y ∷ ys) none =
     sum_by-cons (λ x. cond (p x) 1 0) y ys ∙ ap (λ n. n + count_by p ys) first
     ∙ ap (λ n. 0 + n) (count_none p ys parts.1)
 
--- no rule of boards is broken exactly where the tiles and tokens are fit
+-- no rule of boards is broken exactly if the tiles and tokens are fit
 pub are_fit : (lays : List Lay) (tokens : List (Place × Company)) → board_fault_of lays tokens ≡ None
     → AreFit lays tokens
 unfolding board_fault_of

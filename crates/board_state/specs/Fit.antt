@@ -1,5 +1,5 @@
--- The rules on the tiles and tokens on the map, as a table: the first that is broken refuses a board. None is broken
--- exactly where the tiles and tokens are fit.
+-- The rules on the tiles and tokens on the map, as a table: a board is refused by the first that is
+-- broken. None is broken exactly if the tiles and tokens are fit.
 use Rattle.std.specs.Prelude.{◌≡◌, ◌↔◌, List, [], ◌∷◌, Option, None}
 use Rattle.std.specs.List.{list_any}
 use Rattle.board_state.specs.declared.fault.BoardFault.{BoardFault}
@@ -22,7 +22,7 @@ board_rules lays tokens =
 unfoldable pub board_fault_of : List Lay → List (Place × Company) → Option BoardFault
 board_fault_of lays tokens = first_broken (board_rules lays tokens)
 
--- none is broken exactly where the tiles and tokens are fit
+-- none is broken exactly if the tiles and tokens are fit
 abbrev pub FaultlessAreFit : Type 0
 FaultlessAreFit = (lays : List Lay) (tokens : List (Place × Company))
     → (board_fault_of lays tokens ≡ None) ↔ AreFit lays tokens

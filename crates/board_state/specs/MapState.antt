@@ -1,5 +1,5 @@
--- What lies on the map at one moment of a game: the tiles and the tokens that were laid, oldest first, and
--- the phase. From this follows the position.
+-- What lies on the map at one moment of a game: the tiles and the tokens that were laid, oldest
+-- first, and the phase. From this follows the position.
 use Rattle.std.specs.Prelude.{ℕ, zero, suc, Bool, true, false, nat_lt, if◌then◌else◌, List, [], ◌∷◌, ◌++◌, map}
 use Rattle.map_tables.specs.Hex.{hexes, same_hex}
 use Rattle.map_tables.specs.OnMap.{by_tile, links_on, slots_on, tile_on, tokens_at}
@@ -23,6 +23,7 @@ use Rattle.tables.specs.declared.roster.Company.{Company}
 use Rattle.tables.specs.declared.rolling_stock.Kind.{Kind}
 use Rattle.tables.specs.declared.rolling_stock.Kind.TheVariants.{Five}
 
+-- the map state: the tiles laid so far, the tokens placed so far, and the phase
 pub record MapState : Type 0 where
   pub lays : List Lay
   pub tokens : List (Place × Company)
@@ -78,7 +79,8 @@ stops_in laid hex =
     if same_hex (joined_hex hex) hex then map (λ number. on_map_at laid (stop_at hex number))
     (stop_numbers (print_of hex).stops) else []
 
--- the track in a hex; one that is a part of another's stop is red and takes no tile, so that its print stays
+-- the track in a hex; one that is a part of another's stop is red and takes no tile, so that its
+-- print stays
 abbrev pub track_in : List Lay → Hex → List Link
 track_in lays hex = if same_hex (joined_hex hex) hex then links_on lays hex else printed_links_of hex
 

@@ -4,11 +4,11 @@ ghost use Rattle.board_state.specs.declared.fault.BoardFault.TheVariants.{Memory
 use std::alloc::AllocError;
 use thiserror::Error;
 
-/// Why tiles and tokens are no board: the first of these that applies, or memory was refused, which
-/// says nothing of them.
+/// Why tiles and tokens are no board: the first of these that applies. A failed allocation says
+/// nothing of the tiles and tokens.
 #[derive(Clone, Copy, Debug, PartialEq, Eq, Drop, Error)]
 pub enum BoardFault {
-    /// B1: a tile is of another kind than its hex, or has its stops swapped where there are not
+    /// B1: a tile is of another kind than its hex, or has its stops swapped though there are not
     /// two.
     #[error("a tile is of another kind than its hex")]
     Kind,
@@ -19,7 +19,7 @@ pub enum BoardFault {
     /// B3: a token has no slot of its own in a city.
     #[error("a token has no slot")]
     NoSlot,
-    /// Memory was refused.
+    /// An allocation failed.
     #[error("memory was refused")]
     Memory,
 }
@@ -28,6 +28,7 @@ impl From<AllocError> for BoardFault {
     ghost from_gives = { λ _ fault. fault ≡ Memory };
 
     fn from(_error: AllocError) -> BoardFault {
+        // An allocation failed: passed on.
         BoardFault::Memory
     }
 }

@@ -13,8 +13,8 @@ use map_tables::{
 };
 use tables::Company;
 
-/// The first of the rules on what may lie that is broken by these tiles and tokens; `None` where
-/// none is.
+/// Returns the first rule on what may lie that these tiles and tokens break; `None` if they break
+/// none.
 #[tactic(auto, unfolding(crate::specs::Fit::board_fault_of))]
 pub fn fault_of(lays: &[Lay], tokens: &[(Place, Company)]) -> Option<BoardFault>
     ensures { result ≡ board_fault_of lays.now tokens.now }
@@ -31,7 +31,7 @@ pub fn fault_of(lays: &[Lay], tokens: &[(Place, Company)]) -> Option<BoardFault>
     None
 }
 
-/// Whether one of these tokens has no slot.
+/// Returns whether one of these tokens has no slot.
 fn lacks_slot(lays: &[Lay], tokens: &[(Place, Company)]) -> bool
     ensures { result ≡ list_any (has_no_slot lays.now tokens.now) tokens.now }
 {
@@ -40,7 +40,7 @@ fn lacks_slot(lays: &[Lay], tokens: &[(Place, Company)]) -> bool
         .any(|token| is_over_full(lays, tokens, token.0))
 }
 
-/// Whether more tokens name a place than it takes.
+/// Returns whether more tokens name a place than it takes.
 fn is_over_full(lays: &[Lay], tokens: &[(Place, Company)], place: Place) -> bool
     ensures { result ≡ is_over_full lays.now tokens.now (stop_of place) }
 {
@@ -50,21 +50,21 @@ fn is_over_full(lays: &[Lay], tokens: &[(Place, Company)], place: Place) -> bool
     }
 }
 
-/// Whether one of some tiles is of a wrong kind.
+/// Returns whether one of some tiles is of a wrong kind.
 fn has_wrong_kind(lays: &[Lay]) -> bool
     ensures { result ≡ list_any is_wrong_kind lays.now }
 {
     lays.iter().any(|lay| is_wrong_kind(*lay))
 }
 
-/// Whether one of some tiles has a bad side.
+/// Returns whether one of some tiles has a bad side.
 fn have_bad_side(lays: &[Lay]) -> bool
     ensures { result ≡ list_any has_bad_side lays.now }
 {
     lays.iter().any(|lay| has_bad_side(*lay))
 }
 
-/// The place of a kind of tile among the kinds.
+/// Returns the place of a kind of tile among the kinds.
 fn place_of_kind(kind: TileKind) -> u8
     ensures { result ≡ place_of_tile_kind kind }
 {
@@ -79,7 +79,7 @@ fn place_of_kind(kind: TileKind) -> u8
     }
 }
 
-/// Whether a hex of a kind takes tiles of a kind.
+/// Returns whether a hex of a kind takes tiles of a kind.
 fn takes(hex: HexKind, tile: TileKind) -> bool
     ensures { result ≡ takes hex tile }
 {
@@ -89,8 +89,8 @@ fn takes(hex: HexKind, tile: TileKind) -> bool
     }
 }
 
-/// Whether a tile is of another kind than its hex, or its stops are swapped where there are not
-/// two.
+/// Returns whether a tile is of another kind than its hex, or its stops are swapped though there
+/// are not two.
 #[tactic(auto, unfolding(map_tables::specs::Fit::is_wrong_kind))]
 pub fn is_wrong_kind(lay: Lay) -> bool
     ensures { result ≡ is_wrong_kind lay }
@@ -98,7 +98,7 @@ pub fn is_wrong_kind(lay: Lay) -> bool
     !takes(hex_kind(lay.hex), tile(lay.tile).kind) || (lay.swap && printed_stops(lay.hex) != 2)
 }
 
-/// Whether some track of a tile leads to a bad side.
+/// Returns whether some track of a tile leads to a bad side.
 #[tactic(auto, unfolding(map_tables::specs::Fit::has_bad_side))]
 pub fn has_bad_side(lay: Lay) -> bool
     ensures { result ≡ has_bad_side lay }
@@ -107,7 +107,7 @@ pub fn has_bad_side(lay: Lay) -> bool
         || is_bad_end(lay.hex, link.b))
 }
 
-/// Whether an end of track in a hex is a bad side.
+/// Returns whether an end of track in a hex is a bad side.
 fn is_bad_end(hex: Hex, end: End) -> bool
     ensures { result ≡ is_bad_end hex end }
 {
@@ -120,14 +120,14 @@ fn is_bad_end(hex: Hex, end: End) -> bool
     }
 }
 
-/// Whether track may not reach a hex over this side of it.
+/// Returns whether track may not reach a hex over this side of it.
 fn is_shut(hex: Hex, side: Side) -> bool
     ensures { result ≡ is_shut hex side }
 {
     !is_open(hex_kind(hex)) && !has_print_at(hex, side)
 }
 
-/// Whether tiles are laid on hexes of a kind.
+/// Returns whether tiles are laid on hexes of a kind.
 pub fn is_open(kind: HexKind) -> bool
     ensures { result ≡ is_open kind }
 {
@@ -137,7 +137,7 @@ pub fn is_open(kind: HexKind) -> bool
     }
 }
 
-/// Whether a printed hex has track at a side.
+/// Returns whether a printed hex has track at a side.
 fn has_print_at(hex: Hex, side: Side) -> bool
     ensures { result ≡ has_print_at hex side }
 {
@@ -147,7 +147,7 @@ fn has_print_at(hex: Hex, side: Side) -> bool
         .any(|link| is_side(side, link.a) || is_side(side, link.b))
 }
 
-/// Whether an end is this side.
+/// Returns whether an end is this side.
 fn is_side(side: Side, end: End) -> bool
     ensures { result ≡ is_side side end }
 {

@@ -1,13 +1,13 @@
-//! Laws of the definitions, each the contract of a function that does nothing.
+//! The laws of the definitions. Each is the contract of a function that does nothing.
 ghost use Rattle.board_state.specs.Fit.{FaultlessAreFit};
 ghost use Rattle.board_state.specs.MapState.{MapStatesAreLawful};
 
-/// What lies is not refused as a board exactly where it is fit.
+/// States that what lies is not refused as a board exactly if it is fit.
 pub fn faultless_are_fit()
     ensures { FaultlessAreFit }
 {}
 
-/// The position of each map state keeps the laws of a network.
+/// States that the position of each map state keeps the laws of a network.
 pub fn map_states_are_lawful()
     ensures { MapStatesAreLawful }
 {

@@ -1,16 +1,16 @@
-//! The map state of 1830: the tiles and tokens that lie on the map, what follows from them, and which
-//! may lie at all.
+//! The map state of 1830: the tiles and tokens that lie on the map, what follows from them, and
+//! which may lie at all.
 //!
-//! To a contract a map state is the tiles that were laid, oldest first, the tokens that were placed,
-//! and the phase. From these follows its position as a `reach::Network`: on each hex the
+//! In a contract a map state is the tiles that were laid, oldest first, the tokens that were
+//! placed, and the phase. From these follows its position as a `reach::Network`: on each hex the
 //! last tile that was laid there, or its print.
 //!
-//! What gives the map state is `OnMap`: all that the position has follows from its five answers. A
-//! `PlainBoard` has the lists alone, and looks for a tile or a token; `PlainBoard::of` refuses what
-//! may not lie on the map.
+//! `OnMap` gives the map state: the whole position follows from what its five calls return. A
+//! `PlainBoard` has only the lists, and searches them for a tile or a token; `PlainBoard::of`
+//! refuses what may not lie on the map.
 //!
-//! The definitions, in `specs/`: `MapState` (the tiles and tokens, and the position) and `Fit` (what
-//! may lie at all).
+//! The definitions, in `specs/`: `MapState` (the tiles and tokens, and the position) and `Fit`
+//! (what may lie at all).
 //!
 //! Reading order: `fault`, `shown` (what shows at a hex or a stop), `fit` (what may lie at all),
 //! `on_map` (what follows from the map state), `plain`, `network` (the position that is kept),

@@ -15,35 +15,35 @@ use map_tables::{
 };
 use tables::{Amount, Company, Kind};
 
-/// What gives the tiles and tokens on the map. All that a contract says of it, it says of what was
-/// laid.
+/// Gives the tiles and tokens on the map. Whatever a contract says of it, it says of what was laid.
 pub trait OnMap {
     /// What lies.
     ghost laid: { Self → MapState };
 
-    /// The tile that lies on a hex: the last that was laid there.
+    /// Returns the tile that lies on a hex: the last that was laid there.
     fn tile_on(&self, hex: Hex) -> Option<Lay>
         ensures { result ≡ tile_on (laid self.now).lays hex };
 
-    /// The links of a hex: those of the tile that lies there, or its print.
+    /// Returns the links of a hex: those of the tile that lies there, or its print.
     fn links_on(&self, hex: Hex) -> Links
         ensures { result.items ≡ links_on (laid self.now).lays hex };
 
-    /// How many tokens name a stop, by its own name.
+    /// Returns how many tokens name a stop, by its own name.
     fn count_at(&self, stop: Stop) -> usize
         ensures { result ≡ count_by (λ (token : Place × Company). names stop token.0)
             (laid self.now).tokens };
 
-    /// Whether a token of a company names a stop, by its own name.
+    /// Returns whether a token of a company names a stop, by its own name.
     fn holds(&self, stop: Stop, company: Company) -> bool
         ensures { result ≡ has_token (laid self.now).tokens stop company };
 
-    /// The phase.
+    /// Returns the phase.
     fn phase(&self) -> Kind
         ensures { result ≡ (laid self.now).phase };
 }
 
-/// The track in a hex. One that is a part of another's stop keeps its print: no tile is laid there.
+/// Returns the track in a hex. A hex that is a part of another's stop keeps its print: no tile is
+/// laid there.
 fn track_in<L: OnMap>(board: &L, hex: Hex) -> Links
     ensures { result.items ≡ track_in (L.laid board.now).lays hex }
 {
@@ -58,14 +58,14 @@ fn track_in<L: OnMap>(board: &L, hex: Hex) -> Links
     }
 }
 
-/// The links that the position has in a hex.
+/// Returns the links that the position has in a hex.
 pub fn links_on_map<L: OnMap>(board: &L, hex: Hex) -> Links
     ensures { result.items ≡ links_of (position_of (L.laid board.now)) hex }
 {
     track_in(board, hex)
 }
 
-/// What each stop of a hex is worth.
+/// Returns what each stop of a hex is worth.
 fn value_on<L: OnMap>(board: &L, hex: Hex) -> Amount
     ensures { result ≡ value_on (L.laid board.now).phase (L.laid board.now).lays hex }
 {
@@ -75,7 +75,7 @@ fn value_on<L: OnMap>(board: &L, hex: Hex) -> Amount
     }
 }
 
-/// What a stop is worth in the position; 0 where there is no such stop.
+/// Returns what a stop is worth in the position, in dollars; 0 if there is no such stop.
 pub fn value_on_map<L: OnMap>(board: &L, stop: Stop) -> Amount
     ensures { result ≡ value_of (position_of (L.laid board.now)) stop }
 {
@@ -87,7 +87,7 @@ pub fn value_on_map<L: OnMap>(board: &L, stop: Stop) -> Amount
     }
 }
 
-/// How many tokens each stop of a hex takes.
+/// Returns how many tokens each stop of a hex takes.
 fn slots_on<L: OnMap>(board: &L, hex: Hex) -> u8
     ensures { result ≡ slots_on (L.laid board.now).lays hex }
 {
@@ -97,7 +97,7 @@ fn slots_on<L: OnMap>(board: &L, hex: Hex) -> u8
     }
 }
 
-/// How many tokens a stop takes; 0 where there is no such stop.
+/// Returns how many tokens a stop takes; 0 if there is no such stop.
 fn slots_there<L: OnMap>(board: &L, stop: Stop) -> usize
     ensures { result ≡ slots_at (L.laid board.now).lays stop }
 {
@@ -109,7 +109,7 @@ fn slots_there<L: OnMap>(board: &L, stop: Stop) -> usize
     }
 }
 
-/// How many tokens a stop takes, by the map state and in the position.
+/// Returns how many tokens a stop takes, by the map state and in the position.
 pub fn slots<L: OnMap>(board: &L, stop: Stop) -> usize
     ensures slots { result ≡ slots_at (L.laid board.now).lays stop }
     ensures shown { result ≡ (at_stop (position_of (L.laid board.now)) stop).slots }
@@ -117,7 +117,7 @@ pub fn slots<L: OnMap>(board: &L, stop: Stop) -> usize
     slots_there(board, stop)
 }
 
-/// How many tokens lie at a stop; none where there is no such stop.
+/// Returns how many tokens lie at a stop; 0 if there is no such stop.
 fn taken<L: OnMap>(board: &L, stop: Stop) -> usize
     ensures { result ≡ length (at_stop (position_of (L.laid board.now)) stop).tokens }
 {
@@ -128,7 +128,7 @@ fn taken<L: OnMap>(board: &L, stop: Stop) -> usize
     board.count_at(stop)
 }
 
-/// Whether a stop is red in the position.
+/// Returns whether a stop is red in the position.
 pub fn red_on_map<L: OnMap>(_board: &L, stop: Stop) -> bool
     ensures { result ≡ is_red (position_of (L.laid _board.now)) stop }
 {
@@ -136,7 +136,7 @@ pub fn red_on_map<L: OnMap>(_board: &L, stop: Stop) -> bool
     is_stop(stop) && is_red(hex_kind(stop.hex))
 }
 
-/// Whether a stop is a city that is full for a company in the position.
+/// Returns whether a stop is a city that is full for a company in the position.
 pub fn full_on_map<L: OnMap>(board: &L, stop: Stop, company: Company) -> bool
     ensures { IsTrue result ↔ IsFull (position_of (L.laid board.now)) stop company }
 {
@@ -148,7 +148,7 @@ pub fn full_on_map<L: OnMap>(board: &L, stop: Stop, company: Company) -> bool
     0 < slots && slots <= taken && !token_on_map(board, stop, company)
 }
 
-/// Whether a company has a token at a stop in the position.
+/// Returns whether a company has a token at a stop in the position.
 pub fn token_on_map<L: OnMap>(board: &L, stop: Stop, company: Company) -> bool
     ensures { IsTrue result ↔ HasToken (position_of (L.laid board.now)) stop company }
 {

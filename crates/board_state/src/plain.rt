@@ -11,8 +11,8 @@ use std::alloc::Global;
 use std::marker::Model;
 use tables::{Company, Kind};
 
-/// The tiles and tokens that lie on the map, in a phase, as they were laid and no more: what lies
-/// on a hex is looked for. It is the same to a contract as a `Board`, which finds it at once.
+/// The tiles and tokens that lie on the map, in a phase, as they were laid and no more: it searches
+/// for what lies on a hex. In a contract it is the same as a `Board`, which finds that at once.
 #[derive(Drop)]
 pub struct PlainBoard {
     lays: Vec<Lay>,
@@ -29,9 +29,9 @@ impl Model for PlainBoard {
 }
 
 impl PlainBoard {
-    /// The board after these lays and tokens, oldest first, in a phase. It is refused by the first
-    /// of `Kind`, `BadSide` and `NoSlot` that holds of the two lists. Where none does they are
-    /// copied, and the error is `Memory`.
+    /// Returns the board after these lays and tokens, oldest first, in a phase. The error is the
+    /// first of `Kind`, `BadSide` and `NoSlot` that holds of the two lists. If none does they are
+    /// copied, and the error is `Memory` if that allocation fails.
     pub fn of(
         alloc: Global,
         lays: &[Lay],

@@ -12,30 +12,31 @@ use map_tables::{
 };
 use tables::{Amount, Company, Kind};
 
-// These three compare by number where `==` would do: the prover knows numbers, and of a derived `==` only its law.
+// These three compare by number, not by `==`: the prover knows numbers, and of a derived `==` only
+// its law.
 
-/// Whether two hexes are one.
+/// Returns whether two hexes are one.
 pub fn same_hex(a: Hex, b: Hex) -> bool
     ensures { result ≡ same_hex a b }
 {
     a.index() == b.index()
 }
 
-/// Whether two stops are one.
+/// Returns whether two stops are one.
 pub fn same_stop(a: Stop, b: Stop) -> bool
     ensures { result ≡ same_stop a b }
 {
     same_hex(a.hex, b.hex) && a.number.index() == b.number.index()
 }
 
-/// Whether two companies are one.
+/// Returns whether two companies are one.
 pub fn same_company(a: Company, b: Company) -> bool
     ensures { result ≡ same_company a b }
 {
     a.place() == b.place()
 }
 
-/// Whether a place names a stop, or a part of it.
+/// Returns whether a place names a stop, or a part of it.
 pub(crate) fn names(stop: Stop, place: Place) -> bool
     ensures { result ≡ names stop place }
 {
@@ -45,7 +46,7 @@ pub(crate) fn names(stop: Stop, place: Place) -> bool
     }
 }
 
-/// A printed value in a phase.
+/// Returns a printed value in a phase.
 pub(crate) fn value_in(phase: Kind, value: PrintedValue) -> Amount
     ensures { result ≡ value_in phase value }
 {
@@ -56,7 +57,7 @@ pub(crate) fn value_in(phase: Kind, value: PrintedValue) -> Amount
     }
 }
 
-/// Whether a hex is red.
+/// Returns whether a hex is red.
 pub(crate) fn is_red(kind: HexKind) -> bool
     ensures { result ≡ is_red_kind kind }
 {
@@ -66,14 +67,14 @@ pub(crate) fn is_red(kind: HexKind) -> bool
     }
 }
 
-/// Whether a hex has a stop of this number.
+/// Returns whether a hex has a stop of this number.
 pub(crate) fn is_stop(stop: Stop) -> bool
     ensures { result ≡ is_stop stop }
 {
     stop.number.index() < printed_stops(stop.hex)
 }
 
-/// The last of some lays on a hex.
+/// Returns the last of some lays on a hex.
 #[tactic(auto, unfolding(map_tables::specs::OnMap::tile_on))]
 pub(crate) fn last_on(lays: &[Lay], hex: Hex) -> Option<Lay>
     ensures { result ≡ tile_on lays.now hex }
@@ -86,14 +87,14 @@ pub(crate) fn last_on(lays: &[Lay], hex: Hex) -> Option<Lay>
     None
 }
 
-/// How many of some tokens name a stop.
+/// Returns how many of some tokens name a stop.
 pub(crate) fn count_naming(tokens: &[(Place, Company)], stop: Stop) -> usize
     ensures { result ≡ count_by (λ (token : Place × Company). names stop token.0) tokens.now }
 {
     tokens.iter().filter(|token| names(stop, token.0)).count()
 }
 
-/// How many tokens each stop of a hex takes.
+/// Returns how many tokens each stop of a hex takes.
 fn slots_on(lays: &[Lay], hex: Hex) -> u8
     ensures { result ≡ slots_on lays.now hex }
 {
@@ -103,7 +104,7 @@ fn slots_on(lays: &[Lay], hex: Hex) -> u8
     }
 }
 
-/// How many tokens a stop takes; 0 where there is no such stop.
+/// Returns how many tokens a stop takes; 0 if there is no such stop.
 pub(crate) fn slots_at(lays: &[Lay], stop: Stop) -> usize
     ensures { result ≡ slots_at lays.now stop }
 {
@@ -115,14 +116,14 @@ pub(crate) fn slots_at(lays: &[Lay], stop: Stop) -> usize
     }
 }
 
-/// How many tokens name a stop.
+/// Returns how many tokens name a stop.
 pub(crate) fn taken_at(tokens: &[(Place, Company)], stop: Stop) -> usize
     ensures { result ≡ taken_at tokens.now stop }
 {
     count_naming(tokens, joined_stop(stop))
 }
 
-/// Whether one of some tokens is a company's and names a stop.
+/// Returns whether one of some tokens is a company's and names a stop.
 pub(crate) fn has_token(tokens: &[(Place, Company)], stop: Stop, company: Company) -> bool
     ensures { result ≡ has_token tokens.now stop company }
 {

@@ -78,8 +78,8 @@ module _ (position : Position) (company : Company) (old : List Bool) (stop : Sto
         | inr different ↦ tokens other (omega arith) token
       ]
 
--- what is so once the stops before a place have been looked at: walks arrive at all that is marked, the stops with a
--- token are marked, and all that is marked waits
+-- What is so once the stops before a place have been looked at. Walks arrive at all that is marked,
+-- the stops with a token are marked, and all that is marked waits.
 pub record TokensMarked (position : Position) (company : Company) (marks : List Bool) (waiting : List Spot)
     (place : ℕ) : Type 0 where
   pub arrive : AllArrive position company marks

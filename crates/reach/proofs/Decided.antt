@@ -1,4 +1,5 @@
--- Whether something is so or is not: what a company may pass, what is marked, and which links may be taken.
+-- Whether something is so or is not: what a company may pass, what is marked, and which links may
+-- be taken.
 use Rattle.std.proofs.Common.{◌≡◌, ℕ, ◌≤◌, Bool, true, false, ◌⊎◌, inl, inr, Option, Some, None, List, length, get_or}
 use Rattle.std.proofs.Common.{nat_le, refl, sym, subst, arith}
 use Rattle.std.proofs.lemmas.Bool.Decides.{nat_tests}

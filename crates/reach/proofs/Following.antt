@@ -1,4 +1,5 @@
--- Following links from what is marked: walks go on, and marks that nothing is added to hold all walks.
+-- Following links from what is marked: walks go on, and marks that nothing is added to hold all
+-- walks.
 use Rattle.std.proofs.Common.{◌≡◌, Bool, true, false, Some, None, IfSome, ◌⊎◌, inl, inr, List, [], ◌∷◌, get_or, refl}
 use Rattle.std.proofs.Common.{sym, ◌∙◌, subst}
 use Rattle.map_tables.specs.Place.{joined_stop_of, stop_at}

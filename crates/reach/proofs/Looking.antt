@@ -1,4 +1,5 @@
--- Looking at a spot: the links by which a walk that has arrived there goes on, and what is left to be looked at.
+-- Looking at a spot: the links by which a walk that has arrived there goes on, and what is left to
+-- be looked at.
 use Rattle.std.proofs.Common.{◌≡◌, ◌+◌, ◌*◌, true, false, Some, None, IfSome, ◌⊎◌, inl, inr, Bool, List, [], ◌∷◌, ◌++◌}
 use Rattle.std.proofs.Common.{get_or, refl, ap, sym, ◌∙◌, subst}
 use Rattle.map_tables.specs.Hex.{index_of}

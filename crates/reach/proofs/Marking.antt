@@ -1,4 +1,5 @@
--- What it is to follow steps, by the marks and by what waits: one step, steps after others, and none.
+-- What it is to follow steps, by the marks and by what waits: one step, steps after others, and
+-- none.
 use Rattle.std.proofs.Common.{◌≡◌, ℕ, ◌+◌, ◌<◌, Bool, true, false, cond, if◌then◌else◌, ◌⊎◌, inl, inr, List, [], ◌∷◌}
 use Rattle.std.proofs.Common.{◌++◌, length, get_or, set, refl, ap, sym, ◌∙◌, subst, arith, get_or-set_same}
 use Rattle.std.proofs.Common.{get_or-set_other, length-set, length-append}

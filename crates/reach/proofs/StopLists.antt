@@ -25,7 +25,7 @@ set_either (mark ∷ marks) zero (suc m) = refl
 set_either (mark ∷ marks) (suc n) zero = refl
 set_either (mark ∷ marks) (suc n) (suc m) = ap (λ rest. mark ∷ rest) (set_either marks n m)
 
--- one stop more is marked
+-- one more stop is marked
 pub marks_push : (stops : List Stop) (stop : Stop)
     → marks_of (stops ++ stop ∷ []) ≡ set (marks_of stops) (stop_order stop) true
 marks_push [] stop = refl

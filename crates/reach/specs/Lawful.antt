@@ -1,5 +1,5 @@
--- What holds of every position: the order of its links, how borders pair, what stops are worth. A hex that is a part of
--- another hex's stop has that stop alone.
+-- What holds of every position: the order of its links, how borders pair, what stops are worth. A
+-- hex that is a part of another hex's stop has that stop alone.
 use Rattle.std.specs.Prelude.{◌≡◌, ◌≤◌, true}
 use Rattle.map_tables.specs.Laws.{AreLinksOf, NeighboursPair}
 use Rattle.map_tables.specs.declared.hex.Hex.{Hex}
@@ -16,9 +16,10 @@ abbrev pub PartsHaveOneStop : Position → Type 0
 PartsHaveOneStop position =
     (hex : Hex) (link : Link) → IsAmong link (links_of position hex) → link.b ≡ AtStop Second → joined_hex hex ≡ hex
 
--- The laws of positions. The links of each hex lie in it and are in order without repeats; the ends of each differ and
--- are not both stops. Borders pair both ways. No stop is worth more than 80 dollars. The Gulf, J2.0, and the Canadian
--- West, A11.0, are red; the other hex of each has no track to a second stop.
+-- The laws of positions. The links of each hex lie in it and are in order without repeats; the ends
+-- of each differ and are not both stops. Borders pair both ways. No stop is worth more than 80
+-- dollars. The Gulf, J2.0, and the Canadian West, A11.0, are red; the other hex of each has no
+-- track to a second stop.
 pub record IsLawful (position : Position) : Type 0 where
   pub links : (hex : Hex) → AreLinksOf hex (links_of position hex)
   pub borders_pair : NeighboursPair

@@ -1,6 +1,7 @@
--- A position: the tiles and tokens on the map at one moment. For each hex, in the order of the map, it has the links of
--- the hex and its stops, by their numbers; for each stop its value in dollars, whether it is red, how many slots for
--- tokens it has, and whose tokens lie there. A stop that lies in two hexes is kept in the hex that names it.
+-- A position: the tiles and tokens on the map at one moment. For each hex, in the order of the map,
+-- it has the links of the hex and its stops, by their numbers. For each stop it has its value in
+-- dollars, whether it is red, how many slots for tokens it has, and whose tokens lie there. A stop
+-- that lies in two hexes is kept in the hex that names it.
 use Rattle.std.specs.Prelude.{◌≡◌, ℕ, ◌<◌, ◌≤◌, Bool, false, ◌⊎◌, List, [], ◌∷◌, length, get_or}
 use Rattle.map_tables.specs.Hex.{index_of}
 use Rattle.map_tables.specs.Place.{joined_stop_of, stop_index_of}

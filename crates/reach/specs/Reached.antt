@@ -1,6 +1,6 @@
--- What a company reaches. A walk from a stop with a token of the company reaches what it touches. It
--- may end in a city that is full for the company, and may not pass one; it may pass a red stop. The
--- stop of a token is always reached.
+-- What a company reaches. A walk from a stop with a token of the company reaches what it touches.
+-- It may end in a city that is full for the company, and may not pass one; it may pass a red stop.
+-- The stop of a token is always reached.
 use Rattle.std.specs.Prelude.{◌≡◌, ◌↔◌, ℕ, ◌+◌, ◌*◌, ◌<◌, ◌⊎◌, List, [], ◌∷◌}
 use Rattle.std.specs.List.{AllByRecursion}
 use Rattle.map_tables.specs.Hex.{index_of}

@@ -1,5 +1,5 @@
--- What the search for what a company reaches keeps: for each end in each hex, whether some walk of the
--- company arrives there.
+-- What the search for what a company reaches keeps: for each end in each hex, whether some walk of
+-- the company arrives there.
 use Rattle.std.specs.Prelude.{◌≡◌, ◌↔◌, ℕ, ◌+◌, ◌*◌, ◌<◌, ◌≤◌, Bool, true, false, if◌then◌else◌, ◌⊎◌, List, [], ◌∷◌}
 use Rattle.std.specs.Prelude.{◌++◌, Option, Some, None, IfSome, length, get_or, set, count_by}
 use Rattle.map_tables.specs.Hex.{index_of}
@@ -18,8 +18,8 @@ use Rattle.reach.specs.declared.walk.Spot.{Spot}
 use Rattle.reach.specs.declared.walk.Step.{Step}
 use Rattle.tables.specs.declared.roster.Company.{Company}
 
--- the number of an end of a hex on the map: eight for each hex. A stop that lies in two hexes has one
--- number.
+-- the number of an end of a hex on the map: eight for each hex. A stop that lies in two hexes has
+-- one number.
 abbrev pub number_at : Hex → End → ℕ
 number_at hex (AtSide side) = 8 * index_of hex + number_of side
 number_at hex (AtStop number) =
@@ -41,8 +41,8 @@ IsMarkedStop marks stop =
 abbrev pub AreMarkedStops : List Bool → List Stop → Type 0
 AreMarkedStops marks stops = (stop : Stop) → IsAmong stop stops ↔ IsMarkedStop marks stop
 
--- A walk that arrives where the marks say may enter a link at this spot: at a stop that is marked, and
--- not full; at a side of a border whose other side is marked.
+-- A walk that arrives where the marks say may enter a link at this spot. It is a stop that is
+-- marked and not full, or a side of a border whose other side is marked.
 abbrev pub CanEnterAt : Position → Company → List Bool → Hex → End → Type 0
 CanEnterAt position company marks hex (AtSide side) =
     (from : Spot) × (across (record { hex = hex; end = AtSide side }) ≡ Some from) × IsMarked marks from
@@ -76,7 +76,7 @@ AreTaken position company marks kept = (link : Link) → kept link ↔ CanTake p
 abbrev pub KeepsNone : (Link → Type 0) → Type 0
 KeepsNone kept = (link : Link) → ¬ kept link
 
--- one link more is kept
+-- one more link is kept
 pub record IsKept (link : Link) (old new : Link → Type 0) : Type 0 where
   pub here : new link
   pub stay : (other : Link) → old other → new other
@@ -144,7 +144,8 @@ IsPushed marks stop old new =
 abbrev pub IsEnteredAt : Spot → Step → Type 0
 IsEnteredAt at step = spot_number (entered_at step) ≡ spot_number at
 
--- a step is followed from a spot: where it is left is marked, and its link is kept, if it is entered there
+-- a step is followed from a spot: where it is left is marked, and its link is kept, if it is
+-- entered there
 pub record IsFollowed (step : Step) (at : Spot) (old : List Bool) (waited : List Spot) (first : Link → Type 0)
     (new : List Bool) (waiting : List Spot) (kept : Link → Type 0) : Type 0 where
   pub entered : IsEnteredAt at step → IsMarking (left_at step) old waited new waiting
@@ -162,7 +163,8 @@ pub record GoesOnAt (position : Position) (company : Company) (stop : Stop) (at 
   pub there : stop_of at ≡ Some stop
   pub may_pass : ¬ IsFull position stop company
 
--- a walk that has arrived at a spot may go on at another: they are joined, and the stop is none that is full
+-- a walk that has arrived at a spot may go on at another: they are joined, and the stop is none
+-- that is full
 pub record LeadsTo (position : Position) (company : Company) (from at : Spot) : Type 0 where
   pub joined : AreJoined from at
   pub may_pass : IfSome (stop_of at) (λ stop. ¬ IsFull position stop company)
@@ -183,8 +185,9 @@ pub record AreLookedAt (position : Position) (company : Company) (marks : List B
   pub known : (spot : Spot) → Waits waiting spot → IsMarked marks spot
   pub looked : (spot : Spot) → IsMarked marks spot → Waits waiting spot ⊎ IsLookedAt position company marks kept spot
 
--- What it is to follow such steps: what is marked or kept stays so, walks still arrive at all of it and may take all
--- those links, the steps were followed, and as many more wait as are marked, each of those that are new among them.
+-- What following such steps does. What is marked or kept stays so. Walks still arrive at all of it
+-- and may take all those links. The steps were followed. As many more wait as are marked, and each
+-- of those that are new is among them.
 pub record Spreads (position : Position) (company : Company) (P : Step → Type 0) (old : List Bool)
     (waited : List Spot) (first : Link → Type 0) (new : List Bool) (waiting : List Spot)
     (links : Link → Type 0) : Type 0 where

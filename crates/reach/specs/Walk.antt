@@ -1,7 +1,7 @@
 -- Walks over the track of a position. A link joins two ends in one hex, each a side of the hex or a
--- stop. A walk is a list of links, the latest first: each is entered at one of its ends and left at
+-- stop. A walk is a list of links, the latest first. Each is entered at one of its ends and left at
 -- the other, and is joined to the next at a stop, or at the border between their two hexes. Nothing
--- here knows of a search.
+-- here depends on a search.
 use Rattle.std.specs.Prelude.{◌≡◌, List, [], ◌∷◌, Option, Some, None, IfSome, option_map, if◌then◌else◌, ◌⊎◌}
 use Rattle.map_tables.specs.Border.{neighbour_of}
 use Rattle.map_tables.specs.Place.{joined_stop_of, stop_at}
@@ -76,7 +76,7 @@ abbrev pub BeginsAt : (Stop → Type 0) → List Step → Type 0
 BeginsAt P [] = ⊥
 BeginsAt P (step ∷ before) = (stop : Stop) × (stop_of (begins_at step before) ≡ Some stop) × P stop
 
--- where a step goes on at a stop, it is such a stop
+-- if a step goes on at a stop, it is such a stop
 abbrev pub PassesBy : (Stop → Type 0) → List Step → Step → Type 0
 PassesBy P [] step = Unit {0}
 PassesBy P (earlier ∷ before) step = IfSome (stop_of (entered_at step)) P

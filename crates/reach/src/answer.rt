@@ -10,11 +10,11 @@ use std::alloc::{AllocError, Global};
 use std::marker::Model;
 use tables::Company;
 
-/// How much room a search begins with for links. A usual map needs no more.
+/// How much room for links a search begins with. A usual map needs no more.
 const LINKS_ROOM: usize = 96;
 
-/// What a company reaches: stops and links. To a contract it is the two lists. Each link is there
-/// once, or twice where it was followed in both directions.
+/// What a company reaches: stops and links. In a contract it is the two lists. Each link is there
+/// once, or twice if it was followed in both directions.
 #[derive(Drop)]
 pub struct Reach {
     stops: Vec<Stop>,
@@ -30,15 +30,15 @@ impl Model for Reach {
 }
 
 impl Reach {
-    /// The stops that are reached, in the order of the map. A stop that lies in two hexes is once,
-    /// as the one that names it.
+    /// Returns the stops that are reached, in the order of the map. A stop that lies in two hexes
+    /// is there once, as the one that names it.
     pub fn stops(&self) -> &[Stop]
         ensures { result.now ≡ self.now.stops }
     {
         self.stops.as_slice()
     }
 
-    /// Whether a link is reached.
+    /// Returns whether a link is reached.
     pub fn touches(&self, link: &Link) -> bool
         ensures { IsTrue result ↔ IsAmong link.now self.now.links }
     {
@@ -46,9 +46,9 @@ impl Reach {
     }
 }
 
-/// What a company reaches: the stops with a token of it, and each stop and link that a walk from
-/// there touches. Such a walk may end in a city that is full for the company and may not pass one;
-/// it may pass a red stop. It fails only if memory is refused, for the lists of the answer.
+/// Returns what a company reaches: the stops with a token of it, and each stop and link that a walk
+/// from there touches. Such a walk may end in a city that is full for the company but may not pass
+/// one; it may pass a red stop. Fails only if the allocation of the lists fails.
 pub fn reached<N: Network>(
     alloc: Global,
     network: &N,

@@ -8,12 +8,12 @@ use map_tables::Link;
 use std::alloc::AllocError;
 use std::convert::Infallible;
 
-/// Takes the links that a search follows. To a contract it is which links it keeps.
+/// Takes the links that a search follows. In a contract it is the set of links that it keeps.
 pub(crate) trait Keeper {
     /// Why a link can't be kept.
     type Fault;
 
-    /// A link is kept.
+    /// Whether a link is kept.
     ghost keeps: { Self → Link → Type 0 };
 
     /// Keeps a link.
@@ -32,8 +32,8 @@ impl Keeper for Vec<Link> {
     }
 }
 
-/// Takes links and forgets them, and so takes no memory. Of no link a contract can tell that it
-/// isn't kept.
+/// Takes links and forgets them, so it allocates nothing. No contract can tell that it does not
+/// keep a link.
 #[derive(Drop)]
 pub(crate) struct Forgetful;
 

@@ -1,17 +1,17 @@
 //! What a company of 1830 can reach over the track that lies.
 //!
-//! A position says the tiles and tokens on the map: the links of each hex, and of each stop its
+//! A position is the tiles and tokens on the map: the links of each hex, and for each stop its
 //! value, whether it is red, its slots and its tokens. `Network` is any value that keeps a
-//! position; to a contract it is that position and nothing else. `reached` answers what the walks
-//! of a company touch, exactly: whatever a walk touches is in the answer, and whatever is in the
-//! answer is touched by a walk. `reached_stops` answers the stops alone, and takes no memory.
+//! position; in a contract it is that position and nothing else. `reached` returns exactly what the
+//! walks of a company touch: whatever a walk touches is in the result, and a walk touches whatever
+//! is in the result. `reached_stops` returns only the stops, and allocates nothing.
 //!
-//! The definitions, in `specs/`: `Position` and its laws, `Lawful`; `Walk`, which knows nothing
-//! of a company or a search and serves legal runs too; `Reached`. `Search` is what the search
+//! The definitions, in `specs/`: `Position` and its laws, `Lawful`; `Walk`, which depends on no
+//! company and no search and is used for legal runs too; `Reached`. `Search` is what the search
 //! keeps; `Stops` has stops as marks.
 //!
-//! Reading order: `network`, `walk`, `answer` and `stops` (the public calls), `search`,
-//! `keeper` (what it does with links), `numbers` (of stops and of spots), `stop_marks`.
+//! Reading order: `network`, `walk`, `answer` and `stops` (the public calls), `search`, `keeper`
+//! (what it does with links), `numbers` (of stops and of spots), `stop_marks`.
 #![tactic(auto)]
 
 mod answer;

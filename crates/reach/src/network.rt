@@ -5,34 +5,35 @@ ghost use Rattle.reach.specs.Position.{HasToken, IsFull, Position, is_red, links
 use map_tables::{Hex, Links, Stop};
 use tables::{Amount, Company};
 
-/// What keeps a position: the track on the map, and the stops with their tokens. Its calls take
-/// no memory. A stop that lies in two hexes may be named by either of its names.
+/// Keeps a position: the track on the map, and the stops with their tokens. Its calls allocate
+/// nothing. A stop that lies in two hexes may be named by either of its names.
 pub trait Network {
-    /// The position that is kept. All that a contract says of a network, it says of this.
+    /// The position that is kept. Whatever a contract says of a network, it says of this.
     ghost position: { Self → Position };
 
-    /// The links of a hex, in order, none twice.
+    /// Returns the links of a hex, in order, none twice.
     fn links(&self, hex: Hex) -> Links
         ensures { result.items ≡ links_of (position self.now) hex };
 
-    /// What a stop is worth in this phase, in dollars, 80 at most; 0 where there is no such stop.
+    /// Returns what a stop is worth in this phase, in dollars, 80 at most; 0 if there is no such
+    /// stop.
     fn value(&self, stop: Stop) -> Amount
         ensures { result ≡ value_of (position self.now) stop };
 
-    /// Whether a stop is red.
+    /// Returns whether a stop is red.
     fn red(&self, stop: Stop) -> bool
         ensures { result ≡ is_red (position self.now) stop };
 
-    /// Whether a stop is a city that is full for a company: it has slots, and all of them hold
-    /// tokens of others.
+    /// Returns whether a stop is a city that is full for a company: it has slots, and all of them
+    /// hold tokens of other companies.
     fn full(&self, stop: Stop, company: Company) -> bool
         ensures { IsTrue result ↔ IsFull (position self.now) stop company };
 
-    /// Whether a company has a token at a stop.
+    /// Returns whether a company has a token at a stop.
     fn token(&self, stop: Stop, company: Company) -> bool
         ensures { IsTrue result ↔ HasToken (position self.now) stop company };
 
-    /// The laws that every position keeps. It does nothing: call it where a proof needs them.
+    /// States the laws that every position keeps. It does nothing; a proof calls it to use them.
     fn keeps_laws(&self)
         ensures { IsLawful (position self.now) };
 }

@@ -12,7 +12,7 @@ pub const STOPS: usize = 2 * HEXES;
 /// How many spots the hexes of the map have: six sides and two stops each.
 pub const SPOTS: usize = 8 * HEXES;
 
-/// The place of a stop in the order of the map, by the hex that is named.
+/// Returns the place of a stop in the order of the map, by the hex that is named.
 pub fn stop_order(stop: Stop) -> usize
     ensures value { result ≡ stop_order stop }
     ensures bound { result < 186 }
@@ -20,7 +20,8 @@ pub fn stop_order(stop: Stop) -> usize
     2 * stop.hex.index() + stop.number.index()
 }
 
-/// The number of a spot: eight for each hex. A stop that lies in two hexes has one number.
+/// Returns the number of a spot; there are eight for each hex. A stop that lies in two hexes has
+/// one number.
 pub fn spot_number(spot: Spot) -> usize
     ensures value { result ≡ spot_number spot }
     ensures bound { result < 744 }

@@ -17,8 +17,8 @@ use arrayvec::ArrayVec;
 use map_tables::{End, HEXES, Hex, Link, Stop, StopNumber, joined_stop};
 use tables::Company;
 
-/// The ends of the map's hexes at which some walk of the company has arrived, or may begin, and those
-/// of them that are still to be looked at. No more wait than are marked, so the table has room.
+/// The ends of the map's hexes at which some walk of the company has arrived, or may begin, and
+/// which of them are still to be looked at. No more wait than are marked, so the table has room.
 #[derive(Drop)]
 pub(crate) struct Marks {
     marks: [bool; SPOTS],
@@ -27,7 +27,7 @@ pub(crate) struct Marks {
 }
 
 impl Marks {
-    /// No walk has arrived anywhere yet.
+    /// Returns marks by which no walk has arrived anywhere yet.
     fn none() -> Marks
         ensures marks { result.marks ≡ replicate 744 false }
         ensures waiting { result.waiting.items ≡ [] }
@@ -38,7 +38,7 @@ impl Marks {
         }
     }
 
-    /// Whether a number is marked.
+    /// Returns whether a number is marked.
     fn is_marked(&self, number: usize) -> bool
         requires { number < 744 }
         ensures { result ≡ slice_index_or self.now.marks number false }
@@ -46,7 +46,7 @@ impl Marks {
         self.marks[number]
     }
 
-    /// Whether a walk has arrived at a stop, and it is listed under its own name.
+    /// Returns whether a walk has arrived at a stop that is listed under its own name.
     pub(crate) fn has_stop(&self, stop: Stop) -> bool
         ensures { IsTrue result ↔ IsMarkedStop self.now.marks stop }
     {
@@ -67,7 +67,8 @@ impl Marks {
     }
 }
 
-/// The other hex in which the stop of a hex lies that names it, if there is one.
+/// Returns the other hex of a stop that lies in two hexes, by the hex that names it; `None` if it
+/// lies in one.
 pub fn twin(hex: Hex) -> Option<Hex>
     ensures { result ≡ twin_of hex }
 {
@@ -78,7 +79,7 @@ pub fn twin(hex: Hex) -> Option<Hex>
     }
 }
 
-/// Whether a step enters its link at a spot of the same hex.
+/// Returns whether a step enters its link at a spot of the same hex.
 fn is_entered(step: Step, at: Spot) -> bool
     requires { step.link.hex ≡ at.hex }
     ensures { IsTrue result ↔ IsEnteredAt at step }
@@ -185,8 +186,8 @@ fn follow_from<N: Network, K: Keeper>(
     Ok(())
 }
 
-/// Looks at a stop at which a walk has arrived: where the walk may pass it, follows the links that
-/// end there.
+/// Looks at a stop at which a walk has arrived: follows the links that end there, if the walk may
+/// pass it.
 fn look_from_stop<N: Network, K: Keeper>(
     network: &N,
     company: Company,
@@ -216,8 +217,8 @@ fn look_from_stop<N: Network, K: Keeper>(
     Ok(())
 }
 
-/// Looks at a spot at which a walk has arrived: marks each end to which the walk comes by one link
-/// more.
+/// Looks at a spot at which a walk has arrived: marks each end to which one more link leads the
+/// walk.
 fn look<N: Network, K: Keeper>(
     network: &N,
     company: Company,
@@ -245,8 +246,8 @@ fn look<N: Network, K: Keeper>(
     Ok(())
 }
 
-/// The marks of the stops with a token of the company, where its walks begin. All of them are still
-/// to be looked at.
+/// Returns the marks of the stops with a token of the company, where its walks begin. All of them
+/// are still to be looked at.
 fn mark_tokens<N: Network>(network: &N, company: Company) -> Marks
     ensures arrive { AllArrive (N.position network.now) company result.marks }
     ensures tokens { HasAllTokens (N.position network.now) company result.marks }

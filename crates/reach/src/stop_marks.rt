@@ -6,8 +6,8 @@ use crate::numbers::{STOPS, stop_order};
 use map_tables::Stop;
 use std::marker::Model;
 
-/// A mark for each stop of the map. To a contract it is the list of the marks, in the order of the
-/// map. It takes no memory.
+/// A mark for each stop of the map. In a contract it is the list of the marks, in the order of the
+/// map. Allocates nothing.
 #[derive(Clone, Copy, Debug)]
 pub struct StopMarks {
     marks: [bool; STOPS],
@@ -26,7 +26,7 @@ impl Model for StopMarks {
 }
 
 impl StopMarks {
-    /// No stop is marked.
+    /// Returns marks by which no stop is marked.
     pub fn none() -> StopMarks
         ensures { result ≡ replicate 186 false }
     {
@@ -35,7 +35,7 @@ impl StopMarks {
         }
     }
 
-    /// Whether a stop is marked.
+    /// Returns whether a stop is marked.
     pub fn has(&self, stop: Stop) -> bool
         ensures { result ≡ get_or self.now (stop_order stop) false }
     {
@@ -49,7 +49,7 @@ impl StopMarks {
         self.marks[stop_order(stop)] = true;
     }
 
-    /// Takes the mark of a stop away.
+    /// Removes the mark of a stop.
     pub fn unmark(&mut self, stop: Stop)
         ensures { self.new ≡ set self.old (stop_order stop) false }
     {

@@ -1,4 +1,4 @@
-//! The stops that a company reaches, found without memory.
+//! The stops that a company reaches, found without allocating.
 ghost use Rattle.std.specs.Prelude.{◌≡◌, ◌+◌, ◌<◌, ◌≤◌, ◌↔◌, ◌++◌, ◌∷◌, [], IsTrue, length};
 ghost use Rattle.reach.specs.Position.{IsAmong};
 ghost use Rattle.reach.specs.Reached.{AreSortedBy, stop_order};
@@ -14,8 +14,8 @@ use map_tables::{HEXES, Hex, Stop, StopNumber};
 use std::marker::Model;
 use tables::Company;
 
-/// The stops that a company reaches. To a contract it is the list of them, in the order of the map.
-/// A stop that lies in two hexes is once, as the one that names it.
+/// The stops that a company reaches. In a contract it is the list of them, in the order of the map.
+/// A stop that lies in two hexes is there once, as the one that names it.
 #[derive(Drop)]
 pub struct ReachedStops {
     stops: [Stop; STOPS],
@@ -37,7 +37,7 @@ impl Model for ReachedStops {
 }
 
 impl ReachedStops {
-    /// No stop is reached.
+    /// Returns an empty list.
     fn none() -> ReachedStops
         ensures { result ≡ [] }
     {
@@ -62,7 +62,7 @@ impl ReachedStops {
         self.marks.mark(stop);
     }
 
-    /// The stops, in the order of the map, 186 at most.
+    /// Returns the stops, in the order of the map, 186 at most.
     pub fn stops(&self) -> &[Stop]
         ensures value { result.now ≡ self.now }
         ensures bound { length self.now ≤ 186 }
@@ -70,7 +70,7 @@ impl ReachedStops {
         &self.stops[..self.count]
     }
 
-    /// Whether a stop is one of them.
+    /// Returns whether a stop is one of them.
     pub fn has(&self, stop: Stop) -> bool
         ensures { IsTrue result ↔ IsAmong stop self.now }
     {
@@ -78,8 +78,8 @@ impl ReachedStops {
     }
 }
 
-/// The stops that a company reaches: those with a token of it, and each stop that a walk from there
-/// touches, just as `reached` finds them. It takes no memory.
+/// Returns the stops that a company reaches: those with a token of it, and each stop that a walk
+/// from there touches. They are those that `reached` finds. Allocates nothing.
 pub fn reached_stops<N: Network>(network: &N, company: Company) -> ReachedStops
     ensures { AreReachedStops (N.position network.now) company result }
 {
@@ -90,7 +90,7 @@ pub fn reached_stops<N: Network>(network: &N, company: Company) -> ReachedStops
     }
 }
 
-/// The stops that are marked, in the order of the map.
+/// Returns the stops that are marked, in the order of the map.
 pub(crate) fn marked_stops(marks: &Marks) -> ReachedStops
     ensures marked { AreMarkedStops marks.now.marks result }
     ensures in_order { AreSortedBy stop_order result }

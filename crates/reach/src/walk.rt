@@ -16,7 +16,7 @@ pub struct Spot {
 impl Default for Spot {
     ghost is_default = { λ spot. spot ≡ record { hex = A9; end = AtSide SouthWest } };
 
-    /// What fills a table that has room for more.
+    /// Returns the filler for the unused room of a table.
     fn default() -> Spot {
         Spot {
             hex: Hex::A9,
@@ -26,7 +26,7 @@ impl Default for Spot {
 }
 
 impl Spot {
-    /// The stop there, if it is one; the stop that names it, where it lies in two hexes.
+    /// Returns the stop there, if it is one; the stop that names it, if it lies in two hexes.
     pub fn stop(self) -> Option<Stop>
         ensures { result ≡ stop_of self }
     {
@@ -39,7 +39,7 @@ impl Spot {
         }
     }
 
-    /// The other side of the border, if it is a side at one: not off the map, nor where the
+    /// Returns the other side of the border, if it is a side at one; `None` off the map, or if the
     /// border is closed.
     pub fn across(self) -> Option<Spot>
         ensures { result ≡ across self }
@@ -66,7 +66,7 @@ pub struct Step {
 }
 
 impl Step {
-    /// Where the step enters its link.
+    /// Returns where the step enters its link.
     pub fn entered(self) -> Spot
         ensures { result ≡ entered_at self }
     {
@@ -80,7 +80,7 @@ impl Step {
         }
     }
 
-    /// Where the step leaves its link.
+    /// Returns where the step leaves its link.
     pub fn left(self) -> Spot
         ensures { result ≡ left_at self }
     {

@@ -1,4 +1,4 @@
--- What a stop is worth is what that the position has there.
+-- What a stop is worth is what the position has there.
 use Rattle.std.proofs.Common.{◌≡◌, ap, sym, true, false}
 use Rattle.map_tables.specs.OnMap.{is_stop}
 use Rattle.board_state.proofs.Positions.{shown, not_on_map}

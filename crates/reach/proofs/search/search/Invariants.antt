@@ -1,5 +1,5 @@
--- Walks arrive at all that is marked, all tokens are marked, and each spot that is marked waits or was looked at; walks may
--- take all links that are kept, if none was before. Each time one fewer waits, but for those that are marked for it.
+-- Walks arrive at all that is marked, all tokens are marked, and each spot that is marked waits or
+-- was looked at. Walks may take all links that are kept, if none was before.
 use Rattle.std.proofs.Common.{◌+◌, ◌-◌, ◌*◌, length}
 use Rattle.reach.specs.Search.{AllArrive, CanTakeAll, HasAllTokens, AreLookedAt, KeepsNone, marked}
 use Rattle.reach.proofs.search.search.Given as goal

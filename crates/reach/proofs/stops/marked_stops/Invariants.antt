@@ -1,4 +1,5 @@
--- The stops of the hexes before the next one are in order, those that are marked; two of a hex at most.
+-- The stops of the hexes before the next one are in order, those that are marked; two of a hex at
+-- most.
 use Rattle.std.proofs.Common.{◌*◌, ◌≤◌, length}
 use Rattle.reach.proofs.Collected.{StopsBefore}
 use Rattle.reach.proofs.stops.marked_stops.Given as goal

@@ -1,4 +1,4 @@
--- One stop more, with its mark.
+-- One more stop, with its mark.
 use Rattle.std.proofs.Common.{◌≡◌, ℕ, ◌+◌, ◌<◌, Bool, true, List, length, set, take, ap, sym, ◌∙◌, arith, length-set}
 use Rattle.std.proofs.lemmas.List.{length-take-le, take_more_set}
 use Rattle.map_tables.specs.declared.place.Stop.{Stop}
