@@ -1,5 +1,5 @@
--- A claim that is accepted has the greatest revenue: a leaf below a node at which marks hold earns no more than is
--- claimed, and each legal set is the runs of a leaf. Marks that are written for the greatest revenue hold.
+-- A claim that is accepted has the greatest revenue. A leaf below a node at which marks hold earns
+-- no more than is claimed, and each legal set is the runs of a leaf.
 use Rattle.std.proofs.Common.{◌≡◌, ℕ, ◌<◌, ◌≤◌, Bool, true, false, ◌⊎◌, inl, inr, Some, List, [], ◌∷◌, ◌++◌, append-nil}
 use Rattle.std.proofs.Common.{refl, ap, sym, ◌∙◌, subst, arith}
 use Rattle.std.specs.List.{AllByRecursion}

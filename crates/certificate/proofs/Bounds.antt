@@ -1,5 +1,5 @@
--- How the bound of a node falls: the values of reached stops that are still to come are fewer by the stop that a run
--- visits next.
+-- How the bound of a node falls: the values of reached stops that are still to come are fewer by
+-- the stop that a run visits next.
 use Rattle.std.proofs.Common.{◌≡◌, ℕ, zero, suc, ◌+◌, ◌-◌, ◌≤◌, ◌==◌, Bool, true, false, ◌||◌, inl, inr, Option, Some}
 use Rattle.std.proofs.Common.{None, if◌then◌else◌, List, [], ◌∷◌, length, refl, sym, subst, arith}
 use Rattle.std.proofs.lemmas.Bool.{eq-eqb}
@@ -28,7 +28,7 @@ less_more value values others less zero = omega arith
 less_more value values others less (suc count) =
     let later : greatest_sum (suc count) values ≤ greatest_sum (suc count) others = less (suc count) in omega arith
 
--- with one value more
+-- with one more value
 abbrev AreLessBy : ℕ → List ℕ → List ℕ → Type 0
 AreLessBy value values others = (count : ℕ) → value + greatest_sum count values ≤ greatest_sum (suc count) others
 

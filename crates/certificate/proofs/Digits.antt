@@ -1,4 +1,5 @@
--- How bits are kept and printed: the bits of a number, one more at its end, and the digits of four bits after four.
+-- How bits are kept and printed: the bits of a number, one more at its end, and the digits of four
+-- bits after four.
 use Rattle.std.proofs.Common.{◌≡◌, ℕ, zero, suc, ◌+◌, ◌-◌, ◌*◌, ◌/◌, ◌%◌, ◌^◌, ◌<◌, Bool, true, false, nat_eq, List, []}
 use Rattle.std.proofs.Common.{◌∷◌, ◌++◌, length, take, drop, get_or, append_assoc, append-nil, refl, ap, sym, ◌∙◌}
 use Rattle.std.proofs.Common.{arith}
@@ -28,7 +29,7 @@ higher : (count number : ℕ) (bit : Bool) → (2 * number + bit_number bit) / 2
 higher count number bit = bit_at-suc (2 * number + bit_number bit) count
     ∙ ap (λ (n : ℕ). n / 2 ^ count % 2) (half number bit)
 
--- with one bit more at the end
+-- with one more bit at the end
 one_more : (count number : ℕ) (bit : Bool) → bits_of (suc count) (2 * number + bit_number bit)
     ≡ bits_of count number ++ bit ∷ []
 one_more zero number bit = ap (λ (b : Bool). b ∷ []) (low_bit number bit)
@@ -44,7 +45,7 @@ more_at_end count number more bit is =
     ap (λ (c : ℕ). bits_of c (2 * number + more)) next
     ∙ (ap (λ (m : ℕ). bits_of (suc count) (2 * number + m)) is ∙ one_more count number bit)
 
--- a bit is added behind the bytes
+-- a bit is added after the bytes
 pub pushed :
     (bytes : List ℕ) (count number more : ℕ) (bit : Bool) (old : List Bool) → more ≡ bit_number bit →
     bits_of_bytes bytes ++ bits_of count number ≡ old
@@ -99,7 +100,7 @@ pub read_first :
     old ≡ nat_eq (number / 2 ^ (count - 1) % 2) 1 ∷ (bits_of (count - 1) number ++ rest)
 read_first count number rest old some is = sym is ∙ ap (λ (b : List Bool). b ++ rest) (first_bit count number some)
 
--- where none is in hand, the next byte is taken in hand, or what is behind the bytes
+-- if none is in hand, the next byte is taken in hand, or what is after the bytes
 pub open_byte :
     (left opened : ℕ) (bytes later : List ℕ) (first count last : ℕ) (old : List Bool) → left ≡ 0
     → bytes ≡ first ∷ later →
@@ -118,7 +119,7 @@ open_last left opened [] count last old none is before =
     append-nil (bits_of count last) ∙ (ap (λ (n : ℕ). bits_of n opened ++ bits_of count last) (sym none) ∙ before)
 open_last left opened (byte ∷ bytes) count last old none is before = absurd (omega arith)
 
--- no bit is left exactly where there is none in hand, no byte, and none behind the bytes
+-- no bit is left exactly if there is none in hand, no byte, and none after the bytes
 bits_counted : (count number : ℕ) → length (bits_of count number) ≡ count
 bits_counted zero number = refl
 bits_counted (suc count) number = ap suc (bits_counted count number)

@@ -1,5 +1,5 @@
--- Marks are read over the nodes ahead exactly where they hold, node by node; and what is written holds where no leaf
--- earns more than the revenue.
+-- Marks are read over the nodes ahead exactly if they hold, node by node; and what is written holds
+-- where no leaf earns more than the revenue.
 use Rattle.std.proofs.Common.{◌≡◌, ℕ, ◌≤◌, leb, Bool, true, false, if◌then◌else◌, Option, Some, None, List, [], ◌∷◌}
 use Rattle.std.proofs.Common.{◌++◌, append_assoc, append-nil, refl, ap, sym, ◌∙◌, subst}
 use Rattle.std.proofs.lemmas.Bool.{leb-true, le-leb}
@@ -100,7 +100,7 @@ module _ (position : Position) (company : Company) (reached : List Stop) (revenu
         rest = rest.rest;
       }
 
-  -- marks that are read over the nodes ahead hold, but for what is left over
+  -- marks that are read over the nodes ahead hold, except for what is left over
   pub record AreHeld (nodes : List Node) (marks left : List Bool) : Type 0 where
     pub read : List Bool
     pub parts : marks ≡ read ++ left
@@ -154,7 +154,7 @@ module _ (position : Position) (company : Company) (reached : List Stop) (revenu
       by_trains true none_left rest reads = absurd cc
       by_trains false trains rest reads = split_held node nodes marks left (are_left node.trains trains) (rest reads)
 
-  -- at a node, and nothing behind it
+  -- at a node, and nothing after it
   pub held_at : (node : Node) (marks left : List Bool) → over (node ∷ []) marks ≡ Some left
       → (read : List Bool) × (marks ≡ read ++ left) × HoldHere node read
   held_at node marks left is =

@@ -1,5 +1,5 @@
--- Down the tree what holds at a node keeps holding, and the bound never grows; so the assigned runs of a leaf are a
--- legal set, which earns no more than the bound of any node above it.
+-- Down the tree what holds at a node keeps holding, and the bound never grows. So the assigned runs
+-- of a leaf are a legal set, which earns no more than the bound of any node above it.
 use Rattle.std.proofs.Common.{◌≡◌, ◌+◌, ◌≤◌, inl, inr, if◌then◌else◌, List, [], ◌∷◌, ◌++◌, refl, ap, subst, arith}
 use Rattle.map_tables.specs.Place.{joined_stop_of}
 use Rattle.map_tables.specs.declared.place.Stop.{Stop}

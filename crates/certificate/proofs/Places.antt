@@ -16,7 +16,7 @@ use Rattle.certificate.specs.Walking.{HaveEarnings, earned_from, kind_from, trai
 use Rattle.certificate.specs.declared.tree.Group.{Group}
 use Rattle.legal_runs.proofs.Relabelled.{kind_is as same_kind_is}
 
--- behind this many things
+-- after this many things
 drop_behind : {A : Type 0} (thing : A) (rest : List A) (count place : ℕ) → count ≤ place
     → drop place (replicate count thing ++ rest) ≡ drop (place - count) rest
 drop_behind thing rest zero place low = let e : place ≡ place - 0 = omega arith in ap (λ (n : ℕ). drop n rest) e
@@ -63,7 +63,7 @@ kind_is (group ∷ groups) place kind is = by_test (kind_is groups (place - grou
         ∙ ap (λ (l : List Kind). kind ∷ l) (sym (drop_behind group.kind (trains_in groups) group.count (place + 1)
         (omega arith)))))
 
--- behind the last train there is none
+-- after the last train there is none
 pub none_is : (groups : List Group) (place : ℕ) → kind_from groups place ≡ None → length (trains_in groups) ≤ place
 none_is [] place is = omega arith
 none_is (group ∷ groups) place is = by_test (none_is groups (place - group.count)) (nat_lt place group.count) refl is

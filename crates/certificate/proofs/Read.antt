@@ -1,4 +1,5 @@
--- A walk by marks reads them over the nodes ahead; a walk that writes marks writes those of the nodes ahead.
+-- A walk by marks reads them over the nodes ahead; a walk that writes marks writes those of the
+-- nodes ahead.
 use Rattle.std.proofs.Common.{◌≡◌, ◌↔◌, ℕ, ◌-◌, ◌<◌, ◌≤◌, length, Bool, true, false, inl, inr, Option, Some, None}
 use Rattle.std.proofs.Common.{if◌then◌else◌, List, [], ◌∷◌, ◌++◌, append_assoc, append-nil, refl, ap, sym, ◌∙◌, subst}
 use Rattle.std.proofs.Common.{arith}
@@ -93,7 +94,7 @@ module _ {S : Type 0} (written : S → List Bool) (revenue_in : S → ℕ) (fail
       (failed new)
       × (revenue_in new ≡ revenue_in old)
 
-  -- what is written over the nodes ahead, behind what was written
+  -- what is written over the nodes ahead, after what was written
   abbrev pub IsWrittenOver : S → List Node → S → Type 0
   IsWrittenOver s nodes t = (marks : List Bool) × Writes position company reached revenue nodes marks
       × (written t ≡ written s ++ marks)

@@ -1,5 +1,5 @@
--- A legal run whose borders are free is a path down the tree: from where nothing is begun, step by step, to where it is
--- assigned.
+-- A legal run whose borders are free is a path down the tree: from where nothing is begun, step by
+-- step, to where it is assigned.
 use Rattle.std.proofs.Common.{◌≡◌, ℕ, suc, Bool, true, false, not, ltb, ◌||◌, ◌⊎◌, inl, inr, Option, Some, None, IfSome}
 use Rattle.std.proofs.Common.{if◌then◌else◌, List, [], ◌∷◌, ◌++◌, length, refl, ap, sym, ◌∙◌, subst, arith}
 use Rattle.std.specs.List.{list_any}

@@ -1,5 +1,5 @@
--- Each legal set is the assigned runs of a leaf: train by train, in their order, a run of the set is taken for a train
--- of its kind, or none where no run of that kind is left.
+-- Each legal set is the assigned runs of a leaf. Train by train, in their order, a run of the set
+-- is taken for a train of its kind, or none if no run of that kind is left.
 use Rattle.std.proofs.Common.{◌≡◌, ◌↔◌, ℕ, ◌+◌, ◌≤◌, Bool, true, false, ◌⊎◌, inl, inr, if◌then◌else◌, List, [], ◌∷◌}
 use Rattle.std.proofs.Common.{refl, ap, subst, arith}
 use Rattle.std.specs.List.{AllByRecursion}
@@ -175,7 +175,7 @@ module _ (position : Position) (lawful : IsLawful position) (company : Company) 
     same : (run : TrainRun) → IsAmong run leaf.assigned ↔ (IsAmong run assigned ⊎ IsAmong run runs)
     earns : revenue_of position leaf.assigned ≡ revenue_of position assigned + revenue_of position runs
 
-  -- with one run more assigned
+  -- with one more run assigned
   still_free :
       (run : TrainRun) (assigned rest : List TrainRun)
       → AllByRecursion (λ (other : TrainRun). ShareNoBorder run.steps other.steps) rest →

@@ -1,4 +1,5 @@
--- A walk over some nodes and then one over others is a walk over all of them; one that ends on the way ends so.
+-- A walk over some nodes and then one over others is a walk over all of them; one that ends on the
+-- way ends so.
 use Rattle.std.proofs.Common.{ℕ, Bool, true, false, List, ◌++◌, append_assoc, subst}
 use Rattle.map_tables.specs.declared.place.Stop.{Stop}
 use Rattle.reach.specs.Position.{Position}

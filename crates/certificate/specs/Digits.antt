@@ -1,5 +1,5 @@
--- Marks in a text: four bits to a hexadecimal digit, the highest first. They are read in upper or lower case and
--- printed in lower case; the last digit is filled up with 0 bits.
+-- Marks in a text: four bits to a hexadecimal digit, the highest first. They are read in upper or
+-- lower case and printed in lower case; the last digit is filled up with 0 bits.
 use Rattle.std.specs.Prelude.{◌≡◌, ℕ, zero, suc, ◌+◌, ◌-◌, ◌*◌, ◌/◌, ◌%◌, ◌^◌, ◌==◌, ◌&&◌, nat_le, Bool, false, not}
 use Rattle.std.specs.Prelude.{if◌then◌else◌, Option, Some, None, is_some, unwrap_or, List, [], ◌∷◌, ◌++◌, get_or, codes}
 use Rattle.std.specs.List.{AllByRecursion, flat_map, list_any}
@@ -34,6 +34,7 @@ has_other text = list_any (λ byte. not (is_digit byte)) text
 abbrev pub bits_of_digit : ℕ → List Bool
 bits_of_digit byte = bits_of 4 (unwrap_or (digit_value byte) 0)
 
+-- the bits of a text of hexadecimal digits, digit by digit
 abbrev pub bits_of_digits : List ℕ → List Bool
 bits_of_digits text = flat_map bits_of_digit text
 

@@ -1,7 +1,7 @@
--- A small example of the choice tree. The Pennsylvania has its token on H12 and two 2-trains; a yellow city lies on
--- H10, worth 20, beside its home, worth 10. Its runs can earn 30, since one border joins the two cities. In the order
--- in which the tree is gone through, down to nodes whose bound is at most 30, these are the nodes with a greater
--- bound.
+-- A small example of the choice tree. The Pennsylvania has its token on H12 and two 2-trains; a
+-- yellow city lies on H10, worth 20, beside its home, worth 10. Its runs can earn 30, since one
+-- border joins the two cities. These are the nodes with a bound over 30, in the tree's order, down
+-- to nodes whose bound is at most 30.
 use Rattle.std.specs.Prelude.{◌≡◌, ℕ, zero, suc, nat_le, Bool, true, false, if◌then◌else◌, Option, Some, None, List, []}
 use Rattle.std.specs.Prelude.{◌∷◌, map, codes}
 use Rattle.map_tables.specs.Hex.{hexes}
@@ -55,8 +55,8 @@ WorkedTree =
     true ∷ false ∷ true ∷ true ∷ true ∷ true ∷ true ∷ false ∷ true ∷ true ∷ true ∷ true ∷ true ∷ false ∷ true ∷ true
     ∷ true ∷ []
 
--- the marks of the tree in hexadecimal digits: they are read over it for 30, three 0 bits being left over, and for no
--- smaller revenue
+-- the marks of the tree in hexadecimal digits: they are read over it for 30, three 0 bits being
+-- left over, and for no smaller revenue
 abbrev pub read_over_tree : ℕ → Option (List Bool)
 read_over_tree revenue =
     left_over two_cities Pennsylvania both_cities revenue (root_of (Two ∷ Two ∷ []) ∷ [])

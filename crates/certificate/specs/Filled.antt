@@ -1,5 +1,5 @@
--- Marks are kept as bits and printed as hexadecimal digits, the last of which is filled up with 0 bits. As they are
--- written they hold, whatever fills it up.
+-- Marks are kept as bits and printed as hexadecimal digits, the last of which is filled up with 0
+-- bits. As they are written they hold, whatever fills it up.
 use Rattle.std.specs.Prelude.{ℕ, Bool, List, ◌++◌}
 use Rattle.reach.specs.Position.{Position}
 use Rattle.tables.specs.declared.rolling_stock.Kind.{Kind}

@@ -1,10 +1,11 @@
--- Marks, by which a claim is checked without a search: one for each node of the choice tree that is gone through, in
--- the tree's order. The mark 0 cuts a node, which is allowed where no leaf below it can earn more than is claimed, by
--- the node's bound; the mark 1 splits it, and then the marks of its children follow. A leaf is not split. Marks that
--- hold at the root show that no leaf earns more.
+-- Marks, by which a claim is checked without a search: one for each node of the choice tree that
+-- the check walks over, in the tree's order. The mark 0 cuts a node. That is allowed if, by the
+-- node's bound, no leaf below it can earn more than is claimed. The mark 1 splits it, and then the
+-- marks of its children follow. A leaf is not split. Marks that hold at the root show that no leaf
+-- earns more.
 --
--- `Hold` is the rule, node by node. `left_over` reads marks over a list of nodes that lie ahead, and computes. `Writes`
--- is how marks are written once a revenue is known.
+-- `Hold` is the rule, node by node. `left_over` reads marks over a list of nodes that lie ahead,
+-- and computes. `Writes` is how marks are written once a revenue is known.
 use Rattle.std.specs.Prelude.{◌≡◌, ◌↔◌, ℕ, ◌<◌, ◌≤◌, nat_le, Bool, true, false, if◌then◌else◌, Option, Some, None, List}
 use Rattle.std.specs.Prelude.{[], ◌∷◌, ◌++◌, length}
 use Rattle.std.specs.List.{AllByRecursion}
@@ -29,8 +30,8 @@ is_leaf (kind ∷ later) = false
 
 module _ (position : Position) (company : Company) (reached : List Stop) (revenue : ℕ) where
   mutual
-    -- marks hold at a node: the first is 0 and the bound is at most the revenue; or it is 1, trains are left, and the
-    -- rest is, child by child, marks that hold
+    -- Marks hold at a node. Either the first is 0 and the bound is at most the revenue; or it is 1,
+    -- trains are left, and the rest is, child by child, marks that hold.
     pub data Hold : Node → List Bool → Type 0 where
       cut : (node : Node) → bound position reached node ≤ revenue → Hold node (false ∷ [])
       split :
@@ -45,8 +46,9 @@ module _ (position : Position) (company : Company) (reached : List Stop) (revenu
           (node : Node) (nodes : List Node) (marks others : List Bool) → Hold node marks → HoldInTurn nodes others →
           HoldInTurn (node ∷ nodes) (marks ++ others)
 
-  -- What is left over of marks that are read over the nodes ahead, if those that are read hold: a cut takes the first
-  -- node away, a split puts its children in front; once no node is left the reading ends.
+  -- What is left over of marks that are read over the nodes ahead, if those that are read hold. A
+  -- cut removes the first node, and a split puts its children before the others. Once no node is
+  -- left the reading ends.
   abbrev pub left_over : List Node → List Bool → Option (List Bool)
   left_over [] marks = Some marks
   left_over (node ∷ nodes) [] = None
@@ -55,8 +57,8 @@ module _ (position : Position) (company : Company) (reached : List Stop) (revenu
   left_over (node ∷ nodes) (true ∷ marks) =
       if is_leaf node.trains then None else left_over (children position company reached node ++ nodes) marks
 
-  -- Some marks are what is written over the nodes ahead: a node is cut where its bound is at most the revenue, and
-  -- split elsewhere.
+  -- Some marks are what is written over the nodes ahead: a node is cut if its bound is at most the
+  -- revenue, and split otherwise.
   abbrev pub Writes : List Node → List Bool → Type 0
   Writes [] [] = Unit {0}
   Writes [] (mark ∷ marks) = ⊥
@@ -80,7 +82,8 @@ pub record AreMarks (position : Position) (company : Company) (trains : List Kin
   pub hold : Hold position company reached revenue (root_of trains) marks
   pub fill : AreFilling filling
 
--- the same by what is left over, at the stops that are reached
+-- bits are read as marks at the root for a revenue, with at most three 0 bits left over, at the
+-- stops that are reached
 pub record AreReadAsMarks (position : Position) (company : Company) (trains : List Kind) (reached : List Stop)
     (revenue : ℕ) (bits : List Bool) : Type 0 where
   pub filling : List Bool

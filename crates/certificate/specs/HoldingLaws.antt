@@ -1,5 +1,6 @@
--- What joins marks to the legal sets: a claim that is accepted has the greatest revenue, whoever made its marks; and
--- what is written for the greatest revenue are marks that hold, whatever fills up the last digit.
+-- What joins marks to the legal sets. A claim that is accepted has the greatest revenue, whoever
+-- made its marks. What is written for the greatest revenue are marks that hold, whatever fills up
+-- the last digit.
 use Rattle.std.specs.Prelude.{◌≡◌, ◌↔◌, ℕ, Bool, Some, List, [], ◌∷◌, ◌++◌}
 use Rattle.map_tables.specs.declared.place.Stop.{Stop}
 use Rattle.reach.specs.Lawful.{IsLawful}
@@ -18,14 +19,14 @@ AcceptedIsGreatest =
     (position : Position) (company : Company) (trains : List Kind) (claim : Claim) (bits : List Bool) →
     IsLawful position → IsAccepted position company trains claim bits → IsGreatest position company trains claim.revenue
 
--- marks hold at a node exactly where they are read over it, and none is left over
+-- marks hold at a node exactly if they are read over it, and none is left over
 abbrev pub MarksHoldWhereRead : Type 0
 MarksHoldWhereRead =
     (position : Position) (company : Company) (reached : List Stop) (revenue : ℕ) (node : Node) (marks : List Bool) →
     Hold position company reached revenue node marks
     ↔ (left_over position company reached revenue (node ∷ []) marks ≡ Some [])
 
--- bits are marks exactly where they are read as such, at the stops that are reached
+-- bits are marks exactly if they are read as such, at the stops that are reached
 abbrev pub MarksAreRead : Type 0
 MarksAreRead =
     (position : Position) (company : Company) (trains : List Kind) (reached : List Stop) (revenue : ℕ)
@@ -33,7 +34,8 @@ MarksAreRead =
     AreReached position company reached →
     AreMarks position company trains revenue bits ↔ AreReadAsMarks position company trains reached revenue bits
 
--- what is written over the root for the greatest revenue are marks for it, with what fills up the last digit
+-- what is written over the root for the greatest revenue are marks for it, with what fills up the
+-- last digit
 abbrev pub WrittenMarksHold : Type 0
 WrittenMarksHold =
     (position : Position) (company : Company) (trains : List Kind) (reached : List Stop) (revenue : ℕ)

@@ -1,14 +1,18 @@
--- The choice tree of a company's best runs. A node has the runs that are assigned, the run that is begun, and the
--- trains to come; the first of these is the train in hand, whose run it is. A run that is begun has a head: at a stop,
--- or at a border, beyond which it goes on. While none is begun the choices are no run for this train, and then the runs
--- that leave a reached stop, by each of its links. From a border they are the links of the hex beyond at that side, to
--- another side whose border was not crossed or to a reached stop that is not in the run. At a stop they are first the
--- finished run, if it has two stops and an own token, and then each link of the stop whose border was not crossed,
--- unless the stop is red or full or the train has used up its stops. Nodes without a train are the leaves.
+-- The choice tree of a company's best runs. A node has the runs that are assigned, the run that is
+-- begun, and the trains to come. The first of these is the train in hand, whose run it is. A run
+-- that is begun has a head: at a stop, or at a border, beyond which it goes on.
 --
--- The bound of a node is what its assigned runs and the stops of the run begun earn, and for that run the greatest
--- values of reached stops that are not in it, as many as it may still visit, and for each train after it the greatest
--- values of reached stops, as many as it may visit; a D may visit all.
+-- While no run is begun the choices are no run for this train, and then the runs that leave a
+-- reached stop, by each of its links. From a border they are the links of the hex beyond at that
+-- side. Such a link leads to another side whose border was not crossed, or to a reached stop that
+-- is not in the run. At a stop they are first the finished run, if it has two stops and an own
+-- token. Then comes each link of the stop whose border was not crossed, unless the stop is red or
+-- full or the train has used up its stops. Nodes without a train are the leaves.
+--
+-- The bound of a node is a sum. It has what the assigned runs and the stops of the run begun earn.
+-- For that run it has the greatest values of reached stops that are not in it, as many as it may
+-- still visit. For each train after it, it has the greatest values of reached stops, as many as
+-- that train may visit; a D may visit all.
 use Rattle.std.specs.Prelude.{◌≡◌, ℕ, zero, suc, ◌+◌, ◌-◌, max, ◌==◌, nat_lt, Bool, true, false, not, ◌&&◌, ◌||◌}
 use Rattle.std.specs.Prelude.{if◌then◌else◌, Option, Some, None, is_some, List, [], ◌∷◌, ◌++◌, length}
 use Rattle.std.specs.List.{list_any}
@@ -32,6 +36,8 @@ use Rattle.legal_runs.specs.Fault.{has_border, has_stop, has_token, is_full}
 use Rattle.legal_runs.specs.Legal.{border_at, border_of, crossed, visited, worth}
 use Rattle.legal_runs.specs.Set.{TrainRun, revenue_of}
 
+-- a node of the tree: the runs assigned, the run that is begun, latest step first, and the trains
+-- left
 pub record Node : Type 0 where
   pub assigned : List TrainRun
   pub begun : List Step
@@ -117,7 +123,7 @@ leads_on reached node step =
 abbrev pub with_step : Node → Step → Node
 with_step node step = node_of node.assigned (step ∷ node.begun) node.trains
 
--- a node, where a test passes
+-- a node, if a test passes
 abbrev pub node_if : Bool → Node → List Node
 node_if true node = node ∷ []
 node_if false node = []
@@ -140,6 +146,7 @@ module _ (position : Position) (company : Company) (reached : List Stop) where
   abbrev pub is_finished : List Stop → Bool
   is_finished stops = not (nat_lt (length stops) 2) && list_any (has_token position company) stops
 
+  -- the choice to finish the run that is begun, if it may be finished
   abbrev pub finishing : Node → Kind → List Kind → List Node
   finishing node kind later =
       node_if (is_finished (visited node.begun)) (node_of (record { kind = kind; steps = node.begun } ∷ node.assigned)
@@ -151,6 +158,7 @@ module _ (position : Position) (company : Company) (reached : List Stop) where
       is_red position stop || (is_full position company stop
       || is_used_up (stops_of kind) (length (visited node.begun)))
 
+  -- the choices to go on from a stop, unless the run must end there
   abbrev pub from_stop : Node → Kind → Stop → List Node
   from_stop node kind stop =
       if is_last_stop node kind stop then [] else with_steps (goes_over (taken_borders node)) node
@@ -173,10 +181,12 @@ module _ (position : Position) (company : Company) (reached : List Stop) where
   choices_at assigned (step ∷ before) (kind ∷ later) =
       from_head (node_of assigned (step ∷ before) (kind ∷ later)) kind later (left_at step) (stop_of (left_at step))
 
+  -- the children of a node, in order
   abbrev pub children : Node → List Node
   children node = choices_at node.assigned node.begun node.trains
 
-  -- a path down the tree: its nodes, the latest first, each a child of the one before; and where it ends
+  -- a path down the tree: its nodes, the latest first, each a child of the one before; and where it
+  -- ends
   abbrev pub end_of : Node → List Node → Node
   end_of start [] = start
   end_of start (node ∷ before) = node
@@ -199,11 +209,13 @@ greatest_sum zero values = 0
 greatest_sum (suc count) [] = 0
 greatest_sum (suc count) (value ∷ values) = max (value + greatest_sum count values) (greatest_sum (suc count) values)
 
+-- the sum of some values
 abbrev pub total : List ℕ → ℕ
 total [] = 0
 total (value ∷ values) = value + total values
 
--- the sum of the greatest of some values, as many as a train may visit that has visited this many stops
+-- the sum of the greatest of some values, as many as a train may visit that has visited this many
+-- stops
 abbrev pub still_to_come : Option ℕ → ℕ → List ℕ → ℕ
 still_to_come (Some most) count values = greatest_sum (most - count) values
 still_to_come None count values = total values

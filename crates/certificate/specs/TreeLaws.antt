@@ -1,7 +1,7 @@
--- What joins the choice tree to the legal sets. Each leaf's assigned runs are a legal set for the trains; and each
--- legal set is that of a leaf, at whichever of its stops a run begins, wherever its own tokens are, and however far a D
--- goes. No node has a child with a greater bound; a leaf's bound is what it earns; so no leaf below a node earns more
--- than the node's bound.
+-- What joins the choice tree to the legal sets. Each leaf's assigned runs are a legal set for the
+-- trains. Each legal set is that of a leaf, at whichever of its stops a run begins, wherever its
+-- own tokens are, and however far a D goes. No node has a child with a greater bound, and a leaf's
+-- bound is what it earns. So no leaf below a node earns more than the node's bound.
 use Rattle.std.specs.Prelude.{◌≡◌, ◌↔◌, ◌≤◌, List}
 use Rattle.reach.specs.Lawful.{IsLawful}
 use Rattle.reach.specs.Position.{Position, IsAmong}
@@ -11,7 +11,7 @@ use Rattle.tables.specs.declared.roster.Company.{Company}
 use Rattle.legal_runs.specs.Set.{IsLegalSet, TrainRun, revenue_of}
 use Rattle.certificate.specs.Tree.{IsBelow, IsLeaf, Node, bound, children, root_of}
 
--- a node is in the tree of a company's trains, where this is what it reaches
+-- a node is in the tree of a company's trains, given what the company reaches
 abbrev pub IsInTree : Position → Company → List Kind → Reaching → Node → Type 0
 IsInTree position company trains reach node = IsBelow position company reach.stops (root_of trains) node
 
@@ -44,7 +44,7 @@ LeavesAreLegalSets =
     IsLawful position → IsReach position company reach → IsInTree position company trains reach leaf → IsLeaf leaf →
     IsLegalSet position company trains leaf.assigned
 
--- these are the same runs, and they earn as much
+-- two lists of runs are the same runs, and earn as much
 pub record AreItsRuns (position : Position) (assigned runs : List TrainRun) : Type 0 where
   pub same : (run : TrainRun) → IsAmong run assigned ↔ IsAmong run runs
   pub earn_same : revenue_of position assigned ≡ revenue_of position runs

@@ -1,6 +1,7 @@
--- A walk over the choice tree: over the nodes that lie ahead, in order. At each node a decider is asked, which gets the
--- node's bound and whether it is a leaf. It cuts the node, or splits it, and then its children lie ahead before all
--- others; or it ends the walk. The walk reaches its end where no node is left.
+-- A walk over the choice tree: over the nodes that lie ahead, in order. At each node a decider gets
+-- the node's bound and whether it is a leaf. It cuts the node; or it splits it, and then its
+-- children lie ahead before all others; or it ends the walk. The walk reaches its end once no node
+-- is left.
 use Rattle.std.specs.Prelude.{ℕ, min, Bool, true, false, List, [], ◌∷◌, ◌++◌}
 use Rattle.map_tables.specs.declared.place.Stop.{Stop}
 use Rattle.reach.specs.Position.{Position}
@@ -21,7 +22,8 @@ has_no_train (kind ∷ later) = false
 
 module _ {S : Type 0} (decides : S → ℕ → Bool → Decision → S → Type 0) (position : Position) (company : Company)
     (reached : List Stop) where
-  -- a walk over some nodes, from the decider's value before it, whether it reaches its end, and the value after it
+  -- a walk over some nodes, from the decider's value before it, whether it reaches its end, and the
+  -- value after it
   pub data Walks : S → List Node → Bool → S → Type 0 where
     at_end : (s : S) → Walks s [] true s
     cuts :

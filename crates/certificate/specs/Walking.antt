@@ -1,6 +1,6 @@
--- Where a walk over the choice tree is, by what it keeps in place: marks of the borders that were crossed and of the
--- stops that the run begun has visited, and a few numbers. `IsOnRun` joins these to the assigned runs and the steps of
--- the run begun, which no code keeps.
+-- Where a walk over the choice tree is, by what it keeps in place. It keeps marks of the borders
+-- that were crossed and of the stops that the run begun has visited, and a few numbers. `IsOnRun`
+-- joins these to the assigned runs and the steps of the run begun, which no code keeps.
 use Rattle.std.specs.Prelude.{◌≡◌, ℕ, zero, suc, ◌+◌, ◌-◌, ◌*◌, ◌≤◌, nat_lt, ◌==◌, Bool, false, if◌then◌else◌, Option}
 use Rattle.std.specs.Prelude.{Some, None, option_map, List, [], ◌∷◌, ◌++◌, length, drop, get_or, replicate}
 use Rattle.std.specs.List.{list_any}
@@ -122,7 +122,8 @@ abbrev pub may_take : List Stop → Node → End → Step → Bool
 may_take reached node (AtSide side) step = leads_on reached node step
 may_take reached node (AtStop number) step = goes_over (taken_borders node) step
 
--- the nodes at which the trains have set out from a place on, this many of them, the last train first
+-- the nodes at which the trains have set out from a place on, this many of them, the last train
+-- first
 abbrev pub set_outs : Position → Tree → List TrainRun → ℕ → ℕ → List Node
 set_outs position tree assigned first zero = []
 set_outs position tree assigned first (suc count) =
@@ -137,7 +138,8 @@ module _ {S : Type 0} (decides : S → ℕ → Bool → Decision → S → Type 
   abbrev pub LeavesOver : S → List Node → S → List Node → Type 0
   LeavesOver s all t rest = LeavesAhead decides position tree.company (reached_in tree) s all t rest
 
-  -- how far a walk comes over the nodes at which no run is begun, each the first child of the one before
+  -- how far a walk comes over the nodes at which no run is begun, each the first child of the one
+  -- before
   abbrev pub Descends : List TrainRun → ℕ → S → Option ℕ → S → Type 0
   Descends assigned first s None t = WalksOver s (node_from tree assigned first ∷ []) false t
   Descends assigned first s (Some deepest) t =

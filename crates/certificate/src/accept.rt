@@ -1,4 +1,4 @@
-//! Marks that hold: whether some do, and those that are written for a revenue.
+//! Whether marks hold, and the writing of marks for a revenue.
 ghost use Rattle.std.specs.Prelude.{◌≡◌, ◌↔◌, IsTrue, IfOk, List};
 ghost use Rattle.certificate.specs.Filled.{AreMarksFilled};
 ghost use Rattle.certificate.specs.Holding.{AreMarks, IsAccepted};
@@ -15,9 +15,9 @@ use reach::Network;
 use std::alloc::{AllocError, Global};
 use tables::{Amount, Company, Kind};
 
-/// Whether a claim for a company's trains is accepted by bits: it holds, and the bits are marks that
-/// hold for its revenue, with at most three 0 bits behind them. It takes no memory, and no search:
-/// a claim that is accepted has the greatest revenue, whoever made the bits.
+/// Returns whether a claim for a company's trains is accepted by bits: it holds, and the bits are
+/// marks that hold for its revenue. At most three 0 bits may follow. A claim that is accepted has
+/// the greatest revenue, whoever made the bits. Allocates nothing, and searches for nothing.
 pub fn accepts<N: Network>(
     network: &N,
     company: Company,
@@ -40,7 +40,7 @@ pub fn accepts<N: Network>(
     )
 }
 
-/// Whether a claim is accepted by bits that are kept, just as `accepts` says.
+/// Returns whether a claim is accepted by bits that are kept, by the rule of `accepts`.
 pub fn accepts_bits<N: Network>(
     network: &N,
     company: Company,
@@ -57,8 +57,8 @@ pub fn accepts_bits<N: Network>(
     marks_hold(network, company, trains, claim.revenue, bits.reader())
 }
 
-/// Whether bits are marks that hold for a revenue of a company's trains, and at most three 0 bits
-/// behind them. It takes no memory.
+/// Returns whether bits are marks that hold for a revenue of a company's trains, and at most three
+/// 0 bits after them. Allocates nothing.
 pub(crate) fn marks_hold<N: Network, M: Marks + Drop>(
     network: &N,
     company: Company,
@@ -80,7 +80,7 @@ pub(crate) fn marks_hold<N: Network, M: Marks + Drop>(
     are_zeros(&mut reader.marks, 3)
 }
 
-/// Whether the bits that are left are at most this many, each 0.
+/// Returns whether the bits that are left are at most this many, each 0.
 fn are_zeros<M: Marks>(bits: &mut M, most: usize) -> bool
     ensures { IsTrue result ↔ AreZeros most (M.left bits.old) }
 {
@@ -96,9 +96,9 @@ fn are_zeros<M: Marks>(bits: &mut M, most: usize) -> bool
     }
 }
 
-/// Writes the marks for a revenue of a company's trains: each node of the choice tree is cut where its
-/// bound is at most the revenue, and split elsewhere. For the greatest revenue they are marks that
-/// hold, whatever fills up the last digit of their text. It fails only if memory is refused.
+/// Writes the marks for a revenue of a company's trains. Each node of the choice tree is cut if its
+/// bound is at most the revenue, and split otherwise. For the greatest revenue they are marks that
+/// hold, whatever fills up the last digit of their text. Fails only if allocation fails.
 pub fn write_marks<N: Network>(
     alloc: Global,
     network: &N,

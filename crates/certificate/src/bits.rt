@@ -7,12 +7,12 @@ use crate::hex::{HexFault, bit_number, bits_of_digit, digit_of, has_other};
 use std::alloc::{AllocError, Global};
 use std::marker::Model;
 
-/// Bits that are kept, eight in a byte. To a contract they are a list.
+/// Bits, eight in a byte. In a contract they are a list.
 #[derive(Drop)]
 pub struct Bits {
     /// The bits of all bytes but the last, the first in the highest place.
     bytes: Vec<u8>,
-    /// The bits behind them, the last in the lowest place.
+    /// The bits after them, the last in the lowest place.
     last: u8,
     /// How many these are, under eight.
     count: u8,
@@ -30,7 +30,7 @@ impl Model for Bits {
 }
 
 impl Bits {
-    /// No bits.
+    /// Returns no bits.
     pub fn new(alloc: Global) -> Bits
         ensures { result ≡ [] }
     {
@@ -41,7 +41,7 @@ impl Bits {
         }
     }
 
-    /// Adds a bit at the end. It fails only if memory is refused, and then the bits are as they were.
+    /// Adds a bit at the end. Fails only if allocation fails; then the bits are as they were.
     pub fn push(&mut self, bit: bool) -> Result<(), AllocError>
         ensures added { OnOk result (self.new ≡ self.old ++ bit ∷ []) }
         ensures kept { OnErr result (self.new ≡ self.old) }
@@ -58,9 +58,10 @@ impl Bits {
         Ok(())
     }
 
-    /// Adds the bits of hexadecimal digits, of upper or lower case: four bits from each, the highest
-    /// first. The error is `Digit` where a byte is no digit, which is looked at before memory is
-    /// asked for, and then the bits are as they were. Where memory is refused some may be added.
+    /// Adds the bits of hexadecimal digits, of upper or lower case: four bits from each, the
+    /// highest first. The error is `Digit` if a byte is no digit, which is checked before anything
+    /// is allocated; then the bits are as they were. The error is `Memory` if allocation fails;
+    /// then some may be added.
     pub fn read_digits(&mut self, text: &[u8]) -> Result<(), HexFault>
         ensures digit { (result ≡ Err Digit) ↔ (has_other text.now ≡ true) }
         ensures added { OnOk result (self.new ≡ self.old ++ bits_of_digits text.now) }
@@ -73,8 +74,8 @@ impl Bits {
         Ok(())
     }
 
-    /// Adds the bits of bytes that are known to be hexadecimal digits; another byte adds four 0 bits.
-    /// It fails only if memory is refused, and then some may be added.
+    /// Adds the bits of bytes that are known to be hexadecimal digits; another byte adds four 0
+    /// bits. Fails only if allocation fails; then some may be added.
     pub fn add_digits(&mut self, text: &[u8]) -> Result<(), AllocError>
         ensures { OnOk result (self.new ≡ self.old ++ bits_of_digits text.now) }
     {
@@ -94,7 +95,7 @@ impl Bits {
         Ok(())
     }
 
-    /// Reads the bits from the first on.
+    /// Returns a reader of the bits, from the first on.
     pub fn reader(&self) -> BitReader<'_>
         ensures { result ≡ self.now }
     {
@@ -108,7 +109,7 @@ impl Bits {
     }
 }
 
-/// Reads bits one after the other. To a contract it is the list of the bits that are left.
+/// Reads bits one after the other. In a contract it is the list of the bits that are left.
 #[derive(Drop)]
 pub struct BitReader<'a> {
     /// The byte that is being read.
@@ -117,7 +118,7 @@ pub struct BitReader<'a> {
     left: u8,
     /// The bytes after it.
     bytes: &'a [u8],
-    /// The bits behind the bytes.
+    /// The bits after the bytes.
     last: u8,
     /// How many these are.
     count: u8,
@@ -136,7 +137,7 @@ impl<'a> Model for BitReader<'a> {
 }
 
 impl<'a> BitReader<'a> {
-    /// The next bit; `None` where none is left.
+    /// Returns the next bit; `None` if none is left.
     pub fn read(&mut self) -> Option<bool>
         ensures { MatchOption result ((self.old ≡ []) × (self.new ≡ []))
             (λ bit. self.old ≡ bit ∷ self.new) }
@@ -158,7 +159,7 @@ impl<'a> BitReader<'a> {
         Some((self.open >> self.left) % 2 == 1)
     }
 
-    /// Whether no bit is left.
+    /// Returns whether no bit is left.
     pub fn is_empty(&self) -> bool
         ensures { IsTrue result ↔ (self.now ≡ []) }
     {
@@ -169,8 +170,8 @@ impl<'a> BitReader<'a> {
     }
 
     /// Prints the next bits at the end of a text, in hexadecimal digits of lower case, as
-    /// `print_hex` prints them: this many digits, or all where fewer are left. It fails only if
-    /// memory is refused, and then some may be printed.
+    /// `print_hex` prints them: this many digits, or all if fewer are left. Fails only if
+    /// allocation fails; then some may be printed.
     pub fn print_digits(&mut self, most: usize, text: &mut Vec<u8>) -> Result<(), AllocError>
         ensures printed { OnOk result
             (text.new.items ≡ text.old.items ++ digits_of (take (4 * most) self.old)) }
@@ -185,7 +186,7 @@ impl<'a> BitReader<'a> {
         Ok(())
     }
 
-    /// The digit of the next four bits; `None` where no bit is left.
+    /// Returns the digit of the next four bits; `None` if no bit is left.
     fn digit(&mut self) -> Option<u8>
         ensures digit { MatchOption result (self.old ≡ [])
             (λ digit. digits_of (take 4 self.old) ≡ digit ∷ []) }
@@ -198,7 +199,7 @@ impl<'a> BitReader<'a> {
         Some(digit_of(first, second, third, fourth))
     }
 
-    /// The next bit, or 0 where none is left.
+    /// Returns the next bit, or 0 if none is left.
     fn read_or_0(&mut self) -> bool
         ensures bit { result ≡ get_or self.old 0 false }
         ensures left { self.new ≡ drop 1 self.old }

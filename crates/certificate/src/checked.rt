@@ -1,4 +1,4 @@
-//! What answers by groups of certificates.
+//! A runner that reads its results from groups of certificates.
 ghost use Rattle.std.specs.Prelude.{◌≡◌, ◌↔◌, IsTrue, true};
 ghost use Rattle.certificate.specs.Checked.{AnswersByNext, Shows};
 
@@ -10,15 +10,15 @@ use std::marker::Model;
 use std::vec;
 use tables::{Company, Kind, Money, Round};
 
-/// A runner that searches for nothing: it uses one group of certificates for each call, in order,
-/// and answers what that claims where it is well formed, for that round and company, and accepted.
-/// Else it refuses to answer. It takes no memory.
+/// A runner that searches for nothing. It uses one group of certificates for each call, in order.
+/// It returns what the group claims if it is well formed, for that round and company, and accepted.
+/// Otherwise it returns `Refused`. Allocates nothing.
 #[derive(Drop)]
 pub struct Checked {
     groups: vec::IntoIter<Option<Group>>,
 }
 
-/// To a contract it is the list of the groups that are left; `None` is a malformed one.
+/// In a contract it is the list of the groups that are left; `None` is a malformed one.
 impl Model for Checked {
     ghost use Rattle.std.specs.Prelude.{List, Option};
     ghost use Rattle.std.specs.Vec.Iter.{into_iter_items};
@@ -30,7 +30,7 @@ impl Model for Checked {
 }
 
 impl Checked {
-    /// A runner that answers by these groups, the first of them for the first call; `None` is a
+    /// Returns a runner that uses these groups, the first of them for the first call; `None` is a
     /// malformed one.
     pub fn new(groups: Vec<Option<Group>>) -> Checked
         ensures { result ≡ groups.items }
@@ -46,8 +46,8 @@ impl Runner for Checked {
 
     ghost earns = { AnswersByNext };
 
-    /// What the next group claims, in dollars, where it shows the best runs of the company's trains
-    /// in that round; else `Refused`. In each case the group is used up.
+    /// Returns what the next group claims, in dollars, if it shows the best runs of the company's
+    /// trains in that round; otherwise the error is `Refused`. In each case the group is used up.
     fn earn<N: Network>(
         &mut self,
         network: &N,
@@ -69,7 +69,7 @@ impl Runner for Checked {
     }
 }
 
-/// Whether a group shows the best runs of a company's trains in a round.
+/// Returns whether a group shows the best runs of a company's trains in a round.
 fn shows<N: Network>(
     network: &N,
     round: Round,

@@ -1,22 +1,22 @@
-//! Who is asked at the nodes of the choice tree.
+//! What decides at the nodes of the choice tree.
 ghost use Rattle.std.specs.Prelude.{ℕ, Bool};
 ghost use Rattle.certificate.specs.declared.decider.Decision.{Decision};
 
 /// What is decided at a node of the choice tree.
 #[derive(Clone, Copy, Debug, PartialEq, Eq)]
 pub(crate) enum Decision {
-    /// Nothing below the node is gone through.
+    /// Nothing below the node is walked over.
     Cut,
-    /// The children of the node are gone through, in order.
+    /// The children of the node are walked over, in order.
     Split,
     /// The walk ends here.
     Stop,
 }
 
-/// Who decides at each node to which a walk over the choice tree comes.
+/// Decides at each node to which a walk over the choice tree comes.
 pub(crate) trait Decider {
-    /// What a question makes of the decider: its value before, the node's bound, whether the node is
-    /// a leaf, the decision, and its value after.
+    /// What a decision makes of the decider: its value before, the node's bound, whether the node
+    /// is a leaf, the decision, and its value after.
     ghost decides: { Self → ℕ → Bool → Decision → Self → Type 0 };
 
     /// Decides at a node, by its bound, in dollars, and by whether it is a leaf. A bound that is

@@ -2,8 +2,8 @@ use crate::bits::Bits;
 use legal_runs::Claim;
 use tables::{Company, Round};
 
-/// A group of a text of certificates: the round and the company whose best runs it is about, what it
-/// claims that they earn, and the bits by which this is checked.
+/// A group of a text of certificates: the round and the company of the best runs, what it claims
+/// that they earn, and the bits by which this is checked.
 #[derive(Drop)]
 pub struct Group {
     pub round: Round,

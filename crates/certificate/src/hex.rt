@@ -5,13 +5,16 @@ ghost use Rattle.certificate.specs.Digits.{digits_of, has_other, is_digit};
 ghost use Rattle.certificate.specs.declared.hex.HexFault.TheVariants.{Digit, Memory};
 
 use std::alloc::{AllocError, Global};
+use thiserror::Error;
 
 /// Why a text of marks is not read.
-#[derive(Clone, Copy, Debug, PartialEq, Eq)]
+#[derive(Clone, Copy, Debug, PartialEq, Eq, Drop, Error)]
 pub enum HexFault {
     /// A byte is no hexadecimal digit.
+    #[error("a byte is no hexadecimal digit")]
     Digit,
-    /// A request for memory was refused.
+    /// An allocation failed.
+    #[error("an allocation failed")]
     Memory,
 }
 
@@ -19,6 +22,7 @@ impl From<AllocError> for HexFault {
     ghost from_gives = { λ _ fault. fault ≡ Memory };
 
     fn from(_error: AllocError) -> HexFault {
+        // An allocation failed: passed on.
         HexFault::Memory
     }
 }
@@ -27,8 +31,8 @@ impl From<AllocError> for HexFault {
 const DIGITS: &[u8; 16] = b"0123456789abcdef";
 
 /// Reads bits from hexadecimal digits of upper or lower case: four bits from each, the highest
-/// first. The error is `Digit` where a byte is no digit, which is looked at before memory is asked
-/// for.
+/// first. The error is `Digit` if a byte is no digit, which is checked before anything is
+/// allocated, and `Memory` if allocation fails.
 pub fn read_hex(alloc: Global, text: &[u8]) -> Result<Vec<bool>, HexFault>
     ensures digit { (result ≡ Err Digit) ↔ (has_other text.now ≡ true) }
     ensures bits { IfOk result (λ bits. bits.items ≡ bits_of_digits text.now) }
@@ -44,7 +48,7 @@ pub fn read_hex(alloc: Global, text: &[u8]) -> Result<Vec<bool>, HexFault>
 }
 
 /// Prints bits in hexadecimal digits of lower case: four bits in each, the highest first. The last
-/// digit is filled up with 0 bits.
+/// digit is filled up with 0 bits. Fails only if allocation fails.
 pub fn print_hex(alloc: Global, bits: &[bool]) -> Result<Vec<u8>, AllocError>
     ensures { IfOk result (λ text. text.items ≡ digits_of bits.now) }
 {
@@ -58,7 +62,7 @@ pub fn print_hex(alloc: Global, bits: &[bool]) -> Result<Vec<u8>, AllocError>
     Ok(text)
 }
 
-/// The first four bits, or all where they are fewer, and those after them.
+/// Returns the first four bits, or all if there are fewer, and those after them.
 fn split_four(bits: &[bool]) -> (&[bool], &[bool])
     ensures first { result.0.now ≡ take 4 bits.now }
     ensures later { result.1.now ≡ drop 4 bits.now }
@@ -66,7 +70,7 @@ fn split_four(bits: &[bool]) -> (&[bool], &[bool])
     bits.split_at(usize::min(4, bits.len()))
 }
 
-/// The digit of up to four bits.
+/// Returns the digit of up to four bits.
 fn digit_at(bits: &[bool]) -> u8
     requires some { 0 < length bits.now }
     requires most { length bits.now ≤ 4 }
@@ -80,7 +84,7 @@ fn digit_at(bits: &[bool]) -> u8
     }
 }
 
-/// The digit of four bits.
+/// Returns the digit of four bits.
 pub(crate) fn digit_of(a: bool, b: bool, c: bool, d: bool) -> u8
     ensures { result ≡ digit_of a b c d }
 {
@@ -88,7 +92,7 @@ pub(crate) fn digit_of(a: bool, b: bool, c: bool, d: bool) -> u8
     DIGITS[usize::from(value)]
 }
 
-/// A bit as a number.
+/// Returns a bit as a number.
 pub(crate) fn bit_number(bit: bool) -> u8
     ensures value { result ≡ bit_number bit }
     ensures bound { result ≤ 1 }
@@ -96,21 +100,21 @@ pub(crate) fn bit_number(bit: bool) -> u8
     if bit { 1 } else { 0 }
 }
 
-/// Whether a byte is no digit.
+/// Returns whether a byte is no digit.
 pub(crate) fn has_other(text: &[u8]) -> bool
     ensures { result ≡ has_other text.now }
 {
     text.iter().any(|byte| !is_digit(*byte))
 }
 
-/// Whether a byte is a hexadecimal digit.
+/// Returns whether a byte is a hexadecimal digit.
 fn is_digit(byte: u8) -> bool
     ensures { result ≡ is_digit byte }
 {
     digit_value(byte).is_some()
 }
 
-/// The value of a hexadecimal digit.
+/// Returns the value of a hexadecimal digit; `None` for any other byte.
 fn digit_value(byte: u8) -> Option<u8>
     ensures { result ≡ digit_value byte }
 {
@@ -122,7 +126,7 @@ fn digit_value(byte: u8) -> Option<u8>
     }
 }
 
-/// The bits of a digit.
+/// Returns the bits of a digit.
 pub(crate) fn bits_of_digit(digit: u8) -> [bool; 4]
     ensures { result ≡ bits_of_digit digit }
 {

@@ -1,4 +1,4 @@
-//! Who decides by marks that are read.
+//! A decider that reads marks.
 ghost use Rattle.std.specs.Prelude.{◌≡◌, Bool, List, MatchOption, [], ◌∷◌, drop};
 ghost use Rattle.certificate.specs.Read.{IsRead};
 
@@ -11,7 +11,7 @@ pub(crate) trait Marks {
     /// The marks that are left.
     ghost left: { Self → List Bool };
 
-    /// The next mark; `None` where none is left.
+    /// Returns the next mark; `None` if none is left.
     fn next_mark(&mut self) -> Option<bool>
         ensures { MatchOption result ((left self.old ≡ []) × (left self.new ≡ []))
             (λ mark. left self.old ≡ mark ∷ left self.new) };
@@ -41,8 +41,8 @@ impl Marks for SliceMarks<'_> {
     }
 }
 
-/// Decides by marks: 0 cuts a node, where its bound is at most a revenue, and 1 splits one that is no
-/// leaf. Where the next mark does neither, or there is none, the walk ends.
+/// Decides by marks: 0 cuts a node whose bound is at most a revenue, and 1 splits one that is no
+/// leaf. If the next mark does neither, or there is none, the walk ends.
 #[derive(Drop)]
 pub(crate) struct Reader<M: Drop> {
     pub(crate) marks: M,

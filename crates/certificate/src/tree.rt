@@ -1,5 +1,5 @@
-//! What stays the same in a walk over a choice tree: the company, what it reaches, and its trains in
-//! their order, D, 6 and so on to 2.
+//! What stays the same in a walk over a choice tree: the company, what it reaches, and its trains
+//! in their order, D, 6 and so on to 2.
 ghost use Rattle.std.specs.Prelude.{◌≡◌, List, Option, [], count_by, length};
 ghost use Rattle.map_tables.specs.declared.place.Stop.{Stop};
 ghost use Rattle.reach.specs.Position.{Position};
@@ -24,7 +24,7 @@ pub(crate) const KINDS: usize = 6;
 pub(crate) struct Group {
     pub(crate) kind: Kind,
     pub(crate) count: usize,
-    /// What each may earn, before it has begun: in dollars.
+    /// What each may earn before it has begun, in dollars.
     pub(crate) may_earn: Amount,
 }
 
@@ -40,7 +40,7 @@ pub(crate) struct Tree {
 }
 
 impl Tree {
-    /// The tree of a company's trains.
+    /// Returns the tree of a company's trains.
     pub(crate) fn of<N: Network>(network: &N, company: Company, trains: &[Kind]) -> Tree
         ensures tree { IsTree (N.position network.now) result }
         ensures company { result.company ≡ company }
@@ -67,22 +67,22 @@ impl Tree {
         }
     }
 
-    /// The trains, kind by kind.
+    /// Returns the trains, kind by kind.
     fn groups(&self) -> &[Group]
         ensures { result.now ≡ self.now.groups }
     {
         &self.groups
     }
 
-    /// Whether a stop is reached.
+    /// Returns whether a stop is reached.
     pub(crate) fn reaches(&self, stop: Stop) -> bool
         ensures { result ≡ has_stop stop (reached_in self.now) }
     {
         self.reached.has(stop)
     }
 
-    /// What a train may still earn at reached stops that it has not visited, as many as are left to
-    /// it.
+    /// Returns what a train may still earn, in dollars, at as many reached stops that it has not
+    /// visited as are left to it.
     pub(crate) fn may_earn(&self, left: Option<usize>, seen: &StopMarks) -> Amount
         ensures { (position : Position) (stops : List Stop) → IsTree position self.now →
             AreVisited seen.now stops →
@@ -91,7 +91,7 @@ impl Tree {
         self.ranking.most_left(seen, left)
     }
 
-    /// The kind of the train at a place in their order; `None` behind the last.
+    /// Returns the kind of the train at a place in their order; `None` after the last.
     pub(crate) fn kind_at(&self, place: usize) -> Option<Kind>
         ensures { result ≡ kind_from self.now.groups place }
     {
@@ -105,7 +105,7 @@ impl Tree {
         None
     }
 
-    /// What the trains from a place on may earn, in dollars, before they have begun.
+    /// Returns what the trains from a place on may earn, in dollars, before they have begun.
     pub(crate) fn may_earn_from(&self, place: usize) -> u64
         ensures { result ≡ capped (earned_from self.now.groups place) }
     {
@@ -120,7 +120,7 @@ impl Tree {
     }
 }
 
-/// The trains of a kind, among some.
+/// Returns the trains of a kind, among some.
 fn group_of(ranking: &Ranking, trains: &[Kind], kind: Kind) -> Group
     ensures kind { result.kind ≡ kind }
     ensures count { result.count ≡ count_by (λ train. same_kind train kind) trains.now }
@@ -138,7 +138,7 @@ fn group_of(ranking: &Ranking, trains: &[Kind], kind: Kind) -> Group
     }
 }
 
-/// How many trains there are.
+/// Returns how many trains there are.
 fn number_of(trains: &[Kind]) -> usize
     ensures { result ≡ length trains.now }
 {

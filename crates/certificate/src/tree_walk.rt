@@ -1,5 +1,5 @@
-//! The walk over the choice tree of a company's trains. It is at a node, and changes what it has
-//! marked in place: it marks a border or a stop, goes on, and takes the mark away again.
+//! The walk over the choice tree of a company's trains. It is at a node, and changes its marks in
+//! place: it marks a border or a stop, goes on, and removes the mark again.
 ghost use Rattle.std.specs.Prelude.{◌≡◌, ◌+◌, ◌-◌, ◌*◌, ◌<◌, ◌≤◌, ◌∷◌, [], ◌++◌, ◌||◌, ◌==◌, List, Bool, Option, None};
 ghost use Rattle.std.specs.Prelude.{Some, false, length, drop, option_map, not, nat_lt};
 ghost use Rattle.std.specs.List.{list_any};
@@ -38,12 +38,12 @@ pub(crate) struct Begun {
     pub(crate) value: u64,
     /// How many stops the run may still visit; `None` for any number.
     pub(crate) left: Option<usize>,
-    /// The company has a token at a stop of the run.
+    /// Whether the company has a token at a stop of the run.
     pub(crate) own_token: bool,
 }
 
 impl Begun {
-    /// The run, once it has visited one stop more.
+    /// Returns the run, once it has visited one more stop.
     fn visiting<N: Network>(self, network: &N, company: Company, stop: Stop) -> Begun
         ensures train { result.kind ≡ self.kind }
         ensures next { result.next ≡ self.next }
@@ -67,7 +67,7 @@ impl Begun {
         }
     }
 
-    /// Whether the run ends at a stop to which it has come.
+    /// Returns whether the run ends at a stop to which it has come.
     fn ends_at<N: Network>(&self, network: &N, company: Company, stop: Stop) -> bool
         ensures { let position = N.position network.now in
             result ≡ (is_red position stop || (is_full position company stop
@@ -77,7 +77,7 @@ impl Begun {
     }
 }
 
-/// The step that enters a link at an end.
+/// Returns the step that enters a link at an end.
 fn step_into(link: Link, end: End) -> Option<Step>
     ensures { listed result ≡ steps_by end link }
 {
@@ -93,7 +93,7 @@ fn step_into(link: Link, end: End) -> Option<Step>
     None
 }
 
-/// Asks at a node where a run is begun.
+/// Decides at a node where a run is begun.
 fn ask<D: Decider>(tree: &Tree, begun: &Begun, seen: &StopMarks, decider: &mut D) -> Decision
     ensures { (position : Position) (crossed : List Bool) (assigned : List TrainRun)
         (steps : List Step) →
@@ -110,9 +110,10 @@ fn ask<D: Decider>(tree: &Tree, begun: &Begun, seen: &StopMarks, decider: &mut D
     decider.decide(bound, false)
 }
 
-/// Asks at the nodes at which no run is begun, from a place in the order of the trains on, each node
-/// the first child of the one before: down to the first that is not split, or to the leaf. The answer
-/// is how far it came: the trains before that place are to set out. It is `None` where the walk ends.
+/// Decides at the nodes at which no run is begun, from a place in the order of the trains on. Each
+/// node is the first child of the one before, down to the first that is not split, or to the leaf.
+/// Returns how far it came: the trains before that place are to set out. Returns `None` if the walk
+/// ends.
 fn descend<D: Decider>(tree: &Tree, value: u64, first: usize, decider: &mut D) -> Option<usize>
     ensures { (position : Position) (assigned : List TrainRun) →
         IsBetweenRuns position tree.now value assigned →
@@ -275,8 +276,8 @@ fn follow<N: Network, D: Decider>(
     true
 }
 
-/// Walks over the node at which the run has gone on by a link at a spot, if it may: over a border that
-/// was not crossed, or from a border to a reached stop that it has not visited.
+/// Walks over the node at which the run has gone on by a link at a spot, if it may. It may go over
+/// a border that was not crossed, or from a border to a reached stop that it has not visited.
 #[cycle(walk)]
 fn take<N: Network, D: Decider>(
     network: &N,
@@ -361,7 +362,8 @@ fn cross<N: Network, D: Decider>(
     whole
 }
 
-/// Walks over the node at which the run has its head at a border, and the other side of it is this.
+/// Walks over the node at which the run has its head at a border, given the other side of that
+/// border.
 #[cycle(walk)]
 fn at_border<N: Network, D: Decider>(
     network: &N,

@@ -1,4 +1,4 @@
-//! Who decides by bounds, and writes marks.
+//! A decider that decides by bounds, and writes marks.
 ghost use Rattle.std.specs.Prelude.{◌≡◌, is_some};
 ghost use Rattle.certificate.specs.Read.{IsWritten};
 
@@ -7,8 +7,8 @@ use crate::decider::{Decider, Decision};
 use std::alloc::AllocError;
 use tables::Amount;
 
-/// Cuts a node where its bound is at most a revenue, splits it elsewhere, and writes the mark. The
-/// walk ends where memory for it is refused.
+/// Cuts a node if its bound is at most a revenue, splits it otherwise, and writes the mark. The
+/// walk ends if the allocation for a mark fails.
 #[derive(Drop)]
 pub(crate) struct Writer {
     pub(crate) bits: Bits,

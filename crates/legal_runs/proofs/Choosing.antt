@@ -1,6 +1,6 @@
--- The legal runs of a company are finitely many: each is named by a list of at most 280 places, of which there are
--- finitely many. So are its legal sets, which have at most as many runs as there are trains; and of a set of legal runs
--- it is known whether it is legal.
+-- The legal runs of a company are finitely many: each is named by a list of at most 280 places, of
+-- which there are finitely many. So are its legal sets, which have at most as many runs as there
+-- are trains; and of a set of legal runs it is known whether it is legal.
 use Rattle.std.proofs.Common.{◌≡◌, ℕ, suc, ◌+◌, ◌<◌, ◌≤◌, lit<, Bool, true, false, eqb, ◌⊎◌, inl, inr, Option, Some}
 use Rattle.std.proofs.Common.{None, List, [], ◌∷◌, ◌++◌, length, get_or, refl, ap, sym, ◌∙◌, subst, arith}
 use Rattle.std.specs.List.{AllByRecursion}

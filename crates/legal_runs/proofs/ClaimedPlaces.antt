@@ -1,5 +1,5 @@
--- Each run of a claim that holds has 2 to 280 places: at least two stops, and a border crossed to each place but the
--- first, none of them twice.
+-- Each run of a claim that holds has 2 to 280 places: at least two stops, and a border crossed to
+-- each place but the first, none of them twice.
 use Rattle.std.proofs.Common.{◌≡◌, ℕ, ◌+◌, Bool, true, false, cond, ltb, List, [], ◌∷◌, Option, Some, None, option_map}
 use Rattle.std.proofs.Common.{option_and_then, length, refl, sym, ap, subst, ◌∙◌, arith}
 use Rattle.std.specs.List.{AllByRecursion, list_any}
@@ -67,7 +67,7 @@ enters position hex from to step is =
     (links_of position hex))
     (over_by hex from to (ltb (end_order to) (end_order from))) is
 
--- a leg leads over one border more, which is crossed once a step is entered behind it
+-- a leg leads over one more border, which is crossed once a step is entered after it
 record IsCounted (made : List Step) (from : ℕ) (leg : Leg) : Type 0 where
   counted : over_border leg.at.end + length (crossed (with_leg taken made leg)) ≡ 1 + (from + length (crossed made))
 

@@ -1,5 +1,5 @@
--- What runs earn, by the borders that they use: a run visits at most one stop more than it crosses borders, and no
--- stop is worth more than 80 dollars.
+-- What runs earn, by the borders that they use: a run visits at most one stop more than it crosses
+-- borders, and no stop is worth more than 80 dollars.
 use Rattle.std.proofs.Common.{◌≡◌, ℕ, zero, suc, ◌+◌, ◌*◌, ◌<◌, ◌≤◌, Bool, true, false, List, [], ◌∷◌, ◌++◌, length}
 use Rattle.std.proofs.Common.{get_or, set, refl, sym, subst, ap, ◌∙◌, arith}
 use Rattle.std.specs.List.{AllByRecursion}

@@ -1,5 +1,5 @@
--- Finite lists: what two lists make with each other, all lists of some things up to a length, and the greatest of
--- those things that are such.
+-- Finite lists: what two lists make with each other, all lists of some things up to a length, and
+-- the greatest of those things that are such.
 use Rattle.std.proofs.Common.{◌≡◌, ℕ, zero, suc, ◌<◌, ◌≤◌, Bool, true, false, ltb, inl, inr, List, [], ◌∷◌, ◌++◌}
 use Rattle.std.proofs.Common.{length, refl, ap, sym, subst, arith}
 use Rattle.std.proofs.lemmas.Bool.{ltb-true, ltb-false}
@@ -70,7 +70,7 @@ module _ {A B C : Type 0} (make : A → B → C) where
       ]
 
 module _ {A : Type 0} where
-  -- one more thing in front
+  -- one more thing before them
   abbrev in_front : A → List A → List A
   in_front thing list = thing ∷ list
 

@@ -1,4 +1,5 @@
--- The greatest revenue: it is that of the best of finitely many legal sets, and at most 160 dollars for each border.
+-- The greatest revenue: it is that of the best of finitely many legal sets, and at most 160 dollars
+-- for each border.
 use Rattle.std.proofs.Common.{ℕ, ◌*◌, ◌<◌, ◌≤◌, inl, inr, List, [], ◌∷◌, ◌++◌, length, refl, subst, arith}
 use Rattle.std.specs.List.{AllByRecursion}
 use Rattle.std.proofs.lemmas.List.{length-append}

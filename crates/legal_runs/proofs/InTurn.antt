@@ -1,4 +1,5 @@
--- The runs of a claim are a legal set exactly where they are legal one after the other and no more than the trains.
+-- The runs of a claim are a legal set exactly if they are legal one after the other and no more
+-- than the trains.
 use Rattle.std.proofs.Common.{◌≡◌, ◌↔◌, ℕ, ◌+◌, ◌-◌, ◌≤◌, Bool, true, false, cond, if◌then◌else◌, ◌&&◌, count_by, inl}
 use Rattle.std.proofs.Common.{inr, Some, List, [], ◌∷◌, ◌++◌, get_or, refl, ap, sym, ◌∙◌, subst, arith}
 use Rattle.std.specs.List.{AllByRecursion, list_all}
@@ -171,7 +172,7 @@ free_of_none : (runs : List TrainRun) → AllByRecursion (IsFreeOf []) runs
 free_of_none [] = tt
 free_of_none (run ∷ runs) = (λ border there none. none, free_of_none runs)
 
--- there are enough trains exactly where there are of each kind
+-- there are enough trains exactly if there are of each kind
 one_more_of : (b : Bool) (number : ℕ) → (if b then 1 else 0) + number ≡ cond b (1 + number) number
 one_more_of true number = refl
 one_more_of false number = omega arith
@@ -279,7 +280,7 @@ holds_in_turn position company trains claim = (
       ),
 )
 
--- a claim holds exactly where there are enough trains and its runs are legal in turn
+-- a claim holds exactly if there are enough trains and its runs are legal in turn
 pub held :
     (position : Position) (company : Company) (trains : List Kind) (claim : Claim) (runs : List ClaimedRun)
     (enough legal : Bool) → runs ≡ claim.runs →

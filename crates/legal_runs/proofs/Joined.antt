@@ -1,4 +1,4 @@
--- Each rule of a walk is kept exactly where its fact of a legal run holds.
+-- Each rule of a walk is kept exactly if its fact of a legal run holds.
 use Rattle.std.proofs.Common.{◌≡◌, ◌↔◌, ℕ, ◌+◌, ◌*◌, ◌<◌, ◌≤◌, ◌==◌, Bool, true, false, ◌||◌, ltb, ◌⊎◌, inl, inr}
 use Rattle.std.proofs.Common.{Option, Some, None, IfSome, List, [], ◌∷◌, refl, ap, ◌∙◌, arith}
 use Rattle.std.specs.List.{AllByRecursion, list_any}

@@ -1,4 +1,4 @@
--- What places name is a legal run exactly where they break no rule.
+-- What places name is a legal run exactly if they break no rule.
 use Rattle.std.proofs.Common.{◌≡◌, ◌↔◌, ℕ, Bool, true, false, not, Option, Some, None, is_none, List, [], ◌∷◌, length}
 use Rattle.std.proofs.Common.{refl, ap, ◌∙◌}
 use Rattle.std.specs.List.{list_any}
@@ -126,7 +126,7 @@ module _ (position : Position) (company : Company) (kind : Kind) (used : List �
       ap (λ w. first_broken (ruling NoTrack (is_none w) ∷ rules_of_walk position company kind used (steps_of w))) is
       ∙ unbroken steps run
 
--- what places name is a legal run exactly where they break no rule
+-- what places name is a legal run exactly if they break no rule
 pub legal_where_unbroken : LegalWhereNoRuleIsBroken
 legal_where_unbroken position company kind used places = (
   λ h. by_walk position company kind used places (walk_named position places) refl h,

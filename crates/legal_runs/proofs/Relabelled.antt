@@ -1,5 +1,5 @@
--- A legal set for some trains is one where a train may visit more stops: the run of the train that is replaced, if it
--- has one, is then the run of the other.
+-- A legal set for some trains is one for trains of which one may visit more stops. The run of the
+-- train that is replaced, if it has one, is then the run of the other.
 use Rattle.std.proofs.Common.{◌≡◌, ℕ, ◌+◌, ◌≤◌, ◌⊎◌, inl, inr, Bool, true, false, eqb, if◌then◌else◌, List, [], ◌∷◌}
 use Rattle.std.proofs.Common.{length, get_or, refl, ap, sym, ◌∙◌, subst, arith}
 use Rattle.std.specs.List.{AllByRecursion}
@@ -22,7 +22,7 @@ of_kind kind train = if same_kind train kind then 1 else 0
 abbrev run_of : Kind → List Step → TrainRun
 run_of kind steps = record { kind = kind; steps = steps }
 
--- a run is that of another train where a test says so; else one of the later ones
+-- a run is that of another train where a test says so; otherwise one of the later ones
 abbrev replaced : Bool → Kind → TrainRun → List TrainRun → List TrainRun → List TrainRun
 replaced true other run runs later = run_of other run.steps ∷ runs
 replaced false other run runs later = run ∷ later

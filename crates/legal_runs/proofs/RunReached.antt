@@ -1,4 +1,5 @@
--- All stops of a legal run are reached: from its own token the run is walked on to its end, and back to its beginning.
+-- All stops of a legal run are reached: from its own token the run is walked on to its end, and
+-- back to its beginning.
 use Rattle.std.proofs.Common.{◌≡◌, Bool, true, false, not, ◌⊎◌, inl, inr, Option, Some, None, IfSome, List, [], ◌∷◌}
 use Rattle.std.proofs.Common.{◌++◌, refl, ap, sym, ◌∙◌, subst}
 use Rattle.map_tables.specs.declared.place.Stop.{Stop}

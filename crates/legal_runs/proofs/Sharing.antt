@@ -1,5 +1,5 @@
--- A run that is legal after another shares no border with it; and what is legal by the marks of the used borders is
--- so by the borders themselves.
+-- A run that is legal after another shares no border with it; and what is legal by the marks of the
+-- used borders is so by the borders themselves.
 use Rattle.std.proofs.Common.{ℕ, inl, List, [], ◌∷◌, ◌++◌}
 use Rattle.std.specs.List.{AllByRecursion}
 use Rattle.reach.specs.Position.{Position, IsAmong}

@@ -1,5 +1,6 @@
--- A search from the tokens of a company finds a run for a 2-train exactly where there is one: what it goes over is such
--- a run, and each such run is gone over, from its beginning or, where the token is at its end, from there.
+-- A search from the tokens of a company finds a run for a 2-train exactly if there is one. What it
+-- follows is such a run. It follows each such run from its beginning, or from its end if the token
+-- is there.
 use Rattle.std.proofs.Common.{◌≡◌, ◌↔◌, ℕ, ◌+◌, ◌<◌, ◌≤◌, Bool, true, false, inl, inr, if◌then◌else◌, Option, Some}
 use Rattle.std.proofs.Common.{None, IfSome, option_map, List, [], ◌∷◌, ◌++◌, length, get_or, set, take, replicate, refl}
 use Rattle.std.proofs.Common.{ap, sym, ◌∙◌, subst, arith, get_or-set_same, get_or-set_other}
@@ -426,7 +427,8 @@ not_crossed marks hex (AtSide side) is free = by_no_mark (get_or marks (border_o
     (set marks (border_of hex side) true) is free
 not_crossed marks hex (AtStop number) is free = free
 
--- where no step by the links before one is such, and none by that one, none is by the links up to it
+-- where no step by the links before one is such, and none by that one, none is by the links up to
+-- it
 pub one_link_more : (P : Step → Type 0) (here all : List Link) → here ≡ all → (i : ℕ) (d : Link) → i < length here
     → ((step : Step) → IsAmong step.link (take i all) → P step → ⊥)
     → (((step : Step) × (step.link ≡ get_or here i d) × P step) → ⊥) → (step : Step)

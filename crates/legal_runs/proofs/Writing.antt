@@ -1,4 +1,5 @@
--- A run is written from its first step on: the places of the steps so far are before those of the steps that are left.
+-- A run is written from its first step on: the places of the steps so far are before those of the
+-- steps that are left.
 use Rattle.std.proofs.Common.{◌≡◌, ℕ, ◌-◌, ◌≤◌, ◌<◌, Option, List, [], ◌∷◌, ◌++◌, length, get_or, refl, sym, ap, ◌∙◌}
 use Rattle.std.proofs.Common.{arith}
 use Rattle.std.proofs.lemmas.List.{append-nil, append_assoc, length-append}
@@ -9,7 +10,7 @@ use Rattle.reach.specs.declared.walk.Step.{Step}
 use Rattle.legal_runs.specs.Legal.{listed}
 use Rattle.legal_runs.specs.Written.{place_at, place_over, places_of, places_over}
 
--- the first step is last, and tells where the walk begins
+-- the first step is last, and says where the walk begins
 begins_last : (step other : Step) (before : List Step)
     → entered_at (get_or (step ∷ before) (length before) other) ≡ begins_at step before
 begins_last step other [] = refl
@@ -24,7 +25,7 @@ begun_with (step ∷ before) other least =
     ap (λ (spot : Spot). place_at spot ∷ places_over (step ∷ before))
     (ap (λ (n : ℕ). entered_at (get_or (step ∷ before) n other)) last ∙ begins_last step other before)
 
--- the first step of those that are left tells their first place
+-- the first step of those that are left gives their first place
 first_of_rest :
     (rest : List Step) (step : Step) → places_over (rest ++ (step ∷ []))
     ≡ listed (place_over (entered_at step).end (left_at step)) ++ places_over rest

@@ -1,5 +1,6 @@
--- A walk is named by its places, and each legal run is such a walk. The places lead a train step by step: to where a
--- step is left, if that is a stop, and else to where it is entered, since the next place tells by which side it leaves.
+-- A walk is named by its places, and each legal run is such a walk. The places lead a train step by
+-- step: to where a step is left, if that is a stop, and otherwise to where it is entered. The next
+-- place gives the side by which it leaves.
 use Rattle.std.proofs.Common.{◌≡◌, ℕ, ◌+◌, ◌-◌, ◌<◌, ◌==◌, Bool, true, false, ◌&&◌, ltb, ◌⊎◌, inl, inr, if◌then◌else◌}
 use Rattle.std.proofs.Common.{Option, Some, None, IfSome, option_map, option_and_then, List, [], ◌∷◌, ◌++◌, length, ◌≤◌}
 use Rattle.std.proofs.Common.{refl, ap, sym, ◌∙◌, subst, arith, find, lit<}
@@ -98,7 +99,7 @@ beside_is hex other NorthEast is = place_found (row_of hex - 1) (column_of hex +
 beside_is hex other East is = place_found (row_of hex) (column_of hex + 2) other is
 beside_is hex other SouthEast is = place_found (row_of hex + 1) (column_of hex + 1) other is
 
--- a place beside another tells the side
+-- a place beside another gives the side
 side_is : (a b : Side) (row column : ℕ) → 0 < row → row_beside a row ≡ row_beside b row
     → column_beside a column ≡ column_beside b column → a ≡ b
 side_is SouthWest SouthWest row column low r c = refl
@@ -344,7 +345,8 @@ module _ (position : Position) (lawful : IsLawful position) where
       ∙ ap (option_map (λ (s : Step). let leg : Leg =
       record { first = first; second = Some s; at = spot_at hex (AtStop number) } in leg)) next
 
-  -- where these places of a walk lead: before the step that is left at a side, after the one left at a stop
+  -- where these places of a walk lead: before the step that is left at a side, after the one left
+  -- at a stop
   abbrev NowAt : Step → List Step → List Place → End → Type 0
   NowAt step before places (AtSide side) = Led (entered_at step) before places
   NowAt step before places (AtStop number) = Led (left_at step) (step ∷ before) places
@@ -567,7 +569,8 @@ module _ (position : Position) (lawful : IsLawful position) where
     most = omega (arith, as_many (step ∷ before), few);
   }
 
--- a walk that can be written out: it leads from a stop to a stop, passes no red stop and crosses at most 279 borders
+-- a walk that can be written out: it leads from a stop to a stop, passes no red stop and crosses at
+-- most 279 borders
 record CanBeWritten (position : Position) (steps : List Step) : Type 0 where
   walk : IsWalk position steps
   begins : BeginsAt (λ stop. Unit {0}) steps

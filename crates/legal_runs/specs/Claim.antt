@@ -1,5 +1,6 @@
--- A claim: what a company's trains earn, and runs that earn it, written out by their places. It holds where these
--- places name the walks of a legal set of runs for the trains, and the set earns what is claimed.
+-- A claim: what a company's trains earn, and runs that earn it, written out by their places. It
+-- holds if these places name the walks of a legal set of runs for the trains, and the set earns
+-- what is claimed.
 use Rattle.std.specs.Prelude.{◌≡◌, Some, List, [], ◌∷◌}
 use Rattle.reach.specs.Position.{Position}
 use Rattle.tables.specs.declared.rolling_stock.Kind.{Kind}

@@ -1,5 +1,5 @@
--- What is wrong with a run: the first rule that it breaks, of a table in the order of the rules' numbers.
--- Each rule is a test over the walk that the places name.
+-- What is wrong with a run: the first rule that it breaks, of a table in the order of the rules'
+-- numbers. Each rule is a test over the walk that the places name.
 use Rattle.std.specs.Prelude.{ℕ, Bool, false, not, ◌==◌, ◌&&◌, ◌||◌, nat_lt, Option, Some, None, is_none, List, [], ◌∷◌}
 use Rattle.std.specs.Prelude.{length}
 use Rattle.std.specs.List.{list_any}
@@ -35,6 +35,7 @@ abbrev pub are_over : Option ℕ → ℕ → Bool
 are_over (Some most) count = nat_lt most count
 are_over None count = false
 
+-- a train visits under two stops, or more than its kind may
 abbrev pub is_wrong_number : Kind → ℕ → Bool
 is_wrong_number kind count = nat_lt count 2 || are_over (stops_of kind) count
 
@@ -42,6 +43,7 @@ is_wrong_number kind count = nat_lt count 2 || are_over (stops_of kind) count
 abbrev pub has_stop : Stop → List Stop → Bool
 has_stop stop stops = list_any (λ other. stop_order other == stop_order stop) stops
 
+-- some stop is visited twice
 abbrev pub has_stop_twice : List Stop → Bool
 has_stop_twice [] = false
 has_stop_twice (stop ∷ stops) = has_stop_twice stops || has_stop stop stops
@@ -50,9 +52,11 @@ has_stop_twice (stop ∷ stops) = has_stop_twice stops || has_stop stop stops
 abbrev pub has_border : ℕ → List ℕ → Bool
 has_border border borders = list_any (λ other. other == border) borders
 
+-- a border is used by an earlier run, or crossed by the walk
 abbrev pub is_taken : List ℕ → List ℕ → ℕ → Bool
 is_taken used borders border = has_border border used || has_border border borders
 
+-- a border is crossed that the walk, or an earlier run of the turn, has crossed
 abbrev pub has_border_twice : List ℕ → List ℕ → Bool
 has_border_twice used [] = false
 has_border_twice used (border ∷ borders) = has_border_twice used borders || is_taken used borders border
@@ -62,10 +66,12 @@ abbrev pub is_such : (Stop → Bool) → Option Stop → Bool
 is_such test (Some stop) = test stop
 is_such test None = false
 
+-- a step goes on from a stop that passes a test; the first step goes on from nowhere
 abbrev pub goes_through : (Stop → Bool) → List Step → Step → Bool
 goes_through test [] step = false
 goes_through test (earlier ∷ before) step = is_such test (stop_of (entered_at step))
 
+-- a walk goes through a stop that passes a test
 abbrev pub passes : (Stop → Bool) → List Step → Bool
 passes test [] = false
 passes test (step ∷ before) = passes test before || goes_through test before step
@@ -75,6 +81,7 @@ abbrev pub steps_of : Option (List Step) → List Step
 steps_of (Some steps) = steps
 steps_of None = []
 
+-- a rule of runs, and whether it is broken
 abbrev rule : RunRule → Bool → Rule RunRule
 rule code broken = record { code = code; broken = broken }
 

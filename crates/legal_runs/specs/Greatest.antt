@@ -1,6 +1,6 @@
--- What holds of the greatest revenue, whatever lies: there is one and no second, it is under 50,000 dollars, and
--- neither more trains, nor a train that may visit more stops in place of another, make it less; the order of the
--- trains changes nothing.
+-- The laws of the greatest revenue, whatever lies. There is exactly one, and it is under 50,000
+-- dollars. More trains do not make it less, nor does a train that may visit more stops in place of
+-- another. The order of the trains changes nothing.
 use Rattle.std.specs.Prelude.{◌≡◌, ℕ, ◌<◌, ◌≤◌, List, ◌∷◌}
 use Rattle.reach.specs.Lawful.{IsLawful}
 use Rattle.reach.specs.Position.{Position}

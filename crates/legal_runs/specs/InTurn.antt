@@ -1,5 +1,5 @@
--- How it is looked whether a claim holds: its runs are gone over one after the other, each over the borders that those
--- before it have left free, until they have earned what is claimed; and its trains are counted.
+-- How a claim is checked. Its runs are checked one after the other, each over the borders that
+-- those before it have left free, until they have earned what is claimed. Its trains are counted.
 use Rattle.std.specs.Prelude.{◌≡◌, ◌↔◌, ℕ, ◌-◌, ◌≤◌, nat_le, Bool, List, [], ◌∷◌, map, count_by}
 use Rattle.reach.specs.Position.{Position}
 use Rattle.tables.specs.Train.{same_kind}
@@ -24,7 +24,7 @@ abbrev pub has_enough : List Kind → List ClaimedRun → Kind → Bool
 has_enough trains claimed kind =
     nat_le (count_by (λ run. same_kind run.kind kind) claimed) (count_by (λ train. same_kind train kind) trains)
 
--- claimed runs are legal one after the other, where these borders are used, and earn this much together
+-- claimed runs are legal one after the other, with these borders used, and earn this much together
 abbrev pub AreLegalInTurn : Position → Company → List Bool → ℕ → List ClaimedRun → Type 0
 AreLegalInTurn position company used left [] = left ≡ 0
 AreLegalInTurn position company used left (claimed ∷ later) =
@@ -33,7 +33,7 @@ AreLegalInTurn position company used left (claimed ∷ later) =
     × AreLegalInTurn position company (marked used (crossed (named_steps position claimed.run)))
     (left - earned position (named_steps position claimed.run)) later
 
--- that is how it is looked whether a claim holds
+-- a claim holds exactly if this check passes
 abbrev pub ClaimHoldsInTurn : Type 0
 ClaimHoldsInTurn =
     (position : Position) (company : Company) (trains : List Kind) (claim : Claim) →

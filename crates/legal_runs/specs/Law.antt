@@ -1,7 +1,7 @@
--- What joins the legal runs and the rules: what some places name is a legal run exactly where they break
--- no rule, and each legal run is named by some. And what the numbers of
--- borders and the marks of used ones are worth: a number is one border's; a run adds its borders to the
--- marks and no others; what is legal by the marks is so by the borders; a run that is legal after another
+-- What joins the legal runs and the rules. What some places name is a legal run exactly if they
+-- break no rule, and each legal run is named by some places. Also what the numbers of borders and
+-- the marks of used ones mean. A number is one border's. A run adds its borders to the marks and no
+-- others. What is legal by the marks is legal by the borders. A run that is legal after another
 -- shares no border with it. A run earns no more than the borders allow that it uses.
 use Rattle.std.specs.Prelude.{◌≡◌, ◌↔◌, ◌+◌, ◌*◌, ◌≤◌, ◌⊎◌, ℕ, Bool, true, false, Some, None, List, [], ◌∷◌, ◌++◌}
 use Rattle.std.specs.Prelude.{length}
@@ -37,7 +37,7 @@ LegalWhereNoRuleIsBroken =
 abbrev pub AreSidesOfOneBorder : Spot → Spot → Type 0
 AreSidesOfOneBorder side other = (side ≡ other) ⊎ (across side ≡ Some other)
 
--- two sides at borders have one number exactly where they are sides of one border
+-- two sides at borders have one number exactly if they are sides of one border
 abbrev pub BordersHaveOwnNumbers : Type 0
 BordersHaveOwnNumbers =
     (hex other next beyond : Hex) (side far : Side) →
@@ -51,7 +51,7 @@ CrossedBordersAreUsed =
     (used : List ℕ) (marks : List Bool) (steps : List Step) →
     MarksAre used marks → MarksAre (crossed steps ++ used) (marked marks (crossed steps))
 
--- a run is legal where these borders are used exactly where it is by their marks
+-- a run is legal with these borders used exactly if it is legal by their marks
 abbrev pub LegalByMarks : Type 0
 LegalByMarks =
     (position : Position) (company : Company) (kind : Kind) (used : List ℕ) (marks : List Bool) (steps : List Step) →
@@ -90,7 +90,7 @@ pub record AreItsPlaces (position : Position) (steps : List Step) (places : List
   pub least : 2 ≤ length places
   pub most : length places ≤ 280
 
--- each legal run can be written out: some places name it, from 2 to 280
+-- each legal run can be written out: 2 to 280 places name it
 abbrev pub EachLegalRunIsNamed : Type 0
 EachLegalRunIsNamed =
     (position : Position) (company : Company) (kind : Kind) (used : List ℕ) (steps : List Step) →

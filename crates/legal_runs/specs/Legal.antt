@@ -1,8 +1,8 @@
--- A legal run of a train: a walk from a stop to a stop. It visits at least two stops and at most as many
--- as its kind may, none of them twice, and at one of them the company has a token. It crosses no border
--- twice, and none that earlier runs of the company in this turn have crossed. It passes no red stop and no
--- city that is full for the company; it may begin and end at such. Nothing here knows of places, in
--- whose words a run is ordered.
+-- A legal run of a train: a walk from a stop to a stop. It visits at least two stops and at most as
+-- many as its kind may, none of them twice, and at one of them the company has a token. It crosses
+-- no border twice, and none that earlier runs of the company in this turn have crossed. It passes
+-- no red stop and no city that is full for the company; it may begin and end at such a stop.
+-- Nothing here depends on places, in which a run is ordered.
 use Rattle.std.specs.Prelude.{◌≡◌, ℕ, ◌+◌, ◌-◌, ◌*◌, ◌≤◌, true, nat_lt, if◌then◌else◌, Option, Some, None, ◌⊎◌, List}
 use Rattle.std.specs.Prelude.{[], ◌∷◌, ◌++◌, length}
 use Rattle.std.specs.List.{AllByRecursion}
@@ -26,7 +26,7 @@ abbrev pub listed : {A : Type 0} → Option A → List A
 listed (Some thing) = thing ∷ []
 listed None = []
 
--- the stop at which a walk begins, where a step is its first
+-- the stop at which a walk begins with this first step
 abbrev pub first_stop : List Step → Step → List Stop
 first_stop [] step = listed (stop_of (entered_at step))
 first_stop (earlier ∷ before) step = []
@@ -36,12 +36,13 @@ abbrev pub visited : List Step → List Stop
 visited [] = []
 visited (step ∷ before) = listed (stop_of (left_at step)) ++ (first_stop before step ++ visited before)
 
--- The number of the border at a side of a hex. Each hex numbers the borders at its sides 0, 1 and 2, which
--- look to the west; the border at a side 3, 4 or 5 is one of those of the hex beyond it.
+-- The number of the border at a side of a hex. Each hex numbers the borders at its sides 0, 1 and
+-- 2, which look to the west. The border at a side 3, 4 or 5 is one of those of the hex beyond it.
 abbrev pub border_beyond : ℕ → Option Hex → ℕ
 border_beyond number (Some hex) = 3 * index_of hex + number
 border_beyond number None = number
 
+-- the number of the border at a side of a hex
 unfoldable pub border_of : Hex → Side → ℕ
 border_of hex side =
     if nat_lt (number_of side) 3 then 3 * index_of hex
@@ -52,8 +53,8 @@ abbrev pub border_at : Hex → End → List ℕ
 border_at hex (AtSide side) = border_of hex side ∷ []
 border_at hex (AtStop number) = []
 
--- the borders that a walk from a stop crosses, the latest first: a step that is entered at a side came
--- over the border there
+-- the borders that a walk from a stop crosses, the latest first: a step that is entered at a side
+-- came over the border there
 abbrev pub crossed : List Step → List ℕ
 crossed [] = []
 crossed (step ∷ before) = border_at (entered_at step).hex (entered_at step).end ++ crossed before
@@ -78,6 +79,7 @@ abbrev pub EndsAtStop : List Step → Type 0
 EndsAtStop [] = ⊥
 EndsAtStop (step ∷ before) = (stop : Stop) × (stop_of (left_at step) ≡ Some stop)
 
+-- a walk is a legal run of a train of this kind, over the borders that earlier runs have used
 pub record IsLegalRun (position : Position) (company : Company) (kind : Kind) (used : List ℕ)
     (steps : List Step) : Type 0 where
   pub walk : IsWalk position steps

@@ -1,5 +1,5 @@
--- The marks of used borders: one for each border of the map, at its number. What is marked are the borders that
--- were used; a run marks those that it crosses.
+-- The marks of used borders: one for each border of the map, at its number. The borders that were
+-- used are marked; a run marks those that it crosses.
 use Rattle.std.specs.Prelude.{◌≡◌, ◌↔◌, ℕ, ◌+◌, Bool, true, false, ◌⊎◌, List, [], ◌∷◌, if◌then◌else◌, length, get_or}
 use Rattle.std.specs.Prelude.{set}
 use Rattle.reach.specs.Position.{IsAmong}
@@ -8,7 +8,7 @@ use Rattle.reach.specs.Position.{IsAmong}
 abbrev pub IsUsed : List Bool → ℕ → Type 0
 IsUsed marks border = get_or marks border false ≡ true
 
--- the borders that are marked, where the first mark is that of this number
+-- the borders that are marked, if the first mark is that of this number
 abbrev pub borders_from : ℕ → List Bool → List ℕ
 borders_from number [] = []
 borders_from number (mark ∷ marks) =

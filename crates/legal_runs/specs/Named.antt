@@ -1,7 +1,7 @@
--- The walk that a list of places names. The train comes to their hexes in order. It goes by stop i of a
--- hex where its place is written with `.i`, and by through track where it is not. Places side by side
--- meet at the border of their hexes. The first and the last place each have a stop. A list of places
--- names one walk, or none: where there is no such track.
+-- The walk that a list of places names. The train comes to their hexes in order. It goes by stop i
+-- of a hex if its place is written with `.i`, and by through track if it is not. Places side by
+-- side meet at the border of their hexes. The first and the last place each have a stop. A list of
+-- places names one walk, or none if there is no such track.
 use Rattle.std.specs.Prelude.{Bool, true, false, ◌==◌, ◌&&◌, nat_lt, if◌then◌else◌, Option, Some, None, option_map}
 use Rattle.std.specs.Prelude.{option_and_then, List, [], ◌∷◌, find}
 use Rattle.std.specs.List.{list_any}
@@ -36,21 +36,22 @@ abbrev pub same_link : Link → Link → Bool
 same_link link other =
     same_hex link.hex other.hex && ((end_order link.a == end_order other.a) && (end_order link.b == end_order other.b))
 
--- the step from one end of a hex to another, by the link that joins the two in that order of its ends
+-- the step from one end of a hex to another, by the link that joins the two in that order of its
+-- ends
 abbrev pub step_over : Hex → End → End → Step
 step_over hex from to =
     if nat_lt (end_order to) (end_order from) then
     record { link = record { hex = hex; a = to; b = from }; turned = true } else
     record { link = record { hex = hex; a = from; b = to }; turned = false }
 
--- that step, if the position has the link
+-- the step from one end of a hex to another, if the position has the link that joins them
 unfoldable pub step_between : Position → Hex → End → End → Option Step
 step_between position hex from to =
     let step = step_over hex from to in
     if list_any (λ link. same_link link step.link) (links_of position hex) then Some step else None
 
--- A leg leads from where the train is over a border to the next place: a step to the border, and
--- where that place has a stop, a step on to the stop. Without one the train is at the border.
+-- A leg leads from where the train is over a border to the next place. It has a step to the border,
+-- and, if that place has a stop, a step on to the stop. Without a stop the train is at the border.
 abbrev pub leg_by_stop : Position → Step → Hex → Side → Option StopNumber → Option Leg
 leg_by_stop position first hex side None =
     Some (record { first = first; second = None; at = spot_at hex (AtSide side) })
@@ -58,15 +59,18 @@ leg_by_stop position first hex side (Some number) =
     option_map (λ second. record { first = first; second = Some second; at = spot_at hex (AtStop number) })
     (step_between position hex (AtSide side) (AtStop number))
 
+-- the leg whose first step leaves the hex by this side, on to the place that is named next
 abbrev pub leg_from : Position → Side → Place → Option Step → Option Leg
 leg_from position side place None = None
 leg_from position side place (Some first) = leg_by_stop position first place.hex (facing_of side) place.stop
 
+-- the leg from where the train is to a place of a neighbouring hex at this side
 abbrev pub leg_over : Position → Spot → Place → Option Side → Option Leg
 leg_over position at place None = None
 leg_over position at place (Some side) =
     leg_from position side place (step_between position at.hex at.end (AtSide side))
 
+-- the leg from where the train is to the place that is named next
 unfoldable pub leg_to : Position → Spot → Place → Option Leg
 leg_to position at place = leg_over position at place (side_towards at.hex place.hex)
 
@@ -75,6 +79,7 @@ abbrev pub with_second : {A : Type 0} → (A → Step → A) → A → Option St
 with_second take made None = made
 with_second take made (Some step) = take made step
 
+-- what is made of both steps of a leg, one after the other
 abbrev pub with_leg : {A : Type 0} → (A → Step → A) → A → Leg → A
 with_leg take made leg = with_second take (take made leg.first) leg.second
 
@@ -99,7 +104,7 @@ made_along take position made [] = None
 made_along take position made (place ∷ places) =
     option_and_then (λ at. travelled take position at made places) (beginning place)
 
--- one more step of a walk, the latest in front
+-- one more step of a walk, the latest first
 abbrev pub taken : List Step → Step → List Step
 taken before step = step ∷ before
 

@@ -12,7 +12,7 @@ use Rattle.legal_runs.specs.declared.claim.Claim.{Claim}
 abbrev pub HasPlaces : List Place → Type 0
 HasPlaces run = (2 ≤ length run) × (length run ≤ 280)
 
--- where a claim holds, this many places name each run
+-- if a claim holds, this many places name each run
 abbrev pub ClaimsHavePlaces : Type 0
 ClaimsHavePlaces =
     (position : Position) (company : Company) (trains : List Kind) (claim : Claim) →

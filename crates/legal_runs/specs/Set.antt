@@ -1,8 +1,8 @@
--- A legal set of runs of a company: some of its trains, each with the walk that it runs. Each walk is a legal run
--- of such a train; each train runs at most once, so of no kind there are more runs than trains; and no border is
--- crossed by two of the walks, though they may meet at stops. A set earns what its runs earn; the empty set is
--- legal, and earns nothing. The greatest revenue is what some legal set earns and no legal set exceeds. Nothing
--- here knows of how it is looked for.
+-- A legal set of runs of a company: some of its trains, each with the walk that it runs. Each walk
+-- is a legal run of such a train. Each train runs at most once, so no kind has more runs than
+-- trains. No border is crossed by two of the walks, though they may meet at stops. A set earns what
+-- its runs earn; the empty set is legal, and earns nothing. The greatest revenue is what some legal
+-- set earns and no legal set exceeds. Nothing here depends on how it is found.
 use Rattle.std.specs.Prelude.{◌≡◌, ℕ, ◌+◌, ◌≤◌, ℤ, pos, if◌then◌else◌, List, [], ◌∷◌}
 use Rattle.std.specs.List.{AllByRecursion}
 use Rattle.reach.specs.Position.{Position, IsAmong}

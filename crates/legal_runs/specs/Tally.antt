@@ -1,4 +1,4 @@
--- What the check of a run keeps of the steps that it has gone over, and how it changes by a step.
+-- What the check of a run keeps of the steps that it has followed, and how it changes by a step.
 use Rattle.std.specs.Prelude.{ℕ, ◌+◌, Bool, true, false, ◌||◌, if◌then◌else◌, not, Option, Some, None, List, [], ◌∷◌}
 use Rattle.std.specs.Prelude.{get_or, set, replicate}
 use Rattle.map_tables.specs.declared.hex.Hex.{Hex}

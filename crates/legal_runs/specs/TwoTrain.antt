@@ -1,6 +1,7 @@
--- Whether a company has a run for a 2-train: some run is legal for it, no border being used. Such a run leads from
--- a stop to another over plain track alone. `Continues` says so of what is ahead of a step, for the search that goes
--- over it from a stop with a token of the company: a list of the steps that follow, the next one first.
+-- Whether a company has a run for a 2-train: some run is legal for it if no border is used. Such a
+-- run leads from a stop to another over plain track alone. `Continues` says this of what is ahead
+-- of a step, for the search from a stop with a token of the company. It takes a list of the steps
+-- that follow, the next one first.
 use Rattle.std.specs.Prelude.{◌≡◌, ℕ, Bool, true, false, List, [], ◌∷◌, Some, Option, None, get_or, if◌then◌else◌, set}
 use Rattle.std.specs.Prelude.{replicate}
 use Rattle.map_tables.specs.declared.hex.Hex.{Hex}
@@ -29,7 +30,8 @@ abbrev pub over_border : List Bool → Hex → End → List Bool
 over_border marks hex (AtSide side) = set marks (border_of hex side) true
 over_border marks hex (AtStop number) = marks
 
--- a step, and these steps after it, lead over borders that are not marked to a stop that is not the first one
+-- a step, and these steps after it, lead over borders that are not marked to a stop that is not the
+-- first one
 abbrev pub Continues : Position → Stop → List Bool → Step → List Step → Type 0
 Continues position start marks step [] = (stop : Stop) × (stop_of (left_at step) ≡ Some stop) × ¬ (stop ≡ start)
 Continues position start marks step (next ∷ later) =
@@ -37,11 +39,12 @@ Continues position start marks step (next ∷ later) =
     × IsFree marks (entered_at next).hex (entered_at next).end
     × Continues position start (over_border marks (entered_at next).hex (entered_at next).end) next later
 
--- some steps do so
+-- a step and some steps after it lead over borders that are not marked to another stop
 abbrev pub LeadsOn : Position → Stop → List Bool → Step → Type 0
 LeadsOn position start marks step = (later : List Step) × Continues position start marks step later
 
--- and a step that is entered at a spot does so
+-- a step that is entered at a spot, and some steps after it, lead over borders that are not marked
+-- to another stop
 abbrev pub LeadsFrom : Position → Stop → List Bool → Spot → Step → Type 0
 LeadsFrom position start marks spot step = (entered_at step ≡ spot) × LeadsOn position start marks step
 

@@ -1,6 +1,7 @@
--- The places of a walk, as a run is written out: the place where it begins, and then one for each border that it
--- crosses, in the order in which the train comes to them. A place is written with the number of its stop where the
--- train goes by one, and without where it goes by through track.
+-- The places of a walk, as a run is written out. They are the place where it begins, and then one
+-- for each border that it crosses, in the order in which the train comes to them. A place is
+-- written with the number of its stop if the train goes by one, and without if it goes by through
+-- track.
 use Rattle.std.specs.Prelude.{Option, Some, None, List, [], ◌∷◌, ◌++◌}
 use Rattle.map_tables.specs.declared.place.Place.{Place}
 use Rattle.map_tables.specs.declared.place.StopNumber.{StopNumber}
@@ -20,18 +21,19 @@ number_at (AtStop number) = Some number
 abbrev pub place_at : Spot → Place
 place_at spot = record { hex = spot.hex; stop = number_at spot.end }
 
--- the place to which a step comes over a border: it is entered at a side, and the place has the stop at which it is
--- left
+-- the place to which a step comes over a border: it is entered at a side, and the place has the
+-- stop at which it is left
 abbrev pub place_over : End → Spot → Option Place
 place_over (AtSide side) left = Some (place_at left)
 place_over (AtStop number) left = None
 
--- the places to which a walk comes over borders, the first in front; the latest step of the walk is in front
+-- the places to which a walk comes over borders, the first place first; the latest step of the walk
+-- comes first
 abbrev pub places_over : List Step → List Place
 places_over [] = []
 places_over (step ∷ before) = places_over before ++ listed (place_over (entered_at step).end (left_at step))
 
--- the places of a walk whose latest step is in front
+-- the places of a walk whose latest step comes first
 abbrev pub places_of : List Step → List Place
 places_of [] = []
 places_of (step ∷ before) = place_at (begins_at step before) ∷ places_over (step ∷ before)

@@ -11,7 +11,7 @@ const NUMBERED: usize = 3;
 /// How many borders the hexes of the map have.
 pub(crate) const BORDERS: usize = NUMBERED * HEXES;
 
-/// The number of the border at a side of a hex.
+/// Returns the number of the border at a side of a hex.
 pub(crate) fn border(hex: Hex, side: Side) -> usize
     ensures value { result ≡ border_of hex side }
     ensures bound { result < 279 }
@@ -19,7 +19,7 @@ pub(crate) fn border(hex: Hex, side: Side) -> usize
     border_to(hex, side, neighbour(hex, side))
 }
 
-/// The number of the border at a side of a hex, where it is known which neighbour the hex has there.
+/// Returns the number of the border at a side of a hex, given the neighbour that the hex has there.
 #[tactic(auto, unfolding(crate::specs::Legal::border_of))]
 pub fn border_to(hex: Hex, side: Side, beyond: Option<Hex>) -> usize
     requires { beyond ≡ neighbour_of hex side }

@@ -13,13 +13,13 @@ use map_tables::{End, Run, RunRule};
 use reach::{Network, Spot};
 use tables::{Company, Kind, Money};
 
-/// The first rule that a run breaks: one of those that ask for the map state, R3 to R9.
+/// The first rule that a run breaks: one of those that look at the map state, R3 to R9.
 pub type RunFault = RunRule;
 
-/// Rules a run of a company's train of a kind, as it is written out place by place. It is `Ok`
-/// exactly where the run is legal over the borders that are used: the answer is what it earns, in
-/// dollars, and the borders that it crosses are used from then on, and no others. Else it is the
-/// first rule that the run breaks, and `used` is as it was.
+/// Rules a run of a company's train of a kind, as it is written out place by place. It returns `Ok`
+/// exactly if the run is legal over the borders that are used. The value is what it earns, in
+/// dollars, and from then on the borders that it crosses are used, and no others. Otherwise the
+/// error is the first rule that the run breaks, and `used` is as it was.
 pub fn check_run<N: Network>(
     network: &N,
     company: Company,
@@ -52,7 +52,7 @@ pub fn check_run<N: Network>(
     Ok(Money::from(tally.value))
 }
 
-/// Goes over the walk that the places of a run name; `None` where there is none.
+/// Follows the walk that the places of a run name; `None` if there is none.
 fn tally_of<N: Network>(network: &N, company: Company, run: &Run, used: &Used) -> Option<Tally>
     ensures { let position = N.position network.now in
         result ≡ made_along (counted position company) position (no_steps used.now) run.now }

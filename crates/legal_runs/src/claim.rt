@@ -12,7 +12,7 @@ pub struct ClaimedRun {
     pub run: Run,
 }
 
-/// The runs of a claim. To a contract they are a list.
+/// The runs of a claim. In a contract they are a list.
 #[derive(Drop)]
 pub struct ClaimedRuns {
     runs: Vec<ClaimedRun>,
@@ -28,7 +28,7 @@ impl Model for ClaimedRuns {
 }
 
 impl ClaimedRuns {
-    /// No runs.
+    /// Returns no runs.
     pub fn new(alloc: Global) -> ClaimedRuns
         ensures { result ≡ [] }
     {
@@ -37,8 +37,7 @@ impl ClaimedRuns {
         }
     }
 
-    /// Adds a run at the end. It fails only if memory is refused, which leaves the runs as they
-    /// were.
+    /// Adds a run at the end. Fails only if allocation fails, which leaves the runs as they were.
     pub fn push(&mut self, run: ClaimedRun) -> Result<(), AllocError>
         ensures added { OnOk result (self.new ≡ self.old ++ run ∷ []) }
         ensures kept { OnErr result (self.new ≡ self.old) }
@@ -47,7 +46,7 @@ impl ClaimedRuns {
         Ok(())
     }
 
-    /// The runs, in order.
+    /// Returns the runs, in order.
     pub fn as_slice(&self) -> &[ClaimedRun]
         ensures { result.now ≡ self.now }
     {

@@ -7,8 +7,8 @@ ghost use Rattle.legal_runs.specs.Named.{is_hex, leg_to, same_link, side_towards
 use map_tables::{End, Hex, Link, Place, Side, neighbour};
 use reach::{Network, Spot, Step};
 
-/// What leads from where a train is to its next place: a step to the border between their
-/// hexes, and where the place has a stop, a step on to it.
+/// What leads a train from where it is to its next place. It is a step to the border between their
+/// hexes, and, if the place has a stop, a step on to that stop.
 #[derive(Clone, Copy)]
 pub(crate) struct Leg {
     pub(crate) first: Step,
@@ -17,7 +17,7 @@ pub(crate) struct Leg {
     pub(crate) at: Spot,
 }
 
-/// The leg that leads a train to a place, if there is such track.
+/// Returns the leg that leads a train to a place, if there is such track.
 #[tactic(auto, unfolding(crate::specs::Named::leg_to))]
 pub(crate) fn leg_to<N: Network>(network: &N, at: Spot, place: Place) -> Option<Leg>
     ensures { result ≡ leg_to (N.position network.now) at place }
@@ -49,7 +49,7 @@ pub(crate) fn leg_to<N: Network>(network: &N, at: Spot, place: Place) -> Option<
     }
 }
 
-/// The side of a hex at which another lies; `None` where they are no neighbours.
+/// Returns the side of a hex at which another lies; `None` if they are no neighbours.
 fn side_towards(hex: Hex, other: Hex) -> Option<Side>
     ensures { result ≡ side_towards hex other }
 {
@@ -57,7 +57,7 @@ fn side_towards(hex: Hex, other: Hex) -> Option<Side>
     first_towards(&Side::ALL, hex, other)
 }
 
-/// The first of some sides of a hex at which another lies.
+/// Returns the first of some sides of a hex at which another lies.
 fn first_towards(sides: &[Side], hex: Hex, other: Hex) -> Option<Side>
     ensures { result ≡ find (λ side. is_hex other (neighbour_of hex side)) sides.now }
 {
@@ -67,7 +67,7 @@ fn first_towards(sides: &[Side], hex: Hex, other: Hex) -> Option<Side>
         .find(|side| is_hex(other, neighbour(hex, *side)))
 }
 
-/// Whether a hex is the one that is looked for.
+/// Returns whether a hex is the one that is looked for.
 fn is_hex(hex: Hex, found: Option<Hex>) -> bool
     ensures { result ≡ is_hex hex found }
 {
@@ -77,7 +77,7 @@ fn is_hex(hex: Hex, found: Option<Hex>) -> bool
     }
 }
 
-/// The step from one end of a hex to another, if they are joined.
+/// Returns the step from one end of a hex to another, if they are joined.
 #[tactic(auto, unfolding(crate::specs::Named::step_between))]
 fn step_between<N: Network>(network: &N, hex: Hex, from: End, to: End) -> Option<Step>
     ensures { result ≡ step_between (N.position network.now) hex from to }
@@ -91,14 +91,14 @@ fn step_between<N: Network>(network: &N, hex: Hex, from: End, to: End) -> Option
     }
 }
 
-/// Whether a link is among some.
+/// Returns whether a link is among some.
 fn has_link(links: &[Link], link: Link) -> bool
     ensures { result ≡ list_any (λ other. same_link other link) links.now }
 {
     links.iter().any(|other| same_link(*other, link))
 }
 
-/// Whether two links are one. (By their numbers, which the prover knows at once.)
+/// Returns whether two links are one. (By their numbers, which the prover knows at once.)
 fn same_link(link: Link, other: Link) -> bool
     ensures { result ≡ same_link link other }
 {
@@ -107,7 +107,7 @@ fn same_link(link: Link, other: Link) -> bool
         && order(link.b) == order(other.b)
 }
 
-/// The step from one end of a hex to another by the link that would join them.
+/// Returns the step from one end of a hex to another by the link that would join them.
 fn step_over(hex: Hex, from: End, to: End) -> Step
     ensures { result ≡ step_over hex from to }
 {
@@ -132,7 +132,7 @@ fn step_over(hex: Hex, from: End, to: End) -> Step
     }
 }
 
-/// The place of an end among the ends of a hex.
+/// Returns the place of an end among the ends of a hex.
 pub(crate) fn order(end: End) -> usize
     ensures value { result ≡ end_order end }
     ensures bound { result < 8 }

@@ -10,13 +10,16 @@ ghost use Rattle.tables.specs.declared.round.Round.{Round};
 use reach::Network;
 use std::alloc::AllocError;
 use tables::{Company, Kind, Money, Round};
+use thiserror::Error;
 
-/// Why a runner gives no answer.
-#[derive(Clone, Copy, Debug, PartialEq, Eq)]
+/// Why a runner returns no revenue.
+#[derive(Clone, Copy, Debug, PartialEq, Eq, Drop, Error)]
 pub enum RunnerFault {
-    /// A request for memory was refused.
+    /// An allocation failed.
+    #[error("an allocation failed")]
     Memory,
-    /// The runner does not answer for this round and company.
+    /// The runner refused this round and company.
+    #[error("the runner refused a company in an operating round")]
     Refused,
 }
 
@@ -24,22 +27,23 @@ impl From<AllocError> for RunnerFault {
     ghost from_gives = { λ _ fault. fault ≡ Memory };
 
     fn from(_error: AllocError) -> RunnerFault {
+        // An allocation failed: passed on.
         RunnerFault::Memory
     }
 }
 
-/// Who answers the greatest revenue of a company's trains.
+/// Finds the greatest revenue of a company's trains.
 pub trait Runner {
-    /// It may answer `Refused`.
+    /// Whether it may return `Refused`.
     ghost may_refuse: { Bool };
 
-    /// What a call makes of the runner: its value before, the position, the round, the company,
-    /// the trains, the answer, and its value after.
+    /// What a call makes of the runner: its value before, the position, the round, the company, the
+    /// trains, the result, and its value after.
     ghost earns: { Self → Position → Round → Company → List Kind → Result ℤ RunnerFault → Self → Type 0 };
 
-    /// The greatest revenue that any legal set of runs for these trains of a company earns on a
-    /// network, in dollars. The round is the operating round of the company's turn. The errors are
-    /// refused memory, and that the runner refuses to answer.
+    /// Returns the greatest revenue that any legal set of runs for these trains of a company earns
+    /// on a network, in dollars. The round is the operating round of the company's turn. The error
+    /// is `Memory` if an allocation fails, and `Refused` if the runner refuses.
     fn earn<N: Network>(
         &mut self,
         network: &N,

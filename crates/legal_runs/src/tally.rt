@@ -12,10 +12,10 @@ use map_tables::{End, RunRule, Stop};
 use reach::{Network, STOPS, Spot, Step, stop_order};
 use tables::{Amount, Company, Kind};
 
-/// What is kept of the steps that a train has gone over.
+/// What is kept of the steps that a train has followed.
 #[derive(Clone, Copy)]
 pub(crate) struct Tally {
-    /// It has gone over a step.
+    /// Whether it has followed a step.
     begun: bool,
     /// How many stops it has visited; one that it visited again counts again.
     stops: usize,
@@ -33,7 +33,7 @@ pub(crate) struct Tally {
 }
 
 impl Tally {
-    /// What is kept before the first step.
+    /// Returns the tally before the first step.
     pub(crate) fn none(used: &Used) -> Tally
         ensures { result ≡ no_steps used.now }
     {
@@ -125,7 +125,7 @@ impl Tally {
         self.begun = true;
     }
 
-    /// Goes over a step.
+    /// Follows a step.
     #[tactic(auto, unfolding(crate::specs::Tally::counted))]
     fn count<N: Network>(&mut self, network: &N, company: Company, step: Step)
         requires few { self.old.stops ≤ 9000 }
@@ -138,7 +138,7 @@ impl Tally {
         self.leave(network, company, step.left());
     }
 
-    /// Goes over the steps of a leg.
+    /// Follows the steps of a leg.
     pub(crate) fn count_leg<N: Network>(&mut self, network: &N, company: Company, leg: Leg)
         requires few { self.old.stops ≤ 8000 }
         requires low { self.old.value ≤ 80 * self.old.stops }
@@ -153,7 +153,7 @@ impl Tally {
         }
     }
 
-    /// The first rule that the run breaks, if it breaks one.
+    /// Returns the first rule that the run breaks; `None` if it breaks none.
     pub(crate) fn fault(&self, kind: Kind) -> Option<RunRule>
         ensures { result ≡ tally_fault kind self.now }
     {
@@ -175,7 +175,7 @@ impl Tally {
     }
 }
 
-/// What a stop is worth, in dollars.
+/// Returns what a stop is worth, in dollars.
 pub fn worth<N: Network>(network: &N, stop: Stop) -> Amount
     ensures value { result ≡ value_of (N.position network.now) stop }
     ensures bound { result ≤ 80 }
@@ -184,21 +184,21 @@ pub fn worth<N: Network>(network: &N, stop: Stop) -> Amount
     network.value(stop)
 }
 
-/// Whether a company has a token at a stop.
+/// Returns whether a company has a token at a stop.
 pub fn has_token<N: Network>(network: &N, company: Company, stop: Stop) -> bool
     ensures { result ≡ has_token (N.position network.now) company stop }
 {
     network.token(stop, company)
 }
 
-/// Whether a stop is a city that is full for a company.
+/// Returns whether a stop is a city that is full for a company.
 pub fn is_full<N: Network>(network: &N, company: Company, stop: Stop) -> bool
     ensures { result ≡ is_full (N.position network.now) company stop }
 {
     network.full(stop, company)
 }
 
-/// Whether a train of a kind may not visit this many stops.
+/// Returns whether a train of a kind may not visit this many stops.
 fn is_wrong_number(kind: Kind, stops: usize) -> bool
     ensures { result ≡ is_wrong_number kind stops }
 {

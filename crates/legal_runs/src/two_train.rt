@@ -13,8 +13,8 @@ use map_tables::{HEXES, Hex, Link, Stop};
 use reach::{Network, Spot, Step, stop_order};
 use tables::Company;
 
-/// Whether some run of a company is legal for a 2-train, no border being used: track leads from a
-/// stop with its token to another, and no stop lies between. It takes no memory.
+/// Returns whether some run of a company is legal for a 2-train if no border is used. Track then
+/// leads from a stop with its token to another, and no stop lies between. Allocates nothing.
 pub fn can_run<N: Network>(network: &N, company: Company) -> bool
     ensures { IsTrue result ↔ CanRun (N.position network.now) company }
 {
@@ -27,7 +27,7 @@ pub fn can_run<N: Network>(network: &N, company: Company) -> bool
     false
 }
 
-/// Whether such a run leaves its first stop by a link of a hex.
+/// Returns whether such a run leaves its first stop by a link of a hex.
 fn leaves_in<N: Network>(network: &N, company: Company, hex: Hex) -> bool
     requires { IsLawful (N.position network.now) }
     ensures { let position = N.position network.now in
@@ -43,7 +43,7 @@ fn leaves_in<N: Network>(network: &N, company: Company, hex: Hex) -> bool
     false
 }
 
-/// Whether such a run leaves its first stop by a link, in either direction.
+/// Returns whether such a run leaves its first stop by a link, in either direction.
 fn leaves_by<N: Network>(network: &N, company: Company, link: Link) -> bool
     requires { IsLawful (N.position network.now) }
     ensures { let position = N.position network.now in
@@ -57,7 +57,7 @@ fn leaves_by<N: Network>(network: &N, company: Company, link: Link) -> bool
     leaves(network, company, forward) || leaves(network, company, back)
 }
 
-/// Whether such a run begins with a step.
+/// Returns whether such a run begins with a step.
 fn leaves<N: Network>(network: &N, company: Company, step: Step) -> bool
     requires { IsLawful (N.position network.now) }
     ensures { IsTrue result ↔ LeavesToken (N.position network.now) company step }
@@ -68,7 +68,7 @@ fn leaves<N: Network>(network: &N, company: Company, step: Step) -> bool
     }
 }
 
-/// Whether a stop has a token of the company, and a step leads on from it.
+/// Returns whether a stop has a token of the company, and a step leads on from it.
 fn leaves_stop<N: Network>(network: &N, company: Company, start: Stop, step: Step) -> bool
     requires { IsLawful (N.position network.now) }
     ensures { let position = N.position network.now in
@@ -78,8 +78,8 @@ fn leaves_stop<N: Network>(network: &N, company: Company, start: Stop, step: Ste
     network.token(start, company) && leads_on(network, start, step, &Used::new())
 }
 
-/// Whether a step, and others after it, lead to a stop that is not the first one, over borders
-/// that are not used.
+/// Returns whether a step, and others after it, lead to a stop that is not the first one, over
+/// borders that are not used.
 #[cycle(track)]
 fn leads_on<N: Network>(network: &N, start: Stop, step: Step, used: &Used) -> bool
     requires { IsLawful (N.position network.now) }
@@ -105,7 +105,7 @@ fn leads_on<N: Network>(network: &N, start: Stop, step: Step, used: &Used) -> bo
     false
 }
 
-/// Whether a step by a link, in either direction, is entered at a spot and leads on.
+/// Returns whether a step by a link, in either direction, is entered at a spot and leads on.
 #[cycle(track)]
 fn leads_by_link<N: Network>(network: &N, start: Stop, link: Link, spot: Spot, used: &Used) -> bool
     requires { IsLawful (N.position network.now) }
@@ -120,7 +120,7 @@ fn leads_by_link<N: Network>(network: &N, start: Stop, link: Link, spot: Spot, u
     leads_from(network, start, forward, spot, used) || leads_from(network, start, back, spot, used)
 }
 
-/// Whether a step is entered at a spot and leads on.
+/// Returns whether a step is entered at a spot and leads on.
 #[cycle(track)]
 fn leads_from<N: Network>(network: &N, start: Stop, step: Step, spot: Spot, used: &Used) -> bool
     requires { IsLawful (N.position network.now) }
@@ -130,14 +130,14 @@ fn leads_from<N: Network>(network: &N, start: Stop, step: Step, spot: Spot, used
     is_entered(step, spot) && leads_on(network, start, step, used)
 }
 
-/// Whether a stop is not the first one.
+/// Returns whether a stop is not the first one.
 fn is_other(stop: Stop, start: Stop) -> bool
     ensures { IsTrue result ↔ (¬ (stop ≡ start)) }
 {
     stop_order(stop) != stop_order(start)
 }
 
-/// Whether a step is entered at a spot.
+/// Returns whether a step is entered at a spot.
 fn is_entered(step: Step, spot: Spot) -> bool
     ensures { IsTrue result ↔ (entered_at step ≡ spot) }
 {

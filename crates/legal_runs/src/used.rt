@@ -12,7 +12,7 @@ pub struct Used {
     pub(crate) crossed: [bool; BORDERS],
 }
 
-/// To a contract it is the list of marks, one for each border.
+/// In a contract it is the list of marks, one for each border.
 impl Model for Used {
     ghost use Rattle.std.specs.Prelude.{◌≡◌, Bool, List, length};
 
@@ -26,7 +26,7 @@ impl Model for Used {
 }
 
 impl Used {
-    /// No border has been crossed yet.
+    /// Returns marks by which no border has been crossed yet.
     pub fn new() -> Used
         ensures { result ≡ replicate 279 false }
     {
@@ -35,8 +35,8 @@ impl Used {
         }
     }
 
-    /// The borders that are used once the one at a spot is too; `None` where it is used already,
-    /// and at a stop.
+    /// Returns the borders that are used once the one at a spot is used too; `None` if it is used
+    /// already, and at a stop.
     #[tactic(auto, using(crate::proofs::Fewer::fewer_free))]
     pub(crate) fn over(&self, spot: Spot) -> Option<Used>
         ensures crossing { result ≡ crossing self.now spot }
@@ -54,7 +54,7 @@ impl Used {
         Some(over)
     }
 
-    /// Whether a border is used, by its number.
+    /// Returns whether a border is used, by its number.
     pub fn has(&self, border: usize) -> bool
         requires { border < 279 }
         ensures { result ≡ get_or self.now border false }
@@ -62,7 +62,7 @@ impl Used {
         self.crossed[border]
     }
 
-    /// A border is used from now on.
+    /// Marks a border as used.
     #[tactic(auto, using(crate::proofs::Fewer::fewer_free))]
     pub fn add(&mut self, border: usize)
         requires { border < 279 }
@@ -73,7 +73,7 @@ impl Used {
         self.crossed[border] = true;
     }
 
-    /// A border is not used any more.
+    /// Unmarks a border.
     pub fn remove(&mut self, border: usize)
         requires { border < 279 }
         ensures { self.new ≡ set self.old border false }

@@ -6,8 +6,8 @@ use arrayvec::ArrayVec;
 use map_tables::{End, Place, Run, StopNumber};
 use reach::{Spot, Step};
 
-/// Writes out a run by its places, from the steps of its walk. The latest step is in front, as
-/// in the definitions. The places of each legal run are from 2 to 280, and name its walk.
+/// Writes out a run by its places, from the steps of its walk. The latest step comes first, as in
+/// the definitions. The places of each legal run are from 2 to 280, and name its walk.
 pub fn write_run(steps: &[Step]) -> Run
     requires least { 2 ≤ length (places_of steps.now) }
     requires most { length (places_of steps.now) ≤ 280 }
@@ -24,7 +24,7 @@ pub fn write_run(steps: &[Step]) -> Run
     Run::from_places(places).unwrap()
 }
 
-/// The place to which a step comes over a border; `None` where it is entered at a stop.
+/// Returns the place to which a step comes over a border; `None` if it is entered at a stop.
 fn place_over(step: Step) -> Option<Place>
     ensures { result ≡ place_over (entered_at step).end (left_at step) }
 {
@@ -34,7 +34,7 @@ fn place_over(step: Step) -> Option<Place>
     }
 }
 
-/// How a spot is written: by its hex, with the number of the stop where it is one.
+/// Returns how a spot is written: by its hex, with the number of the stop if it is one.
 fn place_at(spot: Spot) -> Place
     ensures { result ≡ place_at spot }
 {
@@ -44,7 +44,7 @@ fn place_at(spot: Spot) -> Place
     }
 }
 
-/// The number of the stop at an end, if it is one.
+/// Returns the number of the stop at an end, if it is one.
 fn number_at(end: End) -> Option<StopNumber>
     ensures { result ≡ number_at end }
 {

@@ -1,4 +1,4 @@
--- The table tells what a train may earn that has not begun.
+-- The table gives what a train that has not begun may earn.
 use Rattle.certificate.proofs.tree.group_of.Goals as goal
 
 pub returns-clause-may_earn : goal.returns-clause-may_earn

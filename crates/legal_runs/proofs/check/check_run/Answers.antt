@@ -1,4 +1,4 @@
--- The tally of the run tells the first rule that it breaks, what it earns and what it crosses.
+-- The tally of the run gives the first rule that it breaks, what it earns and what it crosses.
 use Rattle.std.proofs.Common.{Bool, List, ◌∙◌, sym, ap, subst, pos, length, arith, refl}
 use Rattle.std.proofs.lemmas.Int.{to_z-of_z}
 use mir.Syntax.{w128}

@@ -1,4 +1,4 @@
--- The network's answer and the test say one fact.
+-- What the network returns and the test say one fact.
 use Rattle.legal_runs.proofs.Tests.{tests_agree, is_full_is}
 use Rattle.legal_runs.proofs.tally.is_full.Goals as goal
 

@@ -1,4 +1,5 @@
--- A step leads on where it is left at another stop, or where one of the steps that are entered beyond leads on.
+-- A step leads on where it is left at another stop, or where one of the steps that are entered
+-- beyond leads on.
 use Rattle.std.proofs.Common.{◌≡◌, rules, true, false, Some, None, List, [], length, take, refl, ap, sym, ◌∙◌, subst}
 use Rattle.std.proofs.Common.{arith}
 use Rattle.std.proofs.lemmas.List.{take_all}

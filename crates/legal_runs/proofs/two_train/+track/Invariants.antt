@@ -1,4 +1,5 @@
--- Each further step crosses a border that was not used. None of the links before the next one leads on.
+-- Each further step crosses a border that was not used. None of the links before the next one leads
+-- on.
 use Rattle.std.proofs.Common.{◌+◌, ◌*◌, not, take, count_by}
 use Rattle.reach.specs.Position.{IsAmong, links_of}
 use Rattle.reach.specs.declared.walk.Step.{Step}

@@ -1,4 +1,5 @@
--- The places so far are those of the steps that are gone over; what is left are the places of the others.
+-- The places so far are those of the steps that are gone over; what is left are the places of the
+-- others.
 use Rattle.std.proofs.Common.{◌≡◌, ◌++◌}
 use Rattle.std.specs.Iterator.Adapters.{rev_source}
 use Rattle.std.specs.Slice.Iter.{iter_rest}
