@@ -1,4 +1,5 @@
--- A state of the search and the walk that it stands for: a segment is taken exactly where a step goes on.
+-- A state of the search and the walk that it stands for: a segment is taken exactly if a step goes
+-- on.
 use Rattle.std.proofs.Common.{◌≡◌, ◌↔◌, ℕ, ◌+◌, ◌-◌, ◌<◌, Bool, true, ◌⊎◌, inl, inr, Option, Some, None, List, ◌∷◌}
 use Rattle.std.proofs.Common.{◌++◌, length, set, sym, ap, subst, ◌∙◌, arith, length-set}
 use Rattle.map_tables.specs.declared.place.Stop.{Stop}
@@ -27,7 +28,7 @@ use Rattle.search_task.proofs.Marks.{length_marked}
 use Rattle.search_task.proofs.Described.{border_fits, one_number, same_spot, spot_low}
 use Rattle.search_task.proofs.Marked.{mark_more, marks_more}
 
--- what a state tells of a run: where it is, its stops and its borders, beside those of other runs
+-- what a state says of a run: where it is, its stops and its borders, beside those of other runs
 pub record Tells (task : Task) (position : Position) (company : Company) (most : ℕ) (others : List ℕ) (at : Spot)
     (stops : List Stop) (borders : List ℕ) (assigned : Assigned) (run : PartialRun) : Type 0 where
   pub head : run.head ≡ spot_number at

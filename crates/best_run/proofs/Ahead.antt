@@ -1,4 +1,5 @@
--- What lies ahead of a run is found segment by segment, and what is found is all that the run may reach.
+-- What lies ahead of a run is found segment by segment, and what is found is all that the run may
+-- reach.
 use Rattle.std.proofs.Common.{◌≡◌, ℕ, ◌+◌, ◌<◌, ◌≤◌, Bool, true, false, not, ◌&&◌, ◌⊎◌, inl, inr, Some, List, length}
 use Rattle.std.proofs.Common.{get_or, set, replicate, slice_get, refl, sym, ap, subst, ◌∙◌, arith, le_trans}
 use Rattle.std.proofs.Common.{get_or-set_same}
@@ -205,7 +206,7 @@ module _ (task : Task) (assigned : Assigned) (run : PartialRun) where
         all = all_over ahead from.widens.over;
       }
 
-  -- else from where it began as well
+  -- otherwise from where it began as well
   pub outlook_both : (middle ahead : List Bool) → WidensFrom task assigned run run.head (replicate 744 false) middle
       → WidensBack task assigned run middle ahead → IsOutlook task assigned run ahead
   outlook_both middle ahead first second =

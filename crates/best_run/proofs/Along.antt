@@ -1,5 +1,5 @@
--- Legs that are tried are moves that are tried: what may be done by a segment begins with a leg, and whatever comes
--- after a leg comes after its segments.
+-- Legs that are tried are moves that are tried: what may be done by a segment begins with a leg,
+-- and whatever comes after a leg comes after its segments.
 use Rattle.std.proofs.Common.{◌≡◌, ℕ, ◌+◌, ◌<◌, ◌≤◌, Bool, true, false, ◌&&◌, ◌⊎◌, inl, inr, Some, List, [], ◌∷◌, ◌++◌}
 use Rattle.std.proofs.Common.{length, slice_get, replicate, refl, sym, ap, subst, ◌∙◌, arith, le_trans, length-append}
 use Rattle.std.proofs.lemmas.Option.{slice_get_within}

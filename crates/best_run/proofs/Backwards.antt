@@ -1,5 +1,5 @@
--- A walk from its other end: each step is taken the other way over its link, the last one first. It visits the same
--- stops, crosses the same borders and passes the same stops.
+-- A walk from its other end: each step is taken the other way over its link, the last one first. It
+-- visits the same stops, crosses the same borders and passes the same stops.
 use Rattle.std.proofs.Common.{◌≡◌, ◌↔◌, ℕ, ◌+◌, true, ◌⊎◌, inl, inr, Option, Some, None, IfSome, List, [], ◌∷◌, ◌++◌}
 use Rattle.std.proofs.Common.{length, refl, sym, ap, subst, ◌∙◌, arith}
 use Rattle.map_tables.specs.declared.hex.Hex.{Hex}

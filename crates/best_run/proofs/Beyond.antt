@@ -27,7 +27,7 @@ ends level node = if_ending node.ends (node.value - level)
 pub same_node : (first node : Node) → Some first ≡ Some node → first ≡ node
 same_node first node at = cc
 
--- one stop more lies ahead
+-- one more stop lies ahead
 beyond_more : (level : ℕ) (nodes : List Node) (ahead : List Bool) (n : ℕ) (node : Node)
     → slice_get nodes n ≡ Some node → get_or ahead n false ≡ false → n < length ahead
     → beyond level nodes (set ahead n true) ≡ passes level node + beyond level nodes ahead

@@ -1,5 +1,6 @@
--- Each legal run is met: from the first of its tokens along one branch, and then, if it has another, back at the token
--- and along that. The first branch is the one whose first segment is before the other's.
+-- Each legal run is met: from the first of its tokens along one branch, and then, if it has
+-- another, back at the token and along that. The first branch is the one whose first segment is
+-- before the other's.
 use Rattle.std.proofs.Common.{◌≡◌, ◌↔◌, ℕ, ◌+◌, ◌<◌, ◌≤◌, true, false, ◌⊎◌, inl, inr, Some, List, [], ◌∷◌, ◌++◌, length}
 use Rattle.std.proofs.Common.{get_or, set, refl, sym, ap, subst, ◌∙◌, arith, length-set}
 use Rattle.map_tables.specs.declared.place.Stop.{Stop}
@@ -98,7 +99,7 @@ returning_put : (xs ys : List Step) → returning (xs ++ ys) ≡ returning xs ++
 returning_put [] ys = refl
 returning_put (step ∷ xs) ys = ap (λ rest. flipped step ∷ rest) (returning_put xs ys)
 
--- a walk turned about is its beginning turned about, behind its later part turned about
+-- a walk turned about is its beginning turned about, after its later part turned about
 turned_put : (later : List Step) (last : Step) (before walk : List Step) → onto (returning later) [] ≡ walk
     → onto (returning (later ++ last ∷ before)) [] ≡ onto (returning before) (flipped last ∷ walk)
 turned_put later last before walk is =
@@ -267,7 +268,8 @@ module _ (position : Position) (company : Company) (lawful : IsLawful position) 
         tells_next holds ahead (λ last after done stays at_end tells. finish_here (onto later (step ∷ [])) last after
         done stays.next stays.total stays.kind stays.cap (stays.most ∙ most_is) tells at_end ends may rest))
 
-    -- a run along one branch from its token, and then along another; the first branch, turned about, comes before the second
+    -- a run along one branch from its token, and then along another; the first branch, turned
+    -- about, comes before the second
     two_branches : (first : Step) (along_first : List Step) (last : Step) (before : List Step) (second : Step)
         (along_second : List Step) (home : Stop) → AreOne position (onto along_first (first ∷ [])) (last ∷ before)
         → stop_of (entered_at first) ≡ Some home → stop_of (left_at last) ≡ Some home → HasToken position home company

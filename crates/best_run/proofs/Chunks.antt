@@ -1,5 +1,5 @@
--- A run that has left a stop by a segment comes, over sides, to the next stop: what it may do until then is a leg. So a
--- leg at once leads to the same state as its segments one by one.
+-- A run that has left a stop by a segment comes, over sides, to the next stop: what it may do until
+-- then is a leg. So a leg at once leads to the same state as its segments one by one.
 use Rattle.std.proofs.Common.{◌≡◌, ℕ, zero, suc, ◌+◌, ◌<◌, ◌≤◌, Bool, true, false, not, ◌&&◌, nat_lt, ◌⊎◌, inl, inr}
 use Rattle.std.proofs.Common.{List, [], ◌∷◌, ◌++◌, length, get_or, set, refl, sym, ap, subst, ◌∙◌, arith, length-set}
 use Rattle.reach.proofs.Marking.{set_cases}

@@ -83,7 +83,7 @@ pub record StaysSo (assigned after : Assigned) (run done : PartialRun) : Type 0 
 
 module _ (position : Position) (company : Company) (kinds : List Kind) (task : Task)
     (describes : Describes position company kinds task) (most : ℕ) (others : List ℕ) where
-  -- what some moves tell of a run
+  -- what some moves say of a run
   abbrev pub TellsHere : Spot → List Stop → List ℕ → Assigned → PartialRun → Type 0
   TellsHere at stops borders assigned run = Tells task position company most others at stops borders assigned run
 

@@ -1,5 +1,5 @@
--- Ways to the end stay open where fewer borders are used, and earn as much more: so the trains that are left never earn
--- more than they do by themselves.
+-- Ways to the end stay open where fewer borders are used, and earn as much more: so the trains that
+-- are left never earn more than they do by themselves.
 use Rattle.std.proofs.Common.{◌≡◌, ℕ, zero, suc, ◌+◌, ◌-◌, ◌<◌, ◌≤◌, Bool, true, false, not, ◌&&◌, ◌||◌, nat_le, ◌==◌}
 use Rattle.std.proofs.Common.{◌⊎◌, inl, inr, Some, None, List, [], ◌∷◌, ◌++◌, length, set, replicate, slice_get, refl}
 use Rattle.std.proofs.Common.{sym, ap, subst, ◌∙◌, arith, add-one, le_trans}
@@ -268,7 +268,7 @@ still_earned task state old new traced earns none =
       | inr better ↦ better.earns
     ]
 
--- one train more is solved for; with those before it, it may pass
+-- one more train is solved for; with those before it, it may pass
 pub solved_more :
     (task : Task) (count : ℕ) (bounds : List ℕ) (old new : Found) (move_path : MovePath)
     → count < length task.trains.items → IsSolved task count bounds old →

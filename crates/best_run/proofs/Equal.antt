@@ -1,5 +1,5 @@
--- Trains of one kind, one after another: none of them earns more than the one before, so together they earn at most
--- the cap of the first for each of them.
+-- Trains of one kind, one after another. None of them earns more than the one before, so together
+-- they earn at most the cap of the first for each of them.
 use Rattle.std.proofs.Common.{◌≡◌, ℕ, zero, suc, ◌+◌, ◌*◌, ◌<◌, ◌≤◌, Bool, true, false, not, ◌&&◌, ◌||◌, ◌==◌, nat_le}
 use Rattle.std.proofs.Common.{List, [], ◌∷◌, length, get_or, refl, sym, subst, ◌∙◌, arith, suc-mul}
 use Rattle.std.proofs.lemmas.Bool.{eq-eqb, eqb-true, leb-true}
@@ -58,7 +58,8 @@ one_ran : (all total value count cap bound : ℕ) → value ≤ cap → all ≤ 
 one_ran all total value count cap bound small low = omega (arith, low, small, suc-mul count cap)
 
 module _ (task : Task) (most cap bound : ℕ) (some : 0 < most) where
-  -- this many of the trains that are left are of the kind, each within the cap, and the others earn within the bound
+  -- this many of the trains that are left are of the kind, each within the cap, and the others earn
+  -- within the bound
   record Left (assigned : Assigned) (count : ℕ) : Type 0 where
     pub equal : AreEqual task assigned.next count most
     pub kind : assigned.kind ≡ most

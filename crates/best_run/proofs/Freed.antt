@@ -1,5 +1,6 @@
--- A run may go on as another one that is at its stop, if it has visited no stop that the other has not, and may visit as
--- many more or more than there are borders; it earns as much more as it has earned more.
+-- When a run may go on as another one at its stop. It has visited no stop that the other has not,
+-- and may visit as many more, or more than there are borders. It then earns as much more as it has
+-- earned more.
 use Rattle.std.proofs.Common.{◌≡◌, ℕ, ◌+◌, ◌<◌, ◌≤◌, Bool, true, false, not, ◌&&◌, ◌||◌, nat_le, nat_lt, ◌==◌, ◌⊎◌, inl}
 use Rattle.std.proofs.Common.{inr, List, [], ◌∷◌, length, get_or, refl, sym, ap, subst, ◌∙◌, arith}
 use Rattle.std.proofs.lemmas.Bool.{le-leb, leb-true, lt-ltb, ltb-true}
@@ -36,7 +37,7 @@ freed run home first left value visited =
       visited = visited;
     }
 
--- this many stops more may be visited, or more than there are borders
+-- this many more stops may be visited, or more than there are borders
 abbrev pub HasLeft : List Bool → ℕ → ℕ → Type 0
 HasLeft used left more = (left ≤ more) ⊎ (unused used ≤ more)
 

@@ -78,7 +78,7 @@ module _ (position : Position) (company : Company) (lawful : IsLawful position) 
       (record { legal = set.legal; each_once = set.each_once; apart = set.apart; avoid = avoid_none runs })
       (within_none position runs)
 
-  -- the marks of moves from the start to the end tell a legal set of runs
+  -- the marks of moves from the start to the end give a legal set of runs
   pub record MarksEarn (marks : List Mark) (amount : ℕ) : Type 0 where
     pub set : IsLegalSet position company kinds (runs_of_marks kinds [] marks)
     pub earns : revenue_of position (runs_of_marks kinds [] marks) ≡ amount

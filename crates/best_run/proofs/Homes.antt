@@ -1,4 +1,5 @@
--- The spots where the company has tokens are all from which runs begin: between them there is nothing to try, and no token.
+-- The spots where the company has tokens are all from which runs begin: between them there is
+-- nothing to try, and no token.
 use Rattle.std.proofs.Common.{◌≡◌, ℕ, zero, suc, ◌+◌, ◌-◌, ◌≤◌, Bool, false, inr, List, [], ◌∷◌, length, replicate}
 use Rattle.std.proofs.Common.{refl, sym, ap, subst, ◌∙◌, add-one, arith}
 use Rattle.best_run.specs.declared.memo.Found.{Found}

@@ -1,5 +1,6 @@
--- A run earns at most what it has, the level for each stop that is left, what the stops ahead are worth beyond the
--- level, of those at which it ends as many as it may reach, and what the later trains earn by themselves.
+-- A run earns at most a sum. It has what the run has earned, the level for each stop that is left,
+-- what the stops ahead are worth beyond it, and what the later trains earn alone. Of the stops at
+-- which it ends, as many count as it may reach.
 use Rattle.std.proofs.Common.{◌≡◌, ℕ, zero, suc, ◌+◌, ◌-◌, ◌*◌, ◌<◌, ◌≤◌, Bool, true, false, not, ◌&&◌, nat_lt, ◌⊎◌}
 use Rattle.std.proofs.Common.{Option, Some, None, inl, inr, List, [], ◌∷◌, length, get_or, set, slice_get, refl, sym}
 use Rattle.std.proofs.Common.{ap, subst, ◌∙◌, arith, length-set, suc-mul}

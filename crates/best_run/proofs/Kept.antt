@@ -1,5 +1,5 @@
--- A state that is covered by one that has been explored earns no more than the best found; a state that has been explored may
--- be kept.
+-- A state that is covered by one that has been explored earns no more than the best found; a state
+-- that has been explored may be kept.
 use Rattle.std.proofs.Common.{◌≡◌, ℕ, Bool, zero, suc, ◌-◌, ◌<◌, ◌≤◌, ◌⊎◌, inl, inr, Option, None, Some, Ok, List, []}
 use Rattle.std.proofs.Common.{◌∷◌, ◌++◌, length, set, slice_get, refl, sym, ap, subst, ◌∙◌, arith}
 use Rattle.std.specs.declared.alloc.AllocError.{AllocError}
@@ -127,7 +127,7 @@ explores_kept task state like old new kept canonical explores is =
       most = λ known. subst (λ (n : ℕ). LeadsToAtMost task state n) (sym is.amount) (explores.most known);
     }
 
--- no memory has been refused where what is found is answered
+-- no allocation has failed if what is found is returned
 pub granted : (best found : Found) → unless_refused best ≡ Ok found → (found ≡ best) × (best.move_path.refused ≡ None)
 granted best found is = by_error best.move_path.refused is
   where

@@ -1,4 +1,5 @@
--- The stops ahead as they count: one more that a run may pass, or at which it ends. At a stop that is last it ends.
+-- The stops ahead as they count: one more that a run may pass, or at which it ends. At a stop that
+-- is last it ends.
 use Rattle.std.proofs.Common.{◌≡◌, ℕ, zero, suc, ◌+◌, ◌-◌, ◌*◌, ◌<◌, ◌≤◌, max, Bool, true, false, ◌⊎◌, inl, inr, Some}
 use Rattle.std.proofs.Common.{List, [], ◌∷◌, length, get_or, set, slice_get, refl, sym, ap, subst, ◌∙◌, arith}
 use Rattle.std.proofs.Common.{length-set}
@@ -153,7 +154,7 @@ module _ (task : Task) (assigned : Assigned) (run : PartialRun) (ahead : List Bo
     (at : node_at task n ≡ Some node) (placed : n < length task.spots.items) (small : node.value ≤ 80)
     (free : get_or ahead n false ≡ false) (low : n < length ahead) (old new : Worth)
     (has : HasWorth task assigned run ahead old) where
-  -- a run may pass one stop more
+  -- a run may pass one more stop
   pub has_passing : ends_in (node_at task n) ≡ false → HasPassed node.value old new
       → CountsAsPassed task assigned run n (set ahead n true) new
   has_passing passes adds =

@@ -1,5 +1,5 @@
--- Ways to the end from a state are ways to the end from one that is alike: neither the run begun nor one to come crosses a
--- border in which they differ.
+-- Ways to the end from a state are ways to the end from one that is alike. Neither the run begun
+-- nor one to come crosses a border in which they differ.
 use Rattle.std.proofs.Common.{◌≡◌, ℕ, zero, suc, ◌+◌, ◌<◌, ◌≤◌, Bool, true, false, not, ◌&&◌, ◌||◌, nat_lt, ◌⊎◌, inl}
 use Rattle.std.proofs.Common.{inr, Option, Some, None, List, [], ◌∷◌, length, get_or, set, slice_get, replicate, refl}
 use Rattle.std.proofs.Common.{sym, ap, subst, ◌∙◌, arith, get_or-set_same, length-set}

@@ -17,7 +17,7 @@ onto_twice : {A : Type 0} (xs ys zs : List A) → onto (onto xs ys) zs ≡ onto 
 onto_twice [] ys zs = refl
 onto_twice (x ∷ xs) ys zs = onto_twice xs (x ∷ ys) zs
 
--- what a list of distinct things has behind some of them is distinct, and apart from them
+-- what a list of distinct things has after some of them is distinct, and apart from them
 pub distinct_right : {A : Type 0} (first second : List A) → AreDistinct (first ++ second) → AreDistinct second
 distinct_right [] second distinct = distinct
 distinct_right (x ∷ first) second distinct = distinct_right first second distinct.1

@@ -1,6 +1,7 @@
--- What is in reach bounds what the next trains earn: a run begins at a token that lies there, and reaches no stop that
--- does not. So each of the next trains that are alike earns at most the level for each stop of its run, what the stops
--- in reach are worth beyond it, and as much as two of them at which it ends.
+-- What is in reach bounds what the next trains earn. A run begins at a token that lies there, and
+-- reaches no stop that does not. So each of the next trains that are alike earns at most a sum. It
+-- has the level for each stop of its run, what the stops in reach are worth beyond it, and as much
+-- as two of them at which it ends.
 use Rattle.std.proofs.Common.{◌≡◌, ℕ, zero, suc, ◌+◌, ◌-◌, ◌*◌, ◌<◌, ◌≤◌, Bool, true, false, not, ◌&&◌, nat_lt, inl}
 use Rattle.std.proofs.Common.{inr, Option, Some, None, List, [], ◌∷◌, length, get_or, set, slice_get, refl, sym, ap}
 use Rattle.std.proofs.Common.{subst, ◌∙◌, arith, length-set, suc-mul, get_or-set_same}

@@ -1,5 +1,5 @@
--- A path is read mark by mark and train by train: what all its marks give is what was read, and what those give that
--- are left.
+-- A path is read mark by mark and train by train: what all its marks give is what was read, and
+-- what those give that are left.
 use Rattle.std.proofs.Common.{◌≡◌, ℕ, zero, suc, ◌+◌, ◌<◌, Option, Some, None, Vec, List, [], ◌∷◌, ◌++◌, length, get_or}
 use Rattle.std.proofs.Common.{set, map, reverse, take, drop, refl, sym, ap, subst, ◌∙◌, arith, add-one, drop-cons}
 use Rattle.std.specs.Global.{Global}

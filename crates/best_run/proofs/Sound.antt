@@ -1,4 +1,5 @@
--- Whatever moves lead to the end, the runs that their marks tell are a legal set, and earn what the moves earn.
+-- Whatever moves lead to the end, the runs that their marks give are a legal set, and earn what the
+-- moves earn.
 use Rattle.std.proofs.Common.{◌≡◌, ◌↔◌, ℕ, ◌+◌, ◌<◌, ◌≤◌, Bool, true, false, not, ◌&&◌, ltb, ◌⊎◌, inl, inr, Option}
 use Rattle.std.proofs.Common.{Some, None, IfSome, List, [], ◌∷◌, ◌++◌, length, get_or, drop, map, refl, sym, ap, subst}
 use Rattle.std.proofs.Common.{◌∙◌, arith, length-append}
@@ -111,7 +112,7 @@ module _ (position : Position) (company : Company) (lawful : IsLawful position) 
   TellsHere most others at stops borders assigned run = Tells task position company most others at stops borders
       assigned run
 
-  -- what a segment that is taken tells of its step
+  -- what a segment that is taken says of its step
   record Went (most : ℕ) (others : List ℕ) (stops : List Stop) (borders : List ℕ) (assigned : Assigned)
       (run : PartialRun) (step : Step) (segment : Segment) : Type 0 where
     pub tells : TellsHere most others (left_at step) (listed (stop_of (left_at step)) ++ stops)
@@ -252,7 +253,7 @@ module _ (position : Position) (company : Company) (lawful : IsLawful position) 
   abbrev pub BeginsHome : PartialRun → Step → List Step → Type 0
   BeginsHome run step before = run.turned ≡ false → run.home ≡ spot_number (begins_at step before)
 
-  -- from a state on some marks tell such runs
+  -- from a state on some marks give such runs
   abbrev pub SoundFrom : State → ℕ → List Mark → Type 0
   SoundFrom (between assigned) total marks =
       (others : List ℕ) (left : List Kind) → Used others assigned

@@ -1,5 +1,5 @@
--- Where a run is cut: at the first of the company's tokens that it comes by, in the order of their numbers. What holds of
--- a walk holds of its part from there on.
+-- Where a run is cut: at the first of the company's tokens that it comes by, in the order of their
+-- numbers. What holds of a walk holds of its part from there on.
 use Rattle.std.proofs.Common.{◌≡◌, ◌↔◌, ℕ, zero, suc, ◌+◌, ◌*◌, ◌<◌, ◌≤◌, Bool, true, false, ◌⊎◌, inl, inr, Some, List}
 use Rattle.std.proofs.Common.{[], ◌∷◌, ◌++◌, length, refl, sym, ap, subst, ◌∙◌, arith, length-append, length-set}
 use Rattle.map_tables.specs.Hex.{index_of}
@@ -43,7 +43,7 @@ pub own_length : (task : Task) (n : ℕ) → length (own_before task n) ≡ 744
 own_length task zero = length_replicate 744 false
 own_length task (suc n) = length_if (own_in (node_at task n)) (own_before task n) n ∙ own_length task n
 
--- one number more: marked if the company has a token there
+-- one more number: marked if the company has a token there
 marks_by : (task : Task) (n m : ℕ) (own : Bool) → n < 744 → own_in (node_at task n) ≡ own
     → (IsMarked (own_before task n) m → (m < n) × (own_in (node_at task m) ≡ true))
     → IsMarked (marked_if own (own_before task n) n) m → (m < suc n) × (own_in (node_at task m) ≡ true)

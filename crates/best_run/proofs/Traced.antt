@@ -1,5 +1,5 @@
--- How the best found is earned: while nothing more is found the path stays, and what is found from a state on is found
--- from one before it, by the marks of the moves between them.
+-- How the best found is earned. While nothing more is found the path stays. What is found from a
+-- state on is found from one before it, by the marks of the moves between them.
 use Rattle.std.proofs.Common.{◌≡◌, ℕ, ◌<◌, ◌≤◌, true, ◌⊎◌, inl, inr, None, List, ◌++◌, slice_get, refl, sym, ap, subst}
 use Rattle.std.proofs.Common.{◌∙◌, arith}
 use Rattle.std.proofs.lemmas.List.{append_assoc}
@@ -58,7 +58,7 @@ traced_both task state old middle new grows more first second =
     by_second none (inl same) = by_first same (first.recorded none)
     by_second none (inr better) = inr (record { more = omega (arith, grows, better.more); earns = better.earns })
 
--- whatever comes after a state comes after one before it, behind some marks
+-- whatever comes after a state comes after one before it, with some marks before
 pub record ComesBy (task : Task) (from to : State) (prefix : List Mark) (later : List Move) : Type 0 where
   pub moves : List Move
   pub completes : Completes task from moves
@@ -131,7 +131,7 @@ known_traced task least prefix middle new traces known place entry there =
     subst (λ (n : ℕ). LeadsToAtMost task (state_at entry) n) (sym traces.amount)
     (known place entry (ap (λ (entries : List SearchState). slice_get entries place) (sym traces.memo) ∙ there))
 
--- all ways from a state on have been tried, and the path tells of them from one before it
+-- all ways from a state on have been tried, and the path gives them from one before it
 pub record ExploresFrom (task : Task) (from to : State) (old new : Found) : Type 0 where
   pub grows : old.amount ≤ new.amount
   pub traced : IsTraced task from old new
@@ -151,7 +151,7 @@ explores_from task from to prefix old middle new leads explores traces =
       most = λ known moves completes. omega (arith, explores.most known moves completes, traces.amount);
     }
 
--- a leg has been tried with a run, and the path tells of it from where it is tried
+-- a leg has been tried with a run, and the path gives it from where it is tried
 pub record TakesFrom (task : Task) (from : State) (assigned : Assigned) (run : PartialRun) (leg : Leg)
     (old new : Found) : Type 0 where
   pub grows : old.amount ≤ new.amount
@@ -182,7 +182,7 @@ takes_from task from assigned run leg prefix old middle new leads takes traces =
       most = λ known can moves completes. omega (arith, takes.most known can moves completes, traces.amount);
     }
 
--- marks are written in front of others, and then more in front of these
+-- marks are written before others, and then more before these
 pub traces_both :
     (least : ℕ) (first second : List Mark) (old middle new : Found) → Traces least first old middle
     → Traces least second middle new →

@@ -1,4 +1,5 @@
--- What has been tried: moves of one sort after those of another, a segment as a move, and all moves of a state.
+-- What has been tried: moves of one sort after those of another, a segment as a move, and all moves
+-- of a state.
 use Rattle.std.proofs.Common.{◌≡◌, ℕ, ◌+◌, ◌<◌, ◌≤◌, true, false, ◌⊎◌, inl, inr, Option, Some, None, List, [], ◌∷◌}
 use Rattle.std.proofs.Common.{length, refl, sym, ap, ◌∙◌, arith, le_trans}
 use Rattle.std.proofs.lemmas.Option.{slice_get_within}

@@ -1,8 +1,9 @@
--- What may lie ahead of a run that has begun: the stops that it may still reach, if it may take each leg that it may
--- take now. With a level, this many dollars, each stop to come is worth at most the level and what it is worth beyond:
--- so the run earns at most the level for each stop that is left, and what the stops ahead are worth beyond it. Of the
--- stops at which runs end, red or full, it may reach one from where it is and to one from where it began, so only those
--- count that are worth most.
+-- What may lie ahead of a run that has begun: the stops that it may still reach, if it may take
+-- each leg that it may take now. Given a level, a number of dollars, each stop to come is worth at
+-- most the level and what it is worth beyond. So the run earns at most the level for each stop that
+-- is left, and what the stops ahead are worth beyond it. Of the stops at which runs end, red or
+-- full, it may reach one from where it is and one from where it began. So only those count that are
+-- worth most.
 use Rattle.std.specs.Prelude.{◌≡◌, ℕ, ◌+◌, ◌-◌, ◌*◌, ◌<◌, ◌≤◌, max, Bool, true, false, not, ◌&&◌, ◌⊎◌, Some, List, []}
 use Rattle.std.specs.Prelude.{◌∷◌, get_or, slice_get}
 use Rattle.search_task.specs.declared.task.Node.{Node}
@@ -27,7 +28,8 @@ IsGoneOver task assigned run ahead spot =
     ends_in (node_at task spot) ≡ false → (place : ℕ) (leg : Leg) → slice_get (legs_at task spot) place ≡ Some leg
     → can_take task run assigned.used leg.segment ≡ true → LiesAhead ahead leg.segment.to
 
--- the same for those legs alone whose first segment is not before a place
+-- each leg that a run may take from a stop leads to one that lies ahead, if the run may pass the
+-- stop and the leg's first segment is not before a place
 abbrev pub IsGoneOverFrom : Task → Assigned → PartialRun → ℕ → List Bool → ℕ → Type 0
 IsGoneOverFrom task assigned run least ahead spot =
     ends_in (node_at task spot) ≡ false → (place : ℕ) (leg : Leg) → slice_get (legs_at task spot) place ≡ Some leg
@@ -117,8 +119,8 @@ two_ends level (node ∷ nodes) (true ∷ ahead) =
     max (two_ends level nodes ahead) (if_ending node.ends (node.value - level) + one_end level nodes ahead)
 two_ends level (node ∷ nodes) (false ∷ ahead) = two_ends level nodes ahead
 
--- what counts of these, if a run may go on from where it is, and from where it began: at a stop at which it ends it goes
--- on from neither
+-- what counts of these, if a run may go on from where it is, and from where it began. At a stop at
+-- which it ends it goes on from neither.
 abbrev pub ends_by : Bool → Bool → ℕ → ℕ → ℕ
 ends_by true true one two = two
 ends_by true false one two = one
@@ -131,7 +133,7 @@ goes_on task run = not (ends_in (node_at task run.head))
 abbrev pub goes_back : Task → PartialRun → Bool
 goes_back task run = not run.turned && not (ends_in (node_at task run.home))
 
--- what a run may still earn at most, at a level, where the stops ahead count as in a list
+-- what a run may still earn at most, at a level, if the stops ahead count as in a list
 abbrev pub most_ahead : ℕ → Task → List Node → PartialRun → List Bool → ℕ
 most_ahead level task nodes run ahead =
     (run.left * level + beyond level nodes ahead)
@@ -155,7 +157,7 @@ pub record HasPassed (value : ℕ) (old new : Worth) : Type 0 where
   pub first : new.first ≡ old.first
   pub second : new.second ≡ old.second
 
--- a stop that may be passed is taken away
+-- a stop that may be passed is removed
 pub record HasTakenBack (value : ℕ) (old new : Worth) : Type 0 where
   pub levels : new.levels ≡ old.levels
   pub each : (place : ℕ) → place < old.levels → get_or new.beyond place 0
@@ -179,7 +181,7 @@ at_level worth place left on back =
     (left * (10 * place) + get_or worth.beyond place 0)
     + ends_by on back (worth.first - 10 * place) ((worth.first - 10 * place) + (worth.second - 10 * place))
 
--- this much is no less than what it may earn by some level
+-- an amount is no less than what a run may earn by some level
 abbrev pub IsLeast : Worth → ℕ → Bool → Bool → ℕ → Type 0
 IsLeast worth left on back least = (place : ℕ) × (place < worth.levels) × (at_level worth place left on back ≤ least)
 

@@ -1,5 +1,6 @@
--- What the trains that are left can reach: the borders that no leg from there crosses make no difference to them, so
--- two states that differ in such borders alone are alike: between runs, or with the same run begun.
+-- What the trains that are left can reach. The borders that no leg from there crosses make no
+-- difference to them. So two states that differ only in such borders are alike: between runs, or
+-- with the same run begun.
 use Rattle.std.specs.Prelude.{◌≡◌, ℕ, ◌<◌, Bool, true, false, not, ◌&&◌, ◌||◌, ◌⊎◌, Option, Some, None, List, []}
 use Rattle.std.specs.Prelude.{length, get_or, replicate, slice_get}
 use Rattle.best_run.specs.declared.search_state.SearchState.{SearchState}
@@ -40,13 +41,15 @@ pub record Holds (stop : ℕ) (old new : List Bool) : Type 0 where
   pub over : (spot : ℕ) → LiesAhead new spot → LiesAhead old spot ⊎ (stop ≡ spot)
   pub lies : LiesAhead new stop
 
--- the tokens from which legs lead lie in reach, and all stops to which a run may come from a stop that does
+-- the tokens from which legs lead lie in reach, and all stops to which a run may come from a stop
+-- that does
 pub record AreHeld (task : Task) (used reach : List Bool) : Type 0 where
   pub held : (spot : ℕ) → IsStop task spot → own_in (node_at task spot) ≡ true
       → (legs_at task spot ≡ []) ⊎ LiesAhead reach spot
   pub all : (spot : ℕ) → LiesAhead reach spot → ends_in (node_at task spot) ≡ false → AllLead task used reach spot
 
--- the same for tokens at listed stops before one, and for the stops that lie in reach so far
+-- the tokens at listed stops before one lie in reach, and all stops to which a run may come from a
+-- stop that lies in reach so far
 pub record ReachesBelow (task : Task) (used : List Bool) (most : ℕ) (reach : List Bool) : Type 0 where
   pub own : (spot : ℕ) → IsListed task.stops.items most spot → own_in (node_at task spot) ≡ true
       → AllLead task used reach spot
@@ -89,13 +92,14 @@ pub record Opens (used old new : List Bool) : Type 0 where
   pub fewer : (borders : List ℕ) → misses old borders ≡ true → misses new borders ≡ true
   pub kept : Freer old used → Freer new used
 
--- each leg from the listed stops before one from which a run may go on is open, and the used borders are shut
+-- each leg from the listed stops before one from which a run may go on is open, and the used
+-- borders are shut
 pub record IsShutBelow (task : Task) (used reach : List Bool) (most : ℕ) (shut : List Bool) : Type 0 where
   pub kept : Freer shut used
   pub open_legs : (spot : ℕ) → IsListed task.stops.items most spot → SetsOut task reach spot
       → AreOpen task used spot shut
 
--- the same for all stops
+-- each leg from the listed stops from which a run may go on is open, and the used borders are shut
 pub record IsShut (task : Task) (used reach shut : List Bool) : Type 0 where
   pub kept : Freer shut used
   pub open_legs : (spot : ℕ) → IsStop task spot → SetsOut task reach spot → AreOpen task used spot shut
@@ -106,7 +110,7 @@ pub record ReachesAt (task : Task) (used : List Bool) (spot : ℕ) (old new : Li
   pub lies : LiesAhead new spot
   pub reaches : IsInReach task used old → IsInReach task used new
 
--- only the borders used are others: those that are shut
+-- only the used borders differ: they are those that are shut
 pub record IsShutOff (task : Task) (assigned : Assigned) (reach : List Bool) (like : Assigned) : Type 0 where
   pub same : like ≡ record assigned { used = like.used }
   pub shut : IsShut task assigned.used reach like.used
@@ -120,15 +124,15 @@ pub record MayGoOn (task : Task) (reach : List Bool) (run : PartialRun) : Type 0
   pub home : PassesFrom task reach run.home
   pub spots : length run.visited ≡ 744
 
--- the run begun, if any, is the same, but that all stops are as visited that are not in reach
+-- the run begun, if any, is the same, except that all stops that are not in reach count as visited
 abbrev pub IsRunCanonical : Task → List Bool → Option PartialRun → Option PartialRun → Type 0
 IsRunCanonical task reach None None = Unit {0}
 IsRunCanonical task reach None (Some like) = ⊥
 IsRunCanonical task reach (Some run) None = ⊥
 IsRunCanonical task reach (Some run) (Some like) = MayGoOn task reach run × IsBarred reach run like
 
--- a state differs from another only in borders that neither the run begun, if any, nor one to come can cross, and in stops
--- to which they cannot come
+-- a state differs from another only in borders that neither the run begun, if any, nor one to come
+-- can cross, and in stops to which they cannot come
 pub record IsCanonical (task : Task) (assigned : Assigned) (run : Option PartialRun) (like : SearchState) : Type 0 where
   pub reach : List Bool
   pub reaches : IsInReach task assigned.used reach

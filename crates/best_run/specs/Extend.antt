@@ -9,7 +9,8 @@ use Rattle.search_task.specs.Spots.{node_at, stop_in}
 use Rattle.best_run.specs.Room.{HasRoom, credit}
 use Rattle.best_run.specs.Suffix.{AreBounds}
 
--- a train is left, whose run has begun at a stop and has reached one, and what it may still earn is within the limit
+-- a train is left, whose run has begun at a stop and has reached one, and what it may still earn is
+-- within the limit
 pub record MayExtend (task : Task) (solved : List ℕ) (assigned : Assigned) (run : PartialRun) : Type 0 where
   pub fit : IsFit task
   pub ready : AreReady task

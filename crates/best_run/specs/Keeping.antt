@@ -1,6 +1,7 @@
--- What is kept of the best runs that are found: each call adds, last, a group for its round and company, which is
--- accepted at its position for its trains, whatever fills up its last digit as it is printed, and claims what the call
--- answers, which is under 50,000 dollars; where memory is refused none is added.
+-- What is kept of the best runs that are found. Each call adds, last, a group for its round and
+-- company. The group is accepted at the call's position for its trains, whatever fills up its last
+-- digit as it is printed. It claims what the call returns, which is under 50,000 dollars. If
+-- allocation fails no group is added.
 use Rattle.std.specs.Prelude.{◌≡◌, ◌<◌, ℤ, pos, List, [], ◌∷◌, ◌++◌, Result, Ok, Err}
 use Rattle.certificate.specs.Filled.{IsAcceptedFilled}
 use Rattle.certificate.specs.Holding.{IsAccepted}
@@ -11,7 +12,7 @@ use Rattle.tables.specs.declared.rolling_stock.Kind.{Kind}
 use Rattle.tables.specs.declared.roster.Company.{Company}
 use Rattle.tables.specs.declared.round.Round.{Round}
 
--- one group more is kept
+-- one more group is kept
 pub record KeepsOne (position : Position) (round : Round) (company : Company) (trains : List Kind) (money : ℤ)
     (old new : List Group) : Type 0 where
   pub group : Group
@@ -23,7 +24,7 @@ pub record KeepsOne (position : Position) (round : Round) (company : Company) (t
   pub answered : money ≡ pos group.claim.revenue
   pub small : group.claim.revenue < 50000
 
--- what a call keeps, by its answer
+-- what a call keeps, by what it returns
 abbrev pub KeepsBest : List Group → Position → Round → Company → List Kind → Result ℤ RunnerFault → List Group → Type 0
 KeepsBest old position round company trains (Ok money) new = KeepsOne position round company trains money old new
 KeepsBest old position round company trains (Err fault) new = new ≡ old

@@ -1,4 +1,5 @@
--- States that have been explored, and are kept: another state from which no more can be earned need not be.
+-- States that have been explored, and are kept: another state from which no more can be earned need
+-- not be explored.
 use Rattle.std.specs.Prelude.{◌≡◌, ℕ, ◌≤◌, Bool, false, ◌⊎◌, Option, Some, None, Result, Ok, Err, List, [], slice_get}
 use Rattle.std.specs.declared.alloc.AllocError.{AllocError}
 use Rattle.best_run.specs.declared.memo.Found.{Found}
@@ -8,8 +9,8 @@ use Rattle.best_run.specs.declared.state.PartialRun.{PartialRun}
 use Rattle.search_task.specs.Marks.{AreBarred, Freer}
 use Rattle.best_run.specs.MovePath.{marks_in}
 
--- the same trains are left in two states, with the same kind of train before them; the first has no less assigned, no lower cap
--- and no border used that the second has not
+-- The same trains are left in two states, with the same kind of train before them. The first has no
+-- less assigned, no lower cap and no border used that the second does not have.
 pub record Dominates (first second : Assigned) : Type 0 where
   pub next : first.next ≡ second.next
   pub kind : first.kind ≡ second.kind
@@ -21,8 +22,8 @@ pub record Dominates (first second : Assigned) : Type 0 where
 abbrev pub TurnsAs : PartialRun → PartialRun → Type 0
 TurnsAs first second = second.turned ≡ false → (first.home ≡ second.home) × (first.first ≡ second.first)
 
--- two runs are at one stop; the first has visited no stop that the second has not, and earns no less; it may visit as many
--- more, or more than there are borders
+-- Two runs are at one stop. The first has visited no stop that the second has not, and earns no
+-- less. It may visit as many more, or more than there are borders.
 pub record DominatesRun (first second : PartialRun) : Type 0 where
   pub head : first.head ≡ second.head
   pub turned : first.turned ≡ second.turned
@@ -43,7 +44,7 @@ pub record DominatesStage (first second : SearchState) : Type 0 where
   pub assigned : Dominates first.assigned second.assigned
   pub run : DominatesAny first.assigned.kind first.run second.run
 
--- to a run all stops are as visited that are not in reach
+-- to a run all stops that are not in reach count as visited
 pub record IsBarred (reach : List Bool) (run barred : PartialRun) : Type 0 where
   pub same : barred ≡ record run { visited = barred.visited }
   pub marks : AreBarred run.visited reach barred.visited
@@ -59,7 +60,8 @@ pub record IsDominated (found : Found) (search_state : SearchState) : Type 0 whe
 abbrev pub IsHeld : Found → SearchState → Type 0
 IsHeld found entry = (place : ℕ) × (slice_get found.memo.items place ≡ Some entry)
 
--- a state is kept, if at all; the others that are kept are among those that were, and an earlier refusal of memory stays
+-- a state is kept, if at all; the others that are kept are among those that were, and an earlier
+-- failed allocation stays
 pub record IsKept (search_state : SearchState) (old new : Found) : Type 0 where
   pub amount : new.amount ≡ old.amount
   pub marks : marks_in new.move_path ≡ marks_in old.move_path
@@ -73,7 +75,7 @@ pub record IsNothing (found : Found) : Type 0 where
   pub marks : marks_in found.move_path ≡ []
   pub none : found.memo.items ≡ []
 
--- what is found, or the refusal of memory
+-- what is found, or the failed allocation
 abbrev pub found_or : Found → Option AllocError → Result Found AllocError
 found_or found None = Ok found
 found_or found (Some error) = Err error

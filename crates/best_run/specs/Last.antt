@@ -1,6 +1,6 @@
--- Stops ahead of a run at which it ends, though others may pass them: all legs from there that cross no used border cross
--- one and the same, and so does the leg by which the run comes, since a leg leads back over it. Such a stop counts as one at
--- which runs end.
+-- Stops ahead of a run at which it ends, though others may pass them. All legs from there that
+-- cross no used border cross one and the same border. So does the leg by which the run comes, since
+-- a leg leads back over it. Such a stop counts as one at which runs end.
 use Rattle.std.specs.Prelude.{◌≡◌, ℕ, ◌<◌, ◌≤◌, Bool, true, false, ◌⊎◌, Some, List, length, slice_get}
 use Rattle.reach.specs.Position.{IsAmong}
 use Rattle.search_task.specs.declared.task.Node.{Node}
@@ -20,7 +20,7 @@ CrossIt task used spot border =
     (place : ℕ) (leg : Leg) → slice_get (legs_at task spot) place ≡ Some leg
     → misses used leg.segment.borders.items ≡ true → IsAmong border leg.segment.borders.items
 
--- the same for those before a place
+-- each leg from a stop before a place that crosses no used border crosses a border
 abbrev pub CrossItBelow : Task → List Bool → ℕ → ℕ → ℕ → Type 0
 CrossItBelow task used spot border most =
     (place : ℕ) (leg : Leg) → place < most → slice_get (legs_at task spot) place ≡ Some leg
@@ -30,12 +30,14 @@ CrossItBelow task used spot border most =
 abbrev pub IsLast : Task → List Bool → ℕ → Type 0
 IsLast task used spot = IsMirrored task × ((border : ℕ) × CrossIt task used spot border)
 
--- a run ends at a stop: none passes it, or it is last; a run that has no stops asks only for the former
+-- a run ends at a stop: none passes it, or it is last; for a run that has no stops only the former
+-- counts
 abbrev pub EndsThere : Task → Assigned → PartialRun → ℕ → Type 0
 EndsThere task assigned run spot =
     (ends_in (node_at task spot) ≡ true) ⊎ ((0 < run.most) × IsLast task assigned.used spot)
 
--- the stops count as in a list: each is worth as much, and where runs end by the list, this one does
+-- the stops count as in a list: each is worth as much, and if runs end there by the list, this one
+-- does
 pub record Counts (task : Task) (assigned : Assigned) (run : PartialRun) (nodes : List Node) : Type 0 where
   pub all : length nodes ≡ length task.spots.items
   pub value : (spot : ℕ) → value_in (slice_get nodes spot) ≡ value_in (node_at task spot)
@@ -49,7 +51,7 @@ pub record HasWorth (task : Task) (assigned : Assigned) (run : PartialRun) (ahea
   pub counts : Counts task assigned run nodes
   pub known : IsWorth nodes ahead worth
 
--- the same, where a stop counts as one that may be passed
+-- it is known what the stops ahead are worth, and this stop counts as one that may be passed
 pub record CountsAsPassed (task : Task) (assigned : Assigned) (run : PartialRun) (spot : ℕ) (ahead : List Bool)
     (worth : Worth) : Type 0 where
   pub has : HasWorth task assigned run ahead worth

@@ -1,5 +1,6 @@
--- The path: the marks of the moves that earn the best found, and the runs that they tell. Train by train, greatest
--- first, a train passes or has a run: steps, one behind the other, that may be turned about once, and are finished.
+-- The path: the marks of the moves that earn the best found, and the runs that they give. Train by
+-- train, greatest first, a train passes or has a run. A run is steps, one after the other, that may
+-- be turned about once, and are finished.
 use Rattle.std.specs.Prelude.{◌≡◌, ◌≤◌, not, Option, Some, None, Vec, option_map, List, [], ◌∷◌, ◌++◌, length, map}
 use Rattle.std.specs.Prelude.{reverse}
 use Rattle.std.specs.Global.{Global}
@@ -21,20 +22,20 @@ marks_in move_path = reverse move_path.marks.items
 abbrev pub go_along : List Step → List Mark
 go_along steps = map (λ step. Go step) steps
 
--- where no memory has been refused, some marks have come in front of the others
+-- unless an allocation has failed, some marks have come before the others
 pub record IsWritten (marks : List Mark) (old new : MovePath) : Type 0 where
   pub refused : new.refused ≡ None → old.refused ≡ None
   pub marks_are : new.refused ≡ None → marks_in new ≡ marks ++ marks_in old
 
--- a walk from its other end: each step is taken the other leg over its link, the last one first
+-- a walk from its other end: each step is taken the other way over its link, the last one first
 abbrev pub turned_step : Step → Step
 turned_step step = record { link = step.link; turned = not step.turned }
 
 abbrev pub turned_about : List Step → List Step
 turned_about steps = map turned_step (reverse steps)
 
--- the walk of the next train that some marks give, whose steps so far are known, the latest in front; none where the
--- train does not run
+-- the walk of the next train that some marks give, whose steps so far are known, the latest first;
+-- none if the train does not run
 abbrev pub walk_of_marks : List Step → List Mark → Option (List Step)
 walk_of_marks walk [] = None
 walk_of_marks walk (Pass ∷ marks) = None
@@ -55,7 +56,7 @@ abbrev pub with_run : Kind → Option (List Step) → List TrainRun → List Tra
 with_run kind None runs = runs
 with_run kind (Some steps) runs = record { kind = kind; steps = steps } ∷ runs
 
--- the runs of some trains that some marks give, where the steps so far of the first one's are known
+-- the runs of some trains that some marks give, given the first one's steps so far
 abbrev pub runs_of_marks : List Kind → List Step → List Mark → List TrainRun
 runs_of_marks [] walk marks = []
 runs_of_marks (kind ∷ kinds) walk marks =
@@ -75,11 +76,11 @@ pub record CanBeClaimed (run : TrainRun) : Type 0 where
 abbrev pub runs_in : List Kind → MovePath → List TrainRun
 runs_in kinds move_path = runs_of_marks kinds [] (marks_in move_path)
 
--- all of them can be written out
+-- all runs that a path gives of some trains can be written out
 abbrev pub CanBeRead : List Kind → MovePath → Type 0
 CanBeRead kinds move_path = AllByRecursion CanBeClaimed (runs_in kinds move_path)
 
--- they are written out
+-- the runs that a path gives of some trains are written out
 abbrev pub IsRead : List Kind → MovePath → List ClaimedRun → Type 0
 IsRead kinds move_path runs = runs ≡ written (runs_in kinds move_path)
 
@@ -87,7 +88,8 @@ IsRead kinds move_path runs = runs ≡ written (runs_in kinds move_path)
 abbrev pub steps_of : Option (Vec Step Global) → Option (List Step)
 steps_of walk = option_map (λ (steps : Vec Step Global). steps.items) walk
 
--- the marks of the next train are read and taken away; both lists of marks are from the last to the first
+-- the marks of the next train are read and removed; both lists of marks are from the last to the
+-- first
 pub record IsWalkRead (old new : List Mark) (walk : Option (Vec Step Global)) : Type 0 where
   pub walk_is : steps_of walk ≡ walk_of_marks [] (reverse old)
   pub after : reverse new ≡ after_walk (reverse old)

@@ -1,8 +1,9 @@
--- What the search goes over: from nothing assigned, move by move, to all trains assigned. The next train passes, or
--- begins a run at a token of the company by a segment of plain track; a run that has begun goes on from where it is;
--- once, it may turn back to the token, and go on from there by a segment that is not before the one by which it began;
--- and it may be finished at a stop. So each run is met once: from the first of its tokens, by their numbers, since the
--- tokens before that one are passed over, and not from both its ends.
+-- What the search tries: from nothing assigned, move by move, to all trains assigned. The next
+-- train passes, or begins a run at a token of the company by a segment of plain track. A run that
+-- has begun goes on from where it is. Once, it may turn back to the token, and go on from there by
+-- a segment that is not before the one by which it began. It may be finished at a stop. So each run
+-- is met once, and not from both its ends. It begins at the first of its tokens, by their numbers,
+-- since the tokens before that one are passed over.
 use Rattle.std.specs.Prelude.{◌≡◌, ℕ, zero, suc, ◌+◌, ◌-◌, ◌<◌, ◌≤◌, Bool, true, false, not, ◌&&◌, ◌||◌, nat_lt, nat_le}
 use Rattle.std.specs.Prelude.{◌==◌, ◌⊎◌, Option, Some, None, List, [], ◌∷◌, length, get_or, set, slice_get, replicate}
 use Rattle.search_task.specs.declared.task.Segment.{Segment}
@@ -42,7 +43,8 @@ abbrev pub own_before : Task → ℕ → List Bool
 own_before task zero = replicate 744 false
 own_before task (suc number) = marked_if (own_in (node_at task number)) (own_before task number) number
 
--- a run that is at the token where it begins, by the segment at a place; the tokens before that one are passed over
+-- a run that is at the token where it begins, by the segment at a place; the tokens before that one
+-- are passed over
 abbrev pub begun : Task → Assigned → ℕ → ℕ → PartialRun
 begun task assigned stop first =
     record {
@@ -56,7 +58,7 @@ begun task assigned stop first =
       visited = set (own_before task stop) stop true;
     }
 
--- the same run, by the segment at another place
+-- a run that is at the token where it begins, by the segment at another place than before
 abbrev pub begun_by : PartialRun → ℕ → PartialRun
 begun_by run first = record run { first = first }
 
@@ -87,8 +89,9 @@ abbrev pub with_run_finished : Assigned → PartialRun → Assigned
 with_run_finished assigned run =
     record assigned { next = assigned.next + 1; total = assigned.total + run.value; kind = run.most; cap = run.value }
 
--- Equal trains may change their runs, so only those runs are tried where none of them earns more than the one before: a
--- run earns no more than the last one, if that is of a train of the same kind.
+-- Equal trains may exchange their runs, so only those runs are tried in which none of them earns
+-- more than the one before. A run earns no more than the last one, if that is of a train of the
+-- same kind.
 abbrev pub may_earn : ℕ → ℕ → ℕ → ℕ → Bool
 may_earn kind cap most value = (kind == 0 || not (kind == most)) || nat_le value cap
 
@@ -203,18 +206,19 @@ pub record IsAsBefore (old new : Found) : Type 0 where
   pub amount : new.amount ≡ old.amount
   pub marks : marks_in new.move_path ≡ marks_in old.move_path
 
--- more has been found, and the path tells how it is earned from a state on
+-- more has been found, and the path gives how it is earned from a state on
 pub record IsBetter (task : Task) (state : State) (old new : Found) : Type 0 where
   pub more : old.amount < new.amount
   pub earns : Earns task state (marks_in new.move_path) new.amount
 
--- where no memory has been refused, the path tells how what is found is earned from a state on, if it is more than
--- before
+-- unless an allocation has failed, the path gives how what is found is earned from a state on, if
+-- it is more than before
 pub record IsTraced (task : Task) (state : State) (old new : Found) : Type 0 where
   pub refused : new.move_path.refused ≡ None → old.move_path.refused ≡ None
   pub recorded : new.move_path.refused ≡ None → IsAsBefore old new ⊎ IsBetter task state old new
 
--- if more has been found than this much, some marks are written in front of the path; nothing else changes
+-- if more has been found than this much, some marks are written before the path; nothing else
+-- changes
 pub record Traces (least : ℕ) (marks : List Mark) (old new : Found) : Type 0 where
   pub amount : new.amount ≡ old.amount
   pub memo : new.memo.items ≡ old.memo.items
@@ -243,8 +247,9 @@ AreInMemo task found =
     (place : ℕ) (search_state : SearchState) → slice_get found.memo.items place ≡ Some search_state
     → LeadsToAtMost task (state_at search_state) found.amount
 
--- moves that begin with such a move have been tried in a state: the best found grows at most, the path tells how it is
--- earned, and those that have been tried earn at most that, if what is kept as explored is
+-- Moves that begin with such a move have been tried in a state. The best found grows at most, and
+-- the path gives how it is earned. Those that have been tried earn at most that, if what is kept as
+-- explored does.
 pub record Tries (task : Task) (state : State) (P : Move → Type 0) (old new : Found) : Type 0 where
   pub grows : old.amount ≤ new.amount
   pub traced : IsTraced task state old new
@@ -260,7 +265,8 @@ pub record Explores (task : Task) (state : State) (old new : Found) : Type 0 whe
   pub most : AreInMemo task old → (moves : List Move) → Completes task state moves
       → total_after task state moves ≤ new.amount
 
--- a segment has been tried with a run that is before it: if the run may take it, all ways on have been tried
+-- a segment has been tried with a run that is before it: if the run may take it, all ways on have
+-- been tried
 pub record Takes (task : Task) (assigned : Assigned) (run : PartialRun) (segment : Segment) (old new : Found) : Type
     0 where
   pub grows : old.amount ≤ new.amount
@@ -310,8 +316,9 @@ Any number = Unit {0}
 abbrev pub Below : ℕ → ℕ → Type 0
 Below most number = number < most
 
--- such legs have been tried, each with its run: the best found grows at most, the path tells how it is earned from
--- where the legs are tried, and whatever comes after one of them earns at most that
+-- Such legs have been tried, each with its run. The best found grows at most, and the path gives
+-- how it is earned from where the legs are tried. Whatever comes after one of them earns at most
+-- that.
 pub record TriesLegs (task : Task) (from : State) (assigned : Assigned) (runs : Leg → PartialRun) (P : Leg → Type 0)
     (old new : Found) : Type 0 where
   pub grows : old.amount ≤ new.amount

@@ -7,6 +7,7 @@ abbrev pub credit : Bool → ℕ
 credit true = 80
 credit false = 0
 
--- this much is earned, and each border that is not used is good for 160 dollars more, within a limit
+-- this much is earned; with 160 dollars more for each border that is not used it stays within a
+-- limit
 abbrev pub HasRoom : List Bool → ℕ → ℕ → Type 0
 HasRoom used amount limit = amount + 160 * unused used ≤ limit

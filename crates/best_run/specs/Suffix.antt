@@ -1,5 +1,5 @@
--- What the last trains earn by themselves, where no border is used: none of them earns more behind other trains. Of
--- equal trains none earns more than the one before.
+-- What the last trains earn by themselves, if no border is used: none of them earns more after
+-- other trains. Of equal trains none earns more than the one before.
 use Rattle.std.specs.Prelude.{◌≡◌, ℕ, ◌+◌, ◌-◌, ◌*◌, ◌<◌, ◌≤◌, false, Some, None, List, length, get_or, slice_get}
 use Rattle.std.specs.Prelude.{replicate}
 use Rattle.search_task.specs.declared.task.Task.{Task}
@@ -34,8 +34,9 @@ ArePrunedBySuffix task bounds assigned best =
 abbrev pub AreEqual : Task → ℕ → ℕ → ℕ → Type 0
 AreEqual task next count most = (train : ℕ) → train < count → get_or task.trains.items (next + train) 0 ≡ most
 
--- some trains from one on are of the kind that ran last, and each of them earns no more than the cap: with what is
--- assigned, they and the others that are left can earn no more than has been found
+-- Some trains from one on are of the kind that ran last, and each of them earns no more than the
+-- cap. With what is assigned, they and the others that are left can earn no more than has been
+-- found.
 pub record ArePrunedByCap (task : Task) (next kind cap total best : ℕ) : Type 0 where
   pub some : 0 < kind
   pub equal : ℕ
@@ -44,8 +45,8 @@ pub record ArePrunedByCap (task : Task) (next kind cap total best : ℕ) : Type 
   pub rest : EarnAtMost task (next + equal) bound
   pub short : total + (equal * cap + bound) ≤ best
 
--- no train, the last one, the last two, .., this many in all, are solved for by themselves: what is found bounds what
--- they earn, and the path tells how the last ones earn it
+-- No train, the last one, the last two, .., this many in all, are solved for by themselves. What is
+-- found bounds what they earn, and the path gives how the last ones earn it.
 pub record IsSolved (task : Task) (count : ℕ) (bounds : List ℕ) (found : Found) : Type 0 where
   pub all : length bounds ≡ count
   pub true_bounds : AreBounds task bounds
@@ -53,7 +54,7 @@ pub record IsSolved (task : Task) (count : ℕ) (bounds : List ℕ) (found : Fou
   pub earns : found.move_path.refused ≡ None → Earns task
       (between (nothing_before (length task.trains.items - count))) (marks_in found.move_path) found.amount
 
--- what is found is the most that any moves from the start earn, and the path tells how
+-- what is found is the most that any moves from the start earn, and the path gives how
 pub record IsTop (task : Task) (found : Found) : Type 0 where
   pub earns : Earns task start (marks_in found.move_path) found.amount
   pub most : (moves : List Move) → Completes task start moves → total_after task start moves ≤ found.amount

@@ -1,4 +1,4 @@
-//! What a call answers.
+//! What `best` returns.
 
 use certificate::{Bits, Claim};
 
@@ -7,6 +7,6 @@ use certificate::{Bits, Claim};
 pub struct Best {
     /// The greatest revenue, in dollars, and runs that earn it.
     pub claim: Claim,
-    /// Marks, by which it is checked without a search that no runs earn more.
+    /// Marks, which show without a search that no runs earn more.
     pub marks: Bits,
 }

@@ -1,5 +1,5 @@
-//! States that are alike to the trains that are left: they differ only in borders that neither the run begun nor one to
-//! come can cross.
+//! States that are alike to the trains that are left: they differ only in borders that neither the
+//! run begun nor one to come can cross.
 ghost use Rattle.std.specs.Prelude.{◌≡◌, ◌<◌, IsTrue, None, Some, length, true};
 ghost use Rattle.best_run.specs.Ahead.{IsWorth};
 ghost use Rattle.best_run.specs.Canonical.{AreHeld, AreOpen, Holds, IsCanonical, IsInReach, IsShut, IsShutOff, Opens};
@@ -19,7 +19,7 @@ use reach::SPOTS;
 use search_task::{Borders, Spots, Task};
 use tables::Amount;
 
-/// A run that has visited nothing, and may reach any stop.
+/// Returns a run that has visited nothing, and may reach any stop.
 fn anywhere() -> PartialRun
     ensures { result ≡ anywhere }
 {
@@ -53,7 +53,7 @@ fn reach_from(task: &Task, assigned: &Assigned, stop: usize, reach: &mut Outlook
     }
 }
 
-/// A stop lies in reach.
+/// Puts a stop in reach.
 fn hold(task: &Task, assigned: &Assigned, stop: usize, reach: &mut Outlook)
     requires fit { IsFit task.now }
     requires spot { stop < 744 }
@@ -67,8 +67,8 @@ fn hold(task: &Task, assigned: &Assigned, stop: usize, reach: &mut Outlook)
     }
 }
 
-/// The stops that a run of the trains that are left may visit: where it may begin, and to which it may
-/// come.
+/// Returns the stops that a run of the trains that are left may visit: where it may begin, and to
+/// which it may come.
 pub(crate) fn reach(task: &Task, assigned: &Assigned) -> Outlook
     requires fit { IsFit task.now }
     requires ready { AreReady task.now }
@@ -89,9 +89,9 @@ pub(crate) fn reach(task: &Task, assigned: &Assigned) -> Outlook
     reach
 }
 
-/// Whether the trains that are left can earn no more than what has been found, by what is in reach:
-/// each of the next ones that are alike earns no more than that, and the others no more than by
-/// themselves. It may be false where that holds.
+/// Returns whether the trains that are left can earn no more than what has been found, by what is
+/// in reach. Each of the next trains that are alike earns no more than that allows, and the others
+/// no more than by themselves. It may be false even if that holds.
 pub(crate) fn is_pruned_by_reach(
     task: &Task,
     assigned: &Assigned,
@@ -135,8 +135,8 @@ fn open_from(task: &Task, assigned: &Assigned, stop: usize, shut: &mut Borders)
     }
 }
 
-/// Whether a run may set out from a stop: the company has a token there, or it lies in reach and may be
-/// passed.
+/// Returns whether a run may set out from a stop: the company has a token there, or it lies in
+/// reach and may be passed.
 fn sets_out(task: &Task, stop: usize, reach: &Spots) -> bool
     requires fit { IsFit task.now }
     requires spot { stop < 744 }
@@ -146,7 +146,7 @@ fn sets_out(task: &Task, stop: usize, reach: &Spots) -> bool
     node.stop && (node.own || (reach.has(stop) && !node.ends))
 }
 
-/// All borders but those that a run of the trains that are left may cross.
+/// Returns all borders except those that a run of the trains that are left may cross.
 fn shut(task: &Task, assigned: &Assigned, reach: &Spots) -> Borders
     requires fit { IsFit task.now }
     requires ready { AreReady task.now }
@@ -163,8 +163,8 @@ fn shut(task: &Task, assigned: &Assigned, reach: &Spots) -> Borders
     shut
 }
 
-/// The same trains are assigned, and all borders are used but those that a run of the trains that are left may cross,
-/// which sets out from a stop in reach.
+/// Returns a state with the same trains assigned. In it all borders are used except those that a
+/// run of the trains that are left may cross, which sets out from a stop in reach.
 fn shut_off(task: &Task, assigned: &Assigned, reach: &Spots) -> Assigned
     requires fit { IsFit task.now }
     requires ready { AreReady task.now }
@@ -179,7 +179,8 @@ fn shut_off(task: &Task, assigned: &Assigned, reach: &Spots) -> Assigned
     }
 }
 
-/// A state that is alike to one between runs, and in which all borders are used that no run to come can cross.
+/// Returns a state that is alike to one between runs, and in which all borders are used that no run
+/// to come can cross.
 pub(crate) fn canonical(task: &Task, assigned: &Assigned, reach: &Spots) -> SearchState
     requires fit { IsFit task.now }
     requires ready { AreReady task.now }
@@ -207,8 +208,8 @@ fn reach_at(task: &Task, assigned: &Assigned, stop: usize, reach: &mut Outlook)
     reach_from(task, assigned, stop, reach);
 }
 
-/// A state that is alike to one with a run begun, in which all borders are used that neither that run nor one to come
-/// can cross, and to which all stops are as visited that they cannot come to.
+/// Returns a state that is alike to one with a run begun. In it all borders are used that neither
+/// that run nor one to come can cross, and all stops to which they cannot come count as visited.
 pub(crate) fn canonical_begun(task: &Task, assigned: &Assigned, run: &PartialRun) -> SearchState
     requires fit { IsFit task.now }
     requires ready { AreReady task.now }

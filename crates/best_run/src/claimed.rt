@@ -1,4 +1,4 @@
-//! The runs that a path tells, written out by their places.
+//! The runs that a path gives, written out by their places.
 ghost use Rattle.std.specs.Prelude.{◌≡◌, IfOk};
 ghost use Rattle.best_run.specs.MovePath.{CanBeRead, IsRead, IsWalkRead, turned_about, turned_step};
 
@@ -8,7 +8,7 @@ use reach::Step;
 use std::alloc::{AllocError, Global};
 use tables::Kind;
 
-/// A step, taken the other way over its link.
+/// Returns a step, taken the other way over its link.
 fn turned_step(step: Step) -> Step
     ensures { result ≡ turned_step step }
 {
@@ -18,7 +18,7 @@ fn turned_step(step: Step) -> Step
     }
 }
 
-/// Turns a walk about: each step is taken the other way over its link, the last one first.
+/// Reverses a walk: each step is taken the other way over its link, the last one first.
 fn turn_about(walk: &mut [Step])
     ensures { walk.new ≡ turned_about walk.old }
 {
@@ -28,8 +28,8 @@ fn turn_about(walk: &mut [Step])
     }
 }
 
-/// Reads the marks of the next train, and takes them away: the walk that it runs, the latest step in
-/// front, or `None` where it does not run. It fails only if memory is refused.
+/// Reads the marks of the next train, and removes them. Returns the walk that it runs, the latest
+/// step first, or `None` if it does not run. Fails only if allocation fails.
 fn read_walk(alloc: Global, marks: &mut Vec<Mark>) -> Result<Option<Vec<Step>>, AllocError>
     ensures { IfOk result (IsWalkRead marks.old.items marks.new.items) }
 {
@@ -48,7 +48,7 @@ fn read_walk(alloc: Global, marks: &mut Vec<Mark>) -> Result<Option<Vec<Step>>, 
     Ok(None)
 }
 
-/// The runs that a path tells of some trains. It fails only if memory is refused.
+/// Returns the runs that a path gives of some trains. Fails only if allocation fails.
 pub(crate) fn claimed_runs(
     alloc: Global,
     kinds: &[Kind],

@@ -9,10 +9,10 @@ use std::alloc::{AllocError, Global};
 use std::marker::Model;
 use tables::{Company, Kind, Money, Round};
 
-/// What searches for the greatest revenue and keeps what it found: after each call that is answered a
-/// group more, with the round and the company of the call, the runs, and marks by which a reader
-/// checks without a search that no runs earn more. It never refuses to answer. To a contract it is
-/// the list of the groups.
+/// A runner that searches for the greatest revenue and keeps what it found. Each call that succeeds
+/// adds a group: the round and the company of the call, the runs, and marks. By the marks a reader
+/// checks without a search that no runs earn more. It never refuses. In a contract it is the list
+/// of the groups.
 #[derive(Drop)]
 pub struct Keeping {
     alloc: Global,
@@ -29,7 +29,7 @@ impl Model for Keeping {
 }
 
 impl Keeping {
-    /// A search that has kept nothing, and takes its memory from an allocator.
+    /// Returns a search that has kept nothing, and allocates from an allocator.
     pub fn new(alloc: Global) -> Keeping
         ensures { result ≡ [] }
     {
@@ -39,15 +39,15 @@ impl Keeping {
         }
     }
 
-    /// What was kept, a group for each call that was answered, in order.
+    /// Returns what was kept, a group for each call that succeeded, in order.
     pub fn kept(&self) -> &[Group]
         ensures { result.now ≡ self.now }
     {
         self.groups.as_slice()
     }
 
-    /// Finds the best that a company's trains can do, keeps it, and answers what it earns. It fails only
-    /// if memory is refused, and then keeps nothing.
+    /// Finds the best that a company's trains can do, keeps it, and returns what it earns, in
+    /// dollars. Fails only if allocation fails; then it keeps nothing.
     fn keep<N: Network>(
         &mut self,
         network: &N,
@@ -88,6 +88,7 @@ impl Runner for Keeping {
     ) -> Result<Money, RunnerFault> {
         match self.keep(network, round, company, trains) {
             Ok(money) => Ok(money),
+            // An allocation failed: passed on.
             Err(_) => Err(RunnerFault::Memory),
         }
     }

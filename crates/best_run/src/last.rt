@@ -1,5 +1,5 @@
-//! Stops ahead at which a run ends, though others may pass them: from there it would go on over the border by
-//! which it comes.
+//! Stops ahead at which a run ends, though others may pass them: from there it would go on over the
+//! border by which it comes.
 ghost use Rattle.std.specs.Prelude.{◌≡◌, ℕ, ◌<◌, ◌≤◌, IsTrue, Some, false, get_or, length, set, true};
 ghost use Rattle.best_run.specs.Ahead.{IsWorth};
 ghost use Rattle.search_task.specs.Fit.{IsFit};
@@ -11,8 +11,8 @@ use crate::outlook::Outlook;
 use crate::state::{Assigned, PartialRun};
 use search_task::Task;
 
-/// A border that the first two legs from a stop cross of those that cross no used border; one of the only such leg
-/// where there is one. `None` where these two share none, or there is no such leg.
+/// Returns a border that is crossed by the first two of a stop's legs that cross no used border, or
+/// by the only such leg. Returns `None` if these two share none, or there is no such leg.
 fn exit(task: &Task, assigned: &Assigned, spot: usize) -> Option<usize>
     requires ready { AreReady task.now }
     requires spot { spot < 744 }
@@ -35,7 +35,7 @@ fn exit(task: &Task, assigned: &Assigned, spot: usize) -> Option<usize>
     }
 }
 
-/// Whether all legs from a stop that cross no used border cross another one.
+/// Returns whether all legs from a stop that cross no used border cross another one.
 fn cross_it(task: &Task, assigned: &Assigned, spot: usize, border: usize) -> bool
     requires ready { AreReady task.now }
     requires spot { spot < 744 }
@@ -52,8 +52,9 @@ fn cross_it(task: &Task, assigned: &Assigned, spot: usize, border: usize) -> boo
     true
 }
 
-/// Whether a run that reaches a stop ahead ends there, since all its legs that cross no used border cross the
-/// one by which it comes. It may be false where that holds, and is false for a run that visits no stops.
+/// Returns whether a run that reaches a stop ahead ends there, since all its legs that cross no
+/// used border cross the one by which it comes. It may be false even if that holds, and is false
+/// for a run that visits no stops.
 fn is_last(task: &Task, assigned: &Assigned, run: &PartialRun, spot: usize) -> bool
     requires ready { AreReady task.now }
     requires spot { spot < 744 }
@@ -68,7 +69,7 @@ fn is_last(task: &Task, assigned: &Assigned, run: &PartialRun, spot: usize) -> b
     }
 }
 
-/// One stop more lies ahead, which the run may pass, or at which all runs end.
+/// Counts one more stop ahead, which the run may pass, or at which all runs end.
 pub(crate) fn count(
     task: &Task,
     assigned: &Assigned,
@@ -96,8 +97,8 @@ pub(crate) fn count(
     }
 }
 
-/// A stop ahead that counts as one that may be passed counts as one at which the run ends, if it is last. (It is
-/// kept out of line, so that the way to it stays short.)
+/// Counts a stop ahead as one at which the run ends, if it is last; before that it counts as one
+/// that may be passed. It is kept out of line, so that the way to it stays short.
 #[inline(never)]
 pub(crate) fn end_at(
     task: &Task,

@@ -1,22 +1,30 @@
-//! The best of a company's trains: `best` answers the greatest revenue that a legal set of runs earns, with runs that
-//! earn it and marks that show that none earn more, on any `reach::Network`.
+//! The best of a company's trains. `best` returns the greatest revenue that a legal set of runs
+//! earns, on any `reach::Network`, with runs that earn it and marks that show that none earn more.
 //!
-//! The definitions of a legal set, of the greatest revenue and of what is claimed are those of `certificate`; how the
-//! position is laid out as spots, segments and legs, those of `search_task`. Those of this crate, in `specs/`, are of
-//! the search alone: `Moves` says what it goes over, move by move, `MovePath` how these are written down and which runs
-//! are read from that, `Room` what keeps its sums within a limit, `Extend` what holds wherever a partial run is
-//! extended, `Suffix` what the last trains earn by themselves, and equal trains one after another, which bounds what
-//! they earn behind others, `Ahead` what may lie ahead of a run, which bounds what it may still earn, `Last` at which
-//! of the stops ahead it ends since it can leave them only as it comes, `Kept` which states need not be explored since
-//! another one was, `Canonical` which of them are alike to the trains left, `Answer` what the search finds in the end,
-//! `Keeping` what is kept of one call after the other.
+//! `legal_runs` defines a legal set, the greatest revenue and a claim; `search_task` defines how
+//! the position is laid out as spots, segments and legs. The definitions of this crate, in
+//! `specs/`, are of the search alone:
 //!
-//! Reading order: `revenue` (the public call), `answer`, `trains` (their order), `state` (the trains assigned so far,
-//! and the run begun), `outlook` (what lies ahead of that run) with `worth` (what that is worth), `last` (at which
-//! stops ahead it ends), `move_path` (the moves that earn what has been found), `search_state` (a state that is kept),
-//! `memo` (what has been found, and what need not be explored again), `canonical` (states that are alike to the trains
-//! left), `search`, `claimed` (the runs that a path gives), `runner` (what tells the revenue alone), `keeping` (what
-//! keeps the runs and marks as well).
+//! - `Moves`: what it tries, move by move.
+//! - `MovePath`: how these moves are written down and which runs are read from that.
+//! - `Room`: what keeps its sums within a limit.
+//! - `Extend`: what holds wherever a partial run is extended.
+//! - `Suffix`: what the last trains earn by themselves, and equal trains one after another, which
+//!   bounds what they earn after others.
+//! - `Ahead`: what may lie ahead of a run, which bounds what it may still earn.
+//! - `Last`: at which of the stops ahead it ends, since it can leave them only as it comes.
+//! - `Kept`: which states need not be explored since another one was.
+//! - `Canonical`: which of them are alike to the trains left.
+//! - `Answer`: what the search finds in the end.
+//! - `Keeping`: what is kept of one call after the other.
+//!
+//! Reading order: `revenue` (the public call), `answer`, `trains` (their order), `state` (the
+//! trains assigned so far, and the run begun), `outlook` (what lies ahead of that run) with `worth`
+//! (what that is worth), `last` (at which stops ahead it ends), `move_path` (the moves that earn
+//! what has been found), `search_state` (a state that is kept), `memo` (what has been found, and
+//! what need not be explored again), `canonical` (states that are alike to the trains left),
+//! `search`, `claimed` (the runs that a path gives), `runner` (what finds only the revenue),
+//! `keeping` (what keeps the runs and marks as well).
 #![tactic(auto)]
 
 mod answer;

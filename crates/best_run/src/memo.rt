@@ -1,5 +1,5 @@
-//! What has been found, and which states have been explored: a state from which no more can be earned than from one of
-//! these is not explored again.
+//! What has been found, and which states have been explored. A state is not explored again if no
+//! more can be earned from it than from one of these.
 ghost use Rattle.std.specs.Prelude.{◌≡◌, ◌<◌, [], ◌∷◌, IsOk, IsTrue, None, length};
 ghost use Rattle.best_run.specs.Kept.{IsDominated, IsHeld, IsKept, IsNothing, unless_refused};
 ghost use Rattle.best_run.specs.Moves.{Traces};
@@ -14,8 +14,8 @@ use tables::Amount;
 /// How many explored states are kept at most.
 const MOST_PLACES: usize = 16_384;
 
-/// How many places there are for each state that has been kept, as long as there may be more: where there are
-/// too few, states are put in place of others that would have served.
+/// How many places there are for each state that has been kept, as long as there may be more. With
+/// too few places, states would overwrite others that are still useful.
 const PLACES_EACH: usize = 4;
 
 /// What has been found.
@@ -25,8 +25,8 @@ pub(crate) struct Found {
     pub(crate) amount: Amount,
     /// The moves that earn it.
     pub(crate) move_path: MovePath,
-    /// States that have been explored: no way on from there earns more. Each is at one
-    /// place, in place of the one that was there. There are no places at first, and twice as many each time
+    /// States that have been explored: no way on from there earns more. Each is at one place, and
+    /// overwrites the one that was there. There are no places at first, and twice as many each time
     /// that there are too few.
     pub(crate) memo: Vec<SearchState>,
     /// How often a state has been kept.
@@ -34,7 +34,7 @@ pub(crate) struct Found {
 }
 
 impl Found {
-    /// Nothing is found yet, and no state is kept.
+    /// Returns the state before the search: nothing is found yet, and no state is kept.
     pub(crate) fn nothing(alloc: Global) -> Found
         ensures { IsNothing result }
     {
@@ -46,8 +46,8 @@ impl Found {
         }
     }
 
-    /// What is found, unless memory was refused for a mark or for a place. It fails only if memory is
-    /// refused.
+    /// Returns what is found, unless the allocation of a mark or a place failed. Fails only if
+    /// allocation failed.
     pub(crate) fn unless_refused(self) -> Result<Found, AllocError>
         ensures { result ≡ unless_refused self }
     {
@@ -57,7 +57,7 @@ impl Found {
         }
     }
 
-    /// Tells of a move that led on to what has been found, if it is more than before.
+    /// Writes the mark of a move that led on to what has been found, if it is more than before.
     pub(crate) fn trace(&mut self, before: Amount, mark: Mark)
         ensures { Traces before (mark ∷ []) self.old self.new }
     {
@@ -66,7 +66,7 @@ impl Found {
         }
     }
 
-    /// Tells of the steps that led on to what has been found, if it is more than before.
+    /// Writes the marks of the steps that led on to what has been found, if it is more than before.
     pub(crate) fn trace_steps(&mut self, before: Amount, steps: &Steps)
         ensures { Traces before (go_along steps.now.items) self.old self.new }
     {
@@ -75,8 +75,8 @@ impl Found {
         }
     }
 
-    /// Whether a state that was explored is known to earn no less than another. It may be false
-    /// where that holds.
+    /// Returns whether a state that was explored is known to earn no less than another. It may be
+    /// false even if that holds.
     pub(crate) fn dominates(&self, search_state: &SearchState) -> bool
         ensures { IsTrue result → IsDominated self.now search_state.now }
     {
@@ -87,9 +87,9 @@ impl Found {
         self.memo[search_state.place() % places].dominates(search_state)
     }
 
-    /// Makes the places twice as many; the states of the first half are in the other half, too, where those are
-    /// looked for whose place was the same. Before the first place there is the given state. It fails only if
-    /// memory is refused.
+    /// Doubles the number of places. The states of the first half are in the other half too, where
+    /// states whose place was the same are looked for. If there are no places yet, the given state
+    /// fills the first. Fails only if allocation fails.
     fn widen(&mut self, search_state: &SearchState) -> Result<(), AllocError>
         ensures kept { IsKept search_state.now self.old self.new }
         ensures places { IsOk result → 0 < length self.new.memo.items }
@@ -117,7 +117,7 @@ impl Found {
         }
     }
 
-    /// Keeps a state that has been explored. Where memory is refused, the error is kept.
+    /// Keeps a state that has been explored. If allocation fails, the error is kept.
     pub(crate) fn keep(&mut self, search_state: &SearchState)
         ensures kept { IsKept search_state.now self.old self.new }
         ensures held { self.new.move_path.refused ≡ None → IsHeld self.new search_state.now }

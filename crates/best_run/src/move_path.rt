@@ -1,5 +1,5 @@
-//! The path: how the best found is earned. The moves that earn it are written as marks, which are
-//! written on the way back from the end, the last one first.
+//! The path: how the best found is earned. The moves that earn it are written as marks, on the way
+//! back from the end, the last one first.
 ghost use Rattle.std.specs.Prelude.{◌≡◌, [], ◌∷◌, ◌++◌, None, Some};
 ghost use Rattle.best_run.specs.MovePath.{IsWritten, go_along, marks_in};
 
@@ -24,13 +24,13 @@ pub(crate) enum Mark {
 pub(crate) struct MovePath {
     /// The marks, from the last one to the first.
     pub(crate) marks: Vec<Mark>,
-    /// The error of one that could not be written, or of a state that could not be kept, if there was any. What has been
-    /// found is then answered to nobody.
+    /// The error of a mark that could not be written, or of a state that could not be kept, if
+    /// there was any. What has been found is then not returned.
     pub(crate) refused: Option<AllocError>,
 }
 
 impl MovePath {
-    /// No marks.
+    /// Returns a path without marks.
     pub(crate) fn new(alloc: Global) -> MovePath
         ensures marks { marks_in result ≡ [] }
         ensures refused { result.refused ≡ None }
@@ -41,7 +41,7 @@ impl MovePath {
         }
     }
 
-    /// Takes all marks away.
+    /// Removes all marks.
     pub(crate) fn clear(&mut self)
         ensures marks { marks_in self.new ≡ [] }
         ensures refused { self.new.refused ≡ self.old.refused }
@@ -49,14 +49,14 @@ impl MovePath {
         self.marks.clear();
     }
 
-    /// Keeps the error of memory that was refused.
+    /// Keeps the error of a failed allocation.
     pub(crate) fn refuse(&mut self, error: AllocError)
         ensures { self.new ≡ record self.old { refused = Some error } }
     {
         self.refused = Some(error);
     }
 
-    /// Writes a mark in front of the others. Where memory is refused, the error is kept.
+    /// Writes a mark before the others. If allocation fails, the error is kept.
     pub(crate) fn write(&mut self, mark: Mark)
         ensures { IsWritten (mark ∷ []) self.old self.new }
     {
@@ -65,8 +65,8 @@ impl MovePath {
         }
     }
 
-    /// Writes the marks of some steps, one after another, in front of the others. Where memory is
-    /// refused, the error is kept.
+    /// Writes the marks of some steps, one after another, before the others. If allocation fails,
+    /// the error is kept.
     pub(crate) fn write_steps(&mut self, steps: &[Step])
         ensures { IsWritten (go_along steps.now) self.old self.new }
     {

@@ -29,7 +29,7 @@ pub(crate) struct Outlook {
 }
 
 impl Outlook {
-    /// Nothing lies ahead. So many levels are looked at of what will.
+    /// Returns an outlook in which nothing lies ahead. It looks at this many levels of what will.
     fn nothing(levels: usize) -> Outlook
         requires levels { 0 < levels }
         requires few { levels ≤ 9 }
@@ -44,8 +44,8 @@ impl Outlook {
     }
 }
 
-/// Nothing lies ahead of a run that may visit this many stops more. Where it may visit all, it earns least by
-/// the first level.
+/// Returns an outlook in which nothing lies ahead of a run that may visit this many more stops. If
+/// it may visit all, it earns least by the first level.
 pub(crate) fn nothing_ahead(task: &Task, left: usize) -> Outlook
     ensures ahead { result.ahead ≡ replicate 744 false }
     ensures known { (nodes : List Node) → IsWorth nodes (replicate 744 false) result.worth }
@@ -53,7 +53,7 @@ pub(crate) fn nothing_ahead(task: &Task, left: usize) -> Outlook
     Outlook::nothing(if left >= task.stops.len() { 1 } else { LEVELS })
 }
 
-/// Whether a run may come by a segment to a stop that does not lie ahead so far.
+/// Returns whether a run may come by a segment to a stop that does not lie ahead so far.
 fn leads_on(
     task: &Task,
     assigned: &Assigned,
@@ -71,7 +71,8 @@ fn leads_on(
         && segment.borders.misses(&assigned.used)
 }
 
-/// Adds to what lies ahead of a run what it may reach from a stop: whether there is anything.
+/// Adds what a run may reach from a stop to what lies ahead of it. Returns whether there is
+/// anything.
 #[cycle(look)]
 fn look_from(
     task: &Task,
@@ -105,8 +106,8 @@ fn look_from(
     leads
 }
 
-/// Adds to what lies ahead of a run a stop, and what it may reach from there. Where that is nothing, the stop
-/// may be last.
+/// Adds a stop, and what a run may reach from there, to what lies ahead of it. If the run reaches
+/// nothing from there, the stop may be last.
 #[cycle(look)]
 #[inline(always)]
 fn look_at(task: &Task, assigned: &Assigned, run: &PartialRun, spot: usize, outlook: &mut Outlook)
@@ -130,7 +131,7 @@ fn look_at(task: &Task, assigned: &Assigned, run: &PartialRun, spot: usize, outl
     }
 }
 
-/// Adds to what lies ahead of a run what it may reach by a segment.
+/// Adds what a run may reach by a segment to what lies ahead of it.
 #[inline(always)]
 pub(crate) fn look_along(
     task: &Task,
@@ -153,8 +154,8 @@ pub(crate) fn look_along(
     }
 }
 
-/// Adds to what lies ahead of a run what it may reach from where it began, once it turns back: not by a
-/// leg before the one by which it began.
+/// Adds what a run may reach from where it began, once it turns back, to what lies ahead of it. It
+/// may not take a leg before the one by which it began.
 fn look_back(task: &Task, assigned: &Assigned, run: &PartialRun, outlook: &mut Outlook)
     requires fit { IsFit task.now }
     requires ready { AreReady task.now }
@@ -177,7 +178,7 @@ fn look_back(task: &Task, assigned: &Assigned, run: &PartialRun, outlook: &mut O
     }
 }
 
-/// Finds what lies ahead of a run, where nothing has been found yet.
+/// Finds what lies ahead of a run, for which nothing has been found yet.
 fn look_ahead(task: &Task, assigned: &Assigned, run: &PartialRun, outlook: &mut Outlook)
     requires fit { IsFit task.now }
     requires ready { AreReady task.now }
@@ -201,7 +202,7 @@ fn look_ahead(task: &Task, assigned: &Assigned, run: &PartialRun, outlook: &mut 
     }
 }
 
-/// Whether a run may go on from where it is.
+/// Returns whether a run may go on from where it is.
 fn goes_on(task: &Task, run: &PartialRun) -> bool
     requires fit { IsFit task.now }
     requires head { run.now.head < 744 }
@@ -211,7 +212,7 @@ fn goes_on(task: &Task, run: &PartialRun) -> bool
     !node.ends
 }
 
-/// Whether a run may still go on from where it began.
+/// Returns whether a run may still go on from where it began.
 fn goes_back(task: &Task, run: &PartialRun) -> bool
     requires fit { IsFit task.now }
     requires home { run.now.home < 744 }
@@ -221,7 +222,7 @@ fn goes_back(task: &Task, run: &PartialRun) -> bool
     !run.turned && !node.ends
 }
 
-/// The most that a run may still earn, in dollars, by what lies ahead.
+/// Returns the most that a run may still earn, in dollars, by what lies ahead.
 fn most_ahead(task: &Task, assigned: &Assigned, run: &PartialRun, outlook: &Outlook) -> Amount
     requires fit { IsFit task.now }
     requires head { run.now.head < 744 }
@@ -236,8 +237,8 @@ fn most_ahead(task: &Task, assigned: &Assigned, run: &PartialRun, outlook: &Outl
     outlook.worth.least(run.left as Amount, on, back)
 }
 
-/// Whether a run and the trains after it can earn no more than what has been found, by what lies
-/// ahead and by what those trains earn by themselves. It may be false where that holds.
+/// Returns whether a run and the trains after it can earn no more than what has been found, by what
+/// lies ahead and by what those trains earn by themselves. It may be false even if that holds.
 fn earns_too_little(
     task: &Task,
     assigned: &Assigned,
@@ -274,7 +275,7 @@ fn earns_too_little(
     are_pruned_by_cap(task, assigned.next + 1, run.most, most, total, bounds, best)
 }
 
-/// Whether a run earns more than it may, behind another one of a train of its kind.
+/// Returns whether a run earns more than it may after another one of a train of its kind.
 fn earns_too_much(task: &Task, assigned: &Assigned, run: &PartialRun) -> bool
     ensures { IsTrue result → (best : ℕ) → EndsAtMost task.now assigned.now run.now best }
 {
@@ -284,8 +285,8 @@ fn earns_too_much(task: &Task, assigned: &Assigned, run: &PartialRun) -> bool
     run.value > assigned.cap
 }
 
-/// How many stops lie ahead of a run; `None` where no way on from it can earn more than what has been
-/// found. It may be false where that holds.
+/// Returns how many stops lie ahead of a run; `None` if no way on from it can earn more than what
+/// has been found. It may be a number even if that holds.
 pub(crate) fn stops_ahead(
     task: &Task,
     assigned: &Assigned,

@@ -41,9 +41,9 @@ fn assign_last(task: &Task, count: usize, bounds: &[Amount], best: &mut Found)
     assign_next(task, &nothing, bounds, best);
 }
 
-/// Solves for no train, for the last one, for the last two, and so on, up to all but the first:
-/// what is found bounds what these trains earn behind others. Of one train more what has been found
-/// is earned as well, where the first one passes. It fails only if memory is refused.
+/// Solves for no train, for the last one, for the last two, and so on, up to all but the first.
+/// What is found bounds what these trains earn after others. With one more train, what has been
+/// found is earned as well if that train passes. Fails only if allocation fails.
 fn assign_suffixes(task: &Task, alloc: Global, best: &mut Found) -> Result<Vec<Amount>, AllocError>
     requires fit { IsFit task.now }
     requires ready { AreReady task.now }
@@ -60,8 +60,8 @@ fn assign_suffixes(task: &Task, alloc: Global, best: &mut Found) -> Result<Vec<A
     Ok(bounds)
 }
 
-/// The greatest total of all legs from nothing assigned to the end, with the moves that earn it. It
-/// fails only if memory is refused.
+/// Returns the greatest total of all ways from nothing assigned to the end, with the moves that
+/// earn it. Fails only if allocation fails.
 fn greatest(task: &Task, alloc: Global) -> Result<Found, AllocError>
     requires fit { IsFit task.now }
     requires ready { AreReady task.now }
@@ -74,8 +74,9 @@ fn greatest(task: &Task, alloc: Global) -> Result<Found, AllocError>
     Ok(found)
 }
 
-/// The greatest revenue that any legal set of runs for some trains of a company earns on a network, with a path
-/// that tells the runs of one. The trains are given greatest first. It fails only if memory is refused.
+/// Returns the greatest revenue that any legal set of runs for some trains of a company earns on a
+/// network, with a path that gives the runs of one. The trains are given greatest first. Fails only
+/// if allocation fails.
 fn find<N: Network>(
     alloc: Global,
     network: &N,
@@ -91,8 +92,8 @@ fn find<N: Network>(
     Ok(found)
 }
 
-/// The greatest revenue that any legal set of runs for these trains of a company earns on a network, in
-/// dollars. It fails only if memory is refused.
+/// Returns the greatest revenue that any legal set of runs for these trains of a company earns on a
+/// network, in dollars. Fails only if allocation fails.
 pub(crate) fn greatest_revenue<N: Network>(
     alloc: Global,
     network: &N,
@@ -107,10 +108,10 @@ pub(crate) fn greatest_revenue<N: Network>(
     Ok(found.amount)
 }
 
-/// The greatest revenue that any legal set of runs for these trains of a company earns on a network,
-/// with the runs of a legal set that earns it and with marks that show that no set earns more, also as
-/// they are read again once they were printed. Where no run is legal, that is nothing, by no run. The
-/// revenue is under 50,000 dollars. It fails only if memory is refused.
+/// Returns the greatest revenue that any legal set of runs for these trains of a company earns on a
+/// network, in dollars, under 50,000. With it come the runs of a legal set that earns it, and marks
+/// that show that no set earns more, even after they are printed and read again. If no run is
+/// legal, the revenue is 0, by no run. Fails only if allocation fails.
 pub fn best<N: Network>(
     alloc: Global,
     network: &N,

@@ -7,15 +7,15 @@ use reach::Network;
 use std::alloc::{AllocError, Global};
 use tables::{Company, Kind, Money, Round};
 
-/// What searches for the greatest revenue. It keeps nothing from one call to the next, and never
-/// refuses to answer.
+/// A runner that searches for the greatest revenue. It keeps nothing from one call to the next, and
+/// never refuses.
 #[derive(Drop)]
 pub struct Search {
     alloc: Global,
 }
 
 impl Search {
-    /// A search that takes its memory from an allocator.
+    /// Returns a search that allocates from an allocator.
     pub fn new(alloc: Global) -> Search {
         Search { alloc }
     }
@@ -35,12 +35,13 @@ impl Runner for Search {
     ) -> Result<Money, RunnerFault> {
         match greatest_money(self.alloc, network, company, trains) {
             Ok(money) => Ok(money),
+            // An allocation failed: passed on.
             Err(_) => Err(RunnerFault::Memory),
         }
     }
 }
 
-/// The greatest revenue, as a sum of money.
+/// Returns the greatest revenue, as a sum of money. Fails only if allocation fails.
 fn greatest_money<N: Network>(
     alloc: Global,
     network: &N,

@@ -16,11 +16,12 @@ use crate::state::{Assigned, PartialRun, along, begun, can_take, mark_own, may_f
 use search_task::{Segment, Spots, Task};
 use tables::Amount;
 
-/// How many stops lie ahead of a run at least for which it is asked whether it has been tried before.
+/// The fewest stops ahead of a run with which the search looks up whether the run has been tried
+/// before.
 const MANY: usize = 8;
 
-/// Whether the trains that are left can earn no more than what has been found, by what they earn by
-/// themselves. It may be false where that holds.
+/// Returns whether the trains that are left can earn no more than what has been found, by what they
+/// earn by themselves. It may be false even if that holds.
 fn is_pruned_by_suffix(task: &Task, assigned: &Assigned, bounds: &[Amount], best: Amount) -> bool
     requires { assigned.now.next ≤ length task.now.trains.items }
     ensures short { IsTrue result → ArePrunedBySuffix task.now bounds.now assigned.now best }
@@ -31,7 +32,7 @@ fn is_pruned_by_suffix(task: &Task, assigned: &Assigned, bounds: &[Amount], best
     left < bounds.len() && assigned.total <= best && bounds[left] <= best - assigned.total
 }
 
-/// How many trains from a place on may visit this many stops, of the first eight of them.
+/// Returns how many trains from a place on may visit this many stops, of the first eight of them.
 fn equals(task: &Task, next: usize, most: usize) -> usize
     requires { next ≤ length task.now.trains.items }
     ensures equal { AreEqual task.now next result most }
@@ -49,8 +50,9 @@ fn equals(task: &Task, next: usize, most: usize) -> usize
     8
 }
 
-/// Whether the trains from a place on can earn no more than what has been found, since those of the
-/// kind that ran last each earn no more than the cap, in dollars. It may be false where that holds.
+/// Returns whether the trains from a place on can earn no more than what has been found. Those of
+/// the kind that ran last each earn no more than the cap, in dollars. It may be false even if that
+/// holds.
 pub(crate) fn are_pruned_by_cap(
     task: &Task,
     next: usize,
@@ -77,7 +79,7 @@ pub(crate) fn are_pruned_by_cap(
 }
 
 /// Tries all ways from a state between runs to the end. Runs come first: what they earn bounds what
-/// is tried where the next train passes.
+/// is tried if the next train passes.
 #[cycle(explore)]
 pub(crate) fn assign_next(task: &Task, assigned: &Assigned, bounds: &[Amount], best: &mut Found)
     requires fit { IsFit task.now }
@@ -145,8 +147,8 @@ fn begin_runs(task: &Task, assigned: &Assigned, bounds: &[Amount], best: &mut Fo
     }
 }
 
-/// Tries all runs of the next train that begin at a token of the company. The tokens before that one are
-/// given.
+/// Tries all runs of the next train that begin at a token of the company. The tokens before that
+/// one are given.
 #[cycle(explore)]
 fn begin_at(
     task: &Task,
@@ -207,8 +209,8 @@ fn take(
     }
 }
 
-/// Tries all ways to the end from a run that has begun. Where it is the first one, others are left behind it, and many
-/// stops lie ahead, it is worth its while to ask whether they have been tried before.
+/// Tries all ways to the end from a run that has begun. If it is the first one, others are left
+/// after it, and many stops lie ahead, it is worth looking up whether they have been tried before.
 #[cycle(explore)]
 fn extend(task: &Task, assigned: &Assigned, run: &PartialRun, bounds: &[Amount], best: &mut Found)
     requires { MayExtend task.now bounds.now assigned.now run.now }
@@ -245,7 +247,8 @@ fn extend_with_memo(
     best.keep(&canonical);
 }
 
-/// Tries all ways to the end from a run that has begun. Longer runs come first, since they earn more.
+/// Tries all ways to the end from a run that has begun. Longer runs come first, since they earn
+/// more.
 #[cycle(explore)]
 fn extend_without_memo(
     task: &Task,

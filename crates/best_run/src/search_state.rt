@@ -14,8 +14,8 @@ pub(crate) struct SearchState {
     pub(crate) run: Option<PartialRun>,
 }
 
-/// Whether a run covers another, or there is none in either state. Where a train ran before, it may be false: its run
-/// may not earn more than that one did.
+/// Returns whether a run covers another, or there is none in either state. If a train ran before,
+/// it may be false: its run may not earn more than that one did.
 fn dominates_run(kind: usize, run: &Option<PartialRun>, other: &Option<PartialRun>) -> bool
     ensures { IsTrue result → DominatesAny kind run.now other.now }
 {
@@ -29,7 +29,7 @@ fn dominates_run(kind: usize, run: &Option<PartialRun>, other: &Option<PartialRu
 }
 
 impl SearchState {
-    /// The same state.
+    /// Returns the same state.
     pub(crate) fn copy(&self) -> SearchState
         ensures { result ≡ self.now }
     {
@@ -43,8 +43,8 @@ impl SearchState {
         }
     }
 
-    /// Whether whatever may come after another state may come after this one as well, and as much is
-    /// earned. It may be false where that holds.
+    /// Returns whether whatever may come after another state may come after this one as well, and
+    /// as much is earned. It may be false even if that holds.
     pub(crate) fn dominates(&self, other: &SearchState) -> bool
         ensures { IsTrue result → DominatesStage self.now other.now }
     {
@@ -52,8 +52,8 @@ impl SearchState {
             && dominates_run(self.assigned.kind, &self.run, &other.run)
     }
 
-    /// The place at which the state is kept. Any place would do: states that use the same borders and have visited the
-    /// same stops share one.
+    /// Returns the place at which the state is kept. Any place would do: states that use the same
+    /// borders and have visited the same stops share one.
     pub(crate) fn place(&self) -> usize {
         let mut sum = self
             .assigned

@@ -17,11 +17,11 @@ pub(crate) struct Assigned {
     pub(crate) next: usize,
     /// What the runs so far earn, in dollars.
     pub(crate) total: Amount,
-    /// The most stops of the last train that ran; 0 where none has run.
+    /// The most stops of the last train that ran; 0 if none has run.
     pub(crate) kind: usize,
     /// What the last run earned, in dollars: no later run of a train of this kind may earn more.
     pub(crate) cap: Amount,
-    /// The borders that runs cross, that of the run begun too.
+    /// The borders that runs cross, including those of the run begun.
     pub(crate) used: Borders,
 }
 
@@ -30,9 +30,9 @@ pub(crate) struct Assigned {
 pub(crate) struct PartialRun {
     /// Where it began: at a token of the company.
     pub(crate) home: usize,
-    /// By which of the segments from there.
+    /// Which of the segments from there it begins by.
     pub(crate) first: usize,
-    /// It has turned back to where it began, and goes on from there.
+    /// Whether it has turned back to where it began, and goes on from there.
     pub(crate) turned: bool,
     /// Where it is.
     pub(crate) head: usize,
@@ -47,14 +47,14 @@ pub(crate) struct PartialRun {
 }
 
 impl Assigned {
-    /// A law, which does nothing when it runs: each border has its mark.
+    /// States that each border has its mark. It does nothing; a proof calls it to use the law.
     pub(crate) fn marks_all_borders(&self)
         ensures { length self.now.used ≡ 279 }
     {
         self.used.is_whole();
     }
 
-    /// The same state.
+    /// Returns the same state.
     pub(crate) fn copy(&self) -> Assigned
         ensures { result ≡ self.now }
     {
@@ -67,8 +67,8 @@ impl Assigned {
         }
     }
 
-    /// Whether each run that may come after another state may come after this one as well, and as much
-    /// is earned. It may be false where that holds.
+    /// Returns whether each run that may come after another state may come after this one as well,
+    /// and as much is earned. It may be false even if that holds.
     pub(crate) fn dominates(&self, other: &Assigned) -> bool
         ensures { IsTrue result → Dominates self.now other.now }
     {
@@ -79,7 +79,7 @@ impl Assigned {
             && self.used.is_within(&other.used)
     }
 
-    /// The next train does not run.
+    /// Returns the state after the next train does not run.
     pub(crate) fn passed(&self) -> Assigned
         requires { self.now.next < 2 ^ 63 }
         ensures { result ≡ passed self.now }
@@ -93,14 +93,14 @@ impl Assigned {
         }
     }
 
-    /// Whether a run earns no more than the last one of a train of its kind.
+    /// Returns whether a run earns no more than the last one of a train of its kind.
     fn may_earn(&self, run: &PartialRun) -> bool
         ensures { result ≡ may_earn self.now.kind self.now.cap run.now.most run.now.value }
     {
         self.kind == 0 || self.kind != run.most || run.value <= self.cap
     }
 
-    /// The run begun is finished.
+    /// Returns the state after the run begun is finished.
     pub(crate) fn with_run_finished(&self, run: &PartialRun) -> Assigned
         requires next { self.now.next < 2 ^ 63 }
         requires room { self.now.total + run.now.value ≤ 44640 }
@@ -115,7 +115,7 @@ impl Assigned {
         }
     }
 
-    /// The borders of a segment are used.
+    /// Returns the state with the borders of a segment used.
     pub(crate) fn using(&self, segment: &Segment) -> Assigned
         ensures using { result ≡ using self.now segment.now }
         ensures whole { length self.now.used ≡ 279 }
@@ -132,15 +132,15 @@ impl Assigned {
 }
 
 impl PartialRun {
-    /// The same run.
+    /// Returns the same run.
     pub(crate) fn copy(&self) -> PartialRun
         ensures { result ≡ self.now }
     {
         self.by(self.first)
     }
 
-    /// Whether the run may go on as another one may, and earns no less then. It may be false where that
-    /// holds.
+    /// Returns whether the run may go on as another one may, and earns no less then. It may be
+    /// false even if that holds.
     pub(crate) fn dominates(&self, other: &PartialRun) -> bool
         ensures { IsTrue result → DominatesRun self.now other.now }
     {
@@ -153,14 +153,14 @@ impl PartialRun {
             && self.visited.is_within(&other.visited)
     }
 
-    /// Whether the run may turn back as another one may: neither may where both have.
+    /// Returns whether the run may turn back as another one may; neither may if both have.
     fn may_turn_as(&self, other: &PartialRun) -> bool
         ensures { IsTrue result → TurnsAs self.now other.now }
     {
         other.turned || (self.home == other.home && self.first == other.first)
     }
 
-    /// The same run, to which all stops are as visited that are not in reach.
+    /// Returns the same run, with all stops that are not in reach counted as visited.
     pub(crate) fn within(&self, reach: &Spots) -> PartialRun
         ensures { IsBarred reach.now self.now result }
     {
@@ -176,7 +176,7 @@ impl PartialRun {
         }
     }
 
-    /// The same run, begun by the segment at another place.
+    /// Returns the same run, begun by the segment at another place.
     pub(crate) fn by(&self, first: usize) -> PartialRun
         ensures { result ≡ begun_by self.now first }
     {
@@ -192,7 +192,7 @@ impl PartialRun {
         }
     }
 
-    /// The run turns back to where it began.
+    /// Returns the run turned back to where it began.
     pub(crate) fn turned_back(&self) -> PartialRun
         ensures { result ≡ turned_back self.now }
     {
@@ -208,7 +208,7 @@ impl PartialRun {
         }
     }
 
-    /// Whether the run may reach a stop.
+    /// Returns whether the run may reach a stop.
     fn may_come(&self, stop: usize) -> bool
         requires { stop < 744 }
         ensures { result ≡ may_come true self.now stop }
@@ -217,14 +217,14 @@ impl PartialRun {
     }
 }
 
-/// How many stops are left after a spot, which may be a stop.
+/// Returns how many stops are left after a spot, which may be a stop.
 fn left_after(stop: bool, left: usize) -> usize
     ensures { result ≡ left_after stop left }
 {
     if stop { left.saturating_sub(1) } else { left }
 }
 
-/// Whether a run may take a segment to a stop.
+/// Returns whether a run may take a segment to a stop.
 pub(crate) fn can_take(
     task: &Task,
     run: &PartialRun,
@@ -238,7 +238,7 @@ pub(crate) fn can_take(
     run.may_come(segment.to) && segment.borders.misses(&assigned.used)
 }
 
-/// Marks a spot behind those before it, if the company has a token there.
+/// Marks a spot after those before it, if the company has a token there.
 pub(crate) fn mark_own(task: &Task, number: usize, marks: &mut Spots)
     requires fit { IsFit task.now }
     requires number { number < 744 }
@@ -250,8 +250,8 @@ pub(crate) fn mark_own(task: &Task, number: usize, marks: &mut Spots)
     }
 }
 
-/// A run that is at the token where it begins, by the segment at a place. The tokens before that one
-/// are given.
+/// Returns a run that is at the token where it begins, by the segment at a place. The tokens before
+/// that one are given.
 pub(crate) fn begun(
     task: &Task,
     assigned: &Assigned,
@@ -279,7 +279,7 @@ pub(crate) fn begun(
     }
 }
 
-/// Whether a run may be finished.
+/// Returns whether a run may be finished.
 pub(crate) fn may_finish(task: &Task, assigned: &Assigned, run: &PartialRun) -> bool
     requires fit { IsFit task.now }
     requires head { run.now.head < 744 }
@@ -288,7 +288,7 @@ pub(crate) fn may_finish(task: &Task, assigned: &Assigned, run: &PartialRun) -> 
     task.spots[run.head].stop && assigned.may_earn(run)
 }
 
-/// A run after a segment.
+/// Returns a run after a segment.
 pub(crate) fn along(task: &Task, run: &PartialRun, segment: &Segment) -> PartialRun
     requires fit { IsFit task.now }
     requires to { segment.now.to < 744 }

@@ -4,27 +4,28 @@ ghost use Rattle.best_run.specs.Ahead.{HasPassed, HasRanked, HasTakenBack, at_le
 
 use tables::Amount;
 
-/// How many levels there are: no dollars, ten, twenty, .., eighty, which is what a stop is worth at most.
+/// How many levels there are: no dollars, ten, twenty, .., eighty. A stop is worth eighty at most.
 pub(crate) const LEVELS: usize = 9;
 
-/// From one level to the next, in dollars.
+/// The distance from one level to the next, in dollars.
 const STEP: Amount = 10;
 
 /// What some stops are worth, in dollars.
 #[derive(Clone, Copy)]
 pub(crate) struct Worth {
-    /// How many of the levels are looked at: at least one. A run that may visit all stops earns least by the first.
+    /// How many of the levels are looked at: at least one. A run that may visit all stops earns
+    /// least by the first.
     pub(crate) levels: usize,
-    /// For each level, what those that may be passed are worth beyond it.
+    /// For each level, what the stops that may be passed are worth beyond it.
     pub(crate) beyond: [Amount; LEVELS],
-    /// What the one is worth that is worth most of those at which runs end; 0 where there is none.
+    /// The greatest value of the stops at which runs end; 0 if there is none.
     pub(crate) first: Amount,
-    /// What the next one of these is worth.
+    /// The next greatest value of these.
     pub(crate) second: Amount,
 }
 
 impl Worth {
-    /// That of no stop, for this many levels.
+    /// Returns the worth of no stop, for this many levels.
     pub(crate) fn nothing(levels: usize) -> Worth
         ensures levels { result.levels ≡ levels }
         ensures beyond { (place : ℕ) → get_or result.beyond place 0 ≡ 0 }
@@ -54,7 +55,7 @@ impl Worth {
         }
     }
 
-    /// Takes a stop away that may be passed.
+    /// Removes a stop that may be passed.
     pub(crate) fn take_back(&mut self, value: Amount)
         requires { self.old.levels ≤ 9 }
         ensures { HasTakenBack value self.old self.new }
@@ -78,8 +79,8 @@ impl Worth {
         }
     }
 
-    /// What the stops at which runs end are worth at most beyond a level, in dollars, to a run that may go on from
-    /// where it is, and from where it began.
+    /// Returns what the stops at which runs end are worth at most beyond a level, in dollars. It
+    /// depends on whether the run may go on from where it is, and from where it began.
     fn ends(&self, level: Amount, on: bool, back: bool) -> Amount
         requires first { self.now.first ≤ 80 }
         requires second { self.now.second ≤ self.now.first }
@@ -94,8 +95,9 @@ impl Worth {
         if on || back { first } else { 0 }
     }
 
-    /// What a run may earn at most by the level at a place, in dollars: with this many stops left, if it may go on
-    /// from where it is, and from where it began.
+    /// Returns what a run may earn at most by the level at a place, in dollars, with this many
+    /// stops left. It depends on whether the run may go on from where it is, and from where it
+    /// began.
     fn at_level(&self, place: usize, left: Amount, on: bool, back: bool) -> Amount
         requires place { place < self.now.levels }
         requires few { self.now.levels ≤ 9 }
@@ -111,7 +113,7 @@ impl Worth {
         left * level + self.beyond[place] + self.ends(level, on, back)
     }
 
-    /// The least of these.
+    /// Returns the least of these, over all levels.
     pub(crate) fn least(&self, left: Amount, on: bool, back: bool) -> Amount
         requires levels { 0 < self.now.levels }
         requires few { self.now.levels ≤ 9 }

@@ -102,7 +102,7 @@ entry_more entries more there spot place is =
       place_is = is.place_is;
     }
 
--- one more segment: it comes behind those from its spot
+-- one more segment: it comes after those from its spot
 module _ (entries : List Entry) (chains : List Chain) (are : AreChained entries chains) (entry : Entry) (old : Chain)
     (at_old : slice_get chains entry.from ≡ Some old) (place_is : entry.place ≡ old.count)
     (before_is : entry.before ≡ old.last) where

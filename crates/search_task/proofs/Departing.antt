@@ -1,5 +1,5 @@
--- The legs from a stop, as they are found: by a segment to a stop there is one, by a segment to a side those by the
--- segments from there.
+-- The legs from a stop, as they are found: by a segment to a stop there is one, by a segment to a
+-- side those by the segments from there.
 use Rattle.std.proofs.Common.{◌≡◌, ℕ, zero, suc, ◌+◌, ◌*◌, ◌<◌, ◌≤◌, Bool, true, false, ◌⊎◌, inl, inr, Option, Some}
 use Rattle.std.proofs.Common.{None, List, [], ◌∷◌, ◌++◌, length, get_or, slice_get, take, refl, sym, ap, subst, ◌∙◌}
 use Rattle.std.proofs.Common.{arith, length-append}
@@ -221,7 +221,7 @@ pub same_both : (old middle new : Path) → IsSamePath old middle → IsSamePath
 same_both old middle new first second =
     record { first = second.first ∙ first.first; steps = second.steps ∙ first.steps }
 
--- what was put behind some is taken away
+-- what was put after some is removed
 pub went_back : {A : Type 0} (some more both back : List A) (count : ℕ) → count ≡ length some → both ≡ some ++ more
     → back ≡ take count both → back ≡ some
 went_back some more both back count long are taken =

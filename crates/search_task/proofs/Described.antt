@@ -1,4 +1,5 @@
--- A position as it is laid out: what leads from each spot are the steps of walks, and all numbers are within bounds.
+-- A position as it is laid out: what leads from each spot are the steps of walks, and all numbers
+-- are within bounds.
 use Rattle.std.proofs.Common.{◌≡◌, ℕ, zero, suc, ◌%◌, ◌<◌, true, false, inl, inr, Option, Some, None, List, [], ◌∷◌}
 use Rattle.std.proofs.Common.{length, slice_get, refl, sym, ap, subst, ◌∙◌, arith, option_map, ◌-◌}
 use Rattle.std.proofs.lemmas.Option.{slice_get_within}
@@ -194,7 +195,7 @@ module _ (position : Position) (company : Company) (lawful : IsLawful position) 
       let node : IsSideNode (node_at task (spot_number spot)) =
       subst (λ o. IsNodeAt position company o (node_at task (spot_number spot))) is (spot_there spot) in node.stops
 
-  -- a spot from which a step is entered at a stop is that stop, and else a side
+  -- a spot from which a step is entered at a stop is that stop, and otherwise a side
   enters : (spot next : Spot) → AreJoined spot next → stop_of spot ≡ stop_of next
   enters spot next joined =
       elim joined [

@@ -225,7 +225,7 @@ comes_low : (number : ℕ) (step : Step) → ComesFrom number step → (number <
 comes_low number step comes =
     (before_low (entered_at step).hex (entered_at step).end number comes, ap number_or_none comes)
 
--- a step comes from a spot exactly where its code is the spot's number
+-- a step comes from a spot exactly if its code is the spot's number
 code_comes : (number : ℕ) (found : Option ℕ) → number < 744 → (number_or_none found ≡ number) ↔ (found ≡ Some number)
 code_comes number None low = (λ is. absurd (omega (arith, low, is)), λ is. absurd cc)
 code_comes number (Some other) low = (λ is. ap (λ (n : ℕ). Some n) is, λ is. let same : other ≡ number = cc in same)
@@ -348,7 +348,7 @@ numbered_stop position company number node stop low hex_is number_is is value =
       first = λ first. absurd (omega (arith, first, low));
     }
 
--- the sides alone, one stop more, the sides of the next hex, and all
+-- the sides alone, one more stop, the sides of the next hex, and all
 pub numbered_none : (position : Position) (company : Company) (nodes : List Node) (side : Node)
     → IsSideNode (Some side) → nodes ≡ replicate 744 side → AreNumberedBefore position company 0 nodes
 numbered_none position company nodes side is same =
@@ -415,7 +415,7 @@ takes_none step entries none steps before number =
     segments_same number steps (segments_from number entries) step
     (λ comes. let low = comes_low number step comes in omega (arith, none, low.0, low.1)) (before number)
 
--- its segment is added behind those from the spot from which it may be taken
+-- its segment is added after those from the spot from which it may be taken
 pub takes_segment : (step : Step) (old new : List Entry) (segment : Segment) → code_before step < 744
     → IsSegmentOf step segment → AddsSegment (code_before step) segment old new → TakesStep step old new
 takes_segment step old new segment few is adds steps before number =

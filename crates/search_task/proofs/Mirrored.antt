@@ -1,4 +1,4 @@
--- Legs lead back over all legs, as far as has been asked.
+-- Legs lead back over all legs, as far as has been checked.
 use Rattle.std.proofs.Common.{◌≡◌, ℕ, zero, suc, ◌+◌, ◌<◌, ◌≤◌, inl, inr, Option, Some, None, List, [], length, get_or}
 use Rattle.std.proofs.Common.{slice_get, refl, sym, ap, subst, ◌∙◌, arith}
 use Rattle.std.proofs.lemmas.Option.{slice_get_read, slice_get_within}
@@ -74,7 +74,7 @@ spots_all task most all below spot place leg at = by_from (slice_get task.depart
     by_from (Some from) is there =
         below spot (omega (arith, all, slice_get_within task.departures.items spot from is)) place leg at
 
--- what is asked of the legs alone
+-- what is required of the legs alone
 pub mirrored_same : (a b : Task) → a.departures.items ≡ b.departures.items → IsMirrored a → IsMirrored b
 mirrored_same a b same is spot place leg at =
     let legs : (n : ℕ) → legs_at a n ≡ legs_at b n =

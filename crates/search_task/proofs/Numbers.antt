@@ -1,4 +1,5 @@
--- The numbers that are marked in a set: of some borders that have been marked they are the borders again, each once.
+-- The numbers that are marked in a set: of some borders that have been marked they are the borders
+-- again, each once.
 use Rattle.std.proofs.Common.{◌≡◌, ◌↔◌, ℕ, zero, suc, ◌+◌, ◌<◌, Bool, true, false, ◌⊎◌, inl, inr, List, [], ◌∷◌, length}
 use Rattle.std.proofs.Common.{get_or, set, refl, sym, subst, ◌∙◌, arith, length-set}
 use Rattle.reach.proofs.Collected.{none_marked}

@@ -1,4 +1,5 @@
--- Marks as bits in words of 64: what setting a bit, and joining, taking away or comparing words does, mark by mark.
+-- Marks as bits in words of 64: what setting a bit, and joining, taking away or comparing words
+-- does, mark by mark.
 use Rattle.std.proofs.Common.{◌≡◌, ◌↔◌, ℕ, zero, suc, ◌+◌, ◌-◌, ◌*◌, ◌/◌, ◌%◌, ◌^◌, ◌<◌, ◌≤◌, Bool, true, false, ◌||◌}
 use Rattle.std.proofs.Common.{◌⊎◌, inl, inr, List, [], ◌∷◌, length, get_or, set, replicate, refl, sym, ap, subst, ◌∙◌}
 use Rattle.std.proofs.Common.{arith, eq-eqb, eqb, eqb-true, get_or-set_same, get_or-set_other, length-set, w64}
@@ -124,7 +125,7 @@ bit_stays words n m low other =
       | inr apart ↦ bit_apart words n m apart
     ]
 
--- one number more is marked
+-- one more number is marked
 set_each : (count : ℕ) (words : List ℕ) (n m : ℕ) → n < count → n / 64 < length words
     → IsMarked (marks_in count (set words (n / 64) (with_bit words n))) m
     ↔ IsMarked (set (marks_in count words) n true) m

@@ -11,7 +11,7 @@ abbrev pub before_if : Bool → ℕ → List ℕ → List ℕ
 before_if true number numbers = number ∷ numbers
 before_if false number numbers = numbers
 
--- the numbers that are marked in a set, in order, where the first mark is that of a number
+-- the numbers that are marked in a set, in order, if the first mark is that of a number
 abbrev pub numbers_from : ℕ → List Bool → List ℕ
 numbers_from first [] = []
 numbers_from first (mark ∷ marks) = before_if mark first (numbers_from (suc first) marks)
@@ -19,12 +19,12 @@ numbers_from first (mark ∷ marks) = before_if mark first (numbers_from (suc fi
 unfoldable pub numbers_in : List Bool → List ℕ
 numbers_in marks = numbers_from 0 marks
 
--- a border that is one of some and of others; none where there is no such border
+-- a border that is one of some and of others; none if there is no such border
 abbrev pub IsShared : List ℕ → List ℕ → Option ℕ → Type 0
 IsShared borders others (Some border) = IsAmong border borders × IsAmong border others
 IsShared borders others None = (border : ℕ) → IsAmong border borders → IsAmong border others → ⊥
 
--- the marks of some borders are taken away
+-- the marks of some borders are removed
 abbrev pub cleared_all : List Bool → List ℕ → List Bool
 cleared_all marks [] = marks
 cleared_all marks (border ∷ borders) = cleared_all (set marks border false) borders

@@ -1,5 +1,6 @@
--- What a search goes over, on a position: its spots are the ends of the hexes, by their numbers, with what the stops
--- are to a company; the segments that lead from a spot are the steps of walks that may be taken from there.
+-- What a search works on, from a position. Its spots are the ends of the hexes, by their numbers,
+-- with what the stops mean to a company. The segments that lead from a spot are the steps of walks
+-- that may be taken from there.
 use Rattle.std.specs.Prelude.{◌≡◌, ◌↔◌, ℕ, ◌%◌, ◌<◌, ◌≤◌, true, false, ◌⊎◌, Option, Some, None, option_map, List, []}
 use Rattle.std.specs.Prelude.{◌∷◌, ◌++◌, length, slice_get}
 use Rattle.map_tables.specs.Hex.{index_of}
@@ -30,20 +31,21 @@ pub record GoesFrom (number : ℕ) (step : Step) : Type 0 where
   pub number_is : spot_number spot ≡ number
   pub joined : AreJoined spot (entered_at step)
 
--- a segment is that of a step: it leads to where the step is left, over the border at which it is entered
+-- a segment is that of a step: it leads to where the step is left, over the border at which it is
+-- entered
 pub record IsSegmentOf (step : Step) (segment : Segment) : Type 0 where
   pub to : segment.to ≡ spot_number (left_at step)
   pub step_is : segment.step ≡ step
   pub borders : segment.borders.items ≡ border_at (entered_at step).hex (entered_at step).end
 
--- what a stop is to the company
+-- what a stop means to the company
 pub record IsStopNode (position : Position) (company : Company) (stop : Stop) (node : Option Node) : Type 0 where
   pub stops : stop_in node ≡ true
   pub value : value_in node ≡ value_of position stop
   pub own : (own_in node ≡ true) ↔ HasToken position stop company
   pub passes : (ends_in node ≡ false) ↔ ((¬ (is_red position stop ≡ true)) × (¬ IsFull position stop company))
 
--- a side, which is nothing to it
+-- a side, which means nothing to it
 pub record IsSideNode (node : Option Node) : Type 0 where
   pub stops : stop_in node ≡ false
   pub value : value_in node ≡ 0
@@ -54,7 +56,8 @@ abbrev pub IsNodeAt : Position → Company → Option Stop → Option Node → T
 IsNodeAt position company (Some stop) node = IsStopNode position company stop node
 IsNodeAt position company None node = IsSideNode node
 
--- the most stops of a run: the borders allow no more than 280, so without a bound no fewer are left than there are borders
+-- the most stops of a run: the borders allow no more than 280, so a train without a bound never has
+-- fewer left than there are borders
 abbrev pub most_of : Option ℕ → ℕ
 most_of (Some most) = most
 most_of None = 560
@@ -77,7 +80,7 @@ pub record HasSegmentOf (task : Task) (number : ℕ) (step : Step) : Type 0 wher
   pub leads : LeadsFrom task number index segment
   pub segment_is : IsSegmentOf step segment
 
--- what is searched is the position, for these trains of a company
+-- the task is that of the position, for these trains of a company
 pub record Describes (position : Position) (company : Company) (kinds : List Kind) (task : Task) : Type 0 where
   pub spots : (spot : Spot) → IsNodeAt position company (stop_of spot) (node_at task (spot_number spot))
   pub sound : (number index : ℕ) (segment : Segment) → LeadsFrom task number index segment

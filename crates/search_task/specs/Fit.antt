@@ -1,4 +1,5 @@
--- What keeps a search within its bounds: the numbers of spots and borders, and what a stop is worth.
+-- What keeps a search within its bounds: the numbers of spots and borders, and what a stop is
+-- worth.
 use Rattle.std.specs.Prelude.{◌≡◌, ℕ, ◌+◌, ◌%◌, ◌<◌, ◌≤◌, Bool, true, false, Some, List, [], ◌∷◌, length, slice_get}
 use Rattle.std.specs.List.{AllByRecursion}
 use Rattle.search_task.specs.declared.task.Node.{Node}

@@ -1,5 +1,5 @@
--- Legs of plain track: from a stop by a segment, and over sides by others, to the next stop, over no border twice. A run goes
--- over a leg at once.
+-- Legs of plain track: from a stop by a segment, and over sides by others, to the next stop, over
+-- no border twice. A run goes over a leg at once.
 use Rattle.std.specs.Prelude.{◌≡◌, ℕ, ◌+◌, ◌<◌, ◌≤◌, Bool, true, false, ◌⊎◌, Option, Some, None, List, [], ◌∷◌, ◌++◌}
 use Rattle.std.specs.Prelude.{length, replicate, slice_get}
 use Rattle.reach.specs.Position.{IsAmong}
@@ -43,7 +43,8 @@ AreFree used segment [] = misses used segment.borders.items ≡ true
 AreFree used segment (hop ∷ hops) =
     (misses used segment.borders.items ≡ true) × AreFree (marked_all used segment.borders.items) hop.segment hops
 
--- a leg is made of a segment at a place and of others, after some steps over the used borders: it crosses these as well
+-- a leg is made of a segment at a place and of others, after some steps over the used borders: it
+-- crosses these as well
 pub record IsMadeOf (task : Task) (used : List Bool) (walked : List Step) (place : ℕ) (segment : Segment)
     (hops : List Hop) (leg : Leg) : Type 0 where
   pub leads : LeadsTo task segment hops leg.segment.to
@@ -95,7 +96,8 @@ pub record IsSamePath (old new : Path) : Type 0 where
   pub first : new.first ≡ old.first
   pub steps : new.steps.items ≡ old.steps.items
 
--- those by the segments from a spot before one of them, after a segment that led there
+-- the legs by the segments from a spot before one of them, after a segment that led there, are
+-- added
 pub record AddsBelow (task : Task) (used : List Bool) (walked : List Step) (place : ℕ) (spot most : ℕ)
     (old new : List Leg) : Type 0 where
   pub kept : (leg : Leg) → IsAmong leg old → IsAmong leg new
@@ -126,7 +128,7 @@ pub record AreLegsOf (task : Task) (stop : ℕ) (legs : List Leg) : Type 0 where
       → LeadsTo task segment hops to → AreFree none_used segment hops
       → HasLeg task none_used [] place segment hops to legs
 
--- those from the first spots, as far as these are stops
+-- the legs from the first spots, as far as these are stops
 pub record AreDepartures (task : Task) (count : ℕ) (all : List Departures) : Type 0 where
   pub long : length all ≡ count
   pub each : (stop : ℕ) (from : Departures) → slice_get all stop ≡ Some from → stop_in (node_at task stop) ≡ true
@@ -183,8 +185,8 @@ AllLeadBack task spot = (place : ℕ) (leg : Leg) → slice_get (legs_at task sp
 abbrev pub IsMirrored : Task → Type 0
 IsMirrored task = (spot : ℕ) → AllLeadBack task spot
 
--- the legs from each stop are known, and the stops from which they lead, and where the company has tokens; where it is said,
--- legs lead back over all of them
+-- the legs from each stop are known, and the stops from which they lead, and where the company has
+-- tokens. If the task says so, legs lead back over all of them.
 pub record AreReady (task : Task) : Type 0 where
   pub long : length task.departures.items ≡ 744
   pub each : (stop : ℕ) (from : Departures) → slice_get task.departures.items stop ≡ Some from

@@ -12,7 +12,7 @@ IsMarked marks number = get_or marks number false ≡ true
 abbrev pub bit_of : List ℕ → ℕ → ℕ
 bit_of words number = bit_at (get_or words (number / 64) 0) (number % 64)
 
--- its bit is set
+-- whether the bit of a number is set
 unfoldable pub mark_at : List ℕ → ℕ → Bool
 mark_at words number = bit_of words number == 1
 
@@ -24,7 +24,7 @@ marks_in count words = map (mark_at words) (range_with_len 0 count)
 pub record HasNoneFrom (count : ℕ) (words : List ℕ) : Type 0 where
   pub none : (number : ℕ) → count ≤ number → bit_of words number ≡ 0
 
--- a number that is marked; none where no number is
+-- a number that is marked; none if no number is
 abbrev pub IsOneOf : List Bool → Option ℕ → Type 0
 IsOneOf marks (Some number) = IsMarked marks number
 IsOneOf marks None = (number : ℕ) → IsMarked marks number → ⊥

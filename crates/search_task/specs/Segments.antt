@@ -1,5 +1,5 @@
--- The segments of track that lead from the spots, in one table. Those from a spot are found from the last one on, back to
--- the first.
+-- The segments of track that lead from the spots, in one table. Those from a spot are found from
+-- the last one on, back to the first.
 use Rattle.std.specs.Prelude.{◌≡◌, ℕ, ◌+◌, Bool, true, false, ◌==◌, Some, List, [], ◌∷◌, ◌++◌, length, slice_get}
 use Rattle.search_task.specs.declared.segments.Entry.{Entry}
 use Rattle.search_task.specs.declared.segments.Chain.{Chain}
@@ -15,7 +15,7 @@ abbrev pub segments_from : ℕ → List Entry → List Segment
 segments_from spot [] = []
 segments_from spot (entry ∷ entries) = segment_if (entry.from == spot) entry.segment (segments_from spot entries)
 
--- a segment is added behind those from a spot
+-- a segment is added after those from a spot
 pub record AddsSegment (from : ℕ) (segment : Segment) (old new : List Entry) : Type 0 where
   pub entry : Entry
   pub from_is : entry.from ≡ from
@@ -39,7 +39,7 @@ pub record IsChain (entries : List Entry) (spot : ℕ) (chain : Chain) : Type 0 
   pub count : chain.count ≡ length (segments_from spot entries)
   pub last : (place : ℕ) → place + 1 ≡ chain.count → IsEntryAt entries chain.last spot place
 
--- so it is for each segment and each spot
+-- each segment and each spot is so
 pub record AreChained (entries : List Entry) (chains : List Chain) : Type 0 where
   pub long : length chains ≡ 744
   pub places : (there : ℕ) (entry : Entry) → slice_get entries there ≡ Some entry → HasPlace entries entry

@@ -18,13 +18,13 @@ const SPOT_WORDS: usize = 12;
 /// How many bits a word has.
 const BITS: usize = 64;
 
-/// Some borders are marked.
+/// Marks of borders.
 pub type Borders = BitSet<BORDERS, BORDER_WORDS>;
 
-/// Some spots are marked.
+/// Marks of spots.
 pub type Spots = BitSet<SPOTS, SPOT_WORDS>;
 
-/// Some of the numbers below a count are marked, by the bits of this many words.
+/// Marks of the numbers below a count, as the bits of this many words.
 #[derive(Drop)]
 pub struct BitSet<const COUNT: usize, const WORDS: usize> {
     words: [u64; WORDS],
@@ -41,21 +41,21 @@ impl<const COUNT: usize, const WORDS: usize> Model for BitSet<COUNT, WORDS> {
     ghost invariant = { λ marks. FillWords COUNT WORDS × HasNoneFrom COUNT marks.words };
 }
 
-/// The bits of a word that another has not.
+/// Returns the bits of a word that another does not have.
 fn without(word: u64, other: u64) -> u64
     ensures { (bit : ℕ) → bit < 64 → bit_at result bit ≡ bit_at word bit - bit_at other bit }
 {
     word & !other
 }
 
-/// A number that hangs on another and on a word. Any number would do.
+/// Returns a number that depends on another and on a word. Any number would do.
 pub fn mixed_with(sum: u64, word: u64) -> u64 {
     let mixed = (sum ^ word).wrapping_mul(0x9E37_79B9_7F4A_7C15);
     mixed ^ (mixed >> 29)
 }
 
 impl<const COUNT: usize, const WORDS: usize> BitSet<COUNT, WORDS> {
-    /// No number is marked.
+    /// Returns marks by which no number is marked.
     pub fn none() -> Self
         requires { FillWords COUNT WORDS }
         ensures { result ≡ replicate COUNT false }
@@ -63,7 +63,7 @@ impl<const COUNT: usize, const WORDS: usize> BitSet<COUNT, WORDS> {
         BitSet { words: [0; WORDS] }
     }
 
-    /// All numbers are marked.
+    /// Returns marks by which all numbers are marked.
     pub fn all() -> Self
         requires { FillWords COUNT WORDS }
         ensures { result ≡ replicate COUNT true }
@@ -74,14 +74,14 @@ impl<const COUNT: usize, const WORDS: usize> BitSet<COUNT, WORDS> {
         BitSet { words }
     }
 
-    /// The same marks.
+    /// Returns the same marks.
     pub fn copy(&self) -> Self
         ensures { result ≡ self.now }
     {
         BitSet { words: self.words }
     }
 
-    /// A law, which does nothing when it runs: each number has its mark.
+    /// States that each number has its mark. It does nothing; a proof calls it to use the law.
     pub fn is_whole(&self)
         ensures { length self.now ≡ COUNT }
     {
@@ -96,7 +96,7 @@ impl<const COUNT: usize, const WORDS: usize> BitSet<COUNT, WORDS> {
         self.words[number / BITS] |= 1 << (number % BITS);
     }
 
-    /// Whether a number is marked.
+    /// Returns whether a number is marked.
     pub fn has(&self, number: usize) -> bool
         requires { number < COUNT }
         ensures { result ≡ get_or self.now number false }
@@ -104,7 +104,7 @@ impl<const COUNT: usize, const WORDS: usize> BitSet<COUNT, WORDS> {
         self.words[number / BITS] >> (number % BITS) & 1 == 1
     }
 
-    /// Whether a number is marked here or in another.
+    /// Returns whether a number is marked here or in another.
     pub fn either_has(&self, other: &Self, number: usize) -> bool
         requires { number < COUNT }
         ensures { result ≡ get_or self.now number false || get_or other.now number false }
@@ -113,7 +113,7 @@ impl<const COUNT: usize, const WORDS: usize> BitSet<COUNT, WORDS> {
         word >> (number % BITS) & 1 == 1
     }
 
-    /// Whether no number is marked in both.
+    /// Returns whether no number is marked in both.
     pub fn is_apart_from(&self, other: &Self) -> bool
         ensures apart { IsTrue result → AreApart self.now other.now }
         ensures meet { result ≡ false → AreApart self.now other.now → ⊥ }
@@ -126,7 +126,7 @@ impl<const COUNT: usize, const WORDS: usize> BitSet<COUNT, WORDS> {
         true
     }
 
-    /// Whether all numbers that are marked here are marked in another.
+    /// Returns whether all numbers that are marked here are marked in another.
     pub fn is_within(&self, other: &Self) -> bool
         ensures { IsTrue result → Freer other.now self.now }
     {
@@ -138,7 +138,7 @@ impl<const COUNT: usize, const WORDS: usize> BitSet<COUNT, WORDS> {
         true
     }
 
-    /// The numbers that are marked here or in another.
+    /// Returns the numbers that are marked here or in another.
     pub fn with(&self, other: &Self) -> Self
         ensures { AreBoth self.now other.now result }
     {
@@ -149,7 +149,7 @@ impl<const COUNT: usize, const WORDS: usize> BitSet<COUNT, WORDS> {
         BitSet { words }
     }
 
-    /// Takes away the marks of another.
+    /// Removes the marks of another.
     pub fn clear(&mut self, other: &Self)
         ensures { AreOnly self.old other.now self.new }
     {
@@ -158,7 +158,7 @@ impl<const COUNT: usize, const WORDS: usize> BitSet<COUNT, WORDS> {
         }
     }
 
-    /// The numbers that are marked here, and all that are not in reach.
+    /// Returns the numbers that are marked here, and all that are not in reach.
     pub fn or_out_of(&self, reach: &Self) -> Self
         ensures { AreBarred self.now reach.now result }
     {
@@ -170,7 +170,7 @@ impl<const COUNT: usize, const WORDS: usize> BitSet<COUNT, WORDS> {
         barred
     }
 
-    /// A number that is marked; `None` where none is.
+    /// Returns a number that is marked; `None` if none is.
     pub fn first(&self) -> Option<usize>
         ensures marked { IsOneOf self.now result }
         ensures low { (number : ℕ) → result ≡ Some number → number < COUNT }
@@ -183,7 +183,8 @@ impl<const COUNT: usize, const WORDS: usize> BitSet<COUNT, WORDS> {
         None
     }
 
-    /// A number that hangs on another, and that is shared where the same numbers are marked. Any number would do.
+    /// Returns a number that depends on another and on which numbers are marked here. Any number
+    /// would do.
     pub fn mixed(&self, other: u64) -> u64 {
         let mut sum = other;
         for word in 0..WORDS {

@@ -8,7 +8,7 @@ ghost use Rattle.reach.specs.Position.{IsAmong};
 use crate::bit_set::Borders;
 use std::marker::Model;
 
-/// Some borders. The contracts see them by their numbers, in order.
+/// Some borders. In a contract they are the list of their numbers, in order.
 #[derive(Drop)]
 pub struct Crossing {
     set: Borders,
@@ -28,7 +28,7 @@ impl Model for Crossing {
 }
 
 impl Crossing {
-    /// Of the borders that are marked.
+    /// Returns the borders that are marked.
     pub(crate) fn of(set: Borders) -> Crossing
         ensures { result.items ≡ numbers_in set }
     {
@@ -36,14 +36,14 @@ impl Crossing {
         Crossing { set }
     }
 
-    /// Whether none of them is used.
+    /// Returns whether none of them is used.
     pub fn misses(&self, used: &Borders) -> bool
         ensures { result ≡ misses used.now self.now.items }
     {
         used.is_apart_from(&self.set)
     }
 
-    /// The used borders, with these.
+    /// Returns the used borders, with these.
     pub fn marked_in(&self, used: &Borders) -> Borders
         ensures { result ≡ marked_all used.now self.now.items }
     {
@@ -51,14 +51,14 @@ impl Crossing {
         used.with(&self.set)
     }
 
-    /// Takes away the marks of these borders.
+    /// Removes the marks of these borders.
     pub fn clear_in(&self, marks: &mut Borders)
         ensures { marks.new ≡ cleared_all marks.old self.now.items }
     {
         marks.clear(&self.set)
     }
 
-    /// A border that is one of these and of others. `None` where there is none.
+    /// Returns a border that is one of these and of others; `None` if there is none.
     pub fn shared(&self, other: &Crossing) -> Option<usize>
         ensures shared { IsShared self.now.items other.now.items result }
         ensures low { (border : ℕ) → result ≡ Some border → border < 279 }
@@ -73,7 +73,7 @@ impl Crossing {
         shared.first()
     }
 
-    /// Whether a border is one of these.
+    /// Returns whether a border is one of these.
     pub fn crosses(&self, border: usize) -> bool
         requires { border < 279 }
         ensures { IsTrue result → IsAmong border self.now.items }
@@ -81,7 +81,7 @@ impl Crossing {
         self.set.has(border)
     }
 
-    /// Whether all of these are among others.
+    /// Returns whether all of these are among others.
     pub(crate) fn is_within(&self, other: &Crossing) -> bool
         ensures { IsTrue result
             → (border : ℕ) → IsAmong border self.now.items → IsAmong border other.now.items }

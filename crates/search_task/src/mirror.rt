@@ -5,7 +5,8 @@ ghost use Rattle.search_task.specs.Legs.{AllLeadBack, HasMirror, IsMirrored};
 use crate::task::{Leg, Task};
 
 impl Task {
-    /// Whether a leg leads back over one, from where that ends, over no borders but those of it.
+    /// Returns whether a leg leads back over another, from where that ends, and crosses no borders
+    /// but those of it.
     fn leads_back(&self, leg: &Leg) -> bool
         ensures { IsTrue result → HasMirror self.now leg.now }
     {
@@ -23,7 +24,7 @@ impl Task {
         false
     }
 
-    /// Whether legs lead back over all legs from a spot.
+    /// Returns whether legs lead back over all legs from a spot.
     fn all_lead_back(&self, spot: usize) -> bool
         requires { spot < length self.now.departures.items }
         ensures { IsTrue result → AllLeadBack self.now spot }
@@ -38,7 +39,7 @@ impl Task {
         true
     }
 
-    /// Whether legs lead back over all legs.
+    /// Returns whether legs lead back over all legs.
     pub(crate) fn is_mirrored(&self) -> bool
         ensures { IsTrue result → IsMirrored self.now }
     {

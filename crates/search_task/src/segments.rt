@@ -1,5 +1,5 @@
-//! The segments of track that lead from the spots, all in one table: the segments from a spot are recorded
-//! one after another, each with the place of the one before it.
+//! The segments of track that lead from the spots, all in one table. The segments from a spot are
+//! added one after another, each with the place of the one before it.
 ghost use Rattle.std.specs.Prelude.{◌≡◌, ◌<◌, [], IfOk, OnOk, Some, length, slice_get};
 ghost use Rattle.search_task.specs.Segments.{AddsSegment, segments_from};
 
@@ -33,7 +33,7 @@ pub(crate) struct Chain {
     pub(crate) last: usize,
 }
 
-/// The segments from all spots. The contracts see the table, in order.
+/// The segments from all spots. In a contract they are the table, in order.
 #[derive(Drop)]
 pub struct Segments {
     entries: Vec<Entry>,
@@ -55,7 +55,7 @@ impl Model for Segments {
 }
 
 impl Segments {
-    /// None yet. It fails only if memory is refused.
+    /// Returns an empty table. Fails only if allocation fails.
     pub(crate) fn new(alloc: Global) -> Result<Segments, AllocError>
         ensures { IfOk result (λ segments. segments ≡ []) }
     {
@@ -65,7 +65,7 @@ impl Segments {
         Ok(Segments { entries, chains })
     }
 
-    /// Adds a segment behind those that lead from a spot. It fails only if memory is refused.
+    /// Adds a segment after those that lead from a spot. Fails only if allocation fails.
     pub(crate) fn add(&mut self, from: usize, segment: Stretch) -> Result<(), AllocError>
         requires { from < 744 }
         ensures { OnOk result (AddsSegment from segment self.old self.new) }
@@ -85,7 +85,7 @@ impl Segments {
         Ok(())
     }
 
-    /// How many segments lead from a spot.
+    /// Returns how many segments lead from a spot.
     pub(crate) fn count(&self, spot: usize) -> usize
         requires { spot < 744 }
         ensures { result ≡ length (segments_from spot self.now) }
@@ -93,7 +93,7 @@ impl Segments {
         self.chains[spot].count
     }
 
-    /// The segment that leads from a spot at a place among those from there.
+    /// Returns the segment that leads from a spot at a place among those from there.
     pub(crate) fn at(&self, spot: usize, place: usize) -> &Stretch
         requires spot { spot < 744 }
         requires place { place < length (segments_from spot self.now) }

@@ -21,17 +21,17 @@ use reach::{Network, SPOTS, Spot, Step, spot_number};
 use std::alloc::{AllocError, Global};
 use tables::{Company, Kind};
 
-/// From where a step may be taken.
+/// The spot from which a step may be taken.
 #[derive(Clone, Copy)]
 struct Origin {
-    /// The number of the spot: the stop where the step is entered, or the other side of the border; `SPOTS` where
-    /// there is none.
+    /// The number of the spot: the stop where the step is entered, or the other side of the border;
+    /// `SPOTS` if there is none.
     number: usize,
-    /// The border that is crossed then; none at a stop.
+    /// The border that is then crossed; `None` at a stop.
     border: Option<usize>,
 }
 
-/// From where a step may be taken that is entered at a spot.
+/// Returns the spot from which a step that is entered at a spot may be taken.
 fn origin_of(spot: Spot) -> Origin
     ensures number { result.number ≡ number_or_none (number_before spot.hex spot.end) }
     ensures border { option_to_list result.border ≡ border_at spot.hex spot.end }
@@ -61,7 +61,7 @@ fn origin_of(spot: Spot) -> Origin
     }
 }
 
-/// The segment of a step, over the border at which it is entered.
+/// Returns the segment of a step, over the border at which it is entered.
 fn segment_of(step: Step, border: Option<usize>) -> Stretch
     requires { let entered = entered_at step in option_to_list border ≡ border_at entered.hex
         entered.end }
@@ -70,7 +70,7 @@ fn segment_of(step: Step, border: Option<usize>) -> Stretch
     Stretch::of(spot_number(step.left()), step, border)
 }
 
-/// A side, which is nothing to a company.
+/// Returns a side, which means nothing to a company.
 fn side_node() -> Node
     ensures node { IsSideNode (Some result) }
     ensures value { result.value ≤ 80 }
@@ -83,7 +83,7 @@ fn side_node() -> Node
     }
 }
 
-/// What a stop is to a company.
+/// Returns what a stop means to a company.
 fn stop_node<N: Network>(network: &N, company: Company, stop: Stop) -> Node
     ensures node { IsStopNode (N.position network.now) company stop (Some result) }
     ensures value { result.value ≤ 80 }
@@ -103,7 +103,7 @@ pub(crate) const ENDS: usize = 8;
 /// How many of these are sides.
 pub(crate) const SIDES: usize = 6;
 
-/// The number of a stop, by its place among the ends of its hex.
+/// Returns the number of a stop, by its place among the ends of its hex.
 fn stop_numbered(place: usize) -> StopNumber
     requires least { 6 ≤ place }
     requires most { place < 8 }
@@ -116,7 +116,7 @@ fn stop_numbered(place: usize) -> StopNumber
     }
 }
 
-/// Lays what the next stop is to a company.
+/// Sets what the next stop means to a company.
 fn lay_stop<N: Network>(network: &N, company: Company, stop: usize, nodes: &mut Vec<Node>)
     requires least { 6 ≤ stop % 8 }
     requires most { stop < 744 }
@@ -129,7 +129,7 @@ fn lay_stop<N: Network>(network: &N, company: Company, stop: usize, nodes: &mut 
     nodes[stop] = stop_node(network, company, Stop { hex, number });
 }
 
-/// All spots, by their numbers. It fails only if memory is refused.
+/// Returns all spots, by their numbers. Fails only if allocation fails.
 fn all_spots<N: Network>(
     alloc: Global,
     network: &N,
@@ -148,8 +148,8 @@ fn all_spots<N: Network>(
     Ok(nodes)
 }
 
-/// Adds the segment of a step to those of the spot from which it may be taken, if there is one. It fails
-/// only if memory is refused.
+/// Adds the segment of a step to those of the spot from which it may be taken, if there is one.
+/// Fails only if allocation fails.
 fn add_step(step: Step, segments: &mut Segments) -> Result<(), AllocError>
     ensures { OnOk result (TakesStep step segments.old segments.new) }
 {
@@ -161,8 +161,8 @@ fn add_step(step: Step, segments: &mut Segments) -> Result<(), AllocError>
     Ok(())
 }
 
-/// Adds the segments of the steps in a hex: each link in both directions. It fails only if memory is
-/// refused.
+/// Adds the segments of the steps in a hex: each link in both directions. Fails only if allocation
+/// fails.
 fn add_steps<N: Network>(network: &N, hex: Hex, segments: &mut Segments) -> Result<(), AllocError>
     requires lawful { IsLawful (N.position network.now) }
     requires laid { LaidBefore (N.position network.now) (index_of hex) segments.old }
@@ -184,7 +184,7 @@ fn add_steps<N: Network>(network: &N, hex: Hex, segments: &mut Segments) -> Resu
     Ok(())
 }
 
-/// The segments from all spots. It fails only if memory is refused.
+/// Returns the segments from all spots. Fails only if allocation fails.
 fn all_segments<N: Network>(alloc: Global, network: &N) -> Result<Segments, AllocError>
     requires { IsLawful (N.position network.now) }
     ensures { IfOk result (AreLaid (N.position network.now)) }
@@ -196,8 +196,8 @@ fn all_segments<N: Network>(alloc: Global, network: &N) -> Result<Segments, Allo
     Ok(segments)
 }
 
-/// The most stops of a run of a train. The borders allow no more than 280, so that of a Diesel never has fewer left than
-/// there are borders.
+/// Returns the most stops of a run of a train. The borders allow no more than 280, so a Diesel
+/// never has fewer left than there are borders.
 fn most_of(kind: Kind) -> usize
     ensures { result ≡ most_of (stops_of kind) }
 {
@@ -207,7 +207,7 @@ fn most_of(kind: Kind) -> usize
     }
 }
 
-/// For each train, the most stops of a run.
+/// Returns the most stops of a run, for each train. Fails only if allocation fails.
 fn most_of_all(alloc: Global, kinds: &[Kind]) -> Result<Vec<usize>, AllocError>
     ensures { IfOk result (λ most. most.items ≡ most_of_all kinds.now) }
 {
@@ -219,7 +219,7 @@ fn most_of_all(alloc: Global, kinds: &[Kind]) -> Result<Vec<usize>, AllocError>
 }
 
 impl Task {
-    /// Lists the next spot, if the company has a token there. It fails only if memory is refused.
+    /// Lists the next spot, if the company has a token there. Fails only if allocation fails.
     fn list_home(&self, spot: usize, homes: &mut Vec<usize>) -> Result<(), AllocError>
         requires fit { IsFit self.now }
         requires spot { spot < 744 }
@@ -232,8 +232,8 @@ impl Task {
         Ok(())
     }
 
-    /// The spots where the company has tokens, by their numbers, in order. It fails only if memory is
-    /// refused.
+    /// Returns the spots where the company has tokens, by their numbers, in order. Fails only if
+    /// allocation fails.
     fn all_homes(&self, alloc: Global) -> Result<Vec<usize>, AllocError>
         requires { IsFit self.now }
         ensures { IfOk result (λ homes. AreHomes self.now 0 744 homes.items) }
@@ -247,7 +247,7 @@ impl Task {
         Ok(homes)
     }
 
-    /// What is searched for the trains of a company. It fails only if memory is refused.
+    /// Returns the task of a search for the trains of a company. Fails only if allocation fails.
     pub fn of<N: Network>(
         alloc: Global,
         network: &N,

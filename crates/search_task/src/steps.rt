@@ -1,4 +1,4 @@
-//! The steps of a leg: a few need no memory of their own.
+//! The steps of a leg. A few are kept without allocating.
 ghost use Rattle.std.specs.Prelude.{◌≡◌, ◌∷◌, ◌++◌, [], IfOk};
 
 use reach::Step;
@@ -8,7 +8,7 @@ use std::marker::Model;
 /// How many steps are few.
 const FEW: usize = 4;
 
-/// Some steps, in order. They are the first ones of the few, or, where these are none, the others.
+/// Some steps, in order. They are the first ones of the few, or the others if these are none.
 #[derive(Drop)]
 pub struct Steps {
     few: [Step; FEW],
@@ -29,7 +29,7 @@ impl Model for Steps {
 }
 
 impl Steps {
-    /// Some steps, and one more behind them. It fails only if memory is refused.
+    /// Returns some steps, and one more after them. Fails only if allocation fails.
     pub(crate) fn of(alloc: Global, first: &[Step], last: Step) -> Result<Steps, AllocError>
         ensures { IfOk result (λ steps. steps.items ≡ first.now ++ last ∷ []) }
     {
@@ -51,7 +51,7 @@ impl Steps {
         })
     }
 
-    /// The steps, in order.
+    /// Returns the steps, in order.
     pub fn as_slice(&self) -> &[Step]
         ensures { result.now ≡ self.now.items }
     {

@@ -1,4 +1,4 @@
-//! A segment of track, as the spot keeps it from which it leads.
+//! A segment of track, as the spot from which it leads keeps it.
 ghost use Rattle.std.specs.Prelude.{◌≡◌, option_to_list};
 ghost use Rattle.search_task.specs.Fit.{BordersFit};
 ghost use Rattle.search_task.specs.Crossed.{marked_all, misses};
@@ -33,7 +33,7 @@ impl Model for Stretch {
 }
 
 impl Stretch {
-    /// To a spot, by a step, over a border.
+    /// Returns a segment to a spot, by a step, over a border.
     pub(crate) fn of(to: usize, step: Step, border: Option<usize>) -> Stretch
         requires { BordersFit (option_to_list border) }
         ensures to { result.to ≡ to }
@@ -43,21 +43,21 @@ impl Stretch {
         Stretch { to, step, border }
     }
 
-    /// The spot to which it leads, by its number.
+    /// Returns the spot to which it leads, by its number.
     pub(crate) fn to(&self) -> usize
         ensures { result ≡ self.now.to }
     {
         self.to
     }
 
-    /// The step that it is.
+    /// Returns the step that it is.
     pub(crate) fn step(&self) -> Step
         ensures { result ≡ self.now.step }
     {
         self.step
     }
 
-    /// Whether its border is not used.
+    /// Returns whether its border is not used.
     pub(crate) fn misses(&self, used: &Borders) -> bool
         ensures { result ≡ misses used.now self.now.borders.items }
     {
@@ -67,7 +67,7 @@ impl Stretch {
         }
     }
 
-    /// The used borders, with this.
+    /// Returns the used borders, with this.
     pub(crate) fn marked_in(&self, used: &Borders) -> Borders
         ensures { result ≡ marked_all used.now self.now.borders.items }
     {

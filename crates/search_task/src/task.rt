@@ -6,7 +6,8 @@ use crate::steps::Steps;
 use reach::Step;
 use tables::Amount;
 
-/// Track that leads from a spot to another: what a leg reaches, and what each `Stretch` is to the contracts.
+/// Track that leads from a spot to another: what a leg reaches, and what each `Stretch` is in a
+/// contract.
 #[derive(Drop)]
 pub struct Segment {
     /// The spot to which it leads, by its number.
@@ -17,16 +18,16 @@ pub struct Segment {
     pub borders: Crossing,
 }
 
-/// A spot, to a company: an end of a hex.
+/// A spot as a company sees it: an end of a hex.
 #[derive(Clone, Copy)]
 pub struct Node {
     /// What it is worth, in dollars.
     pub value: Amount,
-    /// It is a stop.
+    /// Whether it is a stop.
     pub stop: bool,
-    /// The company has a token there.
+    /// Whether the company has a token there.
     pub own: bool,
-    /// No run passes it: it is red, or full for the company.
+    /// Whether no run passes it: it is red, or full for the company.
     pub ends: bool,
 }
 
@@ -48,7 +49,7 @@ pub struct Departures {
     pub legs: Vec<Leg>,
 }
 
-/// What is searched: the spots of the map, and how many stops each train may visit.
+/// What a search works on: the spots of the map, and how many stops each train may visit.
 #[derive(Drop)]
 pub struct Task {
     /// The spots, by their numbers.
@@ -63,6 +64,6 @@ pub struct Task {
     pub homes: Vec<usize>,
     /// For each train, the most stops of a run.
     pub trains: Vec<usize>,
-    /// Over each leg another one leads back, as is asked once.
+    /// Whether a leg leads back over each leg; it is found once.
     pub mirrored: bool,
 }

@@ -1,4 +1,4 @@
--- One train more is solved for in each round, and then passes.
+-- One more train is solved for in each round, and then passes.
 use Rattle.std.proofs.Common.{sym, subst, arith}
 use Rattle.best_run.specs.Suffix.{AreBounds}
 use Rattle.best_run.proofs.Eased.{solved_more, solved_none}

@@ -1,5 +1,5 @@
--- The search ends: each call has fewer trains left, or fewer stops for the run begun. What has been tried grows with
--- each token and each leg.
+-- The search ends: each call has fewer trains left, or fewer stops for the run begun. What has been
+-- tried grows with each token and each leg.
 use Rattle.std.proofs.Common.{◌+◌, ◌-◌, ◌*◌, drop, length}
 use Rattle.search_task.specs.Legs.{IsListed}
 use Rattle.best_run.specs.Moves.{begun, between, partial, turned_back}

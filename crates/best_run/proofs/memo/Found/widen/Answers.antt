@@ -1,4 +1,4 @@
--- A copy of a state that is kept comes behind the others.
+-- A copy of a state that is kept comes after the others.
 use Rattle.std.proofs.Common.{◌≡◌, Some, length, slice_get, refl, sym, subst, arith}
 use Rattle.std.proofs.lemmas.Option.{slice_get_read}
 use Rattle.best_run.specs.declared.search_state.SearchState.{SearchState}

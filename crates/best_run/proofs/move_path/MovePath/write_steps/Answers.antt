@@ -9,7 +9,7 @@ use Rattle.best_run.specs.declared.move_path.Mark.TheVariants.{Go}
 use Rattle.best_run.specs.MovePath.{IsWritten, go_along, marks_in}
 use Rattle.best_run.proofs.move_path.MovePath.write_steps.Goals as goal
 
--- the mark of the last step is behind those of the others
+-- the mark of the last step is after those of the others
 go_last :
     (left rest : List Step) (step : Step) (marks : List Mark) → left ≡ rest ++ (step ∷ [])
     → go_along rest ++ (Go step ∷ marks) ≡ go_along left ++ marks

@@ -1,4 +1,4 @@
--- The marks of the steps that are left are in front of those so far.
+-- The marks of the steps that are left are before those so far.
 use Rattle.std.proofs.Common.{◌≡◌, None, ◌++◌}
 use Rattle.std.specs.Iterator.Adapters.{rev_source}
 use Rattle.std.specs.Slice.Iter.{iter_rest}

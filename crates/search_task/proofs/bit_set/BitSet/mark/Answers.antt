@@ -1,4 +1,4 @@
--- One bit more is set.
+-- One more bit is set.
 use Rattle.std.proofs.Common.{Bool, true, List, set, ap, ◌∙◌, arith}
 use Rattle.search_task.proofs.Words.{set_mark, set_none}
 use Rattle.search_task.proofs.bit_set.BitSet.mark.Goals as goal

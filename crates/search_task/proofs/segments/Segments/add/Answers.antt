@@ -1,4 +1,4 @@
--- The segment comes behind those from its spot.
+-- The segment comes after those from its spot.
 use Rattle.std.proofs.Common.{◌≡◌, ◌+◌, Some, slice_get, sym, refl, arith}
 use Rattle.std.proofs.lemmas.Option.{slice_get_read}
 use Rattle.search_task.specs.declared.segments.Entry.{Entry}

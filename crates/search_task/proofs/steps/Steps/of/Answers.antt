@@ -1,4 +1,4 @@
--- The few are copied, and the last one is behind them.
+-- The few are copied, and the last one is after them.
 use Rattle.std.proofs.Common.{refl, arith}
 use Rattle.search_task.proofs.Copied.{copy_all, copy_next}
 use Rattle.search_task.proofs.steps.Steps.of.Goals as goal
