@@ -1,5 +1,6 @@
--- Words that fit one form fit no other: two forms that begin with the same word differ in the number
--- of their words, or in a place where one has a literal word that is no text of the other's class.
+-- Words that fit one form fit no other. Two forms that begin with the same word differ in the
+-- number of their words, or in one place. There one has a literal word that is no text of the
+-- other's class.
 use Rattle.std.proofs.Common.{◌≡◌, ℕ, ◌≤◌, Bool, true, false, ◌&&◌, ◌||◌, not, inl, inr, ◌⊎◌, List, [], ◌∷◌, Result}
 use Rattle.std.proofs.Common.{Err, refl, sym, ap, ◌∙◌, arith}
 use Rattle.std.specs.List.{list_all}
@@ -123,7 +124,7 @@ shapes_apart (c ∷ classes) r [] trailing_class.Nothing [] apart = inl refl
 shapes_apart (c ∷ classes) r [] trailing_class.Nothing (word ∷ words) apart = inr refl
 shapes_apart classes r others s words apart = absurd (false≢true apart)
 
--- an order, or what would be one but for a number
+-- an order, or what would be one except for a number
 abbrev pub IsNear : Result Order Fault → Type 0
 IsNear reading = 2 ≤ nearness reading
 

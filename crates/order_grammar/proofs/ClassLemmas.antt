@@ -41,7 +41,7 @@ pub hex_digits-raised : (word : List ℕ) → list_all is_hex_digit (raised word
 hex_digits-raised [] = refl
 hex_digits-raised (byte ∷ bytes) = rw (is_hex_digit-raised byte, hex_digits-raised bytes) refl
 
--- a reading of digits does not ask for their case
+-- a reading of digits does not depend on their case
 pub digits_reading-raised : (as_value : ℕ → values.Value) (word : List ℕ)
     → digits_reading as_value (raised word) ≡ digits_reading as_value word
 digits_reading-raised as_value [] = refl

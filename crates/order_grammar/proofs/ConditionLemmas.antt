@@ -1,4 +1,4 @@
--- The words after IF: they are read as an order under a condition exactly where they spell it.
+-- The words after IF: they are read as an order under a condition exactly if they spell it.
 use Rattle.std.proofs.Common.{◌≡◌, ℕ, Bool, true, false, cond, nat_le, ◌&&◌, inl, inr, List, [], ◌∷◌, Some, Result, Ok}
 use Rattle.std.proofs.Common.{Err, Contains, codes, refl, sym, ap, subst, ◌∙◌}
 use Rattle.std.proofs.lemmas.Bool.{cases_Bool, le-leb, leb-true, false≢true}
@@ -71,7 +71,7 @@ under_as condition order true false = refl
 under_as condition order false true = refl
 under_as condition order false false = refl
 
--- words behind a condition that spell an order are read so
+-- words after a condition that spell an order are read so
 play_for_read : (words : List (List ℕ)) (order : Order) → AreOrderWords order words →
     play_reading words ≡ read_as order (are_small (parts_of order))
 play_for_read [] order are = absurd are.0
@@ -99,7 +99,8 @@ floated_for_read : (company : Company) (word : List ℕ) → IsCompany company w
 floated_for_read company word named = ap condition_of
     (value_read class.Company (value.Company company) word refl named refl)
 
--- words after IF that spell an order under a condition, but that numbers may be too large, are read so
+-- words after IF that spell an order under a condition, but that numbers may be too large, are read
+-- so
 pub condition_for_read : (condition : Condition) (order : Order) (words : List (List ℕ)) →
     AreConditionWords condition (AreOrderWords order) words →
     conditional_reading words ≡ ordered_as (ordered (Some condition) order)
@@ -131,7 +132,7 @@ condition_for_read (Floated company) order (first ∷ word ∷ rest) are =
     rw (begins, floated_for_read company word are.1.0, play_for_read rest order are.1.1)
     (under_as (Floated company) order true (are_small (parts_of order)))
 
--- what a reading of words behind a condition says of them
+-- what a reading of words after a condition says of them
 abbrev PlaySays : List (List ℕ) → Result Order Fault → Type 0
 PlaySays words (Ok order) = AreOrderWords order words × HasSmallNumbers order
 PlaySays words (Err NumberTooLarge) = (order : Order) × AreOrderWords order words
@@ -156,7 +157,7 @@ play_says (first ∷ rest) =
           (sym (unknown_read behind_condition play_forms (first ∷ rest) rows_of_play other)) tt
     ]
 
--- what a reading of a condition says of words, of which these others come behind it
+-- what a reading of a condition says of words, if these others come after it
 abbrev PrefixSays : List (List ℕ) → List (List ℕ) → Result Condition Fault → Type 0
 PrefixSays words rest (Ok condition) =
     ((order : Order) → AreOrderWords order rest → AreConditionWords condition (AreOrderWords order) words) ×

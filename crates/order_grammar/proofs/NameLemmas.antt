@@ -24,7 +24,8 @@ pub letters_or_digits-raised : (word : List ℕ)
 letters_or_digits-raised [] = refl
 letters_or_digits-raised (byte ∷ bytes) = rw (is_letter_or_digit-raised byte, letters_or_digits-raised bytes) refl
 
--- a word that begins with a letter and is no longer than a name is one if the rest are letters and digits
+-- a word that begins with a letter and is no longer than a name is one if the rest are letters and
+-- digits
 pub is_name-raised : (word : List ℕ) (rest_fits : Bool) → is_ascii_alphabetic (get_or word 0 0) ≡ true
     → length word ≤ 8 →
     rest_fits ≡ list_all is_ascii_alphanumeric (take (length word - 1) (drop 1 word)) → 0 < length word

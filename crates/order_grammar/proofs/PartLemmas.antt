@@ -1,5 +1,5 @@
--- The forms of a kind of text are a part of the table: words that begin with one of their first words are
--- by them what they are by all forms, other words are unknown.
+-- The forms of a kind of text are a part of the table. Words that begin with one of their first
+-- words are by them what they are by all forms. Other words are unknown.
 use Rattle.std.proofs.Common.{◌≡◌, ℕ, Bool, true, false, not, ltb, fold, inl, inr, ◌⊎◌, List, [], ◌∷◌, ◌++◌, Result}
 use Rattle.std.proofs.Common.{Err, Contains, get_or, take, drop, refl, sym, ap, subst, ◌∙◌, arith}
 use Rattle.std.specs.List.{list_all, list_any}
@@ -24,8 +24,8 @@ use Rattle.order_grammar.proofs.RowLemmas.{among_any, all_among}
 abbrev pub begins_form : List ℕ → Row → Bool
 begins_form first row = same_word first (text_of_keyword row.keyword)
 
--- the rows of a text: they are together in the table, no other row begins with one of its first words, and these are
--- what its rows begin with
+-- the rows of a text: they are together in the table, no other row begins with one of its first
+-- words, and these are what its rows begin with
 pub record AreRowsOf (text : TextKind) (rows : List Row) : Type 0 where
   pub prefix : List Row
   pub back : List Row
@@ -58,7 +58,7 @@ rows_of_certificates = record {
   begun = refl;
 }
 
--- what may be behind a condition
+-- what may be after a condition
 abbrev pub behind_condition : TextKind
 behind_condition = record { most = line_most; first_words = play_words }
 
@@ -114,13 +114,13 @@ pub denied : (b : Bool) → not b ≡ true → b ≡ false
 denied true e = absurd (false≢true e)
 denied false e = refl
 
--- an unknown word brings nothing nearer
+-- an unknown word is no nearer
 nearer-unknown : (nearest : Result Order Fault) → nearer nearest (Err UnknownWord) ≡ nearest
 nearer-unknown nearest =
     let test : ltb (nearness nearest) 0 ≡ false = le-ltb _ _ (omega arith) in
     rw test refl
 
--- rows with other first words bring nothing nearer
+-- rows with other first words are no nearer
 pub no_nearer : (first : List ℕ) (rest : List (List ℕ)) (start : Result Order Fault) (rows : List Row)
     → list_any (begins_form first) rows ≡ false →
     fold (with_row first rest) start rows ≡ start

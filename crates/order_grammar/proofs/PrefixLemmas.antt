@@ -1,4 +1,5 @@
--- What a text holds where memory is refused while it is printed: what it held, and a prefix of the rest.
+-- What a text holds if allocation fails while it is printed: what it held, and a prefix of the
+-- rest.
 use Rattle.std.proofs.Common.{◌≡◌, ℕ, ◌+◌, ◌<◌, List, [], ◌∷◌, ◌++◌, length, get_or, map, take, drop, subst, Result, Ok}
 use Rattle.std.proofs.Common.{Err, OnErr, refl, sym, ap, append_assoc, take-append-drop, ◌∙◌}
 use Rattle.std.proofs.lemmas.Grind.{flat_map-append}
@@ -88,7 +89,7 @@ words_and_prefix old before mid new words count word more is so_far space adds =
     (prefix_of_second old mid new (spaced (take count words) ++ 32 ∷ []) (word ++ spaced (drop (count + 1) words))
     added (prefix_of_first mid new word (spaced (drop (count + 1) words)) adds))
 
--- one word more
+-- one more word
 pub words_more : (old before mid new : List ℕ) (words : List (List ℕ)) (count : ℕ) (word : List ℕ)
     → count < length words → word ≡ get_or words count [] →
     before ≡ old ++ spaced (take count words) → mid ≡ before ++ 32 ∷ [] → new ≡ mid ++ word
@@ -122,7 +123,7 @@ words_first_prefix old new keyword values words adds =
     subst (λ (text : List ℕ). AddsPrefix old new text) (sym (words_joined keyword values words))
     (prefix_of_first old new (words_text keyword values) (spaced words) adds)
 
--- a prefix of further words behind a literal word and values
+-- a prefix of further words after a literal word and values
 pub words_then_prefix : (old mid new : List ℕ) (keyword : Keyword) (values : List Value) (words : List (List ℕ)) →
     mid ≡ old ++ words_text keyword values → AddsPrefix mid new (spaced words) →
     AddsPrefix old new (joined (text_of_keyword keyword ∷ map text_of_value values ++ words))

@@ -1,5 +1,5 @@
--- The words of a line by the table of forms: they are read as an order, or as one but for a number,
--- exactly where they are the words of its parts.
+-- The words of a line by the table of forms. They are read as an order, or as one except for a
+-- number, exactly if they are the words of its parts.
 use Rattle.std.proofs.Common.{◌≡◌, ℕ, ◌≤◌, Bool, true, false, cond, ltb, nat_lt, fold, lit≤, inl, inr, ◌⊎◌, List, []}
 use Rattle.std.proofs.Common.{◌∷◌, Option, Some, None, Result, Ok, Err, refl, sym, ap, subst, ◌∙◌, arith}
 use Rattle.std.specs.List.{list_all, list_any}
@@ -153,7 +153,7 @@ parts_read order (Some parts) (first ∷ rest) made are =
     row.1 read
     (near_read_as order (list_all is_small parts.values)) (omega arith)
 
--- words that spell an order, but that its numbers may be too large, are read so
+-- words that spell an order, except that its numbers may be too large, are read so
 pub words_for_read : (words : List (List ℕ)) (order : Order) → AreWordsFor order words
     → all_reading words ≡ read_as order (are_small (parts_of order))
 words_for_read words order are = parts_read order (parts_of order) words (made_again order) (by_parts order words are)

@@ -7,7 +7,7 @@ use Rattle.map_tables.specs.Text.{place_of_text}
 use Rattle.map_tables.specs.declared.place.Place.{Place}
 use Rattle.order_grammar.specs.Form.{is_run_length, places_reading, run_reading, with_place}
 
--- places so far in front of those to come
+-- places so far before those to come
 abbrev pub places_with : List Place → Option (List Place) → Option (List Place)
 places_with so_far (Some places) = Some (so_far ++ places)
 places_with so_far None = None

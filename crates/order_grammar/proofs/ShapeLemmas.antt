@@ -1,4 +1,4 @@
--- Words are read as values by a row exactly where they are texts of those values.
+-- Words are read as values by a row exactly if they are texts of those values.
 use Rattle.std.proofs.Common.{◌≡◌, ℕ, Bool, true, false, cond, inl, inr, List, [], ◌∷◌, Option, Some, None, length, map}
 use Rattle.std.proofs.Common.{Result, Ok, Err, refl, sym, ap, ◌∙◌}
 use Rattle.std.specs.Option.{option_map}
@@ -77,7 +77,7 @@ trailing_read r t words of is = absurd (false≢true of)
 abbrev pub sized : List values.Value → Trailing → Bool → Result (List values.Value × Trailing) Fault
 sized made t small = cond small (Ok (made, t)) (Err NumberTooLarge)
 
--- a value in front of others
+-- a value before others
 sized-value : (v : values.Value) (made : List values.Value) (t : Trailing) (small : Bool)
     → with_value (Value v) (sized made t small) ≡ sized (v ∷ made) t small
 sized-value v made t true = refl

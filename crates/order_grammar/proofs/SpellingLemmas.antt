@@ -172,12 +172,12 @@ before_next : (words : List (List ℕ)) → before 32 (spaced words) ≡ []
 before_next [] = refl
 before_next (word ∷ words) = ap (before 32) (spaced-cons word words)
 
--- a word with bytes is in front
+-- a word with bytes comes first
 in_prefix : (word : List ℕ) (words : List (List ℕ)) → 0 < length word → with_word word words ≡ word ∷ words
 in_prefix [] words h = absurd (omega arith)
 in_prefix (byte ∷ bytes) words h = refl
 
--- a word in front of them
+-- a word before them
 words_from-joined : (word : List ℕ) (words : List (List ℕ)) → IsPlain word → words_from [] (spaced words) ≡ words →
     words_from [] (word ++ spaced words) ≡ word ∷ words
 words_from-joined word words plain rest =
@@ -387,7 +387,7 @@ numbered_text letters number two letters_plain has =
       };
     }
 
--- more behind a plain word
+-- more words after a plain word
 plain_joined : (word more : List ℕ) → IsPlain word → length word + length more ≤ 16 → list_all is_plain more ≡ true
     → IsPlain (word ++ more)
 plain_joined word more plain few more_plain = record {
@@ -657,7 +657,8 @@ spelt_out order parts is has =
       few = counted.1.few;
     }
 
--- parts of a form that have words are read as what they make, by the forms of a text that knows the first of them
+-- parts of a form that have words are read as what they make, by the forms of a text that knows the
+-- first of them
 parts_read : (text : TextKind) (rows : List Row) → AreRowsOf text rows → 340 ≤ text.most →
     (order : Order) (parts : Option Parts) →
     parts_of order ≡ parts → have_words parts ≡ true → FitsParts text.most parts →

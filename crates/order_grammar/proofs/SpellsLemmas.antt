@@ -1,4 +1,4 @@
--- A line is read as an order exactly where it spells it.
+-- A line is read as an order exactly if it spells it.
 use Rattle.std.proofs.Common.{◌≡◌, ℕ, true, ltb, inl, inr, List, [], ◌∷◌, Result, Ok, Err, length, sym, ◌∙◌}
 use Rattle.std.specs.List.{list_all}
 use Rattle.std.proofs.lemmas.Bool.{cases_Bool, le-ltb, ltb-false}
@@ -25,7 +25,7 @@ spelt_words_read words order are small =
     let read = words_for_read words order are in
     rw few at read
 
--- but for a number, as too large
+-- except for a number, as too large
 pub large_words_read : (words : List (List ℕ)) (order : Order) → AreWordsFor order words → (HasSmallNumbers order → ⊥) →
     all_reading words ≡ Err NumberTooLarge
 large_words_read words order are large =

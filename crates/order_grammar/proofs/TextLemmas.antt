@@ -1,4 +1,4 @@
--- A word is read as a value of a class exactly where it is a text of that value.
+-- A word is read as a value of a class exactly if it is a text of that value.
 use Rattle.std.proofs.Common.{◌≡◌, ℕ, ◌+◌, ◌-◌, ◌≤◌, ◌==◌, ◌&&◌, true, false, nat_le, inl, inr, List, [], ◌∷◌, ◌++◌}
 use Rattle.std.proofs.Common.{Option, Some, None, length, codes, decimal, get_or, take, drop, append_assoc, refl, sym}
 use Rattle.std.proofs.Common.{ap, ◌∙◌, arith}
@@ -94,7 +94,8 @@ operating_read digits number least most =
           → operating_reading word ≡ round_number_reading (numbered.Operating number) digits
       by_numbers word digits number prefix back = rw (back, prefix, operating_reading) refl
 
--- where a text is that of the round of some series whose number has these digits, it is read as the number
+-- where a text is that of the round of some series whose number has these digits, it is read as the
+-- number
 record IsReadBy (series : Series) (number : ℕ) (text : List ℕ) : Type 0 where
   digits : List ℕ
   no_zero : get_or digits 0 0 ≡ 48 → ⊥
@@ -174,7 +175,7 @@ value_read (class.Word k) (value.Word other) text of is small =
     rw (is, ← same, same_word-self (text_of_keyword k)) refl
 value_read c v text of is small = absurd (false≢true of)
 
--- else as too large
+-- otherwise as too large
 pub large_value_read : (c : Class) (v : values.Value) (text : List ℕ) → is_of_class c v ≡ true → IsTextOf v text
     → is_small v ≡ false →
     class_reading c text ≡ TooLarge

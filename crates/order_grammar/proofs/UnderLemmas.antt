@@ -41,7 +41,7 @@ use Rattle.order_grammar.proofs.SpellingLemmas.{spaced-cons, IsFew}
 abbrev words_of_condition : Condition → List (List ℕ)
 words_of_condition condition = map text_of_value (condition_values condition)
 
--- the words of a line with a condition, behind which these come
+-- the words of a line with a condition, with these after them
 abbrev under_words : Condition → List (List ℕ) → List (List ℕ)
 under_words condition words = text_of_keyword keyword.If ∷ (words_of_condition condition ++ words)
 
@@ -73,7 +73,7 @@ condition_spelt (Price co price) order words small are = (refl, (refl, (refl, (d
 condition_spelt (Phase k) order words small are = (refl, (refl, are))
 condition_spelt (Floated co) order words small are = (refl, (refl, are))
 
--- a prefix and words behind it, with single spaces between them
+-- a prefix and words after it, with single spaces between them
 spaced-behind : (first : List ℕ) (words : List (List ℕ)) (next : List ℕ) (rest : List (List ℕ)) →
     joined (first ∷ words) ++ codes " " ++ joined (next ∷ rest) ≡ joined (first ∷ (words ++ next ∷ rest))
 spaced-behind first words next rest =

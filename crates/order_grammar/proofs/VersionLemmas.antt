@@ -1,5 +1,5 @@
--- A line of a file of some version is read as an order under a condition exactly where it spells it, and as a fault
--- exactly where it has that.
+-- A line of a file of some version is read as an order under a condition exactly if it spells it,
+-- and as a fault exactly if it has that.
 use Rattle.std.proofs.Common.{◌≡◌, ℕ, zero, suc, ◌<◌, Bool, true, false, cond, ltb, not, ◌&&◌, inl, inr, List, [], ◌∷◌}
 use Rattle.std.proofs.Common.{Option, Some, None, Result, Ok, Err, Contains, codes, length, refl, sym, ap, subst, ◌∙◌}
 use Rattle.std.proofs.Common.{arith}
@@ -75,7 +75,7 @@ known_without_if : (words : List (List ℕ)) → BeginWithOneOf order_file.first
 known_without_if [] known = refl
 known_without_if (first ∷ rest) known = not_if first known
 
--- words that spell an order, but that its numbers may be too large, are read so
+-- words that spell an order, except that its numbers may be too large, are read so
 one_read : (words : List (List ℕ)) (order : Order) → AreWordsUnder One None order words →
     words_reading_in One words ≡ ordered_as (ordered None order) (are_small (parts_of order))
 one_read words order are =
@@ -313,7 +313,7 @@ wrong_words_in version line (Err WrongWords) says is = refl
 wrong_words_in version line (Err NumberTooLarge) says is = absurd (is.3 says.3)
 wrong_words_in version line (Err other) says is = absurd says
 
--- one whose words would spell an order but for a number is that of a number that is too large
+-- one whose words would spell an order except for a number is that of a number that is too large
 large_in : (version : Version) (line : List ℕ) (reading : Result Ordered Fault) → LineSays version line reading →
     IsFaultInVersion version line NumberTooLarge →
     reading ≡ Err NumberTooLarge

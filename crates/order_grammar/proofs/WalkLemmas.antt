@@ -70,7 +70,7 @@ pub one_word : (c : Class) (words rest : List (List ℕ)) (word : List ℕ) → 
     under (condition_of (class_reading c word)) (play_reading rest) ≡ reading_of_one c words
 one_word c words rest word is = sym (ap (reading_of_one c) is)
 
--- the words behind a condition
+-- the words after a condition
 pub under_read : (condition : Result Condition Fault) (all words left : List Placed) (given : Option Token)
     (first : Token) (rows : List Row)
     (read : Result Unit Fault) (order : Order) → words ≡ all → GivesFirst words given left → given ≡ Some first →

@@ -77,7 +77,7 @@ same_word-zip [] (y ∷ ys) e = absurd (omega arith)
 same_word-zip (x ∷ xs) [] e = absurd (omega arith)
 same_word-zip (x ∷ xs) (y ∷ ys) e = rw (same_word-zip xs ys (omega arith)) refl
 
--- a word in front of others
+-- a word before others
 texts_of-with : (start : ℕ) (word : List ℕ) (others : List Placed) (words : List (List ℕ))
     → texts_of others ≡ map raised words →
     texts_of (with_placed start word others) ≡ map raised (with_word word words)
@@ -148,7 +148,7 @@ slice_of prefix word rest whole is =
     let size : length prefix + length word - length prefix ≡ length word = omega arith in
     rw (is, size, drop_at prefix (word ++ rest) (length prefix) refl) (take_at word rest (length word) refl)
 
--- a word that begins after a prefix, in front of others
+-- a word that begins after a prefix, before others
 with_placed-lie : (prefix word rest whole : List ℕ) (words : List Placed) → whole ≡ prefix ++ (word ++ rest) →
     LieFrom (length prefix + length word) whole words
     → LieFrom (length prefix) whole (with_placed (length prefix) word words)
@@ -207,7 +207,7 @@ no_word at rest r is none =
           (position_or_len (λ byte. not (byte == 32)) rest) le
     ]
 
--- a word with bytes is in front of others
+-- a word with bytes is before others
 with_placed-some : (start : ℕ) (word : List ℕ) (words : List Placed) → 0 < length word →
     with_placed start word words ≡ record { text = word; start = start; end = start + length word } ∷ words
 with_placed-some start [] words some = absurd (omega arith)
@@ -227,7 +227,7 @@ some_bytes (byte ∷ bytes) lt =
       | inr e ↦ rw e (rw e (omega arith))
     ]
 
--- else the first word begins at the first such byte
+-- otherwise the first word begins at the first such byte
 pub first_placed : (at : ℕ) (text : List ℕ) (spaces count : ℕ) (r : Option ℕ) → at ≤ length text →
     r ≡ cond (ltb (position_or_len (λ byte. not (byte == 32)) (drop at text)) (length (drop at text)))
     (Some (position_or_len (λ byte. not (byte == 32)) (drop at text))) None →

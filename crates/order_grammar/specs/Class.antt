@@ -1,5 +1,5 @@
--- The classes of words: which texts may be at a place of a form, and what each says. A word that would be such a text
--- if numbers had no greatest value is too large.
+-- The classes of words: which texts may stand at a place of a form, and what each says. A word that
+-- would be such a text if numbers had no greatest value is too large.
 use Rattle.std.specs.Prelude.{ℕ, ◌+◌, ◌*◌, ◌-◌, ◌==◌, Bool, true, false, ◌&&◌, ◌||◌, nat_le, if◌then◌else◌, List, []}
 use Rattle.std.specs.Prelude.{◌∷◌, length, codes, take, drop, fold, min, Option, Some, None}
 use Rattle.std.specs.List.{list_all}
@@ -31,7 +31,8 @@ are_digits (digit ∷ digits) = list_all is_digit (digit ∷ digits)
 abbrev pub value_of_digits : List ℕ → ℕ
 value_of_digits digits = fold (λ value digit. value * 10 + (digit - 48)) 0 digits
 
--- the value of digits, or one more than the greatest number where it is over that; nothing for other words
+-- the value of digits, or one more than the greatest number if it is over that; nothing for other
+-- words
 abbrev pub capped_value : List ℕ → Option ℕ
 capped_value word = if are_digits word then Some (min (value_of_digits word) (number_most + 1)) else None
 
@@ -60,7 +61,7 @@ round_number_reading series (digit ∷ digits) =
     then Wrong
     else digits_reading (λ number. value.Round (round_of_series series number)) (digit ∷ digits)
 
--- the number of an operating round in its set, behind a point
+-- the number of an operating round in its set, after a point
 abbrev pub number_in_set : List ℕ → Option ℕ
 number_in_set (point ∷ digit ∷ []) =
     if point == 46 && (nat_le 49 digit && nat_le digit (48 + operating_most)) then Some (digit - 48) else None
@@ -74,7 +75,8 @@ operating_reading word =
       | None ↦ Wrong
     ]
 
--- PR and the number of an opening round, SR and that of a stock round, or OR and those of an operating round
+-- PR and the number of an opening round, SR and that of a stock round, or OR and those of an
+-- operating round
 abbrev pub round_reading : List ℕ → Reading
 round_reading word =
     if same_word (take 2 word) (codes "PR") then round_number_reading numbered.Opening (drop 2 word) else

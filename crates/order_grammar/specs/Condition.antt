@@ -1,4 +1,5 @@
--- What the words of a line of version 2 are: an order, perhaps under a condition, or why they spell none.
+-- What the words of a line of version 2 are: an order, perhaps under a condition, or why they spell
+-- none.
 use Rattle.std.specs.Prelude.{ℕ, if◌then◌else◌, List, [], ◌∷◌, Option, Some, None, Result, Ok, Err}
 use Rattle.order_grammar.specs.Class.{class_reading}
 use Rattle.order_grammar.specs.Form.{order_forms, play_forms, rows_reading}
@@ -23,6 +24,7 @@ pub record Ordered : Type 0 where
   pub condition : Option Condition
   pub order : Order
 
+-- an order with its condition, if it has one
 abbrev pub ordered : Option Condition → Order → Ordered
 ordered condition order = record { condition = condition; order = order }
 
@@ -44,18 +46,20 @@ price_of (Value (value.Company company)) (Value (value.Number price)) = Ok (Pric
 price_of (Value (value.Company company)) TooLarge = Err NumberTooLarge
 price_of company price = Err WrongWords
 
--- the condition that one word says: a kind of train the phase, a company that it has floated
+-- the condition that one word gives: a kind of train gives the phase, and a company that it has
+-- floated
 abbrev pub condition_of : Reading → Result Condition Fault
 condition_of (Value (value.Kind kind)) = Ok (Phase kind)
 condition_of (Value (value.Company company)) = Ok (Floated company)
 condition_of other = Err WrongWords
 
--- the order that the words behind a condition spell, or why they spell none
+-- the order that the words after a condition spell, or why they spell none
 abbrev pub play_reading : List (List ℕ) → Result Order Fault
 play_reading [] = Err WrongWords
 play_reading (first ∷ rest) = rows_reading play_forms first rest
 
--- a condition and the order behind it: wrong words of one spoil all, a number that is too large all but that
+-- a condition and the order after it: wrong words of one spoil all, a number that is too large
+-- spoils all but wrong words
 abbrev pub under : Result Condition Fault → Result Order Fault → Result Ordered Fault
 under (Ok condition) (Ok order) = Ok (ordered (Some condition) order)
 under (Ok condition) (Err NumberTooLarge) = Err NumberTooLarge
@@ -101,7 +105,7 @@ abbrev pub put_ordered : Result (Option Condition) Fault → Order → Result Or
 put_ordered (Ok condition) order = Ok (ordered condition order)
 put_ordered (Err fault) order = Err fault
 
--- the condition that a reading gives, where the order behind it was put in its place
+-- the condition that a reading gives, if the order after it was put in its place
 abbrev pub condition_if_read : Result Condition Fault → Result Unit Fault → Result Condition Fault
 condition_if_read (Ok condition) (Ok done) = Ok condition
 condition_if_read (Ok condition) (Err NumberTooLarge) = Err NumberTooLarge

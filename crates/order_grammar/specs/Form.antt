@@ -1,5 +1,5 @@
--- The table of forms, and what the words of a line are by it: the order that they spell, or why they
--- spell none.
+-- The table of forms, and what the words of a line are by it: the order that they spell, or why
+-- they spell none.
 use Rattle.std.specs.Prelude.{ℕ, List, [], ◌∷◌, Option, Some, None, Result, Ok, Err, nat_lt, nat_le, Bool, true, false}
 use Rattle.std.specs.Prelude.{◌&&◌, length, fold, take, drop, if◌then◌else◌, option_map}
 use Rattle.map_tables.specs.Text.{place_of_text}
@@ -33,11 +33,13 @@ pub record Row : Type 0 where
   pub classes : List Class
   pub trailing_class : TrailingClass
 
+-- a row of the table of forms: the first word, the classes of the words after it, and what may be
+-- repeated
 abbrev pub row : Keyword → List Class → TrailingClass → Row
 row keyword classes trailing_class = record { keyword = keyword; classes = classes; trailing_class = trailing_class }
 
--- the forms of lines: those of the file and of the heads of its parts, those of orders, CERT and CLAIM, and then those
--- of a certificate alone
+-- the forms of lines: those of the file and of the heads of its parts, those of orders, CERT and
+-- CLAIM, and then those of a certificate alone
 abbrev pub forms : List Row
 forms =
     row keyword.Game (class.Number ∷ class.Number ∷ []) trailing_class.Nothing
@@ -94,7 +96,7 @@ cert_forms = drop 29 forms
 abbrev pub are_names : ℕ → ℕ → List (List ℕ) → Bool
 are_names least most words = nat_le least (length words) && nat_le (length words) most && list_all is_name words
 
--- a place in front of others
+-- a place before others
 abbrev pub with_place : Option Place → Option (List Place) → Option (List Place)
 with_place (Some place) (Some places) = Some (place ∷ places)
 with_place place places = None
@@ -104,7 +106,7 @@ abbrev pub places_reading : List (List ℕ) → Option (List Place)
 places_reading [] = Some []
 places_reading (word ∷ words) = with_place (place_of_text word) (places_reading words)
 
--- as many places as a run has
+-- a run may have this many places
 abbrev pub is_run_length : ℕ → Bool
 is_run_length number = nat_le 2 number && nat_le number 280
 
@@ -120,8 +122,8 @@ trailing_reading (trailing_class.Names least most) words =
     if are_names least most words then Some (trailing.Names (record { items = words })) else None
 trailing_reading trailing_class.Places words = option_map trailing.Places (run_reading words)
 
--- the value of a word in front of the values of the later words; a word that is no text of its class
--- spoils all, a number that is too large all but that
+-- The value of a word before the values of the later words. A word that is no text of its class
+-- spoils all. A number that is too large spoils all but wrong words.
 abbrev pub with_value : Reading → Result (List Value × Trailing) Fault → Result (List Value × Trailing) Fault
 with_value reading.Wrong read = Err WrongWords
 with_value reading.TooLarge (Ok read) = Err NumberTooLarge
@@ -129,7 +131,8 @@ with_value reading.TooLarge (Err fault) = Err fault
 with_value (reading.Value value) (Ok read) = Ok (value ∷ read.0, read.1)
 with_value (reading.Value value) (Err fault) = Err fault
 
--- the values of words as texts of these classes, one for one, and then of the class that is repeated
+-- the values of words as texts of these classes, one for one, and then of the class that is
+-- repeated
 abbrev pub values_reading : List Class → TrailingClass → List (List ℕ) → Result (List Value × Trailing) Fault
 values_reading [] trailing_class words =
     elim (trailing_reading trailing_class words) [ Some trailing ↦ Ok ([], trailing) | None ↦ Err WrongWords ]

@@ -1,5 +1,5 @@
--- What a line is by itself: the order that it spells, or the first fault that it has: too long, a
--- byte before the comment that is not printable, and then what its words are.
+-- What a line is by itself: the order that it spells, or the first fault that it has. A line may be
+-- too long, or a byte before the comment may not be printable; then come the faults of its words.
 use Rattle.std.specs.Prelude.{ℕ, nat_lt, if◌then◌else◌, List, [], length, Result, Ok, Err}
 use Rattle.std.specs.List.{list_all}
 use Rattle.order_grammar.specs.Form.{Row, order_forms, cert_forms, words_reading}
@@ -17,7 +17,8 @@ reading_by most rows line =
     then Err TooLong
     else (if list_all is_printable (before_comment line) then words_reading rows (words_of line) else Err StrayByte)
 
--- the words of a line of at most this many bytes at their places, or the first fault that it has before they are read
+-- the words of a line of at most this many bytes at their places, or the first fault that it has
+-- before they are read
 abbrev pub words_within : ℕ → List ℕ → Result (List Placed) Fault
 words_within most line =
     if nat_lt most (length line)

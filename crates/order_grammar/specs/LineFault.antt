@@ -1,4 +1,5 @@
--- Which fault a line has by itself, said without the table of forms: the first of five that applies.
+-- Which fault a line has by itself: the first of five that applies. This says it without the table
+-- of forms.
 use Rattle.std.specs.Prelude.{ℕ, ◌<◌, IsTrue, List, [], ◌∷◌, length, Any, Contains}
 use Rattle.order_grammar.specs.Spells.{LooselySpellsIn, SpellsIn}
 use Rattle.order_grammar.specs.Texts.{TextKind, order_file}
@@ -25,11 +26,11 @@ BeginWithOther known (first ∷ rest) = ¬ Contains known first
 abbrev pub HasUnknownWord : TextKind → List ℕ → Type 0
 HasUnknownWord text line = BeginWithOther text.first_words (words_of line)
 
--- it would spell an order if numbers had no greatest value
+-- the line would spell an order if numbers had no greatest value
 abbrev pub IsLooselySpelt : TextKind → List ℕ → Type 0
 IsLooselySpelt text line = (order : Order) × LooselySpellsIn text line order
 
--- it spells an order
+-- the line spells an order
 abbrev pub IsSpelt : TextKind → List ℕ → Type 0
 IsSpelt text line = (order : Order) × SpellsIn text line order
 

@@ -1,5 +1,5 @@
--- A player's name is a letter, then up to seven letters or digits; letters are raised. To a contract
--- a name is its text.
+-- A player's name is a letter, then up to seven letters or digits; letters are raised. In a
+-- contract a name is its text.
 use Rattle.std.specs.Prelude.{◌≡◌, ℕ, ◌-◌, ◌≤◌, Bool, false, ◌&&◌, ◌||◌, nat_le, List, [], ◌∷◌, ◌++◌, length, take}
 use Rattle.std.specs.Prelude.{drop, replicate}
 use Rattle.std.proofs.Common.{sym, ap, subst, ◌∙◌, length-take-le, take-append-drop}
@@ -9,9 +9,11 @@ use Rattle.std.specs.List.{list_all}
 abbrev pub is_capital : ℕ → Bool
 is_capital byte = nat_le 65 byte && nat_le byte 90
 
+-- a byte is a digit
 abbrev pub is_digit : ℕ → Bool
 is_digit byte = nat_le 48 byte && nat_le byte 57
 
+-- a byte is a capital letter or a digit
 abbrev pub is_letter_or_digit : ℕ → Bool
 is_letter_or_digit byte = is_capital byte || is_digit byte
 
@@ -20,8 +22,8 @@ abbrev pub is_name : List ℕ → Bool
 is_name [] = false
 is_name (first ∷ rest) = is_capital first && (nat_le (length rest) 7 && list_all is_letter_or_digit rest)
 
--- letters that are cut to their length and filled up again are as they were: the law of a name's view asks for this, so
--- it is here and not among the proofs
+-- letters that are cut to their length and filled up again are as they were. The law of a name's
+-- view needs this, so it is here and not among the proofs.
 pub padded_again : (letters : List ℕ) (count : ℕ) → count ≤ 8 → length letters ≡ 8
     → drop count letters ≡ replicate (8 - count) 0 →
     ◌≡◌ {A = List ℕ × ℕ} (

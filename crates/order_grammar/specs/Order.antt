@@ -1,5 +1,5 @@
--- What an order is made of, and which order that makes. A line has these parts in turn: a keyword,
--- then words with a value each, then what a class that is repeated at the end has.
+-- The parts of an order, and which order they make. A line has these parts in turn: a keyword, then
+-- words with a value each, then what a class that is repeated at the end has.
 use Rattle.std.specs.Prelude.{ℕ, Bool, true, false, List, [], ◌∷◌, Option, Some, None}
 use Rattle.map_tables.specs.declared.hex.Hex.{Hex}
 use Rattle.map_tables.specs.declared.lay.Lay as lays
@@ -30,7 +30,7 @@ abbrev pub keyword_of_source : ShareSource → Keyword
 keyword_of_source InitialOffering = keyword.InitialOffering
 keyword_of_source BankPool = keyword.Pool
 
--- its letters
+-- the letters of the word that names where a share is bought
 abbrev pub text_of_source : ShareSource → List ℕ
 text_of_source source = text_of_keyword (keyword_of_source source)
 
@@ -107,7 +107,7 @@ parts_of (Cert round company revenue) =
 parts_of (Claim kind run) = made_of keyword.Claim (value.Kind kind ∷ []) (trailing.Places run)
 parts_of Marks = made_of keyword.Marks (value.HexDigits ∷ []) trailing.Nothing
 
--- the order of these parts, where there is one
+-- the order of these parts, if there is one
 abbrev pub order_from : Keyword → List Value → Trailing → Option Order
 order_from keyword.Game ((value.Number game) ∷ (value.Number version) ∷ []) trailing.Nothing = Some (Game game version)
 order_from keyword.Players [] (trailing.Names names) = Some (Players names)

@@ -1,4 +1,5 @@
--- The one spelling of an order, under a condition or not: upper case, single spaces, no leading zeros.
+-- The one spelling of an order, under a condition or not: upper case, single spaces, no leading
+-- zeros.
 use Rattle.std.specs.Prelude.{◌≡◌, ℕ, List, [], ◌∷◌, ◌++◌, Option, Some, None, map, codes, decimal}
 use Rattle.std.specs.List.{flat_map}
 use Rattle.map_tables.specs.declared.place.Place.{Place}
@@ -82,11 +83,11 @@ words_of_parts (Some parts) =
 abbrev pub words_of_order : Order → List (List ℕ)
 words_of_order order = words_of_parts (parts_of order)
 
--- its spelling
+-- the spelling of an order
 abbrev pub spelling_of : Order → List ℕ
 spelling_of order = joined (words_of_order order)
 
--- IF, the words of a condition and a space; nothing where there is no condition
+-- IF, the words of a condition and a space; nothing if there is no condition
 abbrev pub condition_text : Option Condition → List ℕ
 condition_text None = []
 condition_text (Some condition) = words_text keyword.If (condition_values condition) ++ codes " "

@@ -17,13 +17,14 @@ use Rattle.order_grammar.specs.declared.order.Value.{Value}
 abbrev pub row_of : Form → Row
 row_of form = row form.keyword form.classes.now form.trailing_class
 
--- values so far, with whether a number was too large, in front of those to come
+-- values so far, with whether a number was too large, before those to come
 abbrev pub joined_values : List Value → Bool → Result (List Value × Trailing) Fault → Result (List Value × Trailing)
     Fault
 joined_values prefix too_large (Ok rest) = if too_large then Err NumberTooLarge else Ok (prefix ++ rest.0, rest.1)
 joined_values prefix too_large (Err fault) = Err fault
 
--- what was read of the words by a row, of which these are left: what is repeated comes next, or they do not fit
+-- what was read of the words by a row, of which these are left: what is repeated comes next, or
+-- they do not fit
 abbrev pub AreRead : Row → List (List ℕ) → List (List ℕ) → Option Prefix → Type 0
 AreRead row words left (Some prefix) =
     joined_values prefix.values.items prefix.too_large (values_reading [] row.trailing_class left) ≡ values_by_row row

@@ -1,4 +1,4 @@
--- The forms of play that take few bytes, which is all but a run through places.
+-- The forms of play that need few bytes, which is all but a run through places.
 use Rattle.std.specs.Prelude.{Bool, true, false}
 use Rattle.order_grammar.specs.declared.order.Order.{Order}
 use Rattle.order_grammar.specs.declared.order.Order.TheVariants as order
@@ -25,7 +25,7 @@ order_in_short (short.BuyOwnedPrivate private price) = order.BuyOwnedPrivate pri
 order_in_short (short.Raise company shares) = order.Raise company shares
 order_in_short (short.Offer offer) = order.Offer offer
 
--- an order of play, but no run: its form takes few bytes
+-- an order of play, but no run: its form needs few bytes
 abbrev pub has_short_form : Order → Bool
 has_short_form (order.BuyPrivate private) = true
 has_short_form (order.Bid private amount) = true

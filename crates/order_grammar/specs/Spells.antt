@@ -1,5 +1,5 @@
 -- Which lines spell which orders, each form by itself, and which orders have a spelling. A line is
--- loosely spelt where it would spell an order if numbers had no greatest value.
+-- loosely spelt if it would spell an order if numbers had no greatest value.
 use Rattle.std.specs.Prelude.{◌≡◌, ◌≢◌, ⊤, ℕ, ◌≤◌, Bool, true, false, ◌&&◌, nat_le, IsTrue, List, [], ◌∷◌, ◌++◌, length}
 use Rattle.std.specs.Prelude.{map, codes, decimal, slice_index, Contains}
 use Rattle.std.specs.List.{list_all}
@@ -33,7 +33,7 @@ use Rattle.order_grammar.specs.declared.order.ShareSource.TheVariants.{InitialOf
 use Rattle.order_grammar.specs.declared.order.TrainSource.{TrainSource}
 use Rattle.order_grammar.specs.declared.order.TrainSource.TheVariants as source
 
--- this very word
+-- this exact word
 abbrev pub IsWord : List ℕ → List ℕ → Type 0
 IsWord word text = text ≡ word
 
@@ -51,7 +51,8 @@ abbrev pub IsNumbered : List ℕ → ℕ → List ℕ → Type 0
 IsNumbered letters number text =
     (digits : List ℕ) × (text ≡ letters ++ digits) × (slice_index digits 0 ≢ 48) × IsNumber number digits
 
--- an operating round: OR and the number of its set, and then a point and its number in the set, 1 to 3
+-- an operating round: OR and the number of its set, and then a point and its number in the set, 1
+-- to 3
 pub record IsOperating (set number : ℕ) (text : List ℕ) : Type 0 where
   pub prefix : List ℕ
   pub numbered : IsNumbered (codes "OR") set prefix
@@ -89,7 +90,7 @@ IsHex hex text = text ≡ text_of_hex hex
 abbrev pub IsRotation : Rotation → List ℕ → Type 0
 IsRotation rotation text = text ≡ text_of_rotation rotation
 
--- a hex, or the number of a stop behind it
+-- a hex, or the number of a stop after it
 abbrev pub IsPlace : Place → List ℕ → Type 0
 IsPlace place text = text ≡ text_of_place place
 
@@ -120,7 +121,7 @@ abbrev pub End : List (List ℕ) → Type 0
 End [] = Unit {0}
 End (word ∷ words) = ⊥
 
--- SWAP, where the stops are swapped, and no other word
+-- SWAP, if the stops are swapped, and no other word
 abbrev pub AreSwapWords : Bool → List (List ℕ) → Type 0
 AreSwapWords true words = Then (IsWord (codes "SWAP")) End words
 AreSwapWords false words = End words
@@ -133,7 +134,8 @@ AreSourceWords (source.Trade kind) words =
 AreSourceWords source.BankPool words = Then (IsWord (codes "POOL")) End words
 AreSourceWords (source.Company seller price) words = Then (IsCompany seller) (Then (IsNumber price) End) words
 
--- PRIVATE, the private, its buyer and the price, or TRAIN, the kind, its seller, its buyer and the price
+-- PRIVATE, the private, its buyer and the price, or TRAIN, the kind, its seller, its buyer and the
+-- price
 abbrev pub AreOfferWords : offers.Offer → List (List ℕ) → Type 0
 AreOfferWords (offer.Private private buyer price) words =
     Then (IsWord (codes "PRIVATE")) (Then (IsPrivate private) (Then (IsCompany buyer) (Then (IsNumber price) End)))
@@ -142,7 +144,7 @@ AreOfferWords (offer.Train kind seller buyer price) words =
     Then (IsWord (codes "TRAIN")) (Then (IsKind kind)
     (Then (IsCompany seller) (Then (IsCompany buyer) (Then (IsNumber price) End)))) words
 
--- these words spell the order, but that its numbers may be too large
+-- these words spell the order, except that its numbers may be too large
 abbrev pub AreWordsFor : Order → List (List ℕ) → Type 0
 AreWordsFor Blank words = End words
 AreWordsFor (Game game version) words =
@@ -212,7 +214,7 @@ abbrev pub HasSmallPrice : TrainSource → Type 0
 HasSmallPrice (source.Company seller price) = price ≤ number_most
 HasSmallPrice other = Unit {0}
 
--- so is that of a sale that is offered
+-- the price of a sale that is offered is one that a line may have
 abbrev pub HasSmallOffer : offers.Offer → Type 0
 HasSmallOffer (offer.Private private buyer price) = price ≤ number_most
 HasSmallOffer (offer.Train kind seller buyer price) = price ≤ number_most
@@ -248,8 +250,8 @@ is_round_of_line (Stock number) = nat_le 1 number && nat_le number number_most
 is_round_of_line (Operating set number) =
     (nat_le 1 set && nat_le set number_most) && (nat_le 1 number && nat_le number operating_most)
 
--- three to six names, a name and a round, small numbers, two to 280 places: what the form of the order asks; the
--- digits of marks are in the line alone
+-- What the form of the order needs: three to six names, a name and a round, small numbers, two to
+-- 280 places. The digits of marks are in the line alone.
 abbrev pub HasSpelling : Order → Type 0
 HasSpelling (Players names) = (3 ≤ length names.items) × (length names.items ≤ 6)
     × IsTrue (list_all is_name names.items)
@@ -260,7 +262,7 @@ HasSpelling (Claim kind run) = (2 ≤ length run) × (length run ≤ 280)
 HasSpelling Marks = ⊥
 HasSpelling other = HasSmallNumbers other
 
--- the spelling is no longer than a line: only what has places may have too many for that
+-- the spelling is no longer than a line; only an order with places may have too many for that
 abbrev pub FitsLineIn : TextKind → Order → Type 0
 FitsLineIn text (Run kind run) = length (spelling_of (Run kind run)) ≤ text.most
 FitsLineIn text (Claim kind run) = length (spelling_of (Claim kind run)) ≤ text.most

@@ -1,5 +1,6 @@
--- Which lines of a file of some version spell which orders under which conditions, each form of condition by itself;
--- which orders have a spelling under a condition; and which fault a line has by itself.
+-- Which lines of a file of some version spell which orders under which conditions, each form of
+-- condition by itself. Also which orders have a spelling under a condition, and which fault a line
+-- has by itself.
 use Rattle.std.specs.Prelude.{⊤, ℕ, ◌≤◌, IsTrue, List, [], ◌∷◌, length, codes, Contains, Option, Some, None}
 use Rattle.std.specs.List.{list_all}
 use Rattle.tables.specs.Round.{number_most}
@@ -21,17 +22,18 @@ use Rattle.order_grammar.specs.declared.fault.Fault.TheVariants.{NumberTooLarge}
 use Rattle.order_grammar.specs.declared.order.Order.{Order}
 use Rattle.order_grammar.specs.declared.order.Order.TheVariants.{Run}
 
--- the first of the words, and there is one, is one with which an order begins that may be under a condition
+-- the first of the words, and there is one, is one with which an order begins that may be under a
+-- condition
 abbrev pub BeginAnOrder : List (List ℕ) → Type 0
 BeginAnOrder [] = ⊥
 BeginAnOrder (first ∷ rest) = Contains play_words first
 
--- the words behind a condition spell the order, but that its numbers may be too large
+-- the words after a condition spell the order, except that its numbers may be too large
 abbrev pub AreOrderWords : Order → List (List ℕ) → Type 0
 AreOrderWords order words = BeginAnOrder words × AreWordsFor order words
 
--- the words after IF: PRICE, the company, >= and the price; PHASE and the kind of train; or FLOATED and the company;
--- and then other words
+-- the words after IF: PRICE, the company, >= and the price; PHASE and the kind of train; or FLOATED
+-- and the company; and then other words
 abbrev pub AreConditionWords : Condition → (List (List ℕ) → Type 0) → List (List ℕ) → Type 0
 AreConditionWords (Price company price) rest words =
     Then (IsWord (codes "PRICE")) (Then (IsCompany company) (Then (IsWord (codes ">=")) (Then (IsNumber price) rest)))
@@ -39,7 +41,8 @@ AreConditionWords (Price company price) rest words =
 AreConditionWords (Phase kind) rest words = Then (IsWord (codes "PHASE")) (Then (IsKind kind) rest) words
 AreConditionWords (Floated company) rest words = Then (IsWord (codes "FLOATED")) (Then (IsCompany company) rest) words
 
--- the words of a line spell the order under the condition, if there is one, but that numbers may be too large
+-- the words of a line spell the order under the condition, if there is one, except that numbers may
+-- be too large
 abbrev pub AreWordsUnder : Version → Option Condition → Order → List (List ℕ) → Type 0
 AreWordsUnder version None order words = BeginWithOneOf order_file.first_words words × AreWordsFor order words
 AreWordsUnder One (Some condition) order words = ⊥
@@ -75,15 +78,16 @@ first_words_in Two = codes "IF" ∷ order_file.first_words
 abbrev pub HasUnknownWordIn : Version → List ℕ → Type 0
 HasUnknownWordIn version line = BeginWithOther (first_words_in version) (words_of line)
 
--- it would spell an order if numbers had no greatest value
+-- the line would spell an order if numbers had no greatest value
 abbrev pub IsLooselySpeltIn : Version → List ℕ → Type 0
 IsLooselySpeltIn version line = (spelt : Ordered) × LooselySpellsInVersion version line spelt
 
--- it spells an order
+-- the line spells an order
 abbrev pub IsSpeltIn : Version → List ℕ → Type 0
 IsSpeltIn version line = (spelt : Ordered) × SpellsInVersion version line spelt
 
--- the fault that the line of a file of some version has: it applies, and none of those before it does
+-- the fault that the line of a file of some version has: it applies, and none of those before it
+-- does
 abbrev pub IsFaultInVersion : Version → List ℕ → Fault → Type 0
 IsFaultInVersion version line TooLong = IsTooLong order_file line
 IsFaultInVersion version line StrayByte = ¬ IsTooLong order_file line × HasStrayByte line
@@ -97,7 +101,7 @@ IsFaultInVersion version line NumberTooLarge =
     × IsLooselySpeltIn version line × ¬ IsSpeltIn version line
 IsFaultInVersion version line other = ⊥
 
--- the spelling is no longer than a line: only a run may have too many places for that
+-- the spelling is no longer than a line; only a run may have too many places for that
 abbrev pub FitsLineUnder : Condition → Order → Type 0
 FitsLineUnder condition (Run kind run) = length (conditional_spelling (Some condition) (Run kind run)) ≤ line_most
 FitsLineUnder condition other = ⊤

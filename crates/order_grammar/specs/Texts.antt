@@ -1,9 +1,9 @@
--- The two kinds of text that have lines, an order file and the text of a certificate: how long a line
--- may be, and which words a line may begin with, said without the table of forms.
+-- The two kinds of text that have lines, an order file and the text of a certificate. This says how
+-- long a line may be and which words it may begin with, without the table of forms.
 use Rattle.std.specs.Prelude.{ℕ, List, [], ◌∷◌, codes}
 use Rattle.order_grammar.specs.Limits.{line_most, cert_line_most}
 
--- what a kind of text asks of each line
+-- what each line of a kind of text must be
 pub record TextKind : Type 0 where
   -- the most bytes, without its LF and a CR before that
   pub most : ℕ
@@ -22,7 +22,8 @@ order_file =
           ∷ codes "PRIVATE" ∷ codes "RAISE" ∷ codes "OFFER" ∷ codes "CERT" ∷ codes "CLAIM" ∷ [];
     }
 
--- the words with which an order begins that may be under a condition: no line of the file, no head, and no IF
+-- the words with which an order begins that may be under a condition: no line of the file, no head,
+-- and no IF
 abbrev pub play_words : List (List ℕ)
 play_words =
     codes "BUY" ∷ codes "BID" ∷ codes "LIMIT" ∷ codes "PAR" ∷ codes "SELL" ∷ codes "EXCHANGE" ∷ codes "LAY"

@@ -7,13 +7,13 @@ use Rattle.order_grammar.specs.declared.words.Token.{Token}
 abbrev pub placed : Token → Placed
 placed token = record { text = token.text.now; start = token.span.start; end = token.span.end }
 
--- the first of some words is given, and the others are left; nothing is given where there is none
+-- the first of some words is given, and the others are left; nothing is given if there is none
 abbrev pub GivesFirst : List Placed → Option Token → List Placed → Type 0
 GivesFirst [] given left = (given ≡ None) × (left ≡ [])
 GivesFirst (word ∷ words) given left =
     (token : Token) × (given ≡ Some token) × (placed token ≡ word) × (left ≡ words)
 
--- the first word of a text from a place on is given, where there is one, and the others come after it
+-- the first word of a text from a place on is given, if there is one, and the others come after it
 abbrev pub GivesWord : List ℕ → ℕ → Option Token → Type 0
 GivesWord text at None = placed_from at [] (drop at text) ≡ []
 GivesWord text at (Some token) =

@@ -1,5 +1,5 @@
--- What a line of a file of some version is by itself: the order that it spells with its condition, or the first
--- fault that it has.
+-- What a line of a file of some version is by itself: the order that it spells with its condition,
+-- or the first fault that it has.
 use Rattle.std.specs.Prelude.{ℕ, nat_lt, if◌then◌else◌, List, length, Result, Ok, Err}
 use Rattle.std.specs.List.{list_all}
 use Rattle.order_grammar.specs.Condition.{Ordered, ordered, ordered_reading, unconditional}

@@ -4,7 +4,7 @@ use Rattle.std.specs.Prelude.{ℕ, ◌+◌, ◌==◌, Bool, true, false, ◌&&�
 use Rattle.std.specs.Prelude.{if◌then◌else◌, List, [], ◌∷◌, ◌++◌, map}
 use Rattle.std.specs.Char.{to_ascii_uppercase}
 
--- the part of a text before the first byte that is this one; all of it where there is none
+-- the part of a text before the first byte that is this one; all of it if there is none
 abbrev pub before : ℕ → List ℕ → List ℕ
 before stop [] = []
 before stop (byte ∷ bytes) = if byte == stop then [] else byte ∷ before stop bytes
@@ -13,7 +13,7 @@ before stop (byte ∷ bytes) = if byte == stop then [] else byte ∷ before stop
 abbrev pub before_comment : List ℕ → List ℕ
 before_comment line = before 35 line
 
--- a word in front of others, if it has any bytes
+-- a word before others, if it has any bytes
 abbrev pub with_word : List ℕ → List (List ℕ) → List (List ℕ)
 with_word [] words = words
 with_word (byte ∷ bytes) words = (byte ∷ bytes) ∷ words
@@ -36,7 +36,7 @@ raised word = map to_ascii_uppercase word
 abbrev pub words_of : List ℕ → List (List ℕ)
 words_of line = map raised (written_words line)
 
--- the first of some words; nothing where there is none
+-- the first of some words; nothing if there is none
 abbrev pub first_of_words : List (List ℕ) → List ℕ
 first_of_words [] = []
 first_of_words (word ∷ words) = word
@@ -63,8 +63,8 @@ pub record Placed : Type 0 where
   pub start : ℕ
   pub end : ℕ
 
--- each word is what the text has at its place, and begins no sooner than the one before it ends; the first no sooner
--- than from
+-- each word is what the text has at its place, and begins no earlier than the one before it ends;
+-- the first no earlier than from
 abbrev pub LieFrom : ℕ → List ℕ → List Placed → Type 0
 LieFrom from text [] = Unit {0}
 LieFrom from text (word ∷ words) =
@@ -80,7 +80,7 @@ pub record AreWordsOf (line : List ℕ) (words : List Placed) : Type 0 where
   pub texts : texts_of words ≡ words_of line
   pub places : LieFrom 0 (before_comment line) words
 
--- a word that begins at a place, in front of others, if it has any bytes
+-- a word that begins at a place, before others, if it has any bytes
 abbrev pub with_placed : ℕ → List ℕ → List Placed → List Placed
 with_placed start [] words = words
 with_placed start (byte ∷ bytes) words =

@@ -53,7 +53,7 @@ pub(crate) enum Class {
     Place,
     /// 1 to 1,000 hexadecimal digits, in either case.
     HexDigits,
-    /// This very word.
+    /// This exact word.
     Word(Keyword),
 }
 
@@ -62,7 +62,7 @@ pub(crate) enum Class {
 pub(crate) enum Series {
     Opening,
     Stock,
-    /// The operating rounds of this number in their sets, by the numbers of the sets.
+    /// The operating rounds with this number in their sets, by the numbers of the sets.
     Operating(u8),
 }
 
@@ -81,19 +81,19 @@ impl Series {
     }
 }
 
-/// What a word is as a text of a class.
+/// How a word reads as a text of a class.
 #[derive(Clone, Copy)]
 pub(crate) enum Reading {
-    /// A text of the class.
+    /// It is a text of the class.
     Value(Value),
-    /// It would be one if numbers had no greatest value.
+    /// It would be a text of the class if numbers had no greatest value.
     TooLarge,
-    /// No text of the class.
+    /// It is no text of the class.
     Wrong,
 }
 
 impl Class {
-    /// What a word is as a text of this class.
+    /// Reads a word as a text of this class.
     pub(crate) fn read(self, word: &[u8]) -> Reading
         ensures { result ≡ class_reading self (raised word.now) }
     {
@@ -132,7 +132,7 @@ impl Class {
     }
 }
 
-/// The value of a word of digits, or `NUMBER_MOST + 1` where it is over that; `None` for other
+/// Returns the value of a word of digits, or `NUMBER_MOST + 1` if it is over that; `None` for other
 /// words.
 fn digits_value(word: &[u8]) -> Option<u32>
     ensures { result ≡ capped_value word.now }
@@ -179,7 +179,7 @@ fn read_round(word: &[u8]) -> Reading
     Reading::Wrong
 }
 
-/// What the numbers of an operating round are, that of its set and that in its set.
+/// Reads the numbers of an operating round: that of its set, and that in its set.
 fn read_operating(word: &[u8]) -> Reading
     ensures { result ≡ operating_reading (raised word.now) }
 {
@@ -190,7 +190,7 @@ fn read_operating(word: &[u8]) -> Reading
     }
 }
 
-/// The number of an operating round in its set that is behind a point; `None` for other texts.
+/// Reads the number of an operating round in its set, after a point; `None` for other texts.
 fn number_in_set(text: &[u8]) -> Option<u8>
     ensures { result ≡ number_in_set (raised text.now) }
 {
@@ -258,7 +258,7 @@ fn read_hex_digits(word: &[u8]) -> Reading
     Reading::Value(Value::HexDigits)
 }
 
-/// Whether each byte is a hexadecimal digit, in either case.
+/// Returns whether each byte is a hexadecimal digit, in either case.
 fn are_hex_digits(word: &[u8]) -> bool
     ensures { result ≡ list_all is_hex_digit (raised word.now) }
 {

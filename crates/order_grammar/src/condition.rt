@@ -31,7 +31,7 @@ pub enum Version {
     Two,
 }
 
-/// What an order depends on: it is asked as the order's line is taken up.
+/// What an order depends on. It is checked as the order's line is taken up.
 #[derive(Clone, Copy, Debug, PartialEq, Eq)]
 pub enum Condition {
     /// `IF PRICE co >= n`: the company has a price, and that is at least this many dollars.
@@ -42,8 +42,8 @@ pub enum Condition {
     Floated(Company),
 }
 
-/// Puts the order that the words of a line of version 2 spell in place of another, and gives its
-/// condition; else says why they spell none.
+/// Overwrites `order` with the order that the words of a line of version 2 spell, and returns its
+/// condition. The error says why they spell none.
 pub(crate) fn read_ordered(words: &Words, order: &mut Order) -> Result<Option<Condition>, Fault>
     ensures { put_ordered result order.new ≡ ordered_reading (texts_of words.now) }
 {
@@ -59,7 +59,7 @@ pub(crate) fn read_ordered(words: &Words, order: &mut Order) -> Result<Option<Co
     Ok(None)
 }
 
-/// Puts the order that the words after IF spell in place of another, and gives its condition.
+/// Overwrites `order` with the order that the words after IF spell, and returns its condition.
 fn read_conditional(words: &mut Words, order: &mut Order) -> Result<Condition, Fault>
     ensures { put_conditional result order.new ≡ conditional_reading (texts_of words.old) }
 {
@@ -78,7 +78,7 @@ fn read_conditional(words: &mut Words, order: &mut Order) -> Result<Condition, F
     Err(Fault::WrongWords)
 }
 
-/// The same of the words after PRICE.
+/// Overwrites `order` with the order that the words after PRICE spell, and returns its condition.
 fn read_price(words: &mut Words, order: &mut Order) -> Result<Condition, Fault>
     ensures { put_conditional result order.new ≡ price_reading (texts_of words.old) }
 {
@@ -99,7 +99,8 @@ fn read_price(words: &mut Words, order: &mut Order) -> Result<Condition, Fault>
     read_under(price_of(company, price), words, order)
 }
 
-/// The same of the words after PHASE or FLOATED, of which one is the condition's: a text of a class.
+/// Overwrites `order` with the order that the words after PHASE or FLOATED spell, and returns its
+/// condition. The first of the words, a text of a class, gives the condition.
 fn read_of_one(class: Class, words: &mut Words, order: &mut Order) -> Result<Condition, Fault>
     ensures { put_conditional result order.new ≡ reading_of_one class (texts_of words.old) }
 {
@@ -109,7 +110,8 @@ fn read_of_one(class: Class, words: &mut Words, order: &mut Order) -> Result<Con
     read_under(condition_of(class.read(word.text)), words, order)
 }
 
-/// The condition on the price of a company: `NumberTooLarge` where that price alone does not fit.
+/// Returns the condition on the price of a company. The error is `NumberTooLarge` if only the price
+/// does not fit.
 fn price_of(company: Reading, price: Reading) -> Result<Condition, Fault>
     ensures { result ≡ price_of company price }
 {
@@ -122,7 +124,8 @@ fn price_of(company: Reading, price: Reading) -> Result<Condition, Fault>
     }
 }
 
-/// The condition that one word says: a kind of train the phase, a company that it has floated.
+/// Returns the condition that one word gives: a kind of train gives the phase, and a company that
+/// it has floated.
 fn condition_of(word: Reading) -> Result<Condition, Fault>
     ensures { result ≡ condition_of word }
 {
@@ -133,8 +136,8 @@ fn condition_of(word: Reading) -> Result<Condition, Fault>
     }
 }
 
-/// Puts the order that the words behind a condition spell in place of another, and gives the
-/// condition. A word that no order begins with is wrong there, as is no word.
+/// Overwrites `order` with the order that the words after a condition spell, and returns the
+/// condition. A word with which no order begins is wrong there, and so is a missing word.
 fn read_under(
     condition: Result<Condition, Fault>,
     words: &Words,
@@ -151,7 +154,7 @@ fn read_under(
     condition_if_read(condition, read)
 }
 
-/// A condition, where it was read and an order behind it; else the fault of both together.
+/// Returns a condition, if it was read and an order after it; otherwise the fault of both together.
 fn condition_if_read(
     condition: Result<Condition, Fault>,
     read: Result<(), Fault>,

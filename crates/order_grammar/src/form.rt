@@ -45,7 +45,7 @@ pub(crate) enum TrailingClass {
 }
 
 /// The forms of lines: those of the file and of the heads of its parts, those of orders, CERT and
-/// CLAIM, and then those of a certificate's text alone. A line spells an order where its words fit a
+/// CLAIM, and then those of a certificate's text alone. A line spells an order if its words fit a
 /// row.
 const FORMS: [Form; 33] = [
     Form {
@@ -239,29 +239,29 @@ const FORMS: [Form; 33] = [
     },
 ];
 
-/// The forms of an order file: all but CERTS and MARKS.
+/// Returns the forms of an order file: all but CERTS and MARKS.
 pub(crate) fn order_forms() -> &'static [Form]
     ensures { map row_of result.now ≡ order_forms }
 {
     &FORMS[..31]
 }
 
-/// The forms of orders, which may be under a condition.
+/// Returns the forms of orders, which may be under a condition.
 pub(crate) fn play_forms() -> &'static [Form]
     ensures { map row_of result.now ≡ play_forms }
 {
     &FORMS[5..29]
 }
 
-/// The forms of the text of a certificate: CERT, CLAIM, CERTS and MARKS.
+/// Returns the forms of the text of a certificate: CERT, CLAIM, CERTS and MARKS.
 pub(crate) fn certificate_forms() -> &'static [Form]
     ensures { map row_of result.now ≡ cert_forms }
 {
     &FORMS[29..]
 }
 
-/// Puts the order that the words of a line spell in place of another; else says why they spell none:
-/// what comes nearest over some forms.
+/// Overwrites `order` with the order that the words of a line spell. The error says why they spell
+/// none: the one that is nearest to an order over some forms.
 pub(crate) fn read_order(forms: &[Form], words: &Words, order: &mut Order) -> Result<(), Fault>
     requires { IsTrue (list_all is_short_row (map row_of forms.now)) }
     ensures { put_reading result order.new
@@ -275,7 +275,8 @@ pub(crate) fn read_order(forms: &[Form], words: &Words, order: &mut Order) -> Re
     read_nearest(forms, first.text, &rest, order)
 }
 
-/// The same of a first word and those after it.
+/// Overwrites `order` with the order that a first word and the words after it spell. The error says
+/// why they spell none.
 pub(crate) fn read_nearest(
     forms: &[Form],
     first: &[u8],
@@ -291,7 +292,7 @@ pub(crate) fn read_nearest(
     };
     let mut nearest = Fault::UnknownWord;
     for form in forms {
-        // (a form of another word makes nothing nearer)
+        // A form with another first word is no nearer.
         if form.keyword != keyword {
             continue;
         }
@@ -303,7 +304,7 @@ pub(crate) fn read_nearest(
     Err(nearest)
 }
 
-/// The one of two faults that is nearer to an order, the first of two that are as near.
+/// Returns the fault that is nearer to an order; the first if both are as near.
 fn nearer(first: Fault, second: Fault) -> Fault
     ensures { Err result ≡ nearer (Err first) (Err second) }
 {
@@ -324,8 +325,8 @@ pub(crate) struct Prefix {
 }
 
 impl Form {
-    /// Puts the order that the words after its first word spell by this form in place of another; else
-    /// `WrongWords` where they do not fit, `NumberTooLarge` where only numbers do not.
+    /// Overwrites `order` with the order that the words after its first word spell by this form.
+    /// The error is `WrongWords` if they do not fit, and `NumberTooLarge` if only numbers do not.
     fn read(&self, rest: &Words, order: &mut Order) -> Result<(), Fault>
         requires { IsTrue (is_short_row (row_of self.now)) }
         ensures { let row = row_of self.now in
@@ -338,7 +339,7 @@ impl Form {
         }
     }
 
-    /// What words are as texts of the form's classes, and takes them away; `None` where they do not
+    /// Reads words as texts of the form's classes, and takes them off `rest`; `None` if they do not
     /// fit.
     fn read_values(&self, rest: &mut Words) -> Option<Prefix>
         requires { IsTrue (is_short_row (row_of self.now)) }
@@ -359,7 +360,7 @@ impl Form {
         Some(Prefix { values, too_large })
     }
 
-    /// Puts the order that words spell by a form in which no class is repeated.
+    /// Overwrites `order` with the order that words spell by a form in which no class is repeated.
     fn read_plain(&self, words: &Words, order: &mut Order) -> Result<(), Fault>
         requires short { IsTrue (is_short_row (row_of self.now)) }
         requires plain { self.now.trailing_class ≡ Nothing }
@@ -384,8 +385,8 @@ impl Form {
         }
     }
 
-    /// Puts the order that words spell by a form. (It alone has room for what is repeated, so that
-    /// other forms need not pay for that.)
+    /// Overwrites `order` with the order that words spell by a form. It alone has room for what is
+    /// repeated, so that other forms need not pay for that.
     #[inline(never)]
     fn read_with_trailing(&self, words: &Words, order: &mut Order) -> Result<(), Fault>
         requires { IsTrue (is_short_row (row_of self.now)) }
@@ -412,7 +413,7 @@ impl Form {
 }
 
 impl TrailingClass {
-    /// What words are as those of this class; `None` where they do not fit.
+    /// Reads words as those of this class; `None` if they do not fit.
     fn read_trailing(self, words: &Words) -> Option<Trailing>
         requires { IsTrue (has_room self) }
         ensures { result ≡ trailing_reading self (texts_of words.now) }
@@ -433,7 +434,7 @@ impl TrailingClass {
     }
 }
 
-/// The names that words are; `None` where one is no name, or they are too few or too many.
+/// Reads words as names; `None` if one is no name, or they are too few or too many.
 fn read_names(words: &Words, least: usize, most: usize) -> Option<ArrayVec<Name, PLAYERS_MOST>>
     requires { most ≤ 6 }
     ensures { result ≡ names_reading least most (texts_of words.now) }
@@ -452,7 +453,7 @@ fn read_names(words: &Words, least: usize, most: usize) -> Option<ArrayVec<Name,
     Some(names)
 }
 
-/// The run whose places words name; `None` where one is no place, or they are too few or too many.
+/// Reads words as the places of a run; `None` if one is no place, or they are too few or too many.
 fn read_run(words: &Words) -> Option<Run>
     ensures { result ≡ run_reading (texts_of words.now) }
 {

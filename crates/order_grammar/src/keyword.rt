@@ -4,8 +4,8 @@ ghost use Rattle.order_grammar.specs.Words.{raised};
 
 use crate::words::is_word;
 
-/// A literal word of a form or a condition: the first word of a line, or one after it that stands for
-/// itself.
+/// A literal word of a form or a condition: the first word of a line, or one after it that stands
+/// for itself.
 #[derive(Clone, Copy, PartialEq, Eq)]
 pub(crate) enum Keyword {
     Game,
@@ -49,7 +49,7 @@ pub(crate) enum Keyword {
 }
 
 impl Keyword {
-    /// The keyword that a word spells, in either case; `None` where it spells none.
+    /// Returns the keyword that a word spells, in either case; `None` if it spells none.
     pub(crate) fn of_word(word: &[u8]) -> Option<Keyword>
         ensures { result ≡ keyword_of (raised word.now) }
     {
@@ -59,7 +59,7 @@ impl Keyword {
         first_spelt(word, Keyword::beginning_with(first.to_ascii_uppercase()))
     }
 
-    /// The keywords that begin with a byte.
+    /// Returns the keywords that begin with a byte.
     fn beginning_with(byte: u8) -> &'static [Keyword]
         ensures { result.now ≡ beginning_with byte }
     {
@@ -103,7 +103,7 @@ impl Keyword {
         }
     }
 
-    /// The word in upper case.
+    /// Returns the word in upper case.
     pub(crate) fn text(self) -> &'static [u8]
         ensures { result.now ≡ text_of_keyword self }
     {
@@ -150,7 +150,7 @@ impl Keyword {
     }
 }
 
-/// The first of some keywords that a word spells, in either case.
+/// Returns the first of some keywords that a word spells, in either case.
 fn first_spelt(word: &[u8], keywords: &[Keyword]) -> Option<Keyword>
     ensures { result ≡ spelt_of (raised word.now) keywords.now }
 {

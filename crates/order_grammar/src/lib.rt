@@ -1,15 +1,16 @@
-//! Lines of order sheets and of the text of a certificate: a line is read as an order exactly where it
+//! Lines of order sheets and of the text of a certificate. A line is read as an order exactly if it
 //! has no fault, and an order is printed in its one spelling.
 //!
-//! A line's words are parted by spaces and end before the first `#`; letters of either case are equal. The
-//! forms of lines are in one table; a line spells the order of the row that its words fit. An order file
-//! knows all forms but CERTS and MARKS, the text of a certificate these two and CERT and CLAIM. In an order
-//! file of version 2 an order may be under a condition. Reading takes no memory; printing takes it for its
-//! text alone.
+//! Spaces separate a line's words, which end before the first `#`; letters of either case are
+//! equal. The forms of lines are in one table; a line spells the order of the row that its words
+//! fit. An order file has all forms but CERTS and MARKS. The text of a certificate has these two,
+//! CERT and CLAIM. In an order file of version 2 an order may be under a condition. Reading
+//! allocates nothing; printing allocates only its text.
 //!
 //! Reading order: `name`, `fault`, `words` (a line and its words), `keyword` (the literal words),
-//! `order` (orders), `short` (those that take few bytes), `class` (the texts of each class of words), `form`
-//! (the table), `condition` (versions, and an order under a condition), `read`, `print`, `laws`.
+//! `order` (orders), `short` (those that need few bytes), `class` (the texts of each class of
+//! words), `form` (the table), `condition` (versions, and an order under a condition), `read`,
+//! `print`, `laws`.
 #![tactic(auto)]
 
 mod class;

@@ -15,7 +15,7 @@ pub struct Name {
     count: usize,
 }
 
-/// To a contract a name is its text.
+/// In a contract a name is its text.
 impl Model for Name {
     ghost use Rattle.std.specs.Prelude.{◌≡◌, ℕ, ◌-◌, ◌≤◌, List, ◌++◌, length, take, drop, replicate};
 
@@ -38,7 +38,7 @@ impl Model for Name {
 }
 
 impl Name {
-    /// The name that a word spells, in either case; `None` where it spells none.
+    /// Returns the name that a word spells, in either case; `None` if it spells none.
     pub fn from_word(word: &[u8]) -> Option<Name>
         ensures { result ≡ (if is_name (raised word.now) then Some (raised word.now) else None) }
     {
@@ -55,7 +55,7 @@ impl Name {
         })
     }
 
-    /// Its letters and digits, in upper case.
+    /// Returns its letters and digits, in upper case.
     pub fn text(&self) -> &[u8]
         ensures { result.now ≡ self.now }
     {
@@ -67,7 +67,8 @@ impl Name {
 impl Default for Name {
     ghost is_default = { λ name. name ≡ [] };
 
-    /// No letters at all: what fills a list of names that has room for more, and no player's name.
+    /// Returns no letters at all. It is the filler for the unused room of a list of names, and no
+    /// player's name.
     fn default() -> Name {
         Name {
             letters: [0; NAME_MOST],
@@ -76,7 +77,7 @@ impl Default for Name {
     }
 }
 
-/// Whether a word, in either case, is a letter and then up to seven letters or digits.
+/// Returns whether a word, in either case, is a letter and then up to seven letters or digits.
 fn spells_name(word: &[u8]) -> bool
     ensures value { result ≡ is_name (raised word.now) }
     ensures short { OnTrue result (length word.now ≤ 8) }

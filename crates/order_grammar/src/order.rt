@@ -14,7 +14,7 @@ use arrayvec::ArrayVec;
 use map_tables::{Hex, Lay, Place, Rotation, Run, TileNo};
 use tables::{Amount, Company, Kind, PLAYERS_MOST, Private, Round};
 
-/// What a line orders or says, of an order file or of the text of a certificate.
+/// What a line orders or says, in an order file or in the text of a certificate.
 #[derive(Debug, Drop, PartialEq, Eq)]
 pub enum Order {
     /// A line without words.
@@ -24,7 +24,7 @@ pub enum Order {
         game: u32,
         version: u32,
     },
-    /// `PLAYERS name name name ..`: those who play, in the order of their seats.
+    /// `PLAYERS name name name ..`: the players, in the order of their seats.
     Players(ArrayVec<Name, PLAYERS_MOST>),
     /// `SHEET name round`: the sheet of a player for a round begins.
     Sheet {
@@ -40,7 +40,7 @@ pub enum Order {
         private: Private,
         amount: Amount,
     },
-    /// `LIMIT p n`: bid up to this many dollars where a private is auctioned.
+    /// `LIMIT p n`: bid up to this many dollars if a private is auctioned.
     Limit {
         private: Private,
         amount: Amount,
@@ -76,7 +76,7 @@ pub enum Order {
     },
     /// `RUN BEST`: run the trains so that they earn the greatest revenue.
     RunBest,
-    /// `PAY`: pay the revenue of the turn out.
+    /// `PAY`: pay out the revenue of the turn.
     Pay,
     /// `WITHHOLD`: keep the revenue of the turn.
     Withhold,
@@ -86,7 +86,7 @@ pub enum Order {
         kind: Kind,
         from: TrainSource,
     },
-    /// `DISCARD co kind`: where a company has too many trains, give up one of this kind.
+    /// `DISCARD co kind`: if a company has too many trains, give up one of this kind.
     Discard {
         company: Company,
         kind: Kind,
@@ -96,8 +96,8 @@ pub enum Order {
         private: Private,
         price: Amount,
     },
-    /// `RAISE co n`: sell this many shares of a company, should a train have to be bought that the
-    /// company and its president cannot pay.
+    /// `RAISE co n`: sell this many shares of a company, if it must buy a train that it and its
+    /// president cannot pay for.
     Raise {
         company: Company,
         shares: Amount,
@@ -119,7 +119,7 @@ pub enum Order {
         kind: Kind,
         run: Run,
     },
-    /// `MARKS digits`: 1 to 1,000 hexadecimal digits, which are in the words of the line alone.
+    /// `MARKS digits`: 1 to 1,000 hexadecimal digits, which only the words of the line keep.
     Marks,
 }
 
@@ -142,30 +142,30 @@ pub enum Offer {
     },
 }
 
-/// Where a share is bought that is no seat's.
+/// Where a share is bought that no seat owns.
 #[derive(Clone, Copy, Debug, PartialEq, Eq)]
 pub enum ShareSource {
-    /// `IPO`: what the bank has not sold yet.
+    /// `IPO`: shares that the bank has not sold yet.
     InitialOffering,
-    /// `POOL`: what seats have sold to the bank.
+    /// `POOL`: shares that seats have sold to the bank.
     BankPool,
 }
 
 /// Where a train is bought.
 #[derive(Clone, Copy, Debug, PartialEq, Eq)]
 pub enum TrainSource {
-    /// `BANK`: what the bank sells.
+    /// `BANK`: from the bank's stock.
     Bank,
-    /// `BANK TRADE kind`: what the bank sells, with a train of this kind traded in.
+    /// `BANK TRADE kind`: from the bank's stock, with a train of this kind traded in.
     Trade(Kind),
-    /// `POOL`: what was traded in or discarded.
+    /// `POOL`: a train that was traded in or discarded.
     BankPool,
-    /// `co n`: what another company sells for this many dollars.
+    /// `co n`: from another company, for this many dollars.
     Company { seller: Company, price: Amount },
 }
 
 impl ShareSource {
-    /// The word that names it in a line: `IPO` or `POOL`.
+    /// Returns the word that names it in a line: `IPO` or `POOL`.
     pub fn text(self) -> &'static [u8]
         ensures { result.now ≡ text_of_source self }
     {
@@ -215,7 +215,7 @@ pub(crate) const VALUES_MOST: usize = 5;
 /// The values of an order, in the order of its words.
 pub(crate) type Values = ArrayVec<Value, VALUES_MOST>;
 
-/// What a class has that is repeated at the end of a line.
+/// The part of a line that belongs to the class repeated at its end.
 #[derive(Drop)]
 pub(crate) enum Trailing {
     /// No class is repeated.
@@ -227,7 +227,7 @@ pub(crate) enum Trailing {
 const _: () = prove!(size_of::<Order>() <= 1024);
 
 impl Order {
-    /// An equal order.
+    /// Returns an equal order.
     pub fn duplicate(&self) -> Order
         ensures { result ≡ self.now }
     {
@@ -237,7 +237,7 @@ impl Order {
         }
     }
 
-    /// The same of an order without a short form.
+    /// Returns an equal order, for an order without a short form.
     fn duplicate_long(&self) -> Order
         requires { has_short_form self.now ≡ false }
         ensures { result ≡ self.now }
@@ -279,8 +279,8 @@ impl Order {
     }
 }
 
-/// Puts the order of these parts in place of another, if there is one, and returns whether there is.
-/// (An order has room for a run, so none is handed on by value here.)
+/// Overwrites `order` with the order of these parts, if there is one, and returns whether there is.
+/// (An order has room for a run, so it is not passed by value here.)
 pub(crate) fn put_order(
     keyword: Keyword,
     values: &[Value],
@@ -312,7 +312,8 @@ pub(crate) fn put_order(
     }
 }
 
-/// Puts the order of these parts, where no class is repeated, in place of another.
+/// Overwrites `order` with the order of these parts, in which no class is repeated; returns whether
+/// there is one.
 pub(crate) fn order_from_plain(keyword: Keyword, values: &[Value], order: &mut Order) -> bool
     ensures { put_if result order.new ≡ order_from keyword values.now Nothing }
 {
@@ -346,7 +347,8 @@ pub(crate) fn order_from_plain(keyword: Keyword, values: &[Value], order: &mut O
     }
 }
 
-/// The order of these parts that is a line of the file or a head of its sheets.
+/// Overwrites `order` with the order of these parts, if it is a line of the file or a head of its
+/// sheets.
 fn put_line_of_file(keyword: Keyword, values: &[Value], order: &mut Order) -> bool
     requires { IsOfFile keyword }
     ensures { put_if result order.new ≡ order_from keyword values.now Nothing }
@@ -367,7 +369,8 @@ fn put_line_of_file(keyword: Keyword, values: &[Value], order: &mut Order) -> bo
     true
 }
 
-/// The order to buy that has these values: a private, or a share of a company.
+/// Overwrites `order` with the order to buy that has these values: a private, or a share of a
+/// company.
 fn put_purchase(values: &[Value], order: &mut Order) -> bool
     ensures { put_if result order.new ≡ order_from Buy values.now Nothing }
 {
@@ -391,7 +394,7 @@ fn put_purchase(values: &[Value], order: &mut Order) -> bool
     true
 }
 
-/// The order of these parts that names a number of dollars or of shares.
+/// Overwrites `order` with the order of these parts, if it names a number of dollars or of shares.
 fn put_amount(keyword: Keyword, values: &[Value], order: &mut Order) -> bool
     requires { IsOfAmount keyword }
     ensures { put_if result order.new ≡ order_from keyword values.now Nothing }
@@ -428,8 +431,8 @@ fn put_amount(keyword: Keyword, values: &[Value], order: &mut Order) -> bool
     true
 }
 
-/// The order of these parts that names one thing: what is exchanged, where a token is placed, or the
-/// best runs.
+/// Overwrites `order` with the order of these parts, if it names one thing: what is exchanged,
+/// where a token is placed, or the best runs.
 fn order_from_one(keyword: Keyword, values: &[Value], order: &mut Order) -> bool
     requires { IsOfOne keyword }
     ensures { put_if result order.new ≡ order_from keyword values.now Nothing }
@@ -443,7 +446,7 @@ fn order_from_one(keyword: Keyword, values: &[Value], order: &mut Order) -> bool
     true
 }
 
-/// The order to lay a tile that has these values.
+/// Overwrites `order` with the order to lay a tile that has these values.
 fn put_lay(values: &[Value], order: &mut Order) -> bool
     ensures { put_if result order.new ≡ order_from LayWord values.now Nothing }
 {
@@ -466,7 +469,8 @@ fn put_lay(values: &[Value], order: &mut Order) -> bool
     true
 }
 
-/// The order of these parts that says what becomes of what trains earn, or discards one.
+/// Overwrites `order` with the order of these parts, if it says what becomes of what trains earn,
+/// or discards one.
 fn put_revenue_or_discard(keyword: Keyword, values: &[Value], order: &mut Order) -> bool
     requires { IsOfTrains keyword }
     ensures { put_if result order.new ≡ order_from keyword values.now Nothing }
@@ -483,7 +487,7 @@ fn put_revenue_or_discard(keyword: Keyword, values: &[Value], order: &mut Order)
     true
 }
 
-/// The order to buy a train that has these values.
+/// Overwrites `order` with the order to buy a train that has these values.
 fn put_train(values: &[Value], order: &mut Order) -> bool
     ensures { put_if result order.new ≡ order_from Train values.now Nothing }
 {
@@ -510,7 +514,7 @@ fn put_train(values: &[Value], order: &mut Order) -> bool
     true
 }
 
-/// The consent to a sale that has these values.
+/// Overwrites `order` with the consent to a sale that has these values.
 fn put_offer(values: &[Value], order: &mut Order) -> bool
     ensures { put_if result order.new ≡ order_from OfferWord values.now Nothing }
 {
@@ -547,7 +551,7 @@ fn put_offer(values: &[Value], order: &mut Order) -> bool
     true
 }
 
-/// The line of these parts that is one of a certificate's text.
+/// Overwrites `order` with the line of these parts, if it is one of a certificate's text.
 fn put_certificate_line(keyword: Keyword, values: &[Value], order: &mut Order) -> bool
     requires { IsOfCertificate keyword }
     ensures { put_if result order.new ≡ order_from keyword values.now Nothing }
@@ -572,7 +576,7 @@ fn put_certificate_line(keyword: Keyword, values: &[Value], order: &mut Order) -
     true
 }
 
-/// Equal names.
+/// Returns equal names.
 fn duplicate_names(names: &ArrayVec<Name, PLAYERS_MOST>) -> ArrayVec<Name, PLAYERS_MOST>
     ensures { result.items ≡ names.now.items }
 {

@@ -23,8 +23,8 @@ use map_tables::{Lay, Place};
 use std::alloc::{AllocError, Global};
 use tables::{Kind, Round};
 
-/// The one spelling of an order: upper case, single spaces, no leading zeros. (`Marks` has none:
-/// its digits are in the line that was read.)
+/// Returns the one spelling of an order: upper case, single spaces, no leading zeros. `Marks` has
+/// none: its digits are in the line that was read. Fails only if allocation fails.
 pub fn print_line(alloc: Global, order: &Order) -> Result<Vec<u8>, AllocError>
     ensures { IfOk result (λ text. text.items ≡ spelling_of order.now) }
 {
@@ -33,8 +33,8 @@ pub fn print_line(alloc: Global, order: &Order) -> Result<Vec<u8>, AllocError>
     Ok(text)
 }
 
-/// The one spelling of an order under a condition, if there is one: upper case, single spaces, no
-/// leading zeros.
+/// Returns the one spelling of an order under a condition, if there is one: upper case, single
+/// spaces, no leading zeros. Fails only if allocation fails.
 pub fn print_conditional(
     alloc: Global,
     condition: Option<&Condition>,
@@ -49,8 +49,8 @@ pub fn print_conditional(
     Ok(text)
 }
 
-/// Adds IF, the words of a condition and a space; nothing where there is no condition. Where memory
-/// is refused, a prefix of that may have been added.
+/// Adds IF, the words of a condition and a space; nothing if there is no condition. If allocation
+/// fails, a prefix of that may have been added.
 pub fn print_condition(text: &mut Vec<u8>, condition: Option<&Condition>) -> Result<(), AllocError>
     ensures ok { OnOk result (text.new.items
         ≡ text.old.items ++ condition_text (option_copied condition.entry)) }
@@ -94,8 +94,8 @@ fn print_words_of_condition(text: &mut Vec<u8>, condition: Condition) -> Result<
     }
 }
 
-/// Adds the spelling of an order: upper case, single spaces, no leading zeros. Where memory is
-/// refused, a prefix of that may have been added.
+/// Adds the spelling of an order: upper case, single spaces, no leading zeros. If allocation fails,
+/// a prefix of that may have been added.
 pub fn print_order(text: &mut Vec<u8>, order: &Order) -> Result<(), AllocError>
     ensures ok { OnOk result (text.new.items ≡ text.old.items ++ spelling_of order.now) }
     ensures err { OnErr result (AddsPrefix text.old.items text.new.items (spelling_of order.now)) }
@@ -106,7 +106,7 @@ pub fn print_order(text: &mut Vec<u8>, order: &Order) -> Result<(), AllocError>
     }
 }
 
-/// The same of an order without a short form.
+/// Adds the spelling of an order without a short form.
 fn print_long_order(text: &mut Vec<u8>, order: &Order) -> Result<(), AllocError>
     requires { has_short_form order.now ≡ false }
     ensures ok { OnOk result (text.new.items ≡ text.old.items ++ spelling_of order.now) }
@@ -147,7 +147,7 @@ fn print_long_order(text: &mut Vec<u8>, order: &Order) -> Result<(), AllocError>
     }
 }
 
-/// Adds the line of those who play.
+/// Adds the PLAYERS line.
 fn print_players(text: &mut Vec<u8>, names: &[Name]) -> Result<(), AllocError>
     ensures ok { OnOk result (text.new.items
         ≡ text.old.items ++ joined (text_of_keyword Players ∷ names.now)) }
@@ -174,8 +174,8 @@ fn print_of_places(
     print_places(text, places)
 }
 
-/// Adds the prefix of an order to run a train of a kind; its places follow, each with a space before
-/// it.
+/// Adds the prefix of an order to run a train of a kind; its places follow, each with a space
+/// before it. Fails only if allocation fails.
 pub fn print_run_prefix(text: &mut Vec<u8>, kind: Kind) -> Result<(), AllocError>
     ensures { OnOk result ((run : List MapPlace) →
         text.new.items ++ places_text run ≡ text.old.items ++ spelling_of (Run kind run)) }
@@ -183,8 +183,8 @@ pub fn print_run_prefix(text: &mut Vec<u8>, kind: Kind) -> Result<(), AllocError
     print_words(text, Keyword::Run, &[Value::Kind(kind)])
 }
 
-/// Adds the spelling of an order that takes few bytes: upper case, single spaces, no leading zeros.
-/// Where memory is refused, a prefix of that may have been added.
+/// Adds the spelling of an order that needs few bytes: upper case, single spaces, no leading zeros.
+/// If allocation fails, a prefix of that may have been added.
 pub fn print_short_order(text: &mut Vec<u8>, order: ShortOrder) -> Result<(), AllocError>
     ensures ok { OnOk result (text.new.items
         ≡ text.old.items ++ spelling_of (order_in_short order)) }
@@ -222,7 +222,7 @@ pub fn print_short_order(text: &mut Vec<u8>, order: ShortOrder) -> Result<(), Al
     }
 }
 
-/// The same of an order that names a number of dollars or of shares.
+/// Adds the spelling of an order that names a number of dollars or of shares.
 fn print_amount(text: &mut Vec<u8>, order: ShortOrder) -> Result<(), AllocError>
     requires { HasAmount order }
     ensures ok { OnOk result (text.new.items
@@ -374,7 +374,7 @@ fn print_places(text: &mut Vec<u8>, places: &[Place]) -> Result<(), AllocError>
     Ok(())
 }
 
-/// Adds a place. Where memory is refused, the text is as it was.
+/// Adds a place. If allocation fails, the text is as it was.
 fn print_place(text: &mut Vec<u8>, place: Place) -> Result<(), AllocError>
     ensures ok { OnOk result (text.new.items ≡ text.old.items ++ text_of_place place) }
     ensures err { OnErr result (text.new.items ≡ text.old.items) }
@@ -382,7 +382,7 @@ fn print_place(text: &mut Vec<u8>, place: Place) -> Result<(), AllocError>
     text.extend_from_slice(place.text().as_slice())
 }
 
-/// Adds the word of a value. Where memory is refused, a prefix of that may have been added.
+/// Adds the word of a value. If allocation fails, a prefix of that may have been added.
 fn print_value(text: &mut Vec<u8>, value: &Value) -> Result<(), AllocError>
     ensures ok { OnOk result (text.new.items ≡ text.old.items ++ text_of_value value.now) }
     ensures err { OnErr result
@@ -404,7 +404,7 @@ fn print_value(text: &mut Vec<u8>, value: &Value) -> Result<(), AllocError>
     }
 }
 
-/// Adds a round: `PR1`, `SR1` or `OR1.1`. Where memory is refused, a prefix of that may have been
+/// Adds a round: `PR1`, `SR1` or `OR1.1`. If allocation fails, a prefix of that may have been
 /// added.
 pub fn print_round(text: &mut Vec<u8>, round: &Round) -> Result<(), AllocError>
     ensures ok { OnOk result (text.new.items ≡ text.old.items ++ text_of_round round.now) }
@@ -429,8 +429,8 @@ pub fn print_round(text: &mut Vec<u8>, round: &Round) -> Result<(), AllocError>
     }
 }
 
-/// Adds a number in digits, with a minus sign where it is under 0. Where memory is refused, the
-/// text is as it was.
+/// Adds a number in digits, with a minus sign if it is under 0. If allocation fails, the text is as
+/// it was.
 pub fn print_number<I: Integer>(text: &mut Vec<u8>, number: I) -> Result<(), AllocError>
     ensures ok { OnOk result (text.new.items ≡ text.old.items ++ I.text number) }
     ensures err { OnErr result (text.new.items ≡ text.old.items) }

@@ -15,7 +15,7 @@ use crate::words::{Words, before_comment};
 /// The most bytes of a line, without its LF and a CR before that.
 pub const LINE_MOST: usize = 1024;
 
-/// The same of the text of a certificate.
+/// The most bytes of a line of the text of a certificate, counted the same way.
 pub const CERT_LINE_MOST: usize = 2048;
 
 const _: () = prove!(size_of::<Line>() <= 1024);
@@ -62,8 +62,8 @@ pub fn read_line_in(version: Version, line: &[u8]) -> Result<Line<'_>, Fault>
     })
 }
 
-/// Reads a line as `read_line_in` does, puts its order in place of another, and gives its condition; of
-/// a line with a fault it gives that, and the order may be any.
+/// Reads a line as `read_line_in` does, overwrites `order` with its order, and returns its
+/// condition. If the line has a fault, the error is that fault, and `order` may be anything.
 pub fn read_order_in(
     version: Version,
     line: &[u8],
@@ -76,8 +76,8 @@ pub fn read_order_in(
     read_words(version, &words, order)
 }
 
-/// Puts the order that the words of a line of some version spell in place of another, and gives its
-/// condition.
+/// Overwrites `order` with the order that the words of a line of some version spell, and returns
+/// its condition.
 fn read_words(
     version: Version,
     words: &Words,
@@ -95,7 +95,7 @@ fn read_words(
 }
 
 /// Reads a line of the text of a certificate, without its LF and a CR before that. CERTS, CERT,
-/// CLAIM and MARKS lines have a form, all other words are unknown. A line without words is `Blank`.
+/// CLAIM and MARKS lines have a form; all other words are unknown. A line without words is `Blank`.
 pub fn read_cert_line(line: &[u8]) -> Result<Line<'_>, Fault>
     // What the line says, or the fault.
     ensures order { order_of result ≡ cert_reading_of line.now }
@@ -124,7 +124,8 @@ fn read_by<'a>(most: usize, forms: &[Form], line: &'a [u8]) -> Result<Line<'a>, 
     })
 }
 
-/// The words of a line of at most this many bytes, of which those before the comment are printable.
+/// Returns the words of a line of at most this many bytes, all printable before its comment. The
+/// error is the fault of any other line.
 fn words_within(most: usize, line: &[u8]) -> Result<Words<'_>, Fault>
     ensures { result ≡ words_within most line.now }
 {
@@ -137,7 +138,7 @@ fn words_within(most: usize, line: &[u8]) -> Result<Words<'_>, Fault>
     Ok(Words::of(line))
 }
 
-/// Whether a byte may be before a comment.
+/// Returns whether a byte may stand before a comment.
 fn is_printable(byte: u8) -> bool
     ensures { result ≡ is_printable byte }
 {

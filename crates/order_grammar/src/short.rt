@@ -5,8 +5,8 @@ use crate::order::{Offer, Order, ShareSource, TrainSource};
 use map_tables::{Lay, Place};
 use tables::{Amount, Company, Kind, Private};
 
-/// An order of play that takes few bytes, which is any but a run through places. (An `Order` has
-/// room for a run.)
+/// An order of play that needs few bytes: any but a run through places. (An `Order` has room for a
+/// run.)
 #[derive(Clone, Copy, Debug, PartialEq, Eq)]
 pub enum ShortOrder {
     BuyPrivate(Private),
@@ -29,7 +29,7 @@ pub enum ShortOrder {
 }
 
 impl ShortOrder {
-    /// The short form of an order; `None` where it has none.
+    /// Returns the short form of an order; `None` if it has none.
     pub fn of(order: &Order) -> Option<ShortOrder>
         ensures { MatchOption result (has_short_form order.now ≡ false)
             (λ short. order_in_short short ≡ order.now) }
@@ -59,7 +59,7 @@ impl ShortOrder {
         Some(short)
     }
 
-    /// The order whose short form it is.
+    /// Returns the order whose short form it is.
     pub fn order(self) -> Order
         ensures { result ≡ order_in_short self }
     {

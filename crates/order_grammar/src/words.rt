@@ -27,7 +27,7 @@ pub struct Token<'a> {
     pub span: Span,
 }
 
-/// The words of a line, in order: each is looked for in the line when it is asked for.
+/// The words of a line, in order. Each is found in the line when it is needed.
 #[derive(Debug, Drop)]
 pub struct Words<'a> {
     /// The part of the line before its comment.
@@ -36,7 +36,7 @@ pub struct Words<'a> {
     at: usize,
 }
 
-/// To a contract they are a list of words at their places.
+/// In a contract they are a list of words at their places.
 impl<'a> Model for Words<'a> {
     ghost use Rattle.std.specs.Prelude.{[], List, drop, length, ◌≤◌};
     ghost use Rattle.order_grammar.specs.Words.{Placed, placed_from};
@@ -49,7 +49,7 @@ impl<'a> Model for Words<'a> {
 }
 
 impl<'a> Words<'a> {
-    /// The words before a line's comment.
+    /// Returns the words before a line's comment.
     pub(crate) fn of(line: &'a [u8]) -> Words<'a>
         ensures { result ≡ placed_from 0 [] (before_comment line.now) }
     {
@@ -59,7 +59,7 @@ impl<'a> Words<'a> {
         }
     }
 
-    /// The same words.
+    /// Returns the same words.
     pub fn duplicate(&self) -> Words<'a>
         ensures { result ≡ self.now }
     {
@@ -80,7 +80,7 @@ impl<'a> Iterator for Words<'a> {
 
     ghost remaining = { item_count (λ words. words) };
 
-    /// The first of the words; `None` where there is none.
+    /// Takes the first of the words and returns it; `None` if there is none.
     fn next(&mut self) -> Option<Token<'a>> {
         let word = word_from(self.text, self.at)?;
         self.at = word.span.end;
@@ -88,7 +88,7 @@ impl<'a> Iterator for Words<'a> {
     }
 }
 
-/// The first word of a text from a place on; `None` where there is none.
+/// Returns the first word of a text from a place on; `None` if there is none.
 fn word_from(text: &[u8], at: usize) -> Option<Token<'_>>
     requires { at ≤ length text.now }
     ensures word { GivesWord text.now at result }
@@ -104,7 +104,7 @@ fn word_from(text: &[u8], at: usize) -> Option<Token<'_>>
     })
 }
 
-/// How many bytes of a text are before the first that is `stop`.
+/// Returns how many bytes of a text are before the first `stop`.
 fn length_before(text: &[u8], stop: u8) -> usize
     ensures value { result ≡ length (before stop text.now) }
     ensures within { result ≤ length text.now }
@@ -115,21 +115,21 @@ fn length_before(text: &[u8], stop: u8) -> usize
         .unwrap_or(text.len())
 }
 
-/// The part of a line before its first `#`.
+/// Returns the part of a line before its first `#`.
 pub(crate) fn before_comment(line: &[u8]) -> &[u8]
     ensures { result.now ≡ before_comment line.now }
 {
     &line[..length_before(line, b'#')]
 }
 
-/// Whether a line has a word before its comment.
+/// Returns whether a line has a word before its comment.
 pub fn has_word(line: &[u8]) -> bool
     ensures { result ≡ has_words (words_of line.now) }
 {
     Words::of(line).next().is_some()
 }
 
-/// Whether the first word of a line, in either case, is this one in upper case.
+/// Returns whether the first word of a line, in either case, is this one, given in upper case.
 pub fn begins_with_word(line: &[u8], word: &[u8]) -> bool
     ensures { result ≡ same_word (first_of_words (words_of line.now)) word.now }
 {
@@ -139,7 +139,7 @@ pub fn begins_with_word(line: &[u8], word: &[u8]) -> bool
     }
 }
 
-/// Whether a word as it is written, in either case, is this one in upper case.
+/// Returns whether a word as it is written, in either case, is this one, given in upper case.
 pub(crate) fn is_word(written: &[u8], word: &[u8]) -> bool
     ensures { result ≡ same_word (raised written.now) word.now }
 {

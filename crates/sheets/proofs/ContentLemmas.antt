@@ -1,6 +1,7 @@
 -- What a file is kept as, and why it is refused.
 use Rattle.std.proofs.Common.{◌≡◌, ℕ, ◌<◌, ◌≤◌, List, true, false, Option, Some, Result, Ok, Err, length, refl, ap, ◌∙◌}
 use Rattle.std.proofs.lemmas.Bool.{lt-ltb, le-ltb}
+use Rattle.std.specs.Option.{option_map}
 use Rattle.std.specs.Prelude.{nat_lt}
 use Rattle.order_grammar.specs.declared.condition.Version.{Version}
 use Rattle.order_grammar.specs.declared.fault.Fault.{Fault}
@@ -8,6 +9,7 @@ use Rattle.sheets.specs.Collecting.{StopsBy, IsCollected}
 use Rattle.sheets.specs.File.{Content, Fails, content_of, lines_content, body_content, players_of, body_of, sheet_of}
 use Rattle.sheets.specs.File.{unread_of, version_of, version_in, sheet_in, unread_in, good_lines}
 use Rattle.sheets.specs.Limits.{file_most, sheets_most}
+use Rattle.sheets.specs.Sheet.{Unruled, sent_in_version}
 use Rattle.sheets.specs.Text.{written_lines}
 use Rattle.sheets.specs.declared.fault.FileFault.{FileFault}
 use Rattle.sheets.specs.declared.fault.FileFault.TheVariants.{Header, Players, TooLong, TooManySheets, Memory}
@@ -55,10 +57,11 @@ fails_by players body TooManySheets content e h = e ∙ many players body h
 
 -- what is kept of a file is what it says
 pub collected : (file : List ℕ) (version : Version) (players body : List (List ℕ))
-    (sheets : SheetKey → Option (List (List ℕ))) (unread : List Fault) →
+    (sheets : SheetKey → Option Unruled) (unread : List Fault) →
     version ≡ version_in (written_lines file) → content_of file ≡ Ok (record { players = players; body = body })
     → 3 ≤ length players → length players ≤ 6 →
-    ((sheet_key : SheetKey) → sheets sheet_key ≡ sheet_in players body sheet_key)
+    ((sheet_key : SheetKey) → sheets sheet_key
+    ≡ option_map (sent_in_version version) (sheet_in players body sheet_key))
     → unread ≡ unread_in version players false body → IsCollected file version players sheets unread
 unfolding version_of players_of body_of sheet_of unread_of
 collected file version players body sheets unread named e least most same codes = record {
@@ -67,6 +70,7 @@ collected file version players body sheets unread named e least most same codes 
   players_are = rw e refl;
   least = least;
   most = most;
-  sheets_are = λ sheet_key. rw e (same sheet_key);
+  sheets_are = λ sheet_key. rw e (same sheet_key
+      ∙ ap (λ (v : Version). option_map (sent_in_version v) (sheet_in players body sheet_key)) named);
   unread_are = rw e (codes ∙ ap (λ (v : Version). unread_in v players false body) named);
 }

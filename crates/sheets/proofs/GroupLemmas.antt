@@ -1,4 +1,5 @@
--- Each written turn begins with a line that may be an order, so a sheet has no more written turns than such lines.
+-- Each written turn begins with a line that may be an order, so a sheet has no more written turns
+-- than such lines.
 use Rattle.std.proofs.Common.{◌≡◌, ℕ, ◌+◌, ◌-◌, ◌≤◌, Bool, true, false, nat_lt, List, [], ◌∷◌, length, unwrap_or}
 use Rattle.std.proofs.Common.{Result, Err, refl, arith}
 use Rattle.std.proofs.lemmas.Bool.Decides.{nat_tests}
@@ -23,7 +24,7 @@ no_head_past (Stock set) = refl
 no_head_past (Operating set number) = refl
 
 module _ (opens : Result Order Fault → Bool) (no_head : opens (Err PastLastLine) ≡ false) where
-  -- one line more in front of parts, by whether it is past the last and whether it is a head
+  -- one more line before parts, by whether it is past the last and whether it is a head
   one_more : (number : ℕ) (reading : Result Ordered Fault) (parts : Parts) (past : Bool) (head : Bool)
       → nat_lt lines_most number ≡ past → opens (reading_at number (order_read reading)) ≡ head
       → length (written_turns_of parts) ≤ lines_most - number

@@ -25,7 +25,7 @@ use Rattle.sheets.specs.Reading.{order_read}
 use Rattle.tables.specs.declared.round.Round.{Round}
 use Rattle.tables.specs.declared.round.Round.TheVariants as round
 
--- a line is read as an order under a condition exactly where it spells that
+-- a line is read as an order under a condition exactly if it spells that
 abbrev pub ReadWhereSpelt : Type 0
 ReadWhereSpelt = (version : Version) (line : List ℕ) (spelt : Ordered)
     → (reading_in version line ≡ Ok spelt) ↔ SpellsInVersion version line spelt
@@ -37,7 +37,7 @@ begins : (word : List ℕ) (others : List (List ℕ) → Type 0) (words : List (
 begins word others [] same is = absurd is
 begins word others (first ∷ words) same is = ap (λ (w : List ℕ). same_word w word) is.0 ∙ same
 
--- the words behind a condition
+-- the words after a condition
 behind : (condition : Condition) (order : Order) (words : List (List ℕ))
     → AreConditionWords condition (AreOrderWords order) words →
     (rest : List (List ℕ)) × AreOrderWords order rest
@@ -53,12 +53,12 @@ behind (Floated company) order [] are = absurd are
 behind (Floated company) order (a ∷ []) are = absurd are.1
 behind (Floated company) order (a ∷ b ∷ rest) are = (rest, are.1.1)
 
--- an order whose first word is behind no condition
+-- an order whose first word is after no condition
 module _ (order : Order) (word : List ℕ) (others : List (List ℕ) → Type 0)
     (are_head : (words : List (List ℕ)) → AreWordsFor order words → Then (IsWord word) others words)
     (same : same_word word word ≡ true) (apart : list_all (λ (w : List ℕ). not (same_word w word)) play_words
     ≡ true) where
-  -- is behind none
+  -- is after none
   none_behind : (words : List (List ℕ)) → AreOrderWords order words → ⊥
   none_behind [] are = absurd are.0
   none_behind (first ∷ rest) are =

@@ -14,7 +14,7 @@ use Rattle.tables.specs.Round.{same_round}
 use Rattle.tables.specs.declared.round.Round.{Round}
 use Rattle.sheets.proofs.BodyLemmas.{option_or-none}
 
--- what a line begins, in front of what later lines begin
+-- what a line begins, before what later lines begin
 begun_first : (seat : ℕ) (round : Round) (lines : List (List ℕ)) (begun : Option SheetKey) (later : List Sent) →
     option_or (last_for round later) (lines_begun (sheet_key_at seat round) lines begun)
     ≡ last_for round (sent_by seat lines begun ++ later)

@@ -3,6 +3,7 @@ pub mod PlayerLemmas
 pub mod BodyLemmas
 pub mod ReachLemmas
 pub mod PostLemmas
+pub mod Kept
 pub mod ContentLemmas
 pub mod LawLemmas
 pub mod AcceptedLemmas
@@ -11,3 +12,4 @@ pub mod GroupLemmas
 pub mod TakenLemmas
 pub mod Heads
 pub mod PlainLemmas
+mod BeforeLemmas

@@ -18,7 +18,7 @@ use Rattle.tables.specs.declared.round.Round.{Round}
 use Rattle.tables.specs.declared.round.Round.TheVariants.{Opening, Stock, Operating}
 use Rattle.tables.specs.declared.seat.Seat.{Seat}
 
--- a line is read as an order exactly where it spells that order
+-- a line is read as an order exactly if it spells that order
 abbrev pub ReadWhereSpelt : Type 0
 ReadWhereSpelt = (line : List ℕ) (order : Order) → (reading_of line ≡ Ok order) ↔ Spells line order
 

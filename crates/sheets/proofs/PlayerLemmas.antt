@@ -22,11 +22,11 @@ use Rattle.tables.specs.declared.seat.Seat.{Seat}
 abbrev pub is_equal : List ℕ → List ℕ → Bool
 is_equal a b = derived.eq-value.it a b
 
--- the letters of a name, with the room behind them
+-- the letters of a name, with the room after them
 filled : List ℕ → List ℕ
 filled a = a ++ replicate (8 - length a) 0
 
--- the derived test goes by the letters, with the room behind them, and by how many there are
+-- the derived test compares the letters, with the room after them, and their number
 by_room : (a b : List ℕ) → is_equal a b ≡ (pointwise nat_eq (filled a) (filled b) && nat_eq (length a) (length b))
 unfolding filled
 by_room a b = refl
@@ -47,7 +47,7 @@ first_of_filled a = take-append_seam a (replicate (8 - length a) 0)
 same_decides : (a b : List ℕ) → Decides (same_word a b) (a ≡ b)
 same_decides a b = subst (λ t. Decides t (a ≡ b)) (pointwise_is_same_word a b) (bytes_eq-Decides a b)
 
--- the derived test tells whether the texts are the same
+-- the derived test says whether the texts are the same
 equal_texts : (a b : List ℕ) → is_equal a b ≡ true → a ≡ b
 equal_texts a b h =
     let k : (pointwise nat_eq (filled a) (filled b) ≡ true) × (nat_eq (length a) (length b) ≡ true) =
@@ -80,7 +80,7 @@ pub seat_looked_up : (seat : ℕ) (players : List (List ℕ)) (name : List ℕ) 
 seat_looked_up seat [] name = refl
 seat_looked_up seat (player ∷ players) name = rw (name_test name player, seat_looked_up (seat + 1) players name) refl
 
--- one player more, at the head
+-- one more player, at the head
 seat_among_one : (t : Bool) (seat : Seat) (later : Option Seat) (others : Bool) → is_some later ≡ others
     → is_some (cond t (Some seat) later) ≡ (t || others)
 seat_among_one true seat later others e = refl
@@ -131,7 +131,7 @@ repeats (player ∷ before) after name h =
     (list_any (same_word player) after) (all_differ (before ++ name ∷ after))
     (ap (λ t. t || list_any (is_equal name) before) (sym (name_test name player)) ∙ h) (repeats before after name))
 
--- one name more
+-- one more name
 more : (a l m rest longer : Bool) → (a || l) ≡ false → (not m && rest) ≡ true
     → (l ≡ false → rest ≡ true → longer ≡ true) →
     (not (m || (a || false)) && longer) ≡ true
@@ -163,12 +163,12 @@ module _ (names keys : List (List ℕ)) (i : ℕ) (name : List ℕ) (within : i 
       ap (λ l. take i names ++ l) (sym after) ∙ take-append-drop i names in
       subst (λ l. all_differ l ≡ false) whole (repeats (take i names) (drop (suc i) names) name before)
 
-  -- one name more is taken
+  -- one more name is taken
   one_more : take (i + 1) names ≡ take i names ++ name ∷ []
   one_more = ap (λ n. take n names) (add-one i) ∙ take-suc names i name within
       ∙ ap (λ n. take i names ++ n ∷ []) (sym is)
 
-  -- a name that is not goes behind them, with the next seat
+  -- a name that is not goes after them, with the next seat
   pub now_seated : (old new : List (List ℕ × Seat)) → old ≡ with_seats 0 (take i names)
       → new ≡ old ++ (name, record { 0 = i }) ∷ [] →
       new ≡ with_seats 0 (take (i + 1) names)

@@ -49,7 +49,7 @@ pub cut_at_start : (rest : List ℕ) → IsCut [] rest
 unfolding written_lines
 cut_at_start rest = record { joins = λ more left e. refl }
 
--- a cut behind a cut
+-- a cut after a cut
 pub cut_again : (prefix next rest : List ℕ) → IsCut prefix (next ++ rest) → IsCut next rest
     → IsCut (prefix ++ next) rest
 cut_again prefix next rest a b = record {
@@ -128,7 +128,7 @@ pub begins_with_nothing : (text : List ℕ) → BeginsWith [] [] text text
 unfolding written_lines
 begins_with_nothing text = record { whole = refl; first = refl; cut = cut_at_start text }
 
--- what is behind a prefix comes after its lines
+-- what is after a prefix comes after its lines
 pub one_after_another : (prefix next : List ℕ) (lines more : List (List ℕ)) (middle rest text : List ℕ)
     → BeginsWith prefix lines middle text →
     BeginsWith next more rest middle → BeginsWith (prefix ++ next) (lines ++ more) rest text
@@ -157,7 +157,7 @@ prefix_by_rest prefix lines rest text a =
     (let n : (length prefix + length rest) - length rest ≡ length prefix =
     omega arith in rw (n, take-append_seam prefix rest) refl)
 
--- what is left behind a place, up to the end
+-- what is left after a place, up to the end
 pub behind : (text : List ℕ) (n : ℕ) → take (length text - n) (drop n text) ≡ drop n text
 behind text n = rw (← length-drop n text) (take-length (drop n text))
 
@@ -177,7 +177,7 @@ before_line prefix next line middle rest text blank a b =
     one_after_another prefix next [] (line ∷ []) middle rest text a
     (subst (λ t. BeginsWith next (cond (not t) (line ∷ []) []) rest middle) blank b)
 
--- a text with an LF is the line before it, and then the lines behind it
+-- a text with an LF is the line before it, and then the lines after it
 lines_by_newline : (line text : List ℕ) (end : ℕ) → end < length text → get_or text end 0 ≡ 10
     → ((k : ℕ) → k < end → get_or text k 0 ≡ 10 → ⊥) →
     lines_from line text ≡ without_return (line ++ take end text) ∷ lines_from [] (drop (suc end) text)
@@ -194,7 +194,7 @@ pub lines_at_newline : (text : List ℕ) (end : ℕ) → end < length text → g
     lines_of text ≡ without_return (take end text) ∷ lines_of (drop (end + 1) text)
 lines_at_newline text end within here none = rw (add-one) (lines_by_newline [] text end within here none)
 
--- what is behind the first LF is the rest
+-- what is after the first LF is the rest
 rest_by_newline : (text : List ℕ) (end : ℕ) → end < length text → get_or text end 0 ≡ 10
     → ((k : ℕ) → k < end → get_or text k 0 ≡ 10 → ⊥) →
     drop (suc end) text ≡ rest_of text
@@ -209,7 +209,7 @@ pub rest_at_newline : (text : List ℕ) (end : ℕ) → end < length text → ge
     drop (end + 1) text ≡ rest_of text
 rest_at_newline text end within here none = rw (add-one) (rest_by_newline text end within here none)
 
--- without an LF there is one line, and nothing behind it
+-- without an LF there is one line, and nothing after it
 pub lines_without_newline : (text : List ℕ) → 0 < length text → ((k : ℕ) → k < length text → get_or text k 0 ≡ 10 → ⊥) →
     lines_of text ≡ text ∷ []
 lines_without_newline [] some none = absurd (omega arith)

@@ -1,13 +1,14 @@
 -- How far the sheets of a file are collected: what is kept, what is open, and what is left to read.
 use Rattle.std.specs.Prelude.{◌≡◌, ℕ, ◌+◌, ◌-◌, ◌<◌, ◌≤◌, false, if◌then◌else◌, List, [], ◌∷◌, ◌++◌, length, take}
 use Rattle.std.specs.Prelude.{Option, Some, None, is_some}
-use Rattle.std.specs.Option.{option_or}
+use Rattle.std.specs.Option.{option_map, option_or}
 use Rattle.order_grammar.specs.declared.condition.Version.{Version}
 use Rattle.order_grammar.specs.declared.fault.Fault.{Fault}
 use Rattle.sheets.specs.File.{same_sheet_key, sheet_lines, sheet_in, good_lines, unread_in, players_of, unread_of}
 use Rattle.sheets.specs.File.{sheet_of}
 use Rattle.sheets.specs.File.{version_of, IsAccepted}
 use Rattle.sheets.specs.Limits.{sheets_most}
+use Rattle.sheets.specs.Sheet.{Unruled, sent_in_version}
 use Rattle.sheets.specs.Text.{written_lines, BeginsWith}
 use Rattle.sheets.specs.declared.fault.FileFault.{FileFault}
 use Rattle.sheets.specs.declared.fault.FileFault.TheVariants.{TooManySheets, Memory}
@@ -19,7 +20,7 @@ pub record Open : Type 0 where
   pub sheet_key : SheetKey
   pub lines : List (List ℕ)
 
--- the text of an open sheet, where this is left of it
+-- the text of an open sheet, if this is left of it
 abbrev pub IsOpen : Option OpenSheet → Option Open → List ℕ → Type 0
 IsOpen None None rest = Unit {0}
 IsOpen None (Some current) rest = ⊥
@@ -32,6 +33,19 @@ abbrev pub open_with : Option Open → List (List ℕ) → SheetKey → Option (
 open_with None more sheet_key = None
 open_with (Some current) more sheet_key = if same_sheet_key current.sheet_key sheet_key then Some
     (current.lines ++ sheet_lines more) else None
+
+-- the lines of the sheets that are kept
+abbrev pub lines_kept : (SheetKey → Option Unruled) → SheetKey → Option (List (List ℕ))
+lines_kept sheets sheet_key = option_map (λ sheet. sheet.lines) (sheets sheet_key)
+
+-- a sheet that is kept, if it is there, is of this version, and none of its lines is taken
+abbrev pub IsOfVersion : Version → Option Unruled → Type 0
+IsOfVersion version None = Unit {0}
+IsOfVersion version (Some sheet) = sheet ≡ sent_in_version version sheet.lines
+
+-- and so is each
+abbrev pub AreOfVersion : Version → (SheetKey → Option Unruled) → Type 0
+AreOfVersion version sheets = (sheet_key : SheetKey) → IsOfVersion version (sheets sheet_key)
 
 -- a sheet once these lines are read too
 abbrev pub sheet_with : List (List ℕ) → Option Open → (SheetKey → Option (List (List ℕ))) → List (List ℕ) → SheetKey
@@ -48,7 +62,7 @@ pub record CollectedSoFar (version : Version) (players body lines : List (List �
   pub good_are : good + good_lines players lines ≡ good_lines players body
   pub few : good ≤ sheets_most
 
--- the same, where this text is left
+-- what is kept and what is left are together what the whole body has, with this text left
 abbrev pub Reaches : Version → List (List ℕ) → List (List ℕ) → List ℕ → Option OpenSheet
     → (SheetKey → Option (List (List ℕ))) → List Fault → ℕ → Type 0
 Reaches version players body rest sheet sheets unread good =
@@ -68,20 +82,21 @@ abbrev pub IsBegun : SheetKey → List ℕ → Option OpenSheet → Type 0
 IsBegun sheet_key rest None = ⊥
 IsBegun sheet_key rest (Some sheet) = (sheet.sheet_key ≡ sheet_key) × (sheet.text.now ≡ rest)
 
--- A SHEET line came where no sheet was open and this many good ones had come: it begins the sheet of this post, or it
--- has a fault.
+-- A SHEET line came while no sheet was open and this many good ones had come: it begins the sheet
+-- of this post, or it has a fault.
 abbrev pub HasBegun : List ℕ → Fault → ℕ → List Fault → Option SheetKey → Option OpenSheet → ℕ → List Fault → Type 0
 HasBegun rest fault good unread None sheet count codes =
     (sheet ≡ None) × (count ≡ good) × (codes ≡ unread ++ fault ∷ [])
 HasBegun rest fault good unread (Some sheet_key) sheet count codes =
     IsBegun sheet_key rest sheet × (good < sheets_most) × (count ≡ good + 1) × (codes ≡ unread)
 
--- why reading stops at a SHEET line that would begin the sheet of this post, where this many good ones had come
+-- why reading stops at a SHEET line that would begin the sheet of this post, after this many good
+-- ones
 abbrev pub StopsAt : ℕ → Option SheetKey → FileFault → Type 0
 StopsAt good None fault = fault ≡ Memory
 StopsAt good (Some sheet_key) fault = (fault ≡ TooManySheets) × (sheets_most ≤ good)
 
--- why reading stops, where there are this many good SHEET lines
+-- why reading stops, after this many good SHEET lines
 abbrev pub StopsBy : ℕ → FileFault → Type 0
 StopsBy good Memory = Unit {0}
 StopsBy good TooManySheets = sheets_most < good
@@ -89,11 +104,12 @@ StopsBy good other = ⊥
 
 -- what a file is kept as
 pub record IsCollected (file : List ℕ) (version : Version) (players : List (List ℕ))
-    (sheets : SheetKey → Option (List (List ℕ))) (unread : List Fault) : Type 0 where
+    (sheets : SheetKey → Option Unruled) (unread : List Fault) : Type 0 where
   pub accepted : IsAccepted file
   pub version_is : version ≡ version_of file
   pub players_are : players ≡ players_of file
   pub least : 3 ≤ length players
   pub most : length players ≤ 6
-  pub sheets_are : (sheet_key : SheetKey) → sheets sheet_key ≡ sheet_of file sheet_key.seat.0 sheet_key.round
+  pub sheets_are : (sheet_key : SheetKey) → sheets sheet_key ≡ option_map (sent_in_version (version_of file))
+      (sheet_of file sheet_key.seat.0 sheet_key.round)
   pub unread_are : unread ≡ unread_of file

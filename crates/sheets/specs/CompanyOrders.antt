@@ -1,5 +1,5 @@
--- A company's orders in the sheet of a seat for an operating round. A sheet may have more than one head for a company:
--- the first of them counts.
+-- A company's orders in the sheet of a seat for an operating round. A sheet may have more than one
+-- head for a company: the first of them counts.
 use Rattle.std.specs.Prelude.{ℕ, Bool, false, if◌then◌else◌, List, [], ◌∷◌, Result, Ok}
 use Rattle.order_grammar.specs.declared.fault.Fault.{Fault}
 use Rattle.order_grammar.specs.declared.order.Order.{Order}

@@ -24,8 +24,8 @@ use Rattle.tables.specs.Round.{same_round}
 use Rattle.tables.specs.declared.round.Round.{Round}
 use Rattle.tables.specs.declared.seat.Seat.{Seat}
 
--- the code of a fault: that which the report of a refused file prints; no report prints that of refused memory, where
--- the file is not refused
+-- the code of a fault, which the report of a refused file prints; no report prints that of a failed
+-- allocation, since the file is not refused
 abbrev pub code_of_fault : FileFault → List ℕ
 code_of_fault Header = codes "F1"
 code_of_fault Players = codes "F2"
@@ -85,7 +85,7 @@ with_seats seat (player ∷ players) = (player, record { 0 = seat }) ∷ with_se
 unfoldable pub is_sheet_line : List ℕ → Bool
 is_sheet_line line = same_word (first_of_words (words_of line)) (codes "SHEET")
 
--- the sheet of a seat for a round
+-- the key of a sheet: a seat and a round
 abbrev pub sheet_key_at : ℕ → Round → SheetKey
 sheet_key_at seat round = record { seat = record { 0 = seat }; round = round }
 
@@ -99,8 +99,8 @@ abbrev pub sheet_key_begun : List (List ℕ) → Result Order Fault → Option S
 sheet_key_begun players (Ok (order.Sheet name round)) = sheet_key_for round (seat_from 0 players name)
 sheet_key_begun players other = None
 
--- the sheet that a line begins whose first word is SHEET, which all versions read alike; a line that begins one is a
--- good SHEET line
+-- the sheet that a line begins whose first word is SHEET, which all versions read the same; a line
+-- that begins one is a good SHEET line
 unfoldable pub begins : List (List ℕ) → List ℕ → Option SheetKey
 begins players line = if is_sheet_line line then sheet_key_begun players (reading_of line) else None
 
@@ -128,8 +128,8 @@ abbrev pub good_lines : List (List ℕ) → List (List ℕ) → ℕ
 good_lines players [] = 0
 good_lines players (line ∷ lines) = (if is_some (begins players line) then 1 else 0) + good_lines players lines
 
--- the code of a line that is in no sheet, by its reading: its own fault; else a sheet of nobody who
--- plays; else a line that is out of place
+-- The code of a line that is in no sheet, by its reading. It is its own fault; otherwise its sheet
+-- is for a player who does not play, or it is out of place.
 abbrev pub fault_of_reading : Result Order Fault → Fault
 fault_of_reading (Err fault) = fault
 fault_of_reading (Ok (order.Sheet name round)) = UnknownPlayer
@@ -139,7 +139,9 @@ fault_of_reading (Ok other) = OutOfPlace
 unfoldable pub unread_fault : Version → List ℕ → Fault
 unread_fault version line = fault_of_reading (order_read (reading_in version line))
 
--- the codes of the lines that are in no sheet, where a sheet is open before them or none is
+-- the codes of the lines that are in no sheet, given whether a sheet is open before them. A good
+-- SHEET line opens a sheet. One with a fault closes the sheet before it, and is in no sheet. Any
+-- other line is in the open sheet, or in none if none is open.
 abbrev pub unread_in : Version → List (List ℕ) → Bool → List (List ℕ) → List Fault
 unread_in version players inside [] = []
 unread_in version players inside (line ∷ lines) =
@@ -179,17 +181,17 @@ lines_content (line ∷ lines) = if is_header (reading_of line) then players_con
 unfoldable pub content_of : List ℕ → Result Content FileFault
 content_of file = if nat_lt file_most (length file) then Err TooLong else lines_content (written_lines file)
 
--- why a file has no sheets: it is refused by this fault, or memory was short
+-- why a file has no sheets: it is refused by this fault, or an allocation failed
 abbrev pub Fails : FileFault → Result Content FileFault → Type 0
 Fails Memory content = Unit {0}
 Fails fault content = content ≡ Err fault
 
--- the players, where there are any
+-- the players, if there are any
 abbrev pub players_in : Result Content FileFault → List (List ℕ)
 players_in (Ok content) = content.players
 players_in (Err fault) = []
 
--- the lines after the players line, where there are any
+-- the lines after the players line, if there are any
 abbrev pub body_in : Result Content FileFault → List (List ℕ)
 body_in (Ok content) = content.body
 body_in (Err fault) = []

@@ -44,13 +44,15 @@ abbrev pub plain_parts : (Result Order Fault → Bool) → ℕ → List (List �
 plain_parts opens count [] = record { before = []; opened = [] }
 plain_parts opens count (line ∷ lines) = with_line opens (plain (count + 1) line) (plain_parts opens (count + 1) lines)
 
--- no line of a file of version 1 is under a condition, and each has the order that it spells by itself
+-- no line of a file of version 1 is under a condition, and each has the order that it spells by
+-- itself
 abbrev pub VersionOneIsPlain : Type 0
 VersionOneIsPlain =
     (file : List ℕ) (round : Round) (seat : ℕ) → version_of file ≡ One
     → parts_for file round seat ≡ plain_parts (opens_part round) 0 (unwrap_or (sheet_of file seat round) [])
 
--- so has a line that is in no sheet
+-- the fault of a line that is in no sheet of a file of version 1 is that of the order that it
+-- spells by itself
 abbrev pub VersionOneIsPlainOutside : Type 0
 VersionOneIsPlainOutside = (line : List ℕ) → unread_fault One line ≡ fault_of_reading (reading_of line)
 

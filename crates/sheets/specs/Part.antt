@@ -1,7 +1,7 @@
--- A sheet is taken apart at its heads. In an opening or stock round's sheet each TURN line up to line 512 is a head,
--- and opens a written turn; in an operating round's sheet each COMPANY line up to line 512 is one, and opens the
--- company's orders. The lines before the first head are alone. A line past 512 has that fault before any other, so it
--- is no head.
+-- The parts of a sheet, which its heads begin. In an opening or stock round's sheet each TURN line
+-- up to line 512 is a head, and opens a written turn. In an operating round's sheet each COMPANY
+-- line up to line 512 is one, and opens the company's orders. The lines before the first head
+-- belong to no head. A line past 512 has that fault before any other, so it is no head.
 use Rattle.std.specs.Prelude.{◌≡◌, ℕ, ◌+◌, Bool, true, false, nat_lt, if◌then◌else◌, List, [], ◌∷◌, length, map, Option}
 use Rattle.std.specs.Prelude.{Some, None, Result, Ok, Err, codes, unwrap_or}
 use Rattle.order_grammar.specs.Condition.{Ordered}
@@ -22,18 +22,18 @@ use Rattle.sheets.specs.declared.sheet.UnreadLine.{UnreadLine}
 use Rattle.tables.specs.declared.round.Round.{Round}
 use Rattle.tables.specs.declared.round.Round.TheVariants.{Operating}
 
--- a line where it is in its sheet: its number, and its order or the first fault that it has there; an order may be
--- under a condition, a fault has none
+-- A line where it stands in its sheet: its number, and its order or the first fault that it has
+-- there. An order may be under a condition, a fault has none.
 pub record Numbered : Type 0 where
   pub number : ℕ
   pub condition : Option Condition
   pub reading : Result Order Fault
 
--- what a line with this number is where it is, if by itself it is this
+-- what a line with this number reads as where it stands, if by itself it reads so
 abbrev pub reading_at : ℕ → Result Order Fault → Result Order Fault
 reading_at number reading = if nat_lt lines_most number then Err PastLastLine else reading
 
--- the line with this number that by itself is this
+-- the line with this number that by itself reads so
 abbrev pub numbered : ℕ → Result Ordered Fault → Numbered
 numbered number reading =
     record {
@@ -42,7 +42,7 @@ numbered number reading =
       reading = reading_at number (order_read reading);
     }
 
--- a line that was read, where it is
+-- a line that was read, where it stands
 abbrev pub line_read : NumberedLine → Numbered
 line_read line =
     record {
@@ -51,15 +51,15 @@ line_read line =
       reading = reading_at line.number (order_read (ordered_of line.reading));
     }
 
--- a line that is not read, where it is
+-- a line that is not read, where it stands
 abbrev pub line_unread : UnreadLine → Numbered
 line_unread line = numbered line.number (reading_in line.version line.text.now)
 
--- a line that was read, where this order is put
+-- a line that was read, with this order
 abbrev pub line_with : ReadLine → Order → Numbered
 line_with read order = record { number = read.number; condition = read.condition; reading = Ok order }
 
--- the line with this number that has this fault where it is
+-- the line with this number that has this fault where it stands
 abbrev pub faulty_line : ℕ → Fault → Numbered
 faulty_line number fault = record { number = number; condition = None; reading = Err fault }
 
@@ -93,16 +93,16 @@ pub record Parts : Type 0 where
   pub before : List Numbered
   pub opened : List Part
 
--- a head in front of these parts: it opens the lines that came first
+-- a head before these parts: it opens the lines that came first
 abbrev pub after_head : Numbered → Parts → Parts
 after_head head parts =
     record { before = []; opened = record { head = head; lines = parts.before } ∷ parts.opened }
 
--- a line that is no head in front of these parts
+-- a line that is no head before these parts
 abbrev pub after_line : Numbered → Parts → Parts
 after_line line parts = record { before = line ∷ parts.before; opened = parts.opened }
 
--- a line in front of these parts, where readings that pass this test open a part
+-- a line before these parts, if readings that pass this test open a part
 abbrev pub with_line : (Result Order Fault → Bool) → Numbered → Parts → Parts
 with_line opens line parts = if opens line.reading then after_head line parts else after_line line parts
 
@@ -137,7 +137,7 @@ abbrev pub lines_in_written_turns : List (List Numbered) → ℕ
 lines_in_written_turns [] = 0
 lines_in_written_turns (written ∷ written_turns) = length written + lines_in_written_turns written_turns
 
--- how many lines there are, heads not counted
+-- how many lines there are; heads do not count
 abbrev pub lines_in : Parts → ℕ
 lines_in parts = length parts.before + lines_in_written_turns (written_turns_of parts)
 

@@ -1,4 +1,4 @@
--- What is read of a line apart: its order, and the condition that it is under.
+-- The two parts of what is read of a line: its order, and the condition that it is under.
 use Rattle.std.specs.Prelude.{Option, None, Result, Ok, Err}
 use Rattle.order_grammar.specs.Condition.{Ordered}
 use Rattle.order_grammar.specs.declared.condition.Condition.{Condition}

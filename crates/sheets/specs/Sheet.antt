@@ -11,7 +11,8 @@ use Rattle.sheets.specs.Reading.{condition_read}
 use Rattle.sheets.specs.declared.sheet.NumberedLine.{NumberedLine}
 use Rattle.sheets.specs.declared.sheet.UnreadLine.{UnreadLine}
 
--- the lines of a sheet that are still to come, the version of its file, and how many lines came before them
+-- the lines of a sheet that are still to come, the version of its file, and how many lines came
+-- before them
 pub record Unruled : Type 0 where
   pub version : Version
   pub number : ℕ
@@ -20,8 +21,12 @@ pub record Unruled : Type 0 where
 abbrev pub unruled : Version → ℕ → List (List ℕ) → Unruled
 unruled version number lines = record { version = version; number = number; lines = lines }
 
--- the condition of the line with this number that by itself is this: past the last line that may be an order there is
--- none
+-- a sheet with these lines, none of which is taken, of a file of some version
+abbrev pub sent_in_version : Version → List (List ℕ) → Unruled
+sent_in_version version lines = unruled version 0 lines
+
+-- the condition of the line with this number that by itself reads so; there is none past the last
+-- line that may be an order
 abbrev pub condition_at : ℕ → Result Ordered Fault → Option Condition
 condition_at number reading = if nat_lt lines_most number then None else condition_read reading
 

@@ -1,6 +1,6 @@
--- What every round takes up of its sheets, whatever becomes of a line: first the lines that are before the first head
--- of each sheet, seat by seat; then the written turns, turn by turn; and at the end it tells of the lines that were not
--- taken up.
+-- What every round takes up of its sheets, whatever becomes of a line. First come the lines that
+-- are before the first head of each sheet, seat by seat, then the written turns, turn by turn. At
+-- the end it says how many lines were not taken up.
 use Rattle.std.specs.Prelude.{ℕ, ◌+◌, List, [], ◌∷◌, map}
 use Rattle.std.specs.List.{range_with_len}
 use Rattle.sheets.specs.Part.{Numbered, written_turns_of, lines_in_written_turns, parts_for}
@@ -9,12 +9,12 @@ use Rattle.tables.specs.Turns.{InPlay}
 use Rattle.tables.specs.declared.round.Round.{Round}
 use Rattle.tables.specs.declared.seat.Seat.{Seat}
 
--- after some things in order, where each of them does this
+-- after some things in order, if each of them does this
 abbrev pub after_each : {State Item : Type 0} → (State → Item → State) → State → List Item → State
 after_each step state [] = state
 after_each step state (item ∷ items) = after_each step (step state item) items
 
--- after the standing lines of a seat's sheet for a round, where a line of a seat does this
+-- after the standing lines of a seat's sheet for a round, if a line of a seat does this
 abbrev pub after_lines_before : {State : Type 0} → (Seat → State → Numbered → State) → List ℕ → Round → State → ℕ
     → State
 after_lines_before step file round state seat =
@@ -29,11 +29,12 @@ after_all_before step file round state seats = after_each (after_lines_before st
 abbrev pub written_turns_for : ℕ → List ℕ → Round → List (List (List Numbered))
 written_turns_for seats file round = map (λ seat. written_turns_of (parts_for file round seat)) (range_with_len 0 seats)
 
--- turns in play: the state so far, whose turn it is, how many have passed, and what is left of the written turns
+-- turns in play: the state so far, whose turn it is, how many have passed, and what is left of the
+-- written turns
 abbrev pub in_play : {State : Type 0} → State → ℕ → ℕ → List (List (List Numbered)) → InPlay State Numbered
 in_play state seat passes written_turns = record { now = state; seat = seat; passes = passes; written_turns = written_turns }
 
--- what is said of the lines that were not taken up, seat by seat, where this is said in front of the rest
+-- what is said of the lines that were not taken up, seat by seat, with this said before the rest
 abbrev pub said_of_left : {Said : Type 0} → (Seat → ℕ → List Said → List Said) → ℕ → List (List (List Numbered))
     → List Said
 said_of_left say seat [] = []

@@ -26,7 +26,7 @@ lines_from line (byte ∷ bytes) =
 abbrev pub lines_of : List ℕ → List (List ℕ)
 lines_of text = lines_from [] text
 
--- what follows the first line of a text, behind its LF
+-- what follows the first line of a text, after its LF
 abbrev pub rest_of : List ℕ → List ℕ
 rest_of [] = []
 rest_of (byte ∷ bytes) = if byte == 10 then bytes else rest_of bytes
@@ -35,7 +35,7 @@ rest_of (byte ∷ bytes) = if byte == 10 then bytes else rest_of bytes
 unfoldable pub is_blank : List ℕ → Bool
 is_blank line = nat_le (length line) line_most && not (has_words (words_of line))
 
--- those of some lines that count
+-- the lines that count among some
 abbrev pub written : List (List ℕ) → List (List ℕ)
 written lines = filter (λ line. not (is_blank line)) lines
 

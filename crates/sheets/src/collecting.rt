@@ -1,11 +1,12 @@
 ghost use Rattle.std.specs.Prelude.{is_some, ◌≡◌, false, ℕ, ◌+◌, ◌<◌, ◌≤◌, List, [], ◌∷◌, ◌++◌, length, IfOk, Ok, OnOk};
-ghost use Rattle.std.specs.Prelude.{IfErr, MatchOption, MatchResult};
+ghost use Rattle.std.specs.Prelude.{IfErr, MatchOption, MatchResult, option_map};
 ghost use Rattle.std.specs.HashMap.{get};
 ghost use Rattle.order_grammar.specs.Line.{reading_of};
-ghost use Rattle.sheets.specs.Collecting.{HasBegun, Reaches, StopsAt, StopsBy, closed};
+ghost use Rattle.sheets.specs.Collecting.{AreOfVersion, HasBegun, Reaches, StopsAt, StopsBy, closed, lines_kept};
 ghost use Rattle.sheets.specs.File.{begins, is_sheet_line, sheet_key_begun, fault_of_reading, same_sheet_key, sheet_in};
 ghost use Rattle.sheets.specs.File.{unread_fault, unread_in, good_lines};
 ghost use Rattle.sheets.specs.Limits.{file_most, sheets_most};
+ghost use Rattle.sheets.specs.Sheet.{sent_in_version};
 ghost use Rattle.sheets.specs.Text.{IsFirstLine, written_lines};
 ghost use Rattle.sheets.specs.declared.sheet_key.SheetKey.{SheetKey};
 
@@ -22,7 +23,7 @@ use std::collections::HashMap;
 /// The most good SHEET lines of an order file.
 pub const SHEETS_MOST: usize = 65_536;
 
-/// What has come of the lines after the players line.
+/// What has been collected of the lines after the players line.
 #[derive(Drop)]
 pub(crate) struct Collection<'a> {
     pub(crate) sheets: HashMap<SheetKey, Sheet<'a>>,
@@ -41,7 +42,8 @@ pub(crate) fn collect_body<'a>(
     requires few { length players.now ≤ 6 }
     requires short { length body.now ≤ file_most }
     ensures sheets { IfOk result (λ c. (sheet_key : SheetKey) →
-        get same_sheet_key c.sheets sheet_key ≡ sheet_in players.now (written_lines body.now) sheet_key) }
+        get same_sheet_key c.sheets sheet_key ≡ option_map (sent_in_version version)
+        (sheet_in players.now (written_lines body.now) sheet_key)) }
     ensures unread { IfOk result (λ c.
         c.unread.items ≡ unread_in version players.now false (written_lines body.now)) }
     ensures good { OnOk result (good_lines players.now (written_lines body.now) ≤ sheets_most) }
@@ -58,7 +60,7 @@ pub(crate) fn collect_body<'a>(
         collection.take_line(version, players, rest, piece)?;
         rest = piece.rest;
     }
-    collection.close(&[])?;
+    collection.close(version, &[])?;
     Ok(collection)
 }
 
@@ -77,16 +79,19 @@ impl<'a> Collection<'a> {
         requires first { IsFirstLine piece.line.now piece.rest.now text.now }
         ensures ok { OnOk result ((body : List (List ℕ)) →
             Reaches version players.now body text.now self.old.current
-            (get same_sheet_key self.old.sheets) self.old.unread.items self.old.good →
+            (lines_kept (get same_sheet_key self.old.sheets)) self.old.unread.items self.old.good →
             Reaches version players.now body piece.entry.rest.now self.new.current
-            (get same_sheet_key self.new.sheets) self.new.unread.items self.new.good) }
+            (lines_kept (get same_sheet_key self.new.sheets)) self.new.unread.items self.new.good) }
+        ensures versions { OnOk result (
+            AreOfVersion version (get same_sheet_key self.old.sheets) →
+            AreOfVersion version (get same_sheet_key self.new.sheets)) }
         ensures err { IfErr result (λ fault. (body : List (List ℕ)) →
             Reaches version players.now body text.now self.old.current
-            (get same_sheet_key self.old.sheets) self.old.unread.items self.old.good →
+            (lines_kept (get same_sheet_key self.old.sheets)) self.old.unread.items self.old.good →
             StopsBy (good_lines players.now body) fault) }
     {
         if is_sheet_line(piece.line) {
-            self.close(text)?;
+            self.close(version, text)?;
             self.begin(version, players, piece)
         } else if self.current.is_some() {
             Ok(())
@@ -97,23 +102,27 @@ impl<'a> Collection<'a> {
     }
 
     /// Keeps the sheet that is open, which ends where `rest` begins.
-    fn close(&mut self, rest: &[u8]) -> Result<(), AllocError>
+    fn close(&mut self, version: Version, rest: &[u8]) -> Result<(), AllocError>
         ensures current { self.new.current ≡ None }
         ensures sheets { OnOk result ((sheet_key : SheetKey) →
-            get same_sheet_key self.new.sheets sheet_key
-            ≡ closed self.old.current rest.now (get same_sheet_key self.old.sheets) sheet_key) }
+            lines_kept (get same_sheet_key self.new.sheets) sheet_key ≡ closed self.old.current
+            rest.now (lines_kept (get same_sheet_key self.old.sheets)) sheet_key) }
+        ensures versions { OnOk result (
+            AreOfVersion version (get same_sheet_key self.old.sheets) →
+            AreOfVersion version (get same_sheet_key self.new.sheets)) }
         ensures unread { self.new.unread.items ≡ self.old.unread.items }
         ensures good { self.new.good ≡ self.old.good }
     {
         if let Some(sheet) = self.current.take() {
             let length = sheet.text.len().saturating_sub(rest.len());
             let text = &sheet.text[..length];
-            self.sheets.insert(sheet.sheet_key, Sheet::of(text))?;
+            let kept = Sheet::of(version, text);
+            self.sheets.insert(sheet.sheet_key, kept)?;
         }
         Ok(())
     }
 
-    /// Takes a SHEET line where no sheet is open.
+    /// Takes a SHEET line while no sheet is open.
     fn begin(
         &mut self,
         version: Version,
@@ -149,7 +158,7 @@ impl<'a> Collection<'a> {
     }
 }
 
-/// Looks whether the lines after the players line have more good SHEET lines than a file may have.
+/// Checks that the lines after the players line have no more good SHEET lines than a file may have.
 pub(crate) fn examine_body(players: &Players, body: &[u8]) -> Result<(), FileFault>
     requires few { length players.now ≤ 6 }
     ensures good { OnOk result (good_lines players.now (written_lines body.now) ≤ sheets_most) }
@@ -169,7 +178,7 @@ pub(crate) fn examine_body(players: &Players, body: &[u8]) -> Result<(), FileFau
     Ok(())
 }
 
-/// Whether a line begins a sheet.
+/// Returns whether a line begins a sheet.
 #[tactic(auto, unfolding(crate::specs::File::begins))]
 fn begins_sheet(players: &Players, line: &[u8]) -> bool
     requires { length players.now ≤ 6 }
@@ -178,7 +187,7 @@ fn begins_sheet(players: &Players, line: &[u8]) -> bool
     is_sheet_line(line) && sheet_key_begun(players, line).is_some()
 }
 
-/// Whether the first word of a line is SHEET.
+/// Returns whether the first word of a line is SHEET.
 #[tactic(auto, unfolding(crate::specs::File::is_sheet_line))]
 fn is_sheet_line(line: &[u8]) -> bool
     ensures { result ≡ is_sheet_line line.now }
@@ -186,8 +195,8 @@ fn is_sheet_line(line: &[u8]) -> bool
     begins_with_word(line, b"SHEET")
 }
 
-/// Whose sheet for which round a line begins, if it begins one. (Apart from its callers, which would
-/// else clear the room for an order with each line that they do not read.)
+/// Returns whose sheet for which round a line begins; `None` if it begins none. (Kept apart from
+/// its callers: inlined, it would zero 848 bytes for each line that they skip.)
 #[inline(never)]
 fn sheet_key_begun(players: &Players, line: &[u8]) -> Option<SheetKey>
     requires { length players.now ≤ 6 }
@@ -201,7 +210,7 @@ fn sheet_key_begun(players: &Players, line: &[u8]) -> Option<SheetKey>
     }
 }
 
-/// Whose sheet for which round an order begins, if it begins one.
+/// Returns whose sheet for which round an order begins; `None` if it begins none.
 fn sheet_key_of(players: &Players, order: &Order) -> Option<SheetKey>
     requires { length players.now ≤ 6 }
     ensures { result ≡ sheet_key_begun players.now (Ok order.now) }
@@ -216,7 +225,7 @@ fn sheet_key_of(players: &Players, order: &Order) -> Option<SheetKey>
     })
 }
 
-/// The code of a line of a file of some version that is in no sheet.
+/// Returns the code of a line of a file of some version that is in no sheet.
 #[tactic(auto, unfolding(crate::specs::File::unread_fault))]
 fn unread_fault(version: Version, line: &[u8]) -> Fault
     ensures { result ≡ unread_fault version line.now }
@@ -228,8 +237,8 @@ fn unread_fault(version: Version, line: &[u8]) -> Fault
     }
 }
 
-/// The code of a line with this order that is in no sheet: it is a sheet of nobody who plays, or out
-/// of place.
+/// Returns the code of a line with this order that is in no sheet: its sheet is for a player who
+/// does not play, or it is out of place.
 fn fault_of_order(order: &Order) -> Fault
     ensures { result ≡ fault_of_reading (Ok order.now) }
 {

@@ -1,11 +1,12 @@
 ghost use Rattle.std.specs.Prelude.{◌≡◌, ℕ, ◌≤◌, List, length, MatchResult, IfOk, OnOk, option_copied, option_map};
-ghost use Rattle.std.specs.Prelude.{slice_get, Err};
+ghost use Rattle.std.specs.Prelude.{slice_get, is_none, is_some, Err};
 ghost use Rattle.order_grammar.specs.Line.{reading_of};
 ghost use Rattle.sheets.specs.CompanyOrders.{company_orders_for};
 ghost use Rattle.sheets.specs.File.{Fails, IsAccepted, body_content, content_of, header_version, lines_content};
 ghost use Rattle.sheets.specs.File.{players_content, players_of, sheet_of, unread_of, version_in, version_numbered};
 ghost use Rattle.sheets.specs.File.{version_of};
 ghost use Rattle.sheets.specs.Part.{parts_for};
+ghost use Rattle.sheets.specs.Sheet.{sent_in_version};
 ghost use Rattle.sheets.specs.Text.{written_lines};
 
 use crate::collecting::{collect_body, examine_body};
@@ -37,7 +38,7 @@ pub struct Sheets<'a> {
     unread: Vec<Fault>,
 }
 
-/// To a contract they are the file that they were collected from.
+/// In a contract they are the file that they were collected from.
 impl<'a> Model for Sheets<'a> {
     ghost use Rattle.std.specs.Prelude.{ℕ, List};
     ghost use Rattle.std.specs.HashMap.{get};
@@ -54,17 +55,20 @@ impl<'a> Model for Sheets<'a> {
 }
 
 impl<'a> Sheets<'a> {
-    /// The version of the file, as its header line names it.
+    /// Returns the version of the file, as its header line names it.
     pub fn version(&self) -> Version
         ensures { result ≡ version_of self.now }
     {
         self.version
     }
 
-    /// What the player of this seat last sent for this round; `None` where the player sent no sheet
-    /// for it, or nobody has the seat.
+    /// Returns what the player of this seat last sent for this round; `None` if the player sent no
+    /// sheet for it, or nobody has the seat.
     pub fn sheet(&self, seat: Seat, round: &Round) -> Option<&Sheet<'a>>
-        ensures { option_copied result ≡ sheet_of self.now seat.0 round.now }
+        ensures sheet { option_copied result
+            ≡ option_map (sent_in_version (version_of self.now)) (sheet_of self.now seat.0 round.now) }
+        ensures sent { is_some result ≡ is_some (sheet_of self.now seat.0 round.now) }
+        ensures owed { is_none result ≡ is_none (sheet_of self.now seat.0 round.now) }
     {
         let sheet_key = SheetKey {
             seat,
@@ -73,20 +77,19 @@ impl<'a> Sheets<'a> {
         self.sheets.get(&sheet_key)
     }
 
-    /// The parts of the sheet of this seat for this round; without a sheet there are none.
+    /// Returns the parts of the sheet of this seat for this round; there are none without a sheet.
     pub fn parts(&self, seat: Seat, round: Round) -> PartsLeft<'a>
         ensures { result ≡ parts_for self.now round seat.0 }
     {
-        let lines = match self.sheet(seat, &round) {
-            Some(sheet) => sheet.lines(self.version),
-            None => Lines::none(),
-        };
-        PartsLeft::of(lines, round)
+        match self.sheet(seat, &round) {
+            Some(sheet) => PartsLeft::of(sheet.lines(), round),
+            None => PartsLeft::of(Lines::none(), round),
+        }
     }
 
-    /// What the sheet of this seat for this round has from the first of a company's orders on;
-    /// nothing where it has none for the company, or there is no sheet. Where two heads name the
-    /// company the first counts.
+    /// Returns what the sheet of this seat for this round has from the first of a company's orders
+    /// on. It is nothing if the sheet has none for the company, or there is no sheet. If two heads
+    /// name the company the first counts.
     pub fn company_orders(&self, seat: Seat, round: &Round, company: Company) -> PartsLeft<'a>
         ensures { result.before ≡ company_orders_for self.now round.now seat.0 company }
     {
@@ -95,14 +98,14 @@ impl<'a> Sheets<'a> {
         parts
     }
 
-    /// The codes of the unread lines, in order.
+    /// Returns the codes of the unread lines, in order.
     pub fn unread(&self) -> &[Fault]
         ensures { result.now ≡ unread_of self.now }
     {
         self.unread.as_slice()
     }
 
-    /// How many players there are, 3 to 6.
+    /// Returns how many players there are, 3 to 6.
     pub fn seats(&self) -> usize
         ensures value { result ≡ length (players_of self.now) }
         ensures least { 3 ≤ result }
@@ -111,7 +114,7 @@ impl<'a> Sheets<'a> {
         self.players.len()
     }
 
-    /// The name of the player of a seat, in upper case; `None` where nobody has the seat.
+    /// Returns the name of the player of a seat, in upper case; `None` if nobody has the seat.
     pub fn name(&self, seat: Seat) -> Option<&[u8]>
         ensures { option_map (λ name. name.now) result ≡ slice_get (players_of self.now) seat.0 }
     {
@@ -123,7 +126,8 @@ impl<'a> Sheets<'a> {
 /// Collects the sheets of an order file. The last good SHEET line for a player and a round counts,
 /// and its sheet goes to the next line whose first word is SHEET.
 ///
-/// Refused in this order: `TooLong`, `Header`, `Players`, `TooManySheets`; `Memory` at any point.
+/// A file is refused by the first of these errors that applies: `TooLong`, `Header`, `Players`,
+/// `TooManySheets`. The error is `Memory` if an allocation fails.
 pub fn collect(alloc: Global, file: &[u8]) -> Result<Sheets<'_>, FileFault>
     ensures file { MatchResult result
         (λ sheets. sheets ≡ file.now)
@@ -145,8 +149,8 @@ pub fn collect(alloc: Global, file: &[u8]) -> Result<Sheets<'_>, FileFault>
     })
 }
 
-/// The version of an order file, or why it is refused, as `collect` refuses it. No sheet is kept:
-/// memory is taken for the names of the players alone.
+/// Returns the version of an order file. It fails as `collect` does. No sheet is kept: it allocates
+/// only the names of the players.
 pub fn examine(alloc: Global, file: &[u8]) -> Result<Version, FileFault>
     ensures version { MatchResult result
         (λ version. version ≡ version_of file.now)
@@ -162,7 +166,8 @@ pub fn examine(alloc: Global, file: &[u8]) -> Result<Version, FileFault>
     Ok(version)
 }
 
-/// The version that the header line names, and what follows that line.
+/// Returns the version that the header line names, and what follows that line. The error is
+/// `Header`.
 fn read_header(file: &[u8]) -> Result<(Version, &[u8]), FileFault>
     ensures shorter { IfOk result (λ read. length read.1.now ≤ length file.now) }
     ensures version { IfOk result (λ read. read.0 ≡ version_in (written_lines file.now)) }
@@ -180,8 +185,8 @@ fn read_header(file: &[u8]) -> Result<(Version, &[u8]), FileFault>
     }
 }
 
-/// The version of a file whose header line is this one, `GAME 1830 1` or `GAME 1830 2`; `None` for
-/// other lines.
+/// Returns the version of a file whose header line is this one, `GAME 1830 1` or `GAME 1830 2`;
+/// `None` for other lines.
 fn header_version(line: &[u8]) -> Option<Version>
     ensures { result ≡ header_version (reading_of line.now) }
 {
@@ -197,7 +202,7 @@ fn header_version(line: &[u8]) -> Option<Version>
     }
 }
 
-/// The version with this number.
+/// Returns the version with this number.
 fn version_numbered(number: u32) -> Option<Version>
     ensures { result ≡ version_numbered number }
 {
@@ -208,7 +213,8 @@ fn version_numbered(number: u32) -> Option<Version>
     }
 }
 
-/// The players, and what follows their line.
+/// Returns the players, and what follows their line. The error is `Players`, or `Memory` if an
+/// allocation fails.
 fn read_players(alloc: Global, text: &[u8]) -> Result<(Players, &[u8]), FileFault>
     ensures shorter { IfOk result (λ read. length read.1.now ≤ length text.now) }
     ensures least { IfOk result (λ read. 3 ≤ length read.0) }

@@ -8,8 +8,8 @@ use order_grammar::{Order, begins_with_word};
 use std::marker::Model;
 use tables::{Company, Round};
 
-/// What is still to be taken up of a sheet: the lines before the next head, and then written turn
-/// after written turn, or one company's orders after another's, each with their head.
+/// What is still to be taken up of a sheet. It is the lines before the next head, and then written
+/// turn after written turn, or one company's orders after another's, each with their head.
 ///
 /// In the sheet of an opening or a stock round a TURN line up to line `LINES_MOST` is a head, in
 /// that of an operating round a COMPANY line.
@@ -19,7 +19,7 @@ pub struct PartsLeft<'a> {
     round: Round,
 }
 
-/// To a contract it is those lines in their parts.
+/// In a contract it is those lines in their parts.
 impl<'a> Model for PartsLeft<'a> {
     ghost use Rattle.sheets.specs.Part.{Parts, parts_left};
 
@@ -29,14 +29,14 @@ impl<'a> Model for PartsLeft<'a> {
 }
 
 impl<'a> PartsLeft<'a> {
-    /// The parts of these lines of a sheet for this round.
+    /// Returns the parts of these lines of a sheet for this round.
     pub(crate) fn of(lines: Lines<'a>, round: Round) -> PartsLeft<'a>
         ensures { result ≡ parts_left round lines.entry }
     {
         PartsLeft { lines, round }
     }
 
-    /// The same once more.
+    /// Returns an equal value.
     pub fn duplicate(&self) -> PartsLeft<'a>
         ensures { result ≡ self.now }
     {
@@ -46,8 +46,8 @@ impl<'a> PartsLeft<'a> {
         }
     }
 
-    /// Takes the next line before the next head; `None` where there is none, and then nothing is
-    /// taken.
+    /// Takes the next line before the next head and returns it; `None` if there is none, and then
+    /// nothing is taken.
     pub fn take_line(&mut self) -> Option<UnreadLine<'a>>
         ensures { TakesOrdinary self.old result self.new }
     {
@@ -60,7 +60,8 @@ impl<'a> PartsLeft<'a> {
         Some(line)
     }
 
-    /// Takes the next head, which opens the lines after it; `None` where there is no head left.
+    /// Takes the next head, which opens the lines after it, and returns it; `None` if there is no
+    /// head left.
     pub fn take_head(&mut self) -> Option<UnreadLine<'a>>
         requires { IsAtHead self.old }
         ensures { TakesHead self.old result self.new }
@@ -68,8 +69,8 @@ impl<'a> PartsLeft<'a> {
         self.lines.take_unread()
     }
 
-    /// Takes all that is left up to the next head of a company's orders, and that head; where there
-    /// is none, everything.
+    /// Takes all that is left up to the next head of a company's orders, and that head; everything
+    /// if there is none.
     pub(crate) fn take_to_orders_of(&mut self, company: Company)
         ensures { self.new.before ≡ company_orders_in company self.old.opened }
     {
@@ -80,7 +81,7 @@ impl<'a> PartsLeft<'a> {
         }
     }
 
-    /// How many lines are left, heads not counted.
+    /// Returns how many lines are left; heads do not count.
     pub fn count(&self) -> u32
         ensures { result ≡ lines_in self.now }
     {
@@ -95,7 +96,7 @@ impl<'a> PartsLeft<'a> {
     }
 }
 
-/// Nothing left.
+/// Returns parts in which nothing is left.
 impl<'a> Default for PartsLeft<'a> {
     ghost is_default = { λ left. left ≡ record { before = []; opened = [] } };
 
@@ -104,7 +105,8 @@ impl<'a> Default for PartsLeft<'a> {
     }
 }
 
-/// Whether a line opens a part of a sheet for a round. It is read only if its first word may open one.
+/// Returns whether a line opens a part of a sheet for a round. It is read only if its first word
+/// may open one.
 fn is_head(round: Round, line: UnreadLine) -> bool
     ensures { result ≡ opens_part round (line_unread line.entry).reading }
 {
@@ -112,7 +114,7 @@ fn is_head(round: Round, line: UnreadLine) -> bool
     begins_with_word(line.text, head_word(round)) && opens_part(round, line)
 }
 
-/// The word with which the lines begin that open a part of a sheet for a round.
+/// Returns the word that begins the lines that open a part of a sheet for a round.
 fn head_word(round: Round) -> &'static [u8]
     ensures { result.now ≡ head_word round }
 {
@@ -122,8 +124,8 @@ fn head_word(round: Round) -> &'static [u8]
     }
 }
 
-/// Whether a line, once it is read, opens a part of a sheet for a round. (Apart from its caller, which
-/// would else clear the room for an order with each line that it does not read.)
+/// Returns whether a line, once it is read, opens a part of a sheet for a round. (Kept apart from
+/// its caller: inlined, it would zero the room for an order for each line that is skipped.)
 #[inline(never)]
 fn opens_part(round: Round, line: UnreadLine) -> bool
     ensures { result ≡ opens_part round (line_unread line.entry).reading }
@@ -135,7 +137,7 @@ fn opens_part(round: Round, line: UnreadLine) -> bool
     }
 }
 
-/// Whether an order opens a part of a sheet for a round.
+/// Returns whether an order opens a part of a sheet for a round.
 fn is_head_of(round: Round, order: &Order) -> bool
     ensures { result ≡ opens_part round (Ok order.now) }
 {
@@ -145,7 +147,7 @@ fn is_head_of(round: Round, order: &Order) -> bool
     }
 }
 
-/// Whether a head opens a company's orders.
+/// Returns whether a head opens a company's orders.
 #[inline(never)]
 fn opens_orders_of(company: Company, head: UnreadLine) -> bool
     ensures { result ≡ opens_orders_of company (line_unread head.entry).reading }
@@ -157,7 +159,7 @@ fn opens_orders_of(company: Company, head: UnreadLine) -> bool
     }
 }
 
-/// Whether an order opens a company's orders.
+/// Returns whether an order opens a company's orders.
 fn is_head_of_company(company: Company, order: &Order) -> bool
     ensures { result ≡ opens_orders_of company (Ok order.now) }
 {

@@ -5,9 +5,9 @@ ghost use Rattle.sheets.specs.Place.{has_no_place, is_of_file, placed};
 use crate::sheet::UnreadLine;
 use order_grammar::{Fault, Order};
 
-/// Whether an order belongs to the file and its sheets, or to the text of a certificate, and is none
-/// of play, so that no part of a sheet has a place for it: GAME, PLAYERS, SHEET, TURN and COMPANY
-/// where they are no heads, CERTS, CERT, CLAIM and MARKS.
+/// Returns whether an order belongs to the file and its sheets, or to the text of a certificate,
+/// and is no order of play. No part of a sheet has a place for it. These are GAME, PLAYERS, SHEET,
+/// TURN and COMPANY that are no heads, CERTS, CERT, CLAIM and MARKS.
 pub fn is_of_file(order: &Order) -> bool
     ensures { result ≡ is_of_file order.now }
 {
@@ -25,8 +25,8 @@ pub fn is_of_file(order: &Order) -> bool
     )
 }
 
-/// The fault of a line where no order has a place: its first fault where it is, else `OutOfPlace`.
-/// Its order is put in place of another.
+/// Returns the fault of a line where no order has a place: its first fault there, otherwise
+/// `OutOfPlace`. Overwrites `order`.
 pub fn fault_out_of_place(line: UnreadLine, order: &mut Order) -> Fault
     ensures { placed has_no_place (line_unread line.entry).reading ≡ Err result }
 {

@@ -14,7 +14,7 @@ pub(crate) struct Players {
     seats: IndexMap<Name, Seat>,
 }
 
-/// To a contract they are the list of their names.
+/// In a contract they are the list of their names.
 impl Model for Players {
     ghost use Rattle.std.specs.Prelude.{◌≡◌, ℕ, List};
     ghost use Rattle.indexmap.specs.IndexMap.{keys};
@@ -29,14 +29,14 @@ impl Model for Players {
 }
 
 impl Players {
-    /// How many there are.
+    /// Returns how many there are.
     pub(crate) fn len(&self) -> usize
         ensures { result ≡ length self.now }
     {
         self.seats.len()
     }
 
-    /// The name of the player of a seat.
+    /// Returns the name of the player of a seat.
     pub(crate) fn name(&self, seat: Seat) -> Option<&Name>
         ensures { option_copied result ≡ slice_get self.now seat.0 }
     {
@@ -44,7 +44,7 @@ impl Players {
         Some(name)
     }
 
-    /// The seat of a player.
+    /// Returns the seat of a player.
     pub(crate) fn seat_of(&self, name: &Name) -> Option<Seat>
         ensures { result ≡ seat_from 0 self.now name.now }
     {
@@ -52,7 +52,7 @@ impl Players {
     }
 }
 
-/// The players that a line names, if there are 3 to 6 and they differ.
+/// Returns the players that a line names, if there are 3 to 6 and they differ.
 pub(crate) fn players_named(alloc: Global, line: &[u8]) -> Result<Option<Players>, AllocError>
     ensures { IfOk result (λ players. players ≡ players_named (reading_of line.now)) }
 {
@@ -65,7 +65,7 @@ pub(crate) fn players_named(alloc: Global, line: &[u8]) -> Result<Option<Players
     }
 }
 
-/// These players, if there are 3 to 6 and they differ.
+/// Returns these players, if there are 3 to 6 and they differ.
 fn players_from(alloc: Global, names: &[Name]) -> Result<Option<Players>, AllocError>
     ensures { IfOk result (λ players. players ≡ players_from names.now) }
 {

@@ -15,40 +15,43 @@ use std::marker::Model;
 /// The last line of a sheet that may be an order.
 pub const LINES_MOST: u32 = 512;
 
-/// A player's sheet for a round: its lines, blank ones left out.
+/// A player's sheet for a round: its lines, without blank ones.
 #[derive(Debug, Drop)]
 pub struct Sheet<'a> {
+    version: Version,
     text: &'a [u8],
 }
 
-/// To a contract a sheet is the list of its lines.
+/// In a contract a sheet is its lines, none of which is taken, with the version of its file.
 impl<'a> Model for Sheet<'a> {
-    ghost use Rattle.std.specs.Prelude.{ℕ, ◌≤◌, List, length};
+    ghost use Rattle.std.specs.Prelude.{◌≤◌, length};
     ghost use Rattle.sheets.specs.Limits.{file_most};
+    ghost use Rattle.sheets.specs.Sheet.{Unruled, unruled};
     ghost use Rattle.sheets.specs.Text.{written_lines};
 
-    ghost Value = { List (List ℕ) };
+    ghost Value = { Unruled };
 
-    ghost view = { λ sheet. written_lines sheet.text.now };
+    ghost view = { λ sheet. unruled sheet.version 0 (written_lines sheet.text.now) };
 
     ghost invariant = { λ sheet. length sheet.text.now ≤ file_most };
 }
 
 impl<'a> Sheet<'a> {
-    /// The sheet with this text.
-    pub(crate) fn of(text: &'a [u8]) -> Sheet<'a>
+    /// Returns the sheet with this text, of a file of this version.
+    pub(crate) fn of(version: Version, text: &'a [u8]) -> Sheet<'a>
         requires { length text.now ≤ file_most }
-        ensures { result ≡ written_lines text.now }
+        ensures { result ≡ unruled version 0 (written_lines text.now) }
     {
-        Sheet { text }
+        Sheet { version, text }
     }
 
-    /// Its lines in order, numbered from 1, each read by the version of its file, or a fault.
-    pub fn lines(&self, version: Version) -> Lines<'a>
-        ensures { result ≡ unruled version 0 self.now }
+    /// Returns its lines in order, numbered from 1, each read by the version of its file, or a
+    /// fault.
+    pub fn lines(&self) -> Lines<'a>
+        ensures { result ≡ self.now }
     {
         Lines {
-            version,
+            version: self.version,
             rest: self.text,
             number: 0,
         }
@@ -60,17 +63,18 @@ impl<'a> Sheet<'a> {
 pub struct NumberedLine<'a> {
     /// Its number in the sheet, from 1; blank lines have none.
     pub number: u32,
-    /// The condition of its order where it is, if that has one; a line with a fault there has none.
+    /// The condition of its order where it stands, if it has one; a line with a fault there has
+    /// none.
     pub condition: Option<Condition>,
     /// Its order, or the first fault that it has by itself.
     pub reading: Result<Line<'a>, Fault>,
 }
 
 impl<'a> NumberedLine<'a> {
-    /// The order of the line where it is in its sheet.
+    /// Returns the order of the line where it stands in its sheet.
     ///
-    /// `PastLastLine`: its number is over `LINES_MOST`, whatever it says; else the first fault that
-    /// it has by itself.
+    /// The error is `PastLastLine` if its number is over `LINES_MOST`, whatever it says; otherwise
+    /// the first fault that it has by itself.
     pub fn order(&self) -> Result<&Order, Fault>
         ensures { MatchResult result
             (λ order. (line_read self.now).reading ≡ Ok order.now)
@@ -97,7 +101,7 @@ pub struct UnreadLine<'a> {
     pub text: &'a [u8],
 }
 
-/// What there is of a line that was read beside its order.
+/// What a line that was read has besides its order.
 #[derive(Clone, Copy, Debug)]
 pub struct ReadLine {
     /// Its number in the sheet, from 1; blank lines have none.
@@ -107,10 +111,10 @@ pub struct ReadLine {
 }
 
 impl<'a> UnreadLine<'a> {
-    /// Reads the line by the version of its file, and puts its order in place of another.
+    /// Reads the line by the version of its file, and overwrites `order` with its order.
     ///
-    /// `PastLastLine`: its number is over `LINES_MOST`, whatever it says; else the first fault that
-    /// it has by itself. The order may be any then.
+    /// The error is `PastLastLine` if its number is over `LINES_MOST`, whatever it says; otherwise
+    /// the first fault that it has by itself. `order` may then be anything.
     pub fn read_into(self, order: &mut Order) -> Result<ReadLine, Fault>
         ensures { MatchResult result
             (λ read. line_unread self.entry ≡ line_with read order.new)
@@ -126,7 +130,7 @@ impl<'a> UnreadLine<'a> {
         })
     }
 
-    /// The line, read by the version of its file.
+    /// Returns the line, read by the version of its file.
     pub fn read(self) -> NumberedLine<'a>
         ensures read { IsReadAs self.entry.version self.entry.number self.entry.text.now result }
         ensures line { line_read result ≡ line_unread self.entry }
@@ -140,7 +144,7 @@ impl<'a> UnreadLine<'a> {
     }
 }
 
-/// The condition of the line with this number that by itself is this.
+/// Returns the condition of the line with this number that by itself reads so.
 fn condition_at(number: u32, reading: &Result<Line, Fault>) -> Option<Condition>
     ensures { result ≡ condition_at number (ordered_of reading.now) }
 {
@@ -161,8 +165,8 @@ pub struct Lines<'a> {
     number: u32,
 }
 
-/// To a contract they are the lines, with the version of their file and the number of those that came
-/// before.
+/// In a contract they are the lines, with the version of their file and the number of those that
+/// came before.
 impl<'a> Model for Lines<'a> {
     ghost use Rattle.std.specs.Prelude.{◌+◌, ◌≤◌, length};
     ghost use Rattle.sheets.specs.Limits.{file_most};
@@ -177,7 +181,7 @@ impl<'a> Model for Lines<'a> {
 }
 
 impl<'a> Lines<'a> {
-    /// No lines.
+    /// Returns no lines.
     #[tactic(auto, unfolding(crate::specs::Text::written_lines))]
     pub fn none() -> Lines<'a>
         ensures { result ≡ unruled One 0 [] }
@@ -189,7 +193,7 @@ impl<'a> Lines<'a> {
         }
     }
 
-    /// The same lines once more.
+    /// Returns the same lines.
     pub fn duplicate(&self) -> Lines<'a>
         ensures { result ≡ self.now }
     {
@@ -200,7 +204,7 @@ impl<'a> Lines<'a> {
         }
     }
 
-    /// Takes the next line; `None` where there is none.
+    /// Takes the next line and returns it; `None` if there is none.
     pub fn take_line(&mut self) -> Option<NumberedLine<'a>>
         ensures { TakesLine self.old result self.new }
     {
@@ -208,7 +212,7 @@ impl<'a> Lines<'a> {
         Some(line.read())
     }
 
-    /// Takes the next line as it is written; `None` where there is none.
+    /// Takes the next line as it is written and returns it; `None` if there is none.
     pub(crate) fn take_unread(&mut self) -> Option<UnreadLine<'a>>
         ensures { TakesUnread self.old result self.new }
     {

@@ -14,8 +14,8 @@ pub struct Piece<'a> {
     pub rest: &'a [u8],
 }
 
-/// The first line of a text; `None` where nothing is left. A last line without LF counts, and a CR
-/// at its end belongs to it.
+/// Returns the first line of a text; `None` if nothing is left. A last line without LF counts, and
+/// a CR at its end belongs to it.
 pub fn first_line(text: &[u8]) -> Option<Piece<'_>>
     ensures shorter { IfSome result (λ piece. length piece.rest.now < length text.now) }
     ensures lines { MatchOption result (text.now ≡ [])
@@ -40,7 +40,7 @@ pub fn first_line(text: &[u8]) -> Option<Piece<'_>>
     }
 }
 
-/// Where the first LF of a text is.
+/// Returns where the first LF of a text is; `None` if it has none.
 fn newline(text: &[u8]) -> Option<usize>
     ensures { MatchOption result
         (EachIndex text.now (λ k. slice_index text.now k ≢ 10))
@@ -49,7 +49,7 @@ fn newline(text: &[u8]) -> Option<usize>
     text.iter().position(|byte| *byte == b'\n')
 }
 
-/// A line that ended in LF, without a CR at its end.
+/// Returns a line that ended in LF, without a CR at its end.
 fn without_return(line: &[u8]) -> &[u8]
     ensures { result.now ≡ without_return line.now }
 {
@@ -59,7 +59,7 @@ fn without_return(line: &[u8]) -> &[u8]
     if *last == b'\r' { prefix } else { line }
 }
 
-/// Whether a line counts nowhere: it has no words and at most 1,024 bytes.
+/// Returns whether a line counts nowhere: it has no words and at most 1,024 bytes.
 #[tactic(auto, unfolding(crate::specs::Text::is_blank))]
 fn is_blank(line: &[u8]) -> bool
     ensures { result ≡ is_blank line.now }
@@ -67,7 +67,7 @@ fn is_blank(line: &[u8]) -> bool
     line.len() <= LINE_MOST && !has_word(line)
 }
 
-/// The first line of a text that is not blank, and what follows it.
+/// Returns the first line of a text that is not blank, and what follows it.
 pub(crate) fn first_written(text: &[u8]) -> Option<Piece<'_>>
     ensures shorter { IfSome result (λ piece. length piece.rest.now < length text.now) }
     ensures lines { MatchOption result

@@ -58,7 +58,7 @@ loop-form-preserved c =
     ∙ sym next
     ∙ c.loop-form.invariant
 
--- a form of another word brings nothing nearer
+-- a form of another word is no nearer
 pub loop-form-preserved-then-ne : goal.loop-form-preserved-then-ne
 loop-form-preserved-then-ne c =
     let first = raised c.args.first.now in

@@ -1,7 +1,7 @@
 use Rattle.std.proofs.Common.{◌≡◌, true, false, List, ◌∷◌, ℕ, None, sym, subst}
 use Rattle.std.specs.HashMap.{get}
 use Rattle.std.proofs.lemmas.Result.{on_ok_weaker, IfErr-weaker}
-use Rattle.sheets.specs.Collecting.{CollectedSoFar}
+use Rattle.sheets.specs.Collecting.{CollectedSoFar, lines_kept}
 use Rattle.sheets.specs.File.{same_sheet_key, is_sheet_line}
 use Rattle.sheets.specs.Text.{written_lines}
 use Rattle.sheets.proofs.ReachLemmas.{reaches_sheet_line, reaches_begun, stops_begun, reaches_inside, reaches_stray}
@@ -20,13 +20,13 @@ returns-in_ok-close-clause-ok c =
     on_ok_weaker c.begin.result
     (λ m body r.
     let s =
-    reaches_sheet_line c.args.version players body (get same_sheet_key old.sheets) (get same_sheet_key mid.sheets)
+    reaches_sheet_line c.args.version players body (lines_kept (get same_sheet_key old.sheets)) (lines_kept (get same_sheet_key mid.sheets))
     old.unread.items old.good line rest c.args.text.now old.current is
     c.requires.lines h.sheets r in
-    let t : CollectedSoFar c.args.version players body (line ∷ written_lines rest) None (get same_sheet_key mid.sheets)
+    let t : CollectedSoFar c.args.version players body (line ∷ written_lines rest) None (lines_kept (get same_sheet_key mid.sheets))
     mid.unread.items mid.good = rw (h.unread, h.good) s in
     rw c.begin.ensures.sheets
-    (reaches_begun c.args.version players body (get same_sheet_key mid.sheets) mid.unread.items mid.good line rest
+    (reaches_begun c.args.version players body (lines_kept (get same_sheet_key mid.sheets)) mid.unread.items mid.good line rest
     new.current new.unread.items new.good is m t))
     c.begin.ensures.ok
 
@@ -42,12 +42,12 @@ returns-in_ok-close-clause-err c =
     IfErr-weaker c.begin.result _ _
     (λ fault m body r.
     let s =
-    reaches_sheet_line c.args.version players body (get same_sheet_key old.sheets) (get same_sheet_key mid.sheets)
+    reaches_sheet_line c.args.version players body (lines_kept (get same_sheet_key old.sheets)) (lines_kept (get same_sheet_key mid.sheets))
     old.unread.items old.good line rest c.args.text.now old.current is
     c.requires.lines h.sheets r in
-    let t : CollectedSoFar c.args.version players body (line ∷ written_lines rest) None (get same_sheet_key mid.sheets)
+    let t : CollectedSoFar c.args.version players body (line ∷ written_lines rest) None (lines_kept (get same_sheet_key mid.sheets))
     mid.unread.items mid.good = rw (h.unread, h.good) s in
-    stops_begun c.args.version players body (get same_sheet_key mid.sheets) mid.unread.items mid.good line
+    stops_begun c.args.version players body (lines_kept (get same_sheet_key mid.sheets)) mid.unread.items mid.good line
     (written_lines rest) fault is m t)
     c.begin.ensures.err
 
@@ -57,10 +57,10 @@ returns-then-is_some-clause-ok c = λ body r.
     let rest : List ℕ = c.args.piece.rest.now in
     let old = c.args.self.now in
     let other : is_sheet_line line ≡ false = sym c.if-is_sheet_line.ensures in
-    reaches_inside c.args.version c.args.players.now body (get same_sheet_key old.sheets) old.unread.items old.good
+    reaches_inside c.args.version c.args.players.now body (lines_kept (get same_sheet_key old.sheets)) old.unread.items old.good
     c.requires.first.0 line rest c.args.text.now old.current r.0
     (sym c.if-is_some.ensures) other c.requires.first.1 r.1
-    (subst (λ ls. CollectedSoFar c.args.version c.args.players.now body ls r.0 (get same_sheet_key old.sheets)
+    (subst (λ ls. CollectedSoFar c.args.version c.args.players.now body ls r.0 (lines_kept (get same_sheet_key old.sheets))
     old.unread.items old.good) c.requires.lines r.2)
 
 pub returns-in_ok-push-clause-ok : goal.returns-in_ok-push-clause-ok
@@ -70,7 +70,12 @@ returns-in_ok-push-clause-ok c = λ body r.
     let old = c.args.self.now in
     let other : is_sheet_line line ≡ false = sym c.if-is_sheet_line.ensures in
     rw (c.in_ok-push.ensures.items, c.unread_fault.ensures)
-    (reaches_stray c.args.version c.args.players.now body (get same_sheet_key old.sheets) old.unread.items old.good
+    (reaches_stray c.args.version c.args.players.now body (lines_kept (get same_sheet_key old.sheets)) old.unread.items old.good
     line rest c.args.text.now old.current r.0 (sym c.if-is_some.ensures) other r.1
-    (subst (λ ls. CollectedSoFar c.args.version c.args.players.now body ls r.0 (get same_sheet_key old.sheets)
+    (subst (λ ls. CollectedSoFar c.args.version c.args.players.now body ls r.0 (lines_kept (get same_sheet_key old.sheets))
     old.unread.items old.good) c.requires.lines r.2))
+
+pub returns-in_ok-close-clause-versions : goal.returns-in_ok-close-clause-versions
+returns-in_ok-close-clause-versions c =
+    on_ok_weaker c.begin.result (λ begun are. rw c.begin.ensures.sheets (c.in_ok-close.ensures.versions are))
+    c.begin.ensures.ok
