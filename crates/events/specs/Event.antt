@@ -1,9 +1,9 @@
--- An event has a few aspects: the payment that it makes, the shares that it moves, what it says of a private's owner
--- and of the bids on it, the par value, square and president of a company that it sets, the company that floats, the
--- price of SV that it sets, the tile that it lays, the token that it places, the train that it moves, the phase that it
--- sets, the company that has operated by it, the round that it begins, the seat of a line that was ruled, the order
--- that was obeyed, and whether it tells that the bank is broken or that a president is bankrupt. Every fact about a
--- game looks back over one of them.
+-- An event has a few aspects. It may make a payment, move shares, and say who owns a private or
+-- what is bid on it. Of a company it may set the par value, the square and the president, or say
+-- that it floats or has operated. It may set the price of SV, lay a tile, place a token, move a
+-- train, and begin a phase or a round. It may rule a line of a seat, obey an order, and say that
+-- the bank is broken or that a president is bankrupt. Every fact about a game looks back over one
+-- of them.
 use Rattle.std.specs.Prelude.{◌≡◌, ℕ, Bool, true, false, List, codes, Option, Some, None, if◌then◌else◌, is_some}
 use Rattle.order_grammar.specs.declared.order.Order.{Order}
 use Rattle.order_grammar.specs.declared.order.Order.TheVariants as order
@@ -84,14 +84,15 @@ party_of_seller seller.Bank = party.Bank
 party_of_seller seller.BankPool = party.Bank
 party_of_seller (seller.Company company) = party_of_company company
 
--- where the trains of a company lie, or those of the bank pool where there is none
+-- where the trains of a company lie, or those of the bank pool if there is no owner
 abbrev pub train_owner_place : Option Company → TrainPlace
 train_owner_place None = train_place.BankPool
 train_owner_place (Some company) = train_place.Company company
 
--- the money that an event moves: a seat pays the bank for a private or for shares, and a company for a lay or a token;
--- a company pays whoever sells it a train, and a seat for its private; a seat pays a company what that lacks for a
--- train; the bank pays a revenue, a dividend, a seat for shares, a company that floats, and one that withholds
+-- the money that an event moves. A seat pays the bank for a private or for shares. A company pays
+-- the bank for a lay or a token, whoever sells it a train, and a seat for its private. A seat pays
+-- a company what that lacks for a train. The bank pays a revenue, a dividend, a seat for shares, a
+-- company that floats, and one that withholds.
 abbrev pub payment_of : Event → Option Payment
 payment_of (Sold private seat price) = Some (record { from = party_at seat; to = party.Bank; amount = price })
 payment_of (Revenue private owner amount) = Some
@@ -150,8 +151,8 @@ bidding_of (Bids private seat amount) = Some (Made private (record { seat = seat
 bidding_of (Sold private seat price) = Some (Ended private)
 bidding_of other = None
 
--- the shares that an event moves: a gift is from the initial offering, a purchase from there or from the bank pool, and
--- a sale goes to the pool; MH goes for a share of NYC
+-- the shares that an event moves: a gift is from the initial offering, a purchase from there or
+-- from the bank pool, and a sale goes to the pool. MH goes for a share of NYC.
 abbrev pub transfer_of : Event → Option Transfer
 transfer_of (Given company seat shares) =
     Some (record { company = company; from = place.InitialOffering; to = place.Seat seat; shares = shares })
@@ -209,14 +210,15 @@ token_placed (Home company place) = Some (place, company)
 token_placed (Token company place cost) = Some (place, company)
 token_placed other = None
 
--- the company that has operated by an event: one of its trains has run, or it withholds what it earned
+-- the company that has operated by an event: one of its trains has run, or it withholds what it
+-- earned
 abbrev pub operated_by : Event → Option Company
 operated_by (Runs company revenue) = Some company
 operated_by (Withheld company amount) = Some company
 operated_by other = None
 
--- the train that an event moves: one that is bought goes to the company, one that is traded in or discarded goes from
--- it to the pool, and one that rusts leaves play
+-- the train that an event moves: one that is bought goes to the company, one that is traded in or
+-- discarded goes from it to the pool. One that rusts leaves play.
 abbrev pub train_moved : Event → Option TrainMove
 train_moved (Train company kind from price) =
     Some (record { kind = kind; from = place_of_seller from; to = train_place.Company company })
@@ -243,12 +245,12 @@ abbrev pub ruled_by : Event → Option Seat
 ruled_by (Ruled seat line ruling) = Some seat
 ruled_by other = None
 
--- it tells that the bank is broken
+-- the event says that the bank is broken
 abbrev pub says_broken : Event → Bool
 says_broken Broken = true
 says_broken other = false
 
--- it tells that a president is bankrupt
+-- the event says that a president is bankrupt
 abbrev pub says_bankrupt : Event → Bool
 says_bankrupt (Bankrupt seat) = true
 says_bankrupt other = false
@@ -279,15 +281,15 @@ abbrev pub obeyed_of : Event → Option Obeyance
 obeyed_of (Ruled seat line ruling) = obeyed_by seat line ruling
 obeyed_of other = None
 
--- the order is by itself an act of a turn: it buys a private or bids on one, or sells shares. A purchase of shares
--- shows by its event, since a standing order can set a par value too
+-- the order is by itself an act of a turn: it buys a private or bids on one, or sells shares. The
+-- event shows a purchase of shares, since a standing order can set a par value too
 abbrev pub is_act : Order → Bool
 is_act (order.BuyPrivate private) = true
 is_act (order.Bid private amount) = true
 is_act (order.Sell company shares) = true
 is_act other = false
 
--- so is the order that is obeyed, if one is
+-- the order that is obeyed is such an act, if one is obeyed
 abbrev pub is_act_obeyed : Option Order → Bool
 is_act_obeyed None = false
 is_act_obeyed (Some order) = is_act order
@@ -301,13 +303,14 @@ abbrev pub actor_by : Option Obeyance → Option Seat
 actor_by None = None
 actor_by (Some obeyed) = if is_act obeyed.order then Some obeyed.seat else None
 
--- the seat that acted in its own turn by this event: it bought a private or bid on one, or bought or sold shares of a
--- company
+-- the seat that acted in its own turn by this event: it bought a private or bid on one, or bought
+-- or sold shares of a company
 abbrev pub actor_of : Event → Option Seat
 actor_of (Bought company seat shares from price) = Some seat
 actor_of other = actor_by (obeyed_of other)
 
--- an event says nothing of what parties have and own, of SV's price, or of the tiles and tokens on the map
+-- an event says nothing of what parties have and own, of SV's price, or of the tiles and tokens on
+-- the map
 pub record IsQuiet (event : Event) : Type 0 where
   pub payment : payment_of event ≡ None
   pub ownership : ownership_of event ≡ None

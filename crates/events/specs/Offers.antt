@@ -1,5 +1,5 @@
--- The sale that an OFFER line offers. Two sales are the same where they are of one thing, from one seller, to one
--- buyer at one price.
+-- The sale that an OFFER line offers. Two sales are the same if they are of one thing, from one
+-- seller, to one buyer at one price.
 use Rattle.std.specs.Prelude.{ℕ, ◌==◌, Bool, false, ◌&&◌, if◌then◌else◌, Option, Some, None}
 use Rattle.events.specs.Event.{obeyed_says, order_obeyed}
 use Rattle.events.specs.declared.ruling.Ruling.{Ruling}
@@ -29,11 +29,11 @@ abbrev pub offered_in : Offer → Order → Option Offer
 offered_in sale (order.Offer other) = if same_offer other sale then Some other else None
 offered_in sale other = None
 
--- the same, of the order that a ruling obeys
+-- a sale, if the order that a ruling obeys offers it
 abbrev pub offer_obeyed : Offer → Ruling → Option Offer
 offer_obeyed sale ruling = obeyed_says (offered_in sale) (order_obeyed ruling)
 
--- the same, where an order offers this sale, or none
+-- a sale, if it is the one that an order offers
 abbrev pub offer_said : Offer → Option Offer → Option Offer
 offer_said sale None = None
 offer_said sale (Some other) = if same_offer other sale then Some other else None

@@ -1,5 +1,5 @@
--- What an obeyed standing order says: how far its seat goes in an auction of a private, and the par value that the
--- seat sets for BO.
+-- What an obeyed standing order says: the limit of its seat in an auction of a private, and the par
+-- value that the seat sets for BO.
 use Rattle.std.specs.Prelude.{ℕ, ◌==◌, ◌&&◌, if◌then◌else◌, Option, Some, None}
 use Rattle.order_grammar.specs.declared.order.Order.{Order}
 use Rattle.order_grammar.specs.declared.order.Order.TheVariants as order
@@ -10,27 +10,27 @@ use Rattle.tables.specs.declared.roster.Company.TheVariants.{BaltimoreOhio}
 use Rattle.tables.specs.declared.roster.Private.{Private}
 use Rattle.tables.specs.declared.seat.Seat.{Seat}
 
--- how far an order says to go in an auction of a private
+-- the limit that an order sets for an auction of a private
 abbrev pub limit_in : Private → Order → Option ℕ
 limit_in private (order.Limit other amount) = if same_private other private then Some amount else None
 limit_in private other = None
 
--- the par value that an order says BO is to have
+-- the par value that an order sets for BO
 abbrev pub par_of_baltimore_in : Order → Option ℕ
 par_of_baltimore_in (order.Par company price) =
     if same_company company BaltimoreOhio && is_par_value price then Some price else None
 par_of_baltimore_in other = None
 
--- the same, where an order names this private and this sum, or none
+-- the limit for an auction of a private, if an order names this private with a sum
 abbrev pub limit_said : Private → Option (Private × ℕ) → Option ℕ
 limit_said private None = None
 limit_said private (Some limit) = if same_private limit.0 private then Some limit.1 else None
 
--- the same, of the order that a ruling obeys
+-- the limit that the order that a ruling obeys sets for an auction of a private
 abbrev pub limit_obeyed : Private → Ruling → Option ℕ
 limit_obeyed private ruling = obeyed_says (limit_in private) (order_obeyed ruling)
 
--- the same, of the order that a ruling obeys
+-- the par value that the order that a ruling obeys sets for BO
 abbrev pub par_of_baltimore_obeyed : Ruling → Option ℕ
 par_of_baltimore_obeyed ruling = obeyed_says par_of_baltimore_in (order_obeyed ruling)
 

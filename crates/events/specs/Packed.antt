@@ -1,4 +1,4 @@
--- Orders and rulings as events keep them, in few bytes; an order under a condition is behind a box.
+-- Orders and rulings as events keep them, in few bytes; an order under a condition is in a box.
 use Rattle.std.specs.Prelude.{◌≡◌, ◌<◌, false, length, Option, Some, None, ⊤}
 use Rattle.events.specs.PackedRun.{places_in}
 use Rattle.events.specs.declared.packed.PackedOrder.{PackedOrder}
@@ -20,7 +20,8 @@ use Rattle.order_grammar.specs.declared.order.Order.{Order}
 use Rattle.order_grammar.specs.declared.order.Order.TheVariants as order
 use Rattle.order_grammar.specs.declared.short.ShortOrder.{ShortOrder}
 
--- an order that is packed behind a box: one under a condition, a run of over five places, or an order of no play
+-- an order that is packed in a box: one under a condition, a run of over five places, or a line
+-- that is no order of play
 abbrev pub TakesBox : Option Condition → Order → Type 0
 TakesBox None (order.Run kind run) = 5 < length run
 TakesBox None other = has_short_form other ≡ false
@@ -58,7 +59,7 @@ abbrev pub verdict_in : OrderVerdict → Verdict
 verdict_in by.Obeyed = verdict.Obeyed
 verdict_in (by.Refused rule) = verdict.Refused rule
 
--- an order, if there is one, takes no few bytes
+-- an order, if there is one, needs many bytes
 abbrev pub IsLong : Option Order → Type 0
 IsLong None = ⊤
 IsLong (Some order) = has_short_form order ≡ false

@@ -34,21 +34,21 @@ pub enum Party {
 }
 
 impl Party {
-    /// The player of a seat.
+    /// Returns the player of a seat.
     pub fn of_seat(seat: Seat) -> Party
         ensures { result ≡ party_at seat }
     {
         Party::Holder(Holder::Seat(seat))
     }
 
-    /// A share company.
+    /// Returns a share company.
     pub fn of_company(company: Company) -> Party
         ensures { result ≡ party_of_company company }
     {
         Party::Holder(Holder::Company(company))
     }
 
-    /// Who is paid for a train that is bought there.
+    /// Returns who is paid for a train that is bought from a seller.
     fn of_seller(seller: TrainSeller) -> Party
         ensures { result ≡ party_of_seller seller }
     {
@@ -72,7 +72,7 @@ pub enum Event {
     },
     /// A seat's turn ends without a purchase.
     Passes(Seat),
-    /// So many lines of a seat's sheet were not taken up in the round.
+    /// This many lines of a seat's sheet were not taken up in the round.
     Left {
         seat: Seat,
         lines: u32,
@@ -83,14 +83,14 @@ pub enum Event {
         seat: Seat,
         price: Amount,
     },
-    /// A seat bids on a private. The bid stands until the private is sold, or the seat bids on it
+    /// A seat bids on a private. The bid holds until the private is sold, or the seat bids on it
     /// again.
     Bids {
         private: Private,
         seat: Seat,
         amount: Amount,
     },
-    /// The price of SV from then on.
+    /// SV has this price from then on.
     Price {
         price: Amount,
     },
@@ -117,7 +117,7 @@ pub enum Event {
         seat: Seat,
     },
     /// A seat pays the bank for shares of a company, which come from the initial offering or from
-    /// the bank pool. The price is that of them all.
+    /// the bank pool. The price is for all of them.
     Bought {
         company: Company,
         seat: Seat,
@@ -125,20 +125,20 @@ pub enum Event {
         from: ShareSource,
         price: Amount,
     },
-    /// The bank pays a seat for shares of a company, which go to the bank pool. The price is that
-    /// of them all.
+    /// The bank pays a seat for shares of a company, which go to the bank pool. The price is for
+    /// all of them.
     Sells {
         company: Company,
         seat: Seat,
         shares: u8,
         price: Amount,
     },
-    /// MH goes for one share of NYC, which goes to its owner, and nobody owns it from then on.
+    /// MH's owner gives it up for one share of NYC; nobody owns it from then on.
     Exchanged {
         seat: Seat,
         from: ShareSource,
     },
-    /// A company floats: the bank pays it what its ten shares cost at its par value.
+    /// A company floats: the bank pays it ten times its par value.
     Floats {
         company: Company,
         amount: Amount,
@@ -182,13 +182,13 @@ pub enum Event {
         holder: Holder,
         amount: Amount,
     },
-    /// A company trades a train in, which goes to the bank pool.
+    /// A company trades in a train, which goes to the bank pool.
     Traded {
         company: Company,
         kind: Kind,
     },
-    /// A company pays for a train: the bank, from which it comes or from whose pool, or the company
-    /// that sells it.
+    /// A company pays for a train: it pays the bank, for its own trains and those of its pool, or
+    /// the company that sells it.
     Train {
         company: Company,
         kind: Kind,
@@ -197,7 +197,7 @@ pub enum Event {
     },
     /// The phase that the first train of a kind begins.
     Phase(Kind),
-    /// A train of a company, or of the bank pool where there is none, leaves play.
+    /// A train of a company, or of the bank pool if no company is named, leaves play.
     Rusted {
         owner: Option<Company>,
         kind: Kind,
@@ -224,13 +224,14 @@ pub enum Event {
         company: Company,
         amount: Amount,
     },
-    /// A president cannot pay what his company lacks for a train that it must buy. The game is over.
+    /// A president cannot pay what the company lacks for a train that it must buy. The game is
+    /// over.
     Bankrupt(Seat),
     /// The bank's cash fell to 0 or less.
     Broken,
 }
 
-// An event is small, since a game keeps each one that ever happened.
+// An event is small, since a game keeps every event.
 const _: () = prove!(size_of::<Event>() <= 24);
 
 /// Where a company buys a train.
@@ -256,7 +257,7 @@ pub struct Payment {
 }
 
 impl Payment {
-    /// What a party pays the bank.
+    /// Returns what a party pays the bank.
     fn to_bank(from: Party, amount: Amount) -> Payment
         ensures { result ≡ record { from = from; to = Bank; amount = amount } }
     {
@@ -267,7 +268,7 @@ impl Payment {
         }
     }
 
-    /// What the bank pays a party.
+    /// Returns what the bank pays a party.
     fn of_bank(to: Party, amount: Amount) -> Payment
         ensures { result ≡ record { from = Bank; to = to; amount = amount } }
     {
@@ -284,7 +285,7 @@ impl Payment {
 pub struct Ownership {
     /// The private.
     pub private: Private,
-    /// Who owns it from then on; `None` where nobody does.
+    /// Who owns it from then on; `None` if nobody does.
     pub owner: Option<Holder>,
 }
 
@@ -311,7 +312,7 @@ impl Default for Bid {
 /// What an event says of the bids on a private.
 #[derive(Clone, Copy, Debug, PartialEq, Eq)]
 pub enum Bidding {
-    /// A bid on a private, in place of an older one of that seat.
+    /// A bid on a private, which replaces an older one of that seat.
     Made(Private, Bid),
     /// The bids on a private end.
     Ended(Private),
@@ -329,7 +330,7 @@ pub enum Shareholder {
 }
 
 impl Shareholder {
-    /// Where a share lies that is bought from there.
+    /// Returns where a share lies that is bought from a source.
     pub fn of_source(source: ShareSource) -> Shareholder
         ensures { result ≡ place_of_source source }
     {
@@ -394,7 +395,7 @@ pub enum TrainPlace {
 }
 
 impl TrainPlace {
-    /// Where a train lies that is bought from there.
+    /// Returns where a train lies that is bought from a seller.
     pub fn of_seller(seller: TrainSeller) -> TrainPlace
         ensures { result ≡ place_of_seller seller }
     {
@@ -405,7 +406,7 @@ impl TrainPlace {
         }
     }
 
-    /// Where the trains of a company lie, or those of the bank pool where there is none.
+    /// Returns where the trains of a company lie, or those of the bank pool if there is no owner.
     pub fn of_owner(owner: Option<Company>) -> TrainPlace
         ensures { result ≡ train_owner_place owner }
     {
@@ -428,7 +429,7 @@ pub struct TrainMove {
 }
 
 impl Event {
-    /// The money that it moves.
+    /// Returns the money that it moves.
     pub fn payment(&self) -> Option<Payment>
         ensures { result ≡ payment_of self.now }
     {
@@ -484,7 +485,7 @@ impl Event {
         }
     }
 
-    /// The sum of money that it names, or 0.
+    /// Returns the sum of money that it names, or 0.
     pub fn sum(&self) -> Amount
         ensures { result ≡ sum_of self.now }
     {
@@ -501,12 +502,12 @@ impl Event {
         }
     }
 
-    /// What it says of a private.
+    /// Returns what it says of a private.
     pub fn ownership(&self) -> Option<Ownership>
         ensures { result ≡ ownership_of self.now }
     {
-        // Every look back over the list asks this of each event, nearly always in vain. A few
-        // comparisons cost about the same on every machine; the indirect jump that a `match` makes
+        // Every look back over the list asks this of each event, which nearly always finds nothing.
+        // A few comparisons cost about the same on every machine; the indirect jump of a `match`
         // costs ten times as much on some.
         if let Event::Sold { private, seat, .. } = self {
             Some(Ownership {
@@ -538,11 +539,11 @@ impl Event {
         }
     }
 
-    /// What it says of the bids on a private.
+    /// Returns what it says of the bids on a private.
     pub fn bidding(&self) -> Option<Bidding>
         ensures { result ≡ bidding_of self.now }
     {
-        // (comparisons again)
+        // Comparisons, as above.
         if let Event::Bids {
             private,
             seat,
@@ -561,7 +562,7 @@ impl Event {
         }
     }
 
-    /// The shares that it moves.
+    /// Returns the shares that it moves.
     pub fn transfer(&self) -> Option<Transfer>
         ensures { result ≡ transfer_of self.now }
     {
@@ -609,7 +610,7 @@ impl Event {
         }
     }
 
-    /// The par value that it sets.
+    /// Returns the par value that it sets.
     pub fn par(&self) -> Option<ParValue>
         ensures { result ≡ par_set self.now }
     {
@@ -622,7 +623,7 @@ impl Event {
         }
     }
 
-    /// The square that it sets: that of a par value, or the one to which the token moves.
+    /// Returns the square that it sets: that of a par value, or the one to which the token moves.
     pub fn square(&self) -> Option<Placement>
         ensures { result ≡ square_set self.now }
     {
@@ -642,7 +643,7 @@ impl Event {
         }
     }
 
-    /// The presidency that it sets.
+    /// Returns the presidency that it sets.
     pub fn office(&self) -> Option<Office>
         ensures { result ≡ office_of self.now }
     {
@@ -655,7 +656,7 @@ impl Event {
         }
     }
 
-    /// The company that floats by it.
+    /// Returns the company that floats by it.
     pub fn floated(&self) -> Option<Company>
         ensures { result ≡ floated_by self.now }
     {
@@ -665,7 +666,7 @@ impl Event {
         }
     }
 
-    /// The price of SV that it sets.
+    /// Returns the price of SV that it sets.
     pub fn sv_price(&self) -> Option<Amount>
         ensures { result ≡ sv_price_set self.now }
     {
@@ -675,7 +676,7 @@ impl Event {
         }
     }
 
-    /// The tile that it lays.
+    /// Returns the tile that it lays.
     pub fn lay(&self) -> Option<Lay>
         ensures { result ≡ tile_laid self.now }
     {
@@ -685,7 +686,7 @@ impl Event {
         }
     }
 
-    /// The token that it places: where, and whose.
+    /// Returns the token that it places: where, and whose.
     pub fn token(&self) -> Option<(Place, Company)>
         ensures { result ≡ token_placed self.now }
     {
@@ -697,7 +698,7 @@ impl Event {
         }
     }
 
-    /// The company that has operated by it: its train has run, or it withholds.
+    /// Returns the company that has operated by it: its train has run, or it withholds.
     pub fn operated(&self) -> Option<Company>
         ensures { result ≡ operated_by self.now }
     {
@@ -707,7 +708,7 @@ impl Event {
         }
     }
 
-    /// The train that it moves.
+    /// Returns the train that it moves.
     pub fn train(&self) -> Option<TrainMove>
         ensures { result ≡ train_moved self.now }
     {
@@ -738,7 +739,7 @@ impl Event {
         }
     }
 
-    /// The phase that it begins.
+    /// Returns the phase that it begins.
     pub fn phase(&self) -> Option<Kind>
         ensures { result ≡ phase_set self.now }
     {
@@ -748,7 +749,7 @@ impl Event {
         }
     }
 
-    /// The seat of whose sheet it rules a line.
+    /// Returns the seat whose line it rules.
     pub fn ruled(&self) -> Option<Seat>
         ensures { result ≡ ruled_by self.now }
     {
@@ -758,7 +759,7 @@ impl Event {
         }
     }
 
-    /// The round that it begins.
+    /// Returns the round that it begins.
     pub fn round(&self) -> Option<Round>
         ensures { result ≡ round_begun_by self.now }
     {
@@ -768,8 +769,8 @@ impl Event {
         }
     }
 
-    /// The seat that acted in its own turn by it: that bought a private or bid on one, or bought or
-    /// sold shares of a company.
+    /// Returns the seat that acted in its own turn by it: that bought a private or bid on one, or
+    /// bought or sold shares of a company.
     pub fn actor(&self) -> Option<Seat>
         ensures { result ≡ actor_of self.now }
     {

@@ -2,11 +2,11 @@
 //! ruling of a line in few bytes.
 //!
 //! An event has a few aspects: the payment that it makes, the shares that it moves, what it says of
-//! a private's owner and of the bids on it, the par value, square and president of a company that
-//! it sets, .. Each function of `Event` gives one of them, as `specs/Event.antt` has it. An aspect
-//! that one kind of order alone has (how far a seat goes in an auction, the par value that it sets
-//! for BO, the sale that it offers) is asked of the ruling. What a list of events says is no matter
-//! of this crate: `totals` looks back over lists, by these aspects alone.
+//! a private's owner and of the bids on it, the par value, square and president that it sets for a
+//! company, and so on. Each function of `Event` returns one of them, as `specs/Event.antt` defines
+//! it. A few aspects belong to one kind of order alone: how far a seat goes in an auction, the par
+//! value that it sets for BO, the sale that it offers. The ruling has those. This crate does not
+//! look at lists of events: `totals` looks back over lists, by these aspects alone.
 //!
 //! Reading order: `event` (events and their aspects), `ruling` (what became of a line),
 //! `packed_place`, `packed_run` and `packed` (how an event packs that).

@@ -1,4 +1,4 @@
-//! Orders and rulings as events keep them, in few bytes; an order under a condition is behind a box
+//! Orders and rulings as events keep them, in few bytes. An order under a condition is in a box
 //! with it.
 ghost use Rattle.std.specs.Prelude.{◌≡◌, ◌++◌, None, Some, MatchResult, OnOk};
 ghost use Rattle.std.specs.Option.{option_copied};
@@ -24,14 +24,14 @@ use std::alloc::{AllocError, Global};
 use std::marker::Model;
 use tables::{Amount, Company, Kind, Private, par_square};
 
-/// An order that is to be ruled, with its condition if it has one, in few bytes; contracts see the
-/// two.
+/// An order that is to be ruled, with its condition if it has one, in few bytes; in a contract it
+/// is the two.
 #[derive(Debug, Drop)]
 pub struct PackedLine {
     packed: PackedForm,
 }
 
-/// An order without a condition, or one under a condition behind a box.
+/// An order without a condition, or one under a condition in a box.
 #[derive(Debug, Drop)]
 enum PackedForm {
     Plain(PackedOrder),
@@ -45,8 +45,7 @@ struct PackedConditional {
     order: PackedOrder,
 }
 
-/// An order of few bytes, a run of few places, any other run behind a box, or any other order
-/// behind one.
+/// An order of few bytes, a run of few places, any other run in a box, or any other order in a box.
 #[derive(Debug, Drop)]
 enum PackedOrder {
     Short(ShortOrder),
@@ -65,9 +64,9 @@ impl Model for PackedLine {
 }
 
 impl PackedLine {
-    /// Packs a copy of an order with its condition, if it has one. An `Err` comes only where a box
-    /// gets no memory; of the orders that are ruled, only one under a condition and a run of more
-    /// than five places need one.
+    /// Packs a copy of an order with its condition, if it has one. Fails only if the allocation of
+    /// a box fails. Of the orders that are ruled, only one under a condition and a run of more than
+    /// five places need a box.
     pub fn pack(
         alloc: Global,
         condition: Option<&Condition>,
@@ -111,7 +110,7 @@ impl PackedOrder {
         Ok(packed)
     }
 
-    /// The order that is packed.
+    /// Returns the order that is packed.
     fn order(&self) -> Order
         ensures { result ≡ order_in self.now }
     {
@@ -123,7 +122,7 @@ impl PackedOrder {
         }
     }
 
-    /// The order, if it is one of few bytes.
+    /// Returns the order, if it is one of few bytes.
     fn short(&self) -> Option<ShortOrder>
         ensures { IsShortOf (Some (order_in self.now)) result }
     {
@@ -148,7 +147,7 @@ impl PackedOrder {
     }
 }
 
-/// A ruling as an event keeps it, in few bytes; contracts see the ruling.
+/// A ruling as an event keeps it, in few bytes; in a contract it is the ruling.
 #[derive(Debug, Drop)]
 pub struct PackedRuling {
     packed: PackedRulingForm,
@@ -200,7 +199,7 @@ enum PackedRulingForm {
     Faulty(Fault),
 }
 
-// The verdict is beside the order's form, so that a ruling takes no more than an order.
+// The verdict stands beside the order's form, so that a ruling needs no more room than an order.
 const _: () = prove!(size_of::<PackedRuling>() <= 16);
 
 impl Model for PackedRuling {
@@ -213,21 +212,21 @@ impl Model for PackedRuling {
 }
 
 impl PackedRuling {
-    /// The order was carried out; its condition held, if it has one.
+    /// Returns the ruling of an order that was carried out; its condition held, if it has one.
     pub fn obeyed(order: PackedLine) -> PackedRuling
         ensures { result ≡ Obeyed order.condition order.order }
     {
         PackedRuling::of(OrderVerdict::Obeyed, order)
     }
 
-    /// The order breaks a rule of play, of which this is the first.
+    /// Returns the ruling of an order that breaks a rule of play, of which this is the first.
     pub fn refused(rule: Refusal, order: PackedLine) -> PackedRuling
         ensures { result ≡ Refused rule order.condition order.order }
     {
         PackedRuling::of(OrderVerdict::Refused(rule), order)
     }
 
-    /// The line has a fault by itself or has no place where it is.
+    /// Returns the ruling of a line that has a fault by itself or has no place where it stands.
     pub fn faulty(fault: Fault) -> PackedRuling
         ensures { result ≡ Faulty fault }
     {
@@ -236,7 +235,7 @@ impl PackedRuling {
         }
     }
 
-    /// An order with its verdict.
+    /// Returns the ruling of an order with this verdict.
     fn of(verdict: OrderVerdict, order: PackedLine) -> PackedRuling
         ensures { result ≡ ruling_by verdict order.condition order.order }
     {
@@ -260,7 +259,7 @@ impl PackedRuling {
         PackedRuling { packed }
     }
 
-    /// The ruling that is packed.
+    /// Returns the ruling that is packed.
     pub fn ruling(&self) -> Ruling
         ensures { result ≡ self.now }
     {
@@ -284,7 +283,7 @@ impl PackedRuling {
         }
     }
 
-    /// What became of the line, without the order.
+    /// Returns what became of the line, without the order.
     pub fn verdict(&self) -> Verdict
         ensures { result ≡ verdict_of self.now }
     {
@@ -299,7 +298,7 @@ impl PackedRuling {
     }
 
     /// Adds the spelling of its order under the condition, if it has one: upper case, single
-    /// spaces, no leading zeros. Nothing for a fault. An error where memory is refused.
+    /// spaces, no leading zeros. Adds nothing for a fault. Fails only if allocation fails.
     pub fn print_order(&self, text: &mut Vec<u8>) -> Result<(), AllocError>
         ensures { OnOk result (text.new.items ≡ text.old.items ++ order_text self.now) }
     {
@@ -316,7 +315,7 @@ impl PackedRuling {
         }
     }
 
-    /// The order that it obeys, if it obeys one that takes few bytes: any but a run through places.
+    /// Returns the order that it obeys, if that needs few bytes: any but a run through places.
     #[inline(always)]
     pub fn short_obeyed(&self) -> Option<ShortOrder>
         ensures { IsShortOf (order_obeyed self.now) result }
@@ -338,8 +337,8 @@ impl PackedRuling {
         }
     }
 
-    /// Whether it obeys an order that is by itself an act of a turn: the purchase of a private, a
-    /// bid on one, or a sale of shares. The purchase of shares shows by its event.
+    /// Returns whether it obeys an order that is by itself an act of a turn: the purchase of a
+    /// private, a bid on one, or a sale of shares. The event shows a purchase of shares.
     pub fn is_act(&self) -> bool
         ensures { result ≡ acts self.now }
     {
@@ -349,8 +348,8 @@ impl PackedRuling {
         )
     }
 
-    /// The private in whose auction the order that it obeys says how far to go, and how far, if it
-    /// does.
+    /// Returns the private and the limit, in dollars, of the LIMIT order that it obeys, if it obeys
+    /// one.
     pub fn limit(&self) -> Option<(Private, Amount)>
         ensures { (private : Private) →
             limit_said private result ≡ limit_obeyed private self.now }
@@ -361,14 +360,15 @@ impl PackedRuling {
         }
     }
 
-    /// How far the order that it obeys says to go in an auction of a private, if it does.
+    /// Returns the limit that the order that it obeys sets for an auction of a private, in dollars,
+    /// if it sets one.
     pub fn limit_on(&self, private: Private) -> Option<Amount>
         ensures { result ≡ limit_obeyed private self.now }
     {
         limit_said(private, self.limit())
     }
 
-    /// The sale that the order that it obeys offers, if it does.
+    /// Returns the sale that the order that it obeys offers, if it offers one.
     pub fn offer(&self) -> Option<Offer>
         ensures { (sale : Offer) → offer_said sale result ≡ offer_obeyed sale self.now }
     {
@@ -378,7 +378,7 @@ impl PackedRuling {
         }
     }
 
-    /// A sale, if the order that it obeys offers it.
+    /// Returns a sale, if the order that it obeys offers it.
     pub fn offer_of(&self, sale: Offer) -> Option<Offer>
         ensures { result ≡ offer_obeyed sale self.now }
     {
@@ -388,7 +388,7 @@ impl PackedRuling {
         }
     }
 
-    /// The par value that the order that it obeys says BO is to have, if it does.
+    /// Returns the par value that the order that it obeys sets for BO, if it sets one.
     pub fn par_of_baltimore(&self) -> Option<Amount>
         ensures { result ≡ par_of_baltimore_obeyed self.now }
     {
@@ -399,7 +399,7 @@ impl PackedRuling {
     }
 }
 
-/// How far to go in the auction of a private, where that is the one that is named with a sum.
+/// Returns the sum that is said with a private, if it is said of this one.
 fn limit_said(private: Private, said: Option<(Private, Amount)>) -> Option<Amount>
     ensures { result ≡ limit_said private said }
 {
@@ -409,7 +409,7 @@ fn limit_said(private: Private, said: Option<(Private, Amount)>) -> Option<Amoun
     }
 }
 
-/// Whether two sales that are offered are the same.
+/// Returns whether two sales that are offered are the same.
 pub fn is_offer(one: Offer, sale: Offer) -> bool
     ensures { result ≡ same_offer one sale }
 {
@@ -443,14 +443,14 @@ pub fn is_offer(one: Offer, sale: Offer) -> bool
     }
 }
 
-/// Whether two sales are to the same buyer at the same price.
+/// Returns whether two sales are to the same buyer at the same price.
 fn is_on_terms(buyer: Company, price: Amount, to: Company, sum: Amount) -> bool
     ensures { result ≡ same_terms buyer price to sum }
 {
     buyer == to && price == sum
 }
 
-/// The ruling of an order.
+/// Returns the ruling of an order.
 fn ruling_of(verdict: OrderVerdict, condition: Option<Condition>, order: Order) -> Ruling
     ensures { result ≡ ruling_by verdict condition order }
 {
@@ -473,14 +473,14 @@ fn print_run(text: &mut Vec<u8>, kind: Kind, places: &[PackedPlace]) -> Result<(
     print_places(text, places)
 }
 
-/// The order to run a train.
+/// Returns the order to run a train.
 fn run_order(kind: Kind, run: Run) -> Order
     ensures { result ≡ order.Run kind run }
 {
     Order::Run { kind, run }
 }
 
-/// The par value that BO is to have where a company is to have this one.
+/// Returns the par value that an order sets for BO, if the company that it names is BO.
 fn par_of_baltimore(company: Company, price: Amount) -> Option<Amount>
     ensures { result ≡ par_of_baltimore_in (order.Par company price) }
 {

@@ -46,7 +46,7 @@ impl PackedPlace {
         }
     }
 
-    /// The place that is packed.
+    /// Returns the place that is packed.
     pub(crate) fn place(self) -> Place
         ensures { result ≡ self }
     {

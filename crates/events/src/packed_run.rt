@@ -20,7 +20,7 @@ pub(crate) enum ShortRun {
 }
 
 impl ShortRun {
-    /// Packs a copy of a run; `None` where it has more than five places.
+    /// Packs a copy of a run; `None` if it has more than five places.
     pub(crate) fn pack(run: &Run) -> Option<ShortRun>
         ensures { MatchOption result (5 < length run.now) (λ short. places_in short ≡ run.now) }
     {
@@ -48,14 +48,14 @@ impl ShortRun {
         }
     }
 
-    /// The run that is packed.
+    /// Returns the run that is packed.
     pub(crate) fn run(&self) -> Run
         ensures { result ≡ places_in self.now }
     {
         run_of(self.places())
     }
 
-    /// Its places, 2 to 5.
+    /// Returns its places, 2 to 5.
     pub(crate) fn places(&self) -> &[PackedPlace]
         ensures places { result.now ≡ places_in self.now }
         ensures least { 2 ≤ length (places_in self.now) }
@@ -89,7 +89,7 @@ impl Model for LongRun {
 }
 
 impl LongRun {
-    /// Packs a copy of a run. An `Err` comes only where its places get no memory.
+    /// Packs a copy of a run. Fails only if the allocation of its places fails.
     pub(crate) fn pack(alloc: Global, run: &Run) -> Result<LongRun, AllocError>
         ensures { IfOk result (λ packed. packed ≡ run.now) }
     {
@@ -101,14 +101,14 @@ impl LongRun {
         Ok(LongRun { places })
     }
 
-    /// The run that is packed.
+    /// Returns the run that is packed.
     pub(crate) fn run(&self) -> Run
         ensures { result ≡ self.now }
     {
         run_of(self.places())
     }
 
-    /// Its places, 2 to 280.
+    /// Returns its places, 2 to 280.
     pub(crate) fn places(&self) -> &[PackedPlace]
         ensures places { result.now ≡ self.now }
         ensures least { 2 ≤ length self.now }
@@ -118,7 +118,7 @@ impl LongRun {
     }
 }
 
-/// The run of these places.
+/// Returns the run of these places.
 fn run_of(packed: &[PackedPlace]) -> Run
     requires least { 2 ≤ length packed.now }
     requires most { length packed.now ≤ 280 }

@@ -4,6 +4,7 @@ ghost use Rattle.events.specs.Event.{code_of_stock_rule, code_of_train_rule};
 
 use map_tables::{LayRule, RunRule, TokenRule};
 use order_grammar::{Condition, Fault, Order};
+use std::fmt::{self, Display, Formatter, Write};
 use thiserror::Error;
 
 /// Which rule of play an order breaks first, by the family of the rule.
@@ -25,12 +26,12 @@ pub enum Refusal {
     Train(TrainRule),
     /// A rule of privates that companies buy.
     Private(PrivateRule),
-    /// I1: the order is under a condition that does not hold.
+    /// I1.
     Condition,
 }
 
 impl Refusal {
-    /// The code that a report prints.
+    /// Returns the code that a report prints.
     pub fn code(self) -> &'static str
         ensures { result.now ≡ code_of_refusal self }
     {
@@ -46,37 +47,48 @@ impl Refusal {
             Refusal::Condition => "I1",
         }
     }
+
+    /// Returns what is wrong, in a player's words. The desk and the tables of the docs print no
+    /// other.
+    pub fn sentence(self) -> &'static str {
+        match self {
+            Refusal::Opening(rule) => rule.sentence(),
+            Refusal::Stock(rule) => rule.sentence(),
+            Refusal::Lay(rule) => rule.sentence(),
+            Refusal::Token(rule) => rule.sentence(),
+            Refusal::Run(rule) => rule.sentence(),
+            Refusal::Pay(rule) => rule.sentence(),
+            Refusal::Train(rule) => rule.sentence(),
+            Refusal::Private(rule) => rule.sentence(),
+            Refusal::Condition => {
+                "the condition does not hold as the line is taken up, or, of a standing line, \
+                    as the round begins"
+            }
+        }
+    }
 }
 
 /// A rule that an order in an opening round may break.
 #[derive(Clone, Copy, Debug, PartialEq, Eq, Drop, Error)]
 pub enum OpeningRule {
-    /// A1: the order is no purchase of a private and no bid, or a par value is set for a company
-    /// other than BO, or to a sum that is no par value.
-    #[error("the order has no place in an opening round")]
+    /// A1.
     NotOfOpening,
-    /// A2: the private is sold.
-    #[error("the private is sold")]
+    /// A2.
     Sold,
-    /// A3: the private to buy is not the cheapest that is unsold.
-    #[error("the private is not the cheapest that is unsold")]
+    /// A3.
     NotCheapest,
-    /// A4: the bid is not 5 above the face value and above every earlier bid.
-    #[error("the bid is not 5 above the face value and above every earlier bid")]
+    /// A4.
     BidTooLow,
-    /// A5: the sum is over the seat's cash that is free of its other bids.
-    #[error("the sum is over the seat's free cash")]
+    /// A5.
     CashTooSmall,
-    /// A6: the seat has bought or bid in this turn.
-    #[error("the seat has bought or bid in this turn")]
+    /// A6.
     TurnUsed,
-    /// A7: the bid is for the cheapest private that is unsold.
-    #[error("the bid is for the cheapest private that is unsold")]
+    /// A7.
     BidForCheapest,
 }
 
 impl OpeningRule {
-    /// The code that a report prints.
+    /// Returns the code that a report prints.
     pub fn code(self) -> &'static str
         ensures { result.now ≡ code_of_opening_rule self }
     {
@@ -90,61 +102,71 @@ impl OpeningRule {
             OpeningRule::BidForCheapest => "A7",
         }
     }
+
+    /// Returns what is wrong, in a player's words. The desk and the tables of the docs print no
+    /// other.
+    pub fn sentence(self) -> &'static str {
+        match self {
+            OpeningRule::NotOfOpening => {
+                "the line neither buys a private nor bids on one; or a standing PAR is not for \
+                    BO, or names no par value"
+            }
+            OpeningRule::Sold => "the private is sold",
+            OpeningRule::NotCheapest => "it buys a private that is not the cheapest unsold",
+            OpeningRule::BidTooLow => {
+                "it bids under 5 above the face value, or under 5 above a bid that stands"
+            }
+            OpeningRule::CashTooSmall => {
+                "it costs more than your cash less your bids on other privates"
+            }
+            OpeningRule::TurnUsed => "you have bought or bid in this turn",
+            OpeningRule::BidForCheapest => "it bids on the cheapest private",
+        }
+    }
+}
+
+/// Its sentence.
+impl Display for OpeningRule {
+    fn fmt<W: Write>(&self, f: &mut Formatter<W>) -> fmt::Result {
+        f.write_str(self.sentence())
+    }
 }
 
 /// A rule that an order in a stock round may break.
 #[derive(Clone, Copy, Debug, PartialEq, Eq, Drop, Error)]
 pub enum StockRule {
-    /// S1: the order is none of a stock round; or shares are to be sold for a train, and nothing has
-    /// to be raised.
-    #[error("the order has no place in a stock round")]
+    /// S1.
     NotOfStock,
-    /// S2: nothing is sold in the first stock round.
-    #[error("nothing is sold in the first stock round")]
+    /// S2.
     SaleInFirstRound,
-    /// S3: none are to be sold, or more than the seat has.
-    #[error("none are to be sold, or more than the seat has")]
+    /// S3.
     NotHeld,
-    /// S4: the bank pool would have over five shares of the company.
-    #[error("the bank pool would have over five tenths of the company")]
+    /// S4.
     PoolFull,
-    /// S5: the seat is president, would keep fewer than two shares, and no other seat has two; or
-    /// the presidency of the company for which shares are sold would pass.
-    #[error("no other seat could follow the president")]
+    /// S5.
     PresidentMustStay,
-    /// S6: the seat has sold shares of the company in this round.
-    #[error("the seat has sold tenths of the company in this round")]
+    /// S6.
     SoldInRound,
-    /// S7: none are where they are to be bought.
-    #[error("none are where they are to be bought")]
+    /// S7.
     NoneThere,
-    /// S8: the sum is no par value, or the company has none.
-    #[error("the sum is no par value, or the company has none")]
+    /// S8.
     NoParValue,
-    /// S9: a company that is started can't be started, and of one that is not nothing is bought or
-    /// sold.
-    #[error("the company is started, or it is not")]
+    /// S9.
     WrongStart,
-    /// S10: the sum is over the seat's cash that is free of its bids.
-    #[error("the sum is over the seat's free cash")]
+    /// S10.
     CashTooSmall,
-    /// S11: the certificate would count, and the seat has reached the limit.
-    #[error("the seat has reached the limit of certificates")]
+    /// S11.
     CertificateLimit,
-    /// S12: the seat would have over six shares of the company.
-    #[error("the seat would have over six tenths of the company")]
+    /// S12.
     OverSixShares,
-    /// S13: the seat has bought in this turn.
-    #[error("the seat has bought in this turn")]
+    /// S13.
     BoughtBefore,
-    /// S14: the seat doesn't own MH, no share of NYC is with the bank, or the seat would have over
-    /// six.
-    #[error("MH cannot be exchanged")]
+    /// S14.
     NoExchange,
 }
 
 impl StockRule {
-    /// The code that a report prints.
+    /// Returns the code that a report prints.
     pub fn code(self) -> &'static str
         ensures { result.now ≡ code_of_stock_rule self }
     {
@@ -165,17 +187,60 @@ impl StockRule {
             StockRule::NoExchange => "S14",
         }
     }
+
+    /// Returns what is wrong, in a player's words. The desk and the tables of the docs print no
+    /// other.
+    pub fn sentence(self) -> &'static str {
+        match self {
+            StockRule::NotOfStock => {
+                "the line is none of PAR, BUY of a share, SELL and EXCHANGE; or the RAISE is \
+                    not needed"
+            }
+            StockRule::SaleInFirstRound => "it sells in SR1",
+            StockRule::NotHeld => "it sells nothing, or more than you hold",
+            StockRule::PoolFull => "it would bring the pool over five shares of the company",
+            StockRule::PresidentMustStay => {
+                "you preside, would keep under two shares, and nobody else has two to take the \
+                    president's certificate; or a RAISE would move the presidency of the \
+                    company that operates"
+            }
+            StockRule::SoldInRound => "you have sold shares of the company in this round",
+            StockRule::NoneThere => "no share is where you buy",
+            StockRule::NoParValue => "it names no par value",
+            StockRule::WrongStart => {
+                "it starts a company that is started, or buys or sells of one that is not"
+            }
+            StockRule::CashTooSmall => "it costs more than your cash",
+            StockRule::CertificateLimit => {
+                "you hold as many certificates as you may, and this one counts"
+            }
+            StockRule::OverSixShares => {
+                "you would hold over six shares, outside the orange and the brown zone"
+            }
+            StockRule::BoughtBefore => "you have bought in this turn",
+            StockRule::NoExchange => {
+                "you do not own MH, or no share of NYC is left, or you have six"
+            }
+        }
+    }
+}
+
+/// Its sentence.
+impl Display for StockRule {
+    fn fmt<W: Write>(&self, f: &mut Formatter<W>) -> fmt::Result {
+        f.write_str(self.sentence())
+    }
 }
 
 /// A rule that the payment or the withholding of what a company earned may break.
 #[derive(Clone, Copy, Debug, PartialEq, Eq)]
 pub enum PayRule {
-    /// D1: the turn is past its payment, or a dividend is to be paid of nothing.
+    /// D1.
     NothingToPay,
 }
 
 impl PayRule {
-    /// The code that a report prints.
+    /// Returns the code that a report prints.
     pub fn code(self) -> &'static str
         ensures { result.now ≡ code_of_pay_rule self }
     {
@@ -183,31 +248,39 @@ impl PayRule {
             PayRule::NothingToPay => "D1",
         }
     }
+
+    /// Returns what is wrong, in a player's words. The desk and the tables of the docs print no
+    /// other.
+    pub fn sentence(self) -> &'static str {
+        match self {
+            PayRule::NothingToPay => {
+                "the company has paid or withheld; or PAY stands where it has earned nothing"
+            }
+        }
+    }
 }
 
 /// A rule that the purchase or the discarding of a train may break.
 #[derive(Clone, Copy, Debug, PartialEq, Eq)]
 pub enum TrainRule {
-    /// T1: such a train is not on sale.
+    /// T1.
     NotOnSale,
-    /// T2: the company would have more trains than the phase allows.
+    /// T2.
     TrainLimit,
-    /// T3: the train costs more than the company has.
+    /// T3.
     CashTooSmall,
-    /// T4: the price is 0, or the seller's president is not the buyer's and has not offered exactly
-    /// this sale in this round; an offer is at price 0, or not of the seller's president.
+    /// T4.
     NoConsent,
-    /// T5: the seller has no such train, or is the buyer.
+    /// T5.
     NotSellers,
-    /// T6: the train to be traded in is none that the company has, or none that may be traded in.
+    /// T6.
     NoTradeIn,
-    /// T7: the seat is not the president of the company that is to discard, or the company has no
-    /// such train.
+    /// T7.
     NoDiscard,
 }
 
 impl TrainRule {
-    /// The code that a report prints.
+    /// Returns the code that a report prints.
     pub fn code(self) -> &'static str
         ensures { result.now ≡ code_of_train_rule self }
     {
@@ -221,26 +294,48 @@ impl TrainRule {
             TrainRule::NoDiscard => "T7",
         }
     }
+
+    /// Returns what is wrong, in a player's words. The desk and the tables of the docs print no
+    /// other.
+    pub fn sentence(self) -> &'static str {
+        match self {
+            TrainRule::NotOnSale => "the bank or the pool does not sell such a train now",
+            TrainRule::TrainLimit => "the company has as many trains as it may",
+            TrainRule::CashTooSmall => "it costs more than the company's cash",
+            TrainRule::NoConsent => {
+                "who sells has not consented to exactly this sale in this round, or the price \
+                    is 0; or an OFFER is at 0, or not of the seller's president"
+            }
+            TrainRule::NotSellers => "the seller has no such train, or is the buyer",
+            TrainRule::NoTradeIn => {
+                "the train to be traded in is not the company's, or no 4, 5 or 6, or not for a \
+                    D"
+            }
+            TrainRule::NoDiscard => {
+                "DISCARD of a company over which you did not preside as the round began, or of \
+                    a train that it had not"
+            }
+        }
+    }
 }
 
 /// A rule that the purchase of a private by a company may break.
 #[derive(Clone, Copy, Debug, PartialEq, Eq)]
 pub enum PrivateRule {
-    /// P1: phase 3 has not begun.
+    /// P1.
     TooEarly,
-    /// P2: the price is under half of the face value or over twice that.
+    /// P2.
     WrongPrice,
-    /// P3: no player owns the private, or its owner is not the company's president and has not
-    /// offered exactly this sale in this round; an offer is not of the private's owner.
+    /// P3.
     NoConsent,
-    /// P4: BOP is never sold to a company.
+    /// P4.
     NeverSold,
-    /// P5: the company has less than the price.
+    /// P5.
     CashTooSmall,
 }
 
 impl PrivateRule {
-    /// The code that a report prints.
+    /// Returns the code that a report prints.
     pub fn code(self) -> &'static str
         ensures { result.now ≡ code_of_private_rule self }
     {
@@ -250,6 +345,21 @@ impl PrivateRule {
             PrivateRule::NoConsent => "P3",
             PrivateRule::NeverSold => "P4",
             PrivateRule::CashTooSmall => "P5",
+        }
+    }
+
+    /// Returns what is wrong, in a player's words. The desk and the tables of the docs print no
+    /// other.
+    pub fn sentence(self) -> &'static str {
+        match self {
+            PrivateRule::TooEarly => "it comes before phase 3",
+            PrivateRule::WrongPrice => "the price is under half the face value or over twice that",
+            PrivateRule::NoConsent => {
+                "no player owns it, or its owner has not consented to exactly this sale in \
+                    this round; or an OFFER is not of its owner"
+            }
+            PrivateRule::NeverSold => "it is BOP",
+            PrivateRule::CashTooSmall => "it costs more than the company's cash",
         }
     }
 }

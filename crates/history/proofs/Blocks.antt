@@ -1,4 +1,5 @@
--- A sale of shares keeps a list sound, and so do a presidency that passes, a float and a token that moves.
+-- A sale of shares keeps a list sound, and so do a presidency that passes, a float and a token that
+-- moves.
 use Rattle.std.proofs.Common.{◌≡◌, ℕ, ◌<◌, ◌==◌, inl, inr, Bool, false, if◌then◌else◌, List, [], ◌∷◌, ◌++◌, Option}
 use Rattle.std.proofs.Common.{Some, None, is_some, unwrap_or, ℤ, pos, ◌≤ℤ◌, refl, sym, subst, ap, ◌∙◌, arith}
 use Rattle.std.proofs.lemmas.Int.{ints}

@@ -1,4 +1,5 @@
--- A forced purchase keeps a list sound: that it is due, what the president pays of it, and that he is bankrupt.
+-- A forced purchase keeps a list sound: that it is due, what the president pays of it, and that the
+-- president is bankrupt.
 use Rattle.std.proofs.Common.{ℕ, inl, inr, pos, ◌≤ℤ◌, refl, subst, ap, arith}
 use Rattle.std.proofs.lemmas.Bool.{cases_eq}
 use Rattle.std.proofs.lemmas.Int.{ints}

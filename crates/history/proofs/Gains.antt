@@ -1,5 +1,6 @@
--- Shares that come from the bank to a seat, by an event that says nothing else but perhaps of money: each president has
--- at least as many as before, and enough are left in each initial offering, where there were.
+-- Shares that come from the bank to a seat, by an event that says nothing else, except perhaps of
+-- money. Each president has at least as many as before, and enough are left in each initial
+-- offering, if there were.
 use Rattle.std.proofs.Common.{◌≡◌, ℕ, ◌+◌, List, [], ◌∷◌, ◌++◌, Some, None, pos, ◌≤ℤ◌, refl, sym, ◌∙◌, arith}
 use Rattle.std.proofs.lemmas.Int.{ints}
 use Rattle.events.specs.Event.{bidding_of, floated_by, office_of, ownership_of, par_set, payment_of, place_of_source}
@@ -46,8 +47,8 @@ bank_at_table seats InitialOffering bank = tt
 bank_at_table seats BankPool bank = tt
 bank_at_table seats (OfSeat seat) bank = absurd bank
 
--- an event moves these shares from the bank to a seat, and says nothing else but perhaps of money, which it moves
--- within the table
+-- an event moves these shares from the bank to a seat, and says nothing else, except perhaps of
+-- money, which it moves within the table
 pub record Gains (seats : ℕ) (event : Event) (transfer : Transfer) : Type 0 where
   pub moves : transfer_of event ≡ Some transfer
   pub from_bank : IsOfBank transfer.from
@@ -153,7 +154,8 @@ offered_gained events event transfer moves no_owner no_square enough company unp
           event company no_owner,
     )
 
--- such an event keeps a list sound, where the bank has this many, enough are left and nobody is left owing
+-- such an event keeps a list sound, where the bank has this many, enough are left and nobody is
+-- left owing
 pub gain_sound : (game : Game) (event : Event) (transfer : Transfer) → Gains game.seats event transfer
     → pos transfer.shares ≤ℤ shares_of game.events transfer.company transfer.from → EnoughAreLeft game.events transfer
     → SeatsAreSolvent (with_event game event) → CompaniesAreSolvent (with_event game event) → IsSound game

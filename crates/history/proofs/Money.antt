@@ -1,4 +1,5 @@
--- A payment takes from one party what it brings to another, so that all money stays what it was at first.
+-- A payment takes from one party what it adds to another, so that all money stays what it was at
+-- first.
 use Rattle.std.proofs.Common.{◌≡◌, ◌≢◌, ℕ, zero, suc, ◌+◌, ◌*◌, ◌-◌, ◌≤◌, ◌<◌, inl, inr, if◌then◌else◌, List, [], ◌∷◌}
 use Rattle.std.proofs.Common.{◌++◌, map, Option, Some, None, pos, ◌-ℤ◌, ◌+ℤ◌, refl, sym, subst, ap, ◌∙◌, arith}
 use Rattle.std.proofs.lemmas.Bool.{cases_eq}
@@ -103,7 +104,7 @@ with_parties seats (party.Holder (holder.Company company)) sum is =
           sum,
     )
 
--- a party's cash with an event in front
+-- a party's cash with an event before them
 cash_in_front : (seats : ℕ) (event : Event) (events : List Event) (one : Party)
     → cash_of seats (event ∷ events) one ≡ (cash_of seats events one +ℤ pos (paid_to one (payment_of event))) -ℤ pos
     (paid_by one (payment_of event))
@@ -131,7 +132,7 @@ unpaid seats event events (one ∷ others) none =
           seats event events others none,
     )
 
--- with one they have what it brings more, and what it takes less
+-- with a payment parties have together what it adds more, and what it takes less
 paid : (seats : ℕ) (event : Event) (events : List Event) (payment : Payment) (some : List Party)
     → payment_of event ≡ Some payment → cash_together seats (event ∷ events) some
     ≡ (cash_together seats events some +ℤ pos (sum_with payment.to payment.amount some)) -ℤ pos

@@ -1,5 +1,5 @@
--- A list that is sound but perhaps for who leads the companies; and the word that the bank is broken, which
--- changes nothing else.
+-- A list that is sound, except perhaps for who leads the companies; and the word that the bank is
+-- broken, which changes nothing else.
 use Rattle.std.proofs.Common.{◌≡◌, ℕ, true, false, if◌then◌else◌, List, [], ◌∷◌, ◌++◌, None, refl}
 use Rattle.events.specs.Event.{IsQuiet, bidding_of, ownership_of, payment_of, square_set, sv_price_set, tile_laid}
 use Rattle.events.specs.Event.{token_placed, train_moved, transfer_of}
@@ -22,7 +22,7 @@ use Rattle.history.specs.Record.{breaks, broken_recorded}
 use Rattle.totals.specs.Trains.{TrainsAreHeld}
 use Rattle.tables.specs.declared.seat.Seat.{Seat}
 
--- sound but perhaps for who leads the companies
+-- sound, except perhaps for who leads the companies
 pub record IsNearlySound (game : Game) : Type 0 where
   pub solvent : SeatsAreSolvent game
   pub companies : CompaniesAreSolvent game

@@ -1,4 +1,5 @@
--- A private's owner has paid for it, so that it is a party of the game where all payments go between parties.
+-- A private's owner has paid for it, so that it is a party of the game where all payments go
+-- between parties.
 use Rattle.std.proofs.Common.{◌≡◌, ◌<◌, ◌⊎◌, inl, inr, List, [], ◌∷◌, ℕ, Bool, true, false, if◌then◌else◌, Option, Some}
 use Rattle.std.proofs.Common.{None, subst, ap}
 use Rattle.std.specs.Option.{option_flatten, option_or}

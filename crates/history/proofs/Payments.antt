@@ -1,5 +1,5 @@
--- An event that moves money within the table and says nothing else keeps a list sound, where no seat pays and each
--- company has what it pays.
+-- An event that moves money within the table and says nothing else keeps a list sound, where no
+-- seat pays and each company has what it pays.
 use Rattle.std.proofs.Common.{◌≡◌, ℕ, inl, inr, if◌then◌else◌, [], ◌∷◌, ◌++◌, None, pos, ◌≤ℤ◌, refl, subst, arith}
 use Rattle.std.proofs.lemmas.Int.{ints}
 use Rattle.events.specs.Event.{bidding_of, floated_by, office_of, ownership_of, par_set, party_at, party_of_company}

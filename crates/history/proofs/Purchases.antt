@@ -1,4 +1,5 @@
--- A purchase of shares keeps a list sound; so do the start of a company by a purchase, and MH's exchange.
+-- A purchase of shares keeps a list sound; so do the start of a company by a purchase, and MH's
+-- exchange.
 use Rattle.std.proofs.Common.{◌≡◌, ℕ, ◌≤◌, ◌<◌, inl, inr, Bool, false, if◌then◌else◌, ◌&&◌, List, [], ◌∷◌, ◌++◌, Option}
 use Rattle.std.proofs.Common.{Some, None, is_some, is_none, ℤ, pos, ◌≤ℤ◌, refl, sym, subst, ap, ◌∙◌, arith}
 use Rattle.std.proofs.lemmas.Bool.{cases_eq}
@@ -79,7 +80,7 @@ purchase company seat shares from = record {
   shares = shares;
 }
 
--- a purchase says nothing else but of money
+-- a purchase says nothing else, except of money
 purchase_gains : (seats : ℕ) (company : Company) (seat : Seat) (shares : ℕ) (from : ShareSource) (price : ℕ)
     → seat.0 < seats → Gains seats (Bought company seat shares from price) (purchase company seat shares from)
 purchase_gains seats company seat shares from price seated =

@@ -5,7 +5,7 @@ use Rattle.events.specs.declared.event.Event.TheVariants as event
 use Rattle.history.specs.Record.{with_left}
 use Rattle.tables.specs.declared.seat.Seat.{Seat}
 
--- a LEFT event is in front of others
+-- a LEFT event is before others
 pub left_first : (seat : Seat) (count : ℕ) (events : List Event)
     → with_left seat count [] ++ events ≡ with_left seat count events
 left_first seat count events =

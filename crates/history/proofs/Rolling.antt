@@ -1,5 +1,5 @@
--- An event that moves no train leaves all trains where they lie. One that moves a train that is there leaves
--- nobody with fewer than none, and the bank has sold no more than there are.
+-- An event that moves no train leaves all trains where they lie. One that moves a train that is
+-- there leaves nobody with a negative number, and the bank has sold no more than there are.
 use Rattle.std.proofs.Common.{◌≡◌, ℕ, ◌+◌, ◌<◌, inl, inr, Bool, true, false, ◌&&◌, ◌==◌, if◌then◌else◌, List, [], ◌∷◌}
 use Rattle.std.proofs.Common.{◌++◌, Option, Some, None, ℤ, pos, ◌≤ℤ◌, refl, sym, subst, ap, ◌∙◌, arith}
 use Rattle.std.proofs.lemmas.Bool.Decides.{Decides-eqb}

@@ -1,4 +1,4 @@
--- The sales that the round has had offered, with that of one more event.
+-- The sales that were offered in the round, with that of one more event.
 use Rattle.std.proofs.Common.{◌≡◌, ◌||◌, false, if◌then◌else◌, List, [], ◌∷◌, ◌++◌, Option, Some, None, is_some, refl}
 use Rattle.std.proofs.Common.{ap, sym, ◌∙◌}
 use Rattle.std.proofs.lemmas.List.Folds.{list_any-append}
@@ -35,7 +35,7 @@ offer_added event offers longer said seat sale quiet grows says =
     (ap (λ begins. if begins then false else (is_among seat sale offers
     || is_some (said_by seat (offered_in sale) (obeyed_of event)))) quiet)
 
--- and the offers that the round has had once it is recorded
+-- and the offers of the round once it is recorded
 pub offers_applied :
     (events : List Event) (event : Event) (offers longer : List (Seat × Offer)) →
     ((seat : Seat) (sale : Offer) → is_among seat sale longer

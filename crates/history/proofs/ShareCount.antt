@@ -1,5 +1,5 @@
--- What becomes of the shares of the companies where an event moves some: they leave one place and go to another, and
--- ten stay ten.
+-- What becomes of the shares of the companies where an event moves some: they leave one place and
+-- go to another, and ten stay ten.
 use Rattle.std.proofs.Common.{◌≡◌, ◌≢◌, ℕ, zero, suc, ◌+◌, ◌≤◌, ◌<◌, inl, inr, Bool, true, if◌then◌else◌, List, [], ◌∷◌}
 use Rattle.std.proofs.Common.{◌++◌, Some, map, pos, ◌≤ℤ◌, ◌-ℤ◌, ◌+ℤ◌, refl, subst, ap, arith}
 use Rattle.std.proofs.lemmas.Bool.{cases_eq}

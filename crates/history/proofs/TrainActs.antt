@@ -1,5 +1,5 @@
--- Runs, dividends, and trains that are bought, traded in, rusted or discarded keep a list sound; so do a phase that
--- begins and a private that closes.
+-- Runs, dividends, and trains that are bought, traded in, rusted or discarded keep a list sound; so
+-- do a phase that begins and a private that closes.
 use Rattle.std.proofs.Common.{◌≡◌, ℕ, ◌≤◌, Bool, true, false, ◌&&◌, if◌then◌else◌, List, [], ◌∷◌, ◌++◌, Option, Some}
 use Rattle.std.proofs.Common.{None, is_some, is_none, refl, sym, ap, ◌∙◌, arith}
 use Rattle.std.proofs.lemmas.Int.{ints}

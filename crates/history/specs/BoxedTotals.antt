@@ -1,4 +1,4 @@
--- The totals of a game, behind a box.
+-- The totals of a game, in a box.
 use Rattle.std.specs.Prelude.{◌≡◌, true, [], List, Option, Some, None, Box, is_some}
 use Rattle.std.specs.Global.{Global}
 use Rattle.events.specs.declared.event.Event.{Event}
@@ -6,7 +6,7 @@ use Rattle.totals.specs.Totals.{AreTotalsOf}
 use Rattle.totals.specs.declared.totals.Totals.{Totals}
 use Rattle.history.specs.declared.boxed_totals.BoxedTotals.{BoxedTotals}
 
--- a box has the totals of these events; where there is no box, nothing has happened
+-- a box has the totals of these events; if there is no box, nothing has happened
 abbrev pub BoxHasTotalsOf : Option (Box Totals Global) → List Event → Type 0
 BoxHasTotalsOf None events = events ≡ []
 BoxHasTotalsOf (Some totals) events = AreTotalsOf totals.value events

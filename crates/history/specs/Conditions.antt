@@ -1,6 +1,6 @@
--- Conditions of orders, as they are asked of a list: PRICE, that the company's token has a square whose price by
--- the chart is at least the sum; PHASE, that the phase is that of the kind or a later one, in the order 2 3 4 5 6
--- D; FLOATED, that the company has floated.
+-- Conditions of orders, as they are checked against a list. PRICE: the company's token has a square
+-- whose price by the chart is at least the sum. PHASE: the phase is that of the kind or a later
+-- one, in the order 2 3 4 5 6 D. FLOATED: the company has floated.
 use Rattle.std.specs.Prelude.{ℕ, nat_le, Bool, true, false, List, Option, Some, None}
 use Rattle.events.specs.declared.event.Event.{Event}
 use Rattle.totals.specs.Shares.{is_floated, square_of}

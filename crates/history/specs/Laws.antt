@@ -51,8 +51,8 @@ OwnersAreParties =
 abbrev pub QuietKeepsSound : Type 0
 QuietKeepsSound = (game : Game) (event : Event) → IsQuiet event → IsSound game → IsSound (with_event game event)
 
--- a bid of a seat at the table keeps a list sound, where it is at most 99,999, no other seat has that
--- bid on the private, and the seat has the sum free of its other bids
+-- A bid of a seat at the table keeps a list sound under three conditions. It is at most 99,999, no
+-- other seat has that bid on the private, and the seat has the sum free of its other bids.
 abbrev pub BidKeepsSound : Type 0
 BidKeepsSound =
     (game : Game) (private : Private) (seat : Seat) (amount : ℕ) →
@@ -61,8 +61,8 @@ BidKeepsSound =
     (bids_elsewhere_of game.events seat private)) → IsSound game
     → IsSound (with_event game (Bids private seat amount))
 
--- a sale of an unsold private to a seat at the table keeps a list sound, where the seat has the price free of
--- its other bids
+-- a sale of an unsold private to a seat at the table keeps a list sound, if the seat has the price
+-- free of its other bids
 abbrev pub SaleKeepsSound : Type 0
 SaleKeepsSound =
     (game : Game) (private : Private) (seat : Seat) (price : ℕ) →
@@ -84,15 +84,15 @@ PriceKeepsSound =
     IsSvPrice price → (price ≡ 0 → is_sold game.events SchuylkillValley ≡ true) → IsSound game
     → IsSound (with_event game (Price price))
 
--- or it falls to 0, and SV is given away to a seat at the table
+-- a fall of SV's price to 0 keeps a list sound, if SV is given away to a seat at the table
 abbrev pub SvIsGivenAway : Type 0
 SvIsGivenAway =
     (game : Game) (seat : Seat) →
     is_sold game.events SchuylkillValley ≡ false → seat.0 < game.seats → IsSound game
     → IsSound (with_event (with_event game (Price 0)) (Sold SchuylkillValley seat 0))
 
--- a gift to a seat at the table keeps a list sound, where the initial offering has this many shares, and of a company
--- without a square enough are left
+-- a gift to a seat at the table keeps a list sound if the initial offering has this many shares,
+-- and enough are left of a company without a square
 abbrev pub GiftKeepsSound : Type 0
 GiftKeepsSound =
     (game : Game) (company : Company) (seat : Seat) (shares : ℕ) →
@@ -100,7 +100,7 @@ GiftKeepsSound =
     → (square_of game.events company ≡ None → pos (least_offered game.events company + shares) ≤ℤ shares_of
     game.events company InitialOffering) → IsSound game → IsSound (with_event game (Given company seat shares))
 
--- so does the sale of CA with its share of PRR, where PRR has no square
+-- the sale of CA with its share of PRR keeps a list sound, if PRR has no square
 abbrev pub CaIsSoldWithItsGift : Type 0
 CaIsSoldWithItsGift =
     (game : Game) (seat : Seat) (price : ℕ) →
@@ -109,8 +109,8 @@ CaIsSoldWithItsGift =
     (bids_elsewhere_of game.events seat CamdenAmboy)) → IsSound game
     → IsSound (with_event (with_event game (Sold CamdenAmboy seat price)) (Given Pennsylvania seat 1))
 
--- and so does the start of a company that has no square: its par value, two shares for a seat at the table, and that
--- seat as its president
+-- the start of a company that has no square keeps a list sound: its par value, two shares for a
+-- seat at the table, and that seat as its president
 abbrev pub StartKeepsSound : Type 0
 StartKeepsSound =
     (game : Game) (company : Company) (seat : Seat) (price : ℕ) →
@@ -118,8 +118,9 @@ StartKeepsSound =
     → IsSound (with_event (with_event (with_event game (Par company price)) (Given company seat 2))
     (President company seat))
 
--- so does the start of a company that has no square by a purchase: its par value, two shares of the initial offering
--- for a seat at the table that has their price free of its bids, and that seat as its president
+-- The start of a company that has no square by a purchase keeps a list sound. A seat at the table
+-- buys two shares of the initial offering, with their price free of its bids, and becomes its
+-- president.
 abbrev pub StartByPurchaseKeepsSound : Type 0
 StartByPurchaseKeepsSound =
     (game : Game) (company : Company) (seat : Seat) (price cost : ℕ) →
@@ -128,8 +129,8 @@ StartByPurchaseKeepsSound =
     → IsSound (with_event (with_event (with_event game (Par company price))
     (Bought company seat 2 source.InitialOffering cost)) (President company seat))
 
--- a purchase of shares of a company that has a square, by a seat at the table that has their price free of its bids,
--- keeps a list sound, where there are this many
+-- A purchase of shares of a company that has a square keeps a list sound under two conditions.
+-- There are this many, and a seat at the table has their price free of its bids.
 abbrev pub PurchaseKeepsSound : Type 0
 PurchaseKeepsSound =
     (game : Game) (company : Company) (seat : Seat) (shares : ℕ) (from : ShareSource) (price : ℕ) (square : Square) →
@@ -138,7 +139,7 @@ PurchaseKeepsSound =
     → pos price ≤ℤ free_cash_of game.seats game.events seat → IsSound game
     → IsSound (with_event game (Bought company seat shares from price))
 
--- MH's exchange keeps a list sound, where a seat at the table owns MH and there is a share of NYC
+-- MH's exchange keeps a list sound, if a seat at the table owns MH and there is a share of NYC
 abbrev pub ExchangeKeepsSound : Type 0
 ExchangeKeepsSound =
     (game : Game) (seat : Seat) (from : ShareSource) →
@@ -153,8 +154,8 @@ SuccessionKeepsSound =
     president_of game.events company ≡ Some old → shares_of game.events company (OfSeat old) ≤ℤ shares_of game.events
     company (OfSeat new) → IsSound game → IsSound (with_event game (President company new))
 
--- a sale of shares that a seat at the table has keeps a list sound, where the president keeps two; perhaps it breaks
--- the bank
+-- a sale of shares that a seat at the table has keeps a list sound, if the president keeps two;
+-- perhaps it breaks the bank
 abbrev pub BlockKeepsSound : Type 0
 BlockKeepsSound =
     (game : Game) (company : Company) (seat : Seat) (shares price : ℕ) →
@@ -163,7 +164,7 @@ BlockKeepsSound =
     → pos 2 ≤ℤ shares_of (block_sold game company seat shares price).events company (OfSeat president))
     → IsSound game → IsSound (block_sold game company seat shares price)
 
--- so does a sale after which the presidency passes to a seat that then has two
+-- a sale of shares after which the presidency passes to a seat that then has two keeps a list sound
 abbrev pub BlockWithSuccessionKeepsSound : Type 0
 BlockWithSuccessionKeepsSound =
     (game : Game) (company : Company) (seat : Seat) (shares price : ℕ) (president : Seat) →
@@ -171,7 +172,7 @@ BlockWithSuccessionKeepsSound =
     → pos 2 ≤ℤ shares_of (block_sold game company seat shares price).events company (OfSeat president)
     → IsSound game → IsSound (with_event (block_sold game company seat shares price) (President company president))
 
--- a company that floats keeps a list sound, where at most four shares are left in its initial offering
+-- a company that floats keeps a list sound, if at most four shares are left in its initial offering
 abbrev pub FloatKeepsSound : Type 0
 FloatKeepsSound =
     (game : Game) (company : Company) (amount : ℕ) →
@@ -184,13 +185,13 @@ MoveKeepsSound =
     (game : Game) (company : Company) (from to : Square) →
     square_of game.events company ≡ Some from → IsSound game → IsSound (with_event game (Moves company to))
 
--- a company's home token keeps a list sound, where the map state fits with it
+-- a company's home token keeps a list sound, if the map state fits with it
 abbrev pub HomeKeepsSound : Type 0
 HomeKeepsSound =
     (game : Game) (company : Company) (place : Place) →
     LiesFit (game.events ++ Home company place ∷ []) → IsSound game → IsSound (with_event game (Home company place))
 
--- a token that a company can pay keeps a list sound, where the map state fits with it
+-- a token that a company can pay for keeps a list sound, if the map state fits with it
 abbrev pub TokenKeepsSound : Type 0
 TokenKeepsSound =
     (game : Game) (company : Company) (place : Place) (cost : ℕ) →
@@ -198,7 +199,7 @@ TokenKeepsSound =
     → LiesFit (game.events ++ Token company place cost ∷ []) → IsSound game
     → IsSound (with_event game (Token company place cost))
 
--- a lay that a company can pay keeps a list sound, where the map state fits with it
+-- a lay that a company can pay for keeps a list sound, if the map state fits with it
 abbrev pub LayKeepsSound : Type 0
 LayKeepsSound =
     (game : Game) (company : Company) (lay : Lay) (cost : ℕ) →
@@ -222,28 +223,28 @@ DividendKeepsSound =
     (game : Game) (company : Company) (paid : Holder) (amount : ℕ) →
     IsParty game.seats (party.Holder paid) → IsSound game → IsSound (with_event game (Dividend company paid amount))
 
--- a train that is there keeps a list sound where it is bought by a company that can pay it
+-- a train that is there keeps a list sound if a company that can pay for it buys it
 abbrev pub TrainPurchaseKeepsSound : Type 0
 TrainPurchaseKeepsSound =
     (game : Game) (company : Company) (kind : Kind) (from : TrainSeller) (price : ℕ) →
     IsThere game.events from kind → pos price ≤ℤ cash_of game.seats game.events (party_of_company company)
     → IsSound game → IsSound (with_event game (Train company kind from price))
 
--- a train that a company has keeps a list sound where it is traded in
+-- a train that a company has keeps a list sound if it is traded in
 abbrev pub TradeKeepsSound : Type 0
 TradeKeepsSound =
     (game : Game) (company : Company) (kind : Kind) →
     pos 1 ≤ℤ trains_held game.events (Some company) kind → IsSound game
     → IsSound (with_event game (Traded company kind))
 
--- so does one that it discards
+-- a train that a company discards keeps a list sound
 abbrev pub DiscardKeepsSound : Type 0
 DiscardKeepsSound =
     (game : Game) (company : Company) (kind : Kind) →
     pos 1 ≤ℤ trains_held game.events (Some company) kind → IsSound game
     → IsSound (with_event game (Discarded company kind))
 
--- and one of a company or the pool that rusts
+-- a train of a company or the pool that rusts keeps a list sound
 abbrev pub RustingKeepsSound : Type 0
 RustingKeepsSound =
     (game : Game) (owner : Option Company) (kind : Kind) →
@@ -253,11 +254,12 @@ RustingKeepsSound =
 abbrev pub PhaseKeepsSound : Type 0
 PhaseKeepsSound = (game : Game) (kind : Kind) → IsSound game → IsSound (with_event game (Phase kind))
 
--- and a private that closes
+-- a private that closes keeps a list sound
 abbrev pub ClosingKeepsSound : Type 0
 ClosingKeepsSound = (game : Game) (private : Private) → IsSound game → IsSound (with_event game (Closed private))
 
--- and so does one that a company buys from the seat that owns it, where the company can pay it
+-- a private that a company buys from the seat that owns it keeps a list sound, if the company can
+-- pay for it
 abbrev pub PrivateKeepsSound : Type 0
 PrivateKeepsSound =
     (game : Game) (private : Private) (company : Company) (seller : Seat) (price : ℕ) →
@@ -272,7 +274,7 @@ ForcingKeepsSound = (game : Game) (company : Company) → IsSound game → IsSou
 abbrev pub BankruptcyKeepsSound : Type 0
 BankruptcyKeepsSound = (game : Game) (seat : Seat) → IsSound game → IsSound (with_event game (Bankrupt seat))
 
--- and so does what a seat at the table pays a company, where the seat has it free of its bids
+-- what a seat at the table pays a company keeps a list sound, if the seat has it free of its bids
 abbrev pub AidKeepsSound : Type 0
 AidKeepsSound =
     (game : Game) (seat : Seat) (company : Company) (amount : ℕ) →
@@ -285,15 +287,15 @@ ArrivalsDiffer =
     (events : List Event) (a b : Company) (at there : Square) →
     square_of events a ≡ Some at → square_of events b ≡ Some there → a ≢ b → arrival_of events a ≢ arrival_of events b
 
--- a company has reached its square by the event at the end, if that sets it, or else when it did before
+-- a company has reached its square by the event at the end, if that sets it, and otherwise by the
+-- one by which it had before
 abbrev pub ArrivalIsLast : Type 0
 ArrivalIsLast =
     (events : List Event) (event : Event) (company : Company) →
     arrival_of (events ++ event ∷ []) company ≡ (if is_some (square_said company (square_set event)) then length
     events else arrival_of events company)
 
--- these prices are what the bank asks: SV goes at the price that was set last, another private at its
--- face value
+-- these prices are the bank's: SV costs the price that was set last, another private its face value
 pub record AreAsked (game : Game) (price : Private → ℕ) : Type 0 where
   pub of_sv : price SchuylkillValley ≡ sv_price_of game.events
   pub of_others : (private : Private) → private ≢ SchuylkillValley → price private ≡ face_of private

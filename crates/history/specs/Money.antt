@@ -1,5 +1,5 @@
--- All money of a game. What the bank, the seats at the table and the companies have together is 12,000, whatever
--- has happened, as long as money has gone only between them.
+-- All money of a game. The bank, the seats at the table and the companies have 12,000 together,
+-- whatever has happened, as long as money has gone only between them.
 use Rattle.std.specs.Prelude.{◌≡◌, ℕ, ◌<◌, List, [], ◌∷◌, ◌++◌, map, Option, Some, None, ℤ, pos, ◌+ℤ◌}
 use Rattle.events.specs.Event.{party_at, party_of_company, payment_of}
 use Rattle.events.specs.declared.event.Event.{Event}
@@ -20,7 +20,7 @@ abbrev pub cash_together : ℕ → List Event → List Party → ℤ
 cash_together seats events [] = pos 0
 cash_together seats events (one ∷ others) = cash_of seats events one +ℤ cash_together seats events others
 
--- it is a party of the game
+-- a party is one of the game
 abbrev pub IsParty : ℕ → Party → Type 0
 IsParty seats party.Bank = Unit {0}
 IsParty seats (party.Holder (holder.Seat seat)) = seat.0 < seats
@@ -31,7 +31,7 @@ abbrev pub IsWithin : ℕ → Option Payment → Type 0
 IsWithin seats None = Unit {0}
 IsWithin seats (Some payment) = IsParty seats payment.from × IsParty seats payment.to
 
--- so do all
+-- the payments of all events go between parties of the game
 abbrev pub AreWithin : ℕ → List Event → Type 0
 AreWithin seats [] = Unit {0}
 AreWithin seats (event ∷ events) = IsWithin seats (payment_of event) × AreWithin seats events

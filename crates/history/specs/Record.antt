@@ -1,6 +1,6 @@
 -- Events that follow from the list alone. BROKEN follows the payment that leaves the bank with 0 or
--- less, once in a game. The privates pay their revenues in roster order. LEFT tells how many lines of a
--- seat's sheet were not taken up, if there are any.
+-- less, once in a game. The privates pay their revenues in roster order. LEFT says how many lines
+-- of a seat's sheet were not taken up, if there are any.
 use Rattle.std.specs.Prelude.{ℕ, ◌==◌, Bool, ◌&&◌, not, if◌then◌else◌, List, [], ◌∷◌, ◌++◌, Option, Some, None, pos}
 use lib.Signed.{le_z}
 use Rattle.events.specs.declared.event.Event.{Event}
@@ -45,7 +45,7 @@ revenue_recorded private game =
 abbrev pub revenues_recorded : Game → Game
 revenues_recorded game = record { seats = game.seats; events = after_revenues game.seats game.events privates }
 
--- a LEFT event for a count over 0, in front of others
+-- a LEFT event for a count over 0, before others
 abbrev pub with_left : Seat → ℕ → List Event → List Event
 with_left seat count events = if count == 0 then events else event.Left seat count ∷ events
 

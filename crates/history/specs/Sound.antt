@@ -1,11 +1,19 @@
--- A list of events is sound where no seat has less cash than its standing bids tie, and no company owes anything;
--- standing bids are of seats at the table; those on a private differ, and none is over 99,999; SV's price is 5, 10, 15
--- or 20, or 0 once it is sold; each company's shares are nowhere under 0 and ten in all, and of a company without a
--- square at least eight are in its initial offering, nine of PRR while CA is unsold and of NYC while MH is open; a
--- company that has a square or has floated has one of the six par values and a president with at least two shares;
--- every payment goes between the bank, seats at the table and companies; nobody has fewer than no trains of a kind, and
--- the bank has sold no more of them than there are; the tiles and tokens that were laid fit on the map, with the home
--- tokens that are still to come. Each fact is about a few aspects of events: an event without those keeps it.
+-- When a list of events is sound. Each fact is about a few aspects of events: an event without
+-- those keeps it.
+--
+-- - No seat has less cash than its standing bids tie, and no company owes anything.
+-- - Standing bids are of seats at the table. Those on a private differ, and none is over 99,999.
+-- - SV's price is 5, 10, 15 or 20, or 0 once SV is sold.
+-- - Each company's shares are nowhere under 0, and ten in all. Of a company without a square at
+--   least eight are in its initial offering, nine of PRR while CA is unsold and of NYC while MH is
+--   open.
+-- - A company that has a square or has floated has one of the six par values, and a president with
+--   at least two shares.
+-- - Every payment goes between the bank, seats at the table and companies.
+-- - Nobody has a negative number of trains of a kind, and the bank has sold no more of them than
+--   there are.
+-- - The tiles and tokens that were laid fit on the map, with the home tokens that are still to
+--   come.
 use Rattle.std.specs.Prelude.{◌≡◌, ◌⊎◌, ℕ, ◌<◌, ◌≤◌, true, if◌then◌else◌, List, Some, None, pos, ◌≤ℤ◌}
 use Rattle.events.specs.Event.{is_par_value}
 use Rattle.events.specs.declared.event.Event.{Event}
@@ -74,7 +82,7 @@ least_offered events Pennsylvania = if is_sold events CamdenAmboy then 8 else 9
 least_offered events NewYorkCentral = if is_closed events MohawkHudson then 8 else 9
 least_offered events other = 8
 
--- this many are there
+-- at least this many shares of a company without a square are in its initial offering
 abbrev pub AreOffered : List Event → Type 0
 AreOffered events =
     (company : Company) → square_of events company ≡ None
@@ -89,11 +97,13 @@ pub record IsLed (events : List Event) (company : Company) : Type 0 where
   pub has_president : president_of events company ≡ Some president
   pub holds_two : pos 2 ≤ℤ shares_of events company (OfSeat president)
 
--- so is each company with a square
+-- each company with a square has one of the six par values, and a president with at least two
+-- shares
 abbrev pub AreLed : List Event → Type 0
 AreLed events = (company : Company) (square : Square) → square_of events company ≡ Some square → IsLed events company
 
--- and each that has floated
+-- each company that has floated has one of the six par values, and a president with at least two
+-- shares
 abbrev pub FloatedAreLed : List Event → Type 0
 FloatedAreLed events = (company : Company) → is_floated events company ≡ true → IsLed events company
 

@@ -1,5 +1,5 @@
-//! The totals of a game as the game keeps them: behind a box, so that few bytes are handed on with
-//! the game.
+//! The totals of a game as the game keeps them: in a box, so that the game is passed on in few
+//! bytes.
 ghost use Rattle.std.specs.Prelude.{◌++◌, ◌∷◌, ◌<◌, ◌^◌, [], ◌≡◌, IfOk, List, MatchOption, OnOk, length};
 ghost use Rattle.events.specs.declared.event.Event.{Event as TheEvent};
 ghost use Rattle.totals.specs.Totals.{AreTotalsOf};
@@ -9,21 +9,21 @@ use events::Event;
 use std::alloc::{AllocError, Global};
 use totals::Totals;
 
-/// The totals of a list of events. There is no box before the first event is to come.
+/// The totals of a list of events. There is no box before the first event.
 #[derive(Debug, Drop)]
 pub(crate) struct BoxedTotals {
     boxed: Option<Box<Totals>>,
 }
 
 impl BoxedTotals {
-    /// The totals of no events, which take no memory.
+    /// Returns the totals of no events; allocates nothing.
     pub(crate) fn start() -> BoxedTotals
         ensures { HasTotalsOf result [] }
     {
         BoxedTotals { boxed: None }
     }
 
-    /// The totals; none where nothing has happened.
+    /// Returns the totals; `None` if nothing has happened.
     pub(crate) fn totals(&self) -> Option<&Totals>
         ensures { (events : List TheEvent) → HasTotalsOf self.now events →
             MatchOption result (events ≡ []) (λ totals. AreTotalsOf totals.now events) }
@@ -34,8 +34,8 @@ impl BoxedTotals {
         }
     }
 
-    /// Makes the box, where there is none, so that an event can be applied. The totals stay those
-    /// of the same events, also where the box gets no memory.
+    /// Makes the box, if there is none, so that an event can be applied. The totals stay those of
+    /// the same events, even if the allocation of the box fails.
     pub(crate) fn reserve(&mut self, alloc: Global) -> Result<(), AllocError>
         ensures same { (events : List TheEvent) →
             HasTotalsOf self.old events → HasTotalsOf self.new events }
@@ -60,8 +60,8 @@ impl BoxedTotals {
     }
 }
 
-/// The totals of no events in a box. No other function has totals among its locals that a game
-/// keeps, since it would pay for them whenever it is called.
+/// Returns the totals of no events in a box. No other function has a game's totals among its
+/// locals, since every call of it would pay for them.
 #[inline(never)]
 fn boxed(alloc: Global) -> Result<Box<Totals>, AllocError>
     ensures { IfOk result (λ totals. AreTotalsOf totals.value []) }

@@ -1,4 +1,4 @@
-//! Conditions of orders, as they are asked of a list.
+//! Conditions of orders, as they are checked against a list.
 ghost use Rattle.std.specs.Prelude.{◌≡◌};
 ghost use Rattle.std.specs.Option.{option_copied};
 ghost use Rattle.history.specs.Conditions.{has_begun, holds, is_met, is_priced_at_least};
@@ -8,7 +8,7 @@ use order_grammar::Condition;
 use tables::{Amount, Kind, Square, price};
 
 impl History {
-    /// Whether the condition of an order holds, if it has one.
+    /// Returns whether the condition of an order holds, if it has one.
     pub fn is_met(&self, condition: Option<&Condition>) -> bool
         ensures { result ≡ is_met self.now.events (option_copied condition.entry) }
     {
@@ -18,7 +18,7 @@ impl History {
         }
     }
 
-    /// Whether a condition holds.
+    /// Returns whether a condition holds.
     fn holds(&self, condition: &Condition) -> bool
         ensures { result ≡ holds self.now.events condition.now }
     {
@@ -30,7 +30,7 @@ impl History {
     }
 }
 
-/// Whether a token has a square, and the price there is at least a sum.
+/// Returns whether a token has a square, and the price there is at least a sum.
 fn is_priced_at_least(sum: Amount, square: Option<Square>) -> bool
     ensures { result ≡ is_priced_at_least sum square }
 {
@@ -40,7 +40,7 @@ fn is_priced_at_least(sum: Amount, square: Option<Square>) -> bool
     }
 }
 
-/// Whether a phase is that of a kind or a later one.
+/// Returns whether a phase is that of a kind or a later one.
 fn has_begun(kind: Kind, phase: Kind) -> bool
     ensures { result ≡ has_begun kind phase }
 {

@@ -1,13 +1,13 @@
 //! The one value that a game is: the number of its seats, and the list of its events, oldest first.
 //!
-//! What the list says, and the totals that say the same at once, is the crate `totals`; what
-//! happens, an event at a time, is the crate `events`; their names are named again here. A list is
-//! sound where nothing that it says is against the rules, as `specs/Sound.antt` has it; most events
-//! leave most facts alone, and the laws say which event keeps a list sound.
+//! The crate `totals` has what the list says, and the totals that say the same at once. The crate
+//! `events` has what happens, an event at a time. This crate names both again. A list is sound if
+//! nothing that it says is against the rules, as `specs/Sound.antt` defines it. Most events leave
+//! most facts alone, and the laws say which event keeps a list sound.
 //!
 //! Reading order: `list` (`History`), `boxed_totals` and `offered` (what it keeps beside the list),
 //! `record_event` (events that follow from the list alone), `conditions` (of orders, as they are
-//! asked of a list), `walk` (along a list, with its totals), `laws`.
+//! checked against a list), `walk` (along a list, with its totals), `laws`.
 #![tactic(auto)]
 
 mod boxed_totals;

@@ -22,10 +22,9 @@ use std::marker::Model;
 use tables::{Company, Kind, Money, Private, Seat, Square};
 use totals::{GameView, ShareCount, TrainCount};
 
-/// A game: the number of its seats and the list of its events, oldest first; and beside it the
-/// totals of that list, which say what it says, with the tiles and the tokens that lie on the map,
-/// and the sales that were offered in the round.
-/// It is handed on by value, so it is of few bytes.
+/// A game: the number of its seats and the list of its events, oldest first. Beside the list it
+/// keeps its totals, the tiles and the tokens that lie on the map, and the sales that were offered
+/// in the round. It is passed by value, so it has few bytes.
 #[derive(Debug, Drop)]
 pub struct History {
     seats: usize,
@@ -36,7 +35,7 @@ pub struct History {
     totals: BoxedTotals,
 }
 
-// The totals, by far the most of a game, are behind a box.
+// The totals, by far the largest part of a game, are in a box.
 const _: () = prove!(size_of::<History>() <= 120);
 
 impl Model for History {
@@ -58,7 +57,7 @@ impl Model for History {
 }
 
 impl History {
-    /// A game of this many seats in which nothing has happened.
+    /// Returns a game of this many seats in which nothing has happened.
     pub fn start(alloc: Global, seats: usize) -> History
         ensures empty { result ≡ record { seats = seats; events = [] } }
         ensures sound { IsSound result }
@@ -73,14 +72,14 @@ impl History {
         }
     }
 
-    /// Whether `append` may take the event: its sum of money is at most 1,000,000.
+    /// Returns whether `append` may take the event: its sum of money is at most 1,000,000.
     pub fn has_room(&self, event: &Event) -> bool
         ensures { IsTrue result ↔ (sum_of event.now ≤ 1000000) }
     {
         event.sum() <= SUM_MOST
     }
 
-    /// Adds an event at the end. An `Err` leaves the list as it was.
+    /// Adds an event at the end. Fails only if allocation fails, which leaves the list as it was.
     pub fn append(&mut self, event: Event) -> Result<(), AllocError>
         requires { sum_of event ≤ 1000000 }
         ensures ok { OnOk result (self.new ≡ with_event self.old event) }
@@ -99,7 +98,7 @@ impl History {
         Ok(())
     }
 
-    /// The events, oldest first.
+    /// Returns the events, oldest first.
     pub fn events(&self) -> &[Event]
         ensures events { result.now ≡ self.now.events }
         ensures short { FitsMemory result.now }
@@ -107,14 +106,14 @@ impl History {
         self.events.as_slice()
     }
 
-    /// The number of seats.
+    /// Returns the number of seats.
     pub fn seats(&self) -> usize
         ensures { result ≡ self.now.seats }
     {
         self.seats
     }
 
-    /// The game as it stands.
+    /// Returns the game as it stands.
     pub fn now(&self) -> GameView<'_>
         ensures seats { result.seats ≡ self.now.seats }
         ensures events { result.events.now ≡ self.now.events }
@@ -127,7 +126,7 @@ impl History {
         )
     }
 
-    /// What a party has, in dollars; the bank's cash may be under 0.
+    /// Returns what a party has, in dollars; the bank's cash may be under 0.
     pub fn cash(&self, party: Party) -> Money
         ensures sum { result ≡ cash_of self.now.seats self.now.events party }
         ensures within { IsModerate result }
@@ -135,31 +134,32 @@ impl History {
         self.now().cash(party)
     }
 
-    /// Who owns a private; `None` while it is unsold, and once it is closed.
+    /// Returns who owns a private; `None` while it is unsold, and once it is closed.
     pub fn owner(&self, private: Private) -> Option<Holder>
         ensures { result ≡ owner_of self.now.events private }
     {
         self.now().owner(private)
     }
 
-    /// The price of SV, at first its face. It comes as `Money`, like a cash that it is compared
-    /// with; `GameView::sv_price` gives the same price as the `Amount` that a payment names.
+    /// Returns the price of SV, in dollars, at first its face. It is `Money`, like a cash that it
+    /// is compared with; `GameView::sv_price` returns the same price as the `Amount` that a payment
+    /// names.
     pub fn sv_price(&self) -> Money
         ensures { result ≡ pos (sv_price_of self.now.events) }
     {
         Money::from(self.now().sv_price())
     }
 
-    /// Whether the bank is broken.
+    /// Returns whether the bank is broken.
     pub fn broken(&self) -> bool
         ensures { result ≡ broken_in self.now.events }
     {
         self.now().broken()
     }
 
-    /// Packs a copy of an order with its condition, if it has one, by the list's own allocator. An
-    /// `Err` comes only where a box gets no memory; of the orders that are ruled, only one under a
-    /// condition and a run of more than five places need one.
+    /// Packs a copy of an order with its condition, if it has one, with the list's own allocator.
+    /// Fails only if the allocation of a box fails. Of the orders that are ruled, only one under a
+    /// condition and a run of more than five places need a box.
     pub fn pack(
         &self,
         condition: Option<&Condition>,
@@ -172,78 +172,80 @@ impl History {
         PackedLine::pack(*self.events.allocator(), condition, order)
     }
 
-    /// A seat's standing bid on a private, in dollars.
+    /// Returns a seat's standing bid on a private, in dollars.
     pub fn bid(&self, private: Private, seat: Seat) -> Option<Money>
         ensures { result ≡ option_map pos (bid_of self.now.events private seat) }
     {
         self.now().bid(private, seat)
     }
 
-    /// The shares of a company at a place.
+    /// Returns the shares of a company at a place.
     pub fn shares(&self, company: Company, place: Shareholder) -> ShareCount
         ensures { result ≡ shares_of self.now.events company place }
     {
         self.now().shares(company, place)
     }
 
-    /// Whether a company has floated.
+    /// Returns whether a company has floated.
     pub fn floated(&self, company: Company) -> bool
         ensures { result ≡ is_floated self.now.events company }
     {
         self.now().floated(company)
     }
 
-    /// A company's par value in dollars; `None` while it has none.
+    /// Returns a company's par value in dollars; `None` while it has none.
     pub fn par(&self, company: Company) -> Option<Money>
         ensures { result ≡ option_map pos (par_of self.now.events company) }
     {
         self.now().par(company)
     }
 
-    /// The square of a company's token.
+    /// Returns the square of a company's token.
     pub fn square(&self, company: Company) -> Option<Square>
         ensures { result ≡ square_of self.now.events company }
     {
         self.now().square(company)
     }
 
-    /// The tiles that were laid, oldest first.
+    /// Returns the tiles that were laid, oldest first.
     pub fn lays(&self) -> &[Lay]
         ensures { result.now ≡ lays_of self.now.events }
     {
         self.lays.as_slice()
     }
 
-    /// The tokens that were placed, oldest first, those of homes among them.
+    /// Returns the tokens that were placed, oldest first, including those of homes.
     pub fn tokens(&self) -> &[(Place, Company)]
         ensures { result.now ≡ tokens_of self.now.events }
     {
         self.tokens.as_slice()
     }
 
-    /// The tile that was laid at this place among all that were, from 0; the oldest is the first.
+    /// Returns the tile that was laid at this place in the order of lays, from 0 for the oldest;
+    /// `None` if there are fewer.
     pub fn laid(&self, place: usize) -> Option<Lay>
         ensures { result ≡ slice_get (lays_of self.now.events) place }
     {
         self.lays.get(place).copied()
     }
 
-    /// The token that was placed at this place among all that were, from 0, those of homes among
-    /// them; the oldest is the first.
+    /// Returns the token that was placed at this place in the order of tokens, those of homes
+    /// included, from 0 for the oldest; `None` if there are fewer.
     pub fn token(&self, place: usize) -> Option<(Place, Company)>
         ensures { result ≡ slice_get (tokens_of self.now.events) place }
     {
         self.tokens.get(place).copied()
     }
 
-    /// The trains of a kind that a company has, or the bank pool where there is none.
+    /// Returns the trains of a kind that a company has, or those of the bank pool if there is no
+    /// owner.
     pub fn trains(&self, owner: Option<Company>, kind: Kind) -> TrainCount
         ensures { result ≡ trains_held self.now.events owner kind }
     {
         self.now().trains(owner, kind)
     }
 
-    /// The phase, at first that of the 2.
+    /// Returns the phase, at first that of the 2.
     pub fn phase(&self) -> Kind
         ensures { result ≡ phase_of self.now.events }
     {
@@ -251,7 +253,7 @@ impl History {
     }
 }
 
-/// Adds one at the end of a list that has room for it, if there is one.
+/// Adds one thing at the end of a list that has room for it, if there is one.
 pub(crate) fn push_any<T>(list: &mut Vec<T>, one: Option<T>) -> Result<(), AllocError>
 where
     T: Drop,

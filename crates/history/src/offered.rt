@@ -12,7 +12,7 @@ use order_grammar::Offer;
 use std::alloc::AllocError;
 use tables::Seat;
 
-/// The sale that the line that an event rules offers, with the seat that offers it.
+/// Returns the sale that is offered by the line that an event rules, with the seat that offers it.
 fn offer_in_event(event: &Event) -> Option<(Seat, Offer)>
     ensures { (seat : Seat) (sale : Offer) → says_offer seat sale result
         ≡ is_some (said_by seat (offered_in sale) (obeyed_of event.now)) }
@@ -27,7 +27,7 @@ fn offer_in_event(event: &Event) -> Option<(Seat, Offer)>
 }
 
 /// Applies the sale that is offered by an event in a list that has room for one more; one that
-/// begins a round empties the list.
+/// begins a round clears the list.
 pub(crate) fn apply_offer(offers: &mut Vec<(Seat, Offer)>, event: &Event) -> Result<(), AllocError>
     requires { vec_len offers.old < vec_capacity offers.old }
     ensures applied { (seat : Seat) (sale : Offer) → is_among seat sale offers.new.items

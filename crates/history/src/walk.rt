@@ -6,8 +6,8 @@ ghost use Rattle.totals.specs.LookBack.{FitsMemory};
 use events::Event;
 use totals::{GameView, Totals};
 
-/// A list of events, whose first ones were passed, and the totals of those. One who asks for a game
-/// as it stood, and later for the same game as it stood later, applies each event once.
+/// A list of events, the first of which were passed, and the totals of those. A reader who looks at
+/// a game as it stood, and then at the same game later, applies each event once.
 #[derive(Clone, Copy, Debug)]
 pub struct Walk<'a> {
     /// All events.
@@ -21,7 +21,7 @@ pub struct Walk<'a> {
 }
 
 impl<'a> Walk<'a> {
-    /// Before the first of these events.
+    /// Returns a walk that is before the first of these events.
     pub fn along(events: &'a [Event]) -> Walk<'a>
         requires { FitsMemory events.now }
         ensures events { result.events.now ≡ events.now }
@@ -34,7 +34,8 @@ impl<'a> Walk<'a> {
         }
     }
 
-    /// Goes to the place behind this many events, back to the start first where it lies before.
+    /// Goes to the place after this many events, back to the start first if that place lies before
+    /// it.
     pub fn go(&mut self, end: usize)
         requires { end ≤ length self.old.events.now }
         ensures events { self.new.events.now ≡ self.old.events.now }
@@ -68,7 +69,7 @@ impl<'a> Walk<'a> {
         self.passed += 1;
     }
 
-    /// The game as it stood after the events that were passed.
+    /// Returns the game as it stood after the events that were passed.
     pub fn view(&self, seats: usize) -> GameView<'_>
         ensures seats { result.seats ≡ seats }
         ensures events { result.events.now ≡ take self.now.passed self.now.events.now }

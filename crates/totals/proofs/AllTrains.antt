@@ -1,4 +1,5 @@
--- A train goes from one place to another, so that those that the bank has sold are in play or have left it.
+-- A train goes from one place to another, so that those that the bank has sold are in play or have
+-- left it.
 use Rattle.std.proofs.Common.{◌≡◌, ℕ, ◌+◌, inl, inr, Bool, true, false, ◌&&◌, List, [], ◌∷◌, Option, Some, None, pos}
 use Rattle.std.proofs.Common.{neg_ℤ, ◌-ℤ◌, ◌+ℤ◌, refl, ap, ◌∙◌, arith}
 use Rattle.std.proofs.lemmas.Int.{ints}
@@ -26,7 +27,8 @@ times_where test (one ∷ others) = one_if (test one) + times_where test others
 abbrev times_among : TrainPlace → List TrainPlace → ℕ
 times_among at some = times_where (same_train_place at) some
 
--- a place is once among the bank, those that have trains in play, and the place of those out of play
+-- a place is once among the bank, those that have trains in play, and the place of those out of
+-- play
 once_among : (at : TrainPlace) → one_if (same_train_place at place.Bank)
     + (times_among at train_owners + one_if (same_train_place at place.OutOfPlay)) ≡ 1
 once_among place.Bank = refl
@@ -41,7 +43,7 @@ once_among (place.Company NewHaven) = refl
 once_among (place.Company BostonMaine) = refl
 once_among place.OutOfPlay = refl
 
--- the trains at a place with an event in front
+-- the trains at a place with an event before them
 pub trains_in_front : (event : Event) (events : List Event) (place : TrainPlace) (kind : Kind)
     → trains_at (event ∷ events) place kind ≡ (trains_at events place kind +ℤ pos
     (one_if (train_comes place kind (train_moved event)))) -ℤ pos (one_if (train_goes place kind (train_moved event)))
@@ -54,7 +56,7 @@ trains_in_front event events place kind =
           (λ e. one_if (train_goes place kind (train_moved e))) event events,
     )
 
--- how many trains an event brings to some places
+-- how many trains an event adds to some places
 abbrev come_to : Kind → Option TrainMove → List TrainPlace → ℕ
 come_to kind move some = times_where (λ one. train_comes one kind move) some
 
@@ -62,7 +64,7 @@ come_to kind move some = times_where (λ one. train_comes one kind move) some
 abbrev go_from : Kind → Option TrainMove → List TrainPlace → ℕ
 go_from kind move some = times_where (λ one. train_goes one kind move) some
 
--- the trains at some places with an event in front
+-- the trains at some places with an event before them
 together_in_front : (event : Event) (events : List Event) (some : List TrainPlace) (kind : Kind)
     → trains_together (event ∷ events) some kind ≡ (trains_together events some kind +ℤ pos
     (come_to kind (train_moved event) some)) -ℤ pos (go_from kind (train_moved event) some)
@@ -155,7 +157,7 @@ balanced kind (Some move) apart =
           )
     ]
 
--- how many the bank has sold, with an event in front
+-- how many the bank has sold, with an event before them
 sold_in_front : (event : Event) (events : List Event) (kind : Kind)
     → trains_sold (event ∷ events) kind ≡ one_if (train_goes place.Bank kind (train_moved event))
     + trains_sold events kind

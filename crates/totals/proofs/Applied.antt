@@ -12,7 +12,7 @@ use Rattle.events.specs.declared.event.Event.{Event}
 use Rattle.totals.proofs.EventAtEnd.{bid_of_at_end, now_said_at_end, balance_at_end, last_said_at_end}
 use Rattle.totals.proofs.InOrder.{rulings_at_end, tokens_at_end}
 use Rattle.totals.proofs.Places.{last_place_at_end}
-use Rattle.totals.specs.Bids.{bid_of, bid_said}
+use Rattle.totals.specs.Bids.{bid_made, bid_of, bid_said, greater_bid, greatest_bid_from, greatest_bid_of}
 use Rattle.totals.specs.Totals.{IsBalance, IsCounted, flag_then, here_if}
 use Rattle.totals.specs.LookBack.{IsModerate, in_round, last_place_from, last_said, now_said}
 use Rattle.totals.specs.Operating.{rulings_in_round, rulings_then, tokens_placed}
@@ -29,7 +29,7 @@ pub word_applied :
 word_applied says events event old new applied before =
     applied ∙ ap (option_or (says event)) before ∙ sym (last_said_at_end says events event)
 
--- so it is where the event was asked for its word first
+-- so it is where the word of the event was looked at first
 pub said_applied :
     {A : Type 0} (says : Event → Option A) (events : List Event) (event : Event) (said old new : Option A)
     → said ≡ says event → new ≡ option_or said old →
@@ -72,6 +72,25 @@ bid_applied events event private seat bidding old new is applied before =
     ∙ ap (unwrap_or (bid_said private seat (bidding_of event))) before
     ∙ sym (bid_of_at_end events event private seat)
 
+-- a bid that is made at the end of a list
+greatest_at_end : (private : Private) (bid : Option ℕ) (events : List Event) (event : Event)
+    → greatest_bid_from private bid (events ++ event ∷ [])
+    ≡ greater_bid (bid_made private (bidding_of event)) (greatest_bid_from private bid events)
+greatest_at_end private bid [] event = refl
+greatest_at_end private bid (first ∷ events) event =
+    greatest_at_end private (greater_bid (bid_made private (bidding_of first)) bid) events event
+
+-- the greatest bid on a private
+pub greatest_applied :
+    (events : List Event) (event : Event) (private : Private) (bidding : Option Bidding) (old new : Option ℕ)
+    → bidding ≡ bidding_of event → new ≡ greater_bid (bid_made private bidding) old
+    → old ≡ greatest_bid_of events private → new ≡ greatest_bid_of (events ++ event ∷ []) private
+greatest_applied events event private bidding old new is applied before =
+    applied
+    ∙ ap (λ recorded. greater_bid (bid_made private recorded) old) is
+    ∙ ap (greater_bid (bid_made private (bidding_of event))) before
+    ∙ sym (greatest_at_end private None events event)
+
 -- a word of the round that began last
 pub round_word_applied :
     {A : Type 0} (says : Event → Option A) (events : List Event) (event : Event) (old new : Option A) →
@@ -90,7 +109,8 @@ flag_applied says events event old new applied before =
     ∙ ap (λ flag. flag || says event) before
     ∙ sym (list_any-append says events (event ∷ []) ∙ ap (λ flag. list_any says events || flag) (or_false (says event)))
 
--- a flag is down where a round begins; else it is up where the event speaks or where it was before
+-- a flag is down where a round begins; otherwise it is up where the event speaks or where it was
+-- before
 flag_or :
     {A : Type 0} (begins : Bool) (said : Option A) (before : Option (Option A)) →
     (if begins then false else (is_some (option_flatten before) || is_some said))

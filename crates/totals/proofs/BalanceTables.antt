@@ -1,4 +1,5 @@
--- Tables of balances, entry by entry; and the entries of parties and of shares, which differ where those do.
+-- Tables of balances, entry by entry; and the entries of parties and of shares, which differ where
+-- those do.
 use Rattle.std.proofs.Common.{◌≡◌, ℕ, ◌<◌, ◌==◌, ◌+◌, ◌*◌, ◌&&◌, Bool, List, Option, Some, if◌then◌else◌, ℤ, pos, neg_ℤ}
 use Rattle.std.proofs.Common.{◌≤ℤ◌, ◌^◌, ◌+ℤ◌, ◌-ℤ◌, length, set, true, false, refl, ap, subst, ◌∙◌, sym, arith}
 use Rattle.std.proofs.Common.{get_or-set_same, get_or-set_other, eq-eqb}

@@ -1,4 +1,5 @@
--- What a list of events says once one more event is at its end: what that event says, and what the list said before.
+-- What a list of events says once one more event is at its end: what that event says, and what the
+-- list said before.
 use Rattle.std.proofs.Common.{◌≡◌, ℕ, List, [], ◌∷◌, ◌++◌, Option, Some, None, Bool, pos, ◌-ℤ◌, ◌+ℤ◌, unwrap_or}
 use Rattle.std.proofs.Common.{is_some, is_none, ◌&&◌, sum_by, refl, ap, ◌∙◌, sym, arith}
 use Rattle.std.proofs.lemmas.Int.{ints}
@@ -89,7 +90,7 @@ pub now_said_at_end : {A : Type 0} (says : Event → Option (Option A)) (events 
 now_said_at_end says events event =
     ap option_flatten (last_said_at_end says events event) ∙ flatten_or (says event) (last_said says events)
 
--- an account: what the event brings is added, and what it takes is taken off
+-- an account: what the event adds is added, and what it takes is taken off
 pub balance_at_end : (start : ℕ) (brings takes : Event → ℕ) (events : List Event) (event : Event)
     → balance start brings takes (events ++ event ∷ [])
     ≡ (balance start brings takes events +ℤ pos (brings event)) -ℤ pos (takes event)
@@ -102,7 +103,7 @@ pub balance_before : (start : ℕ) (brings takes : Event → ℕ) (events : List
 balance_before start brings takes events event none_in none_out =
     omega (arith, ints, balance_at_end start brings takes events event)
 
--- a party's cash: what the event brings is added, and what it takes is taken off
+-- a party's cash: what the event adds is added, and what it takes is taken off
 pub cash_of_at_end : CashMoves
 cash_of_at_end seats events event party =
     balance_at_end _ (λ e. paid_to party (payment_of e)) (λ e. paid_by party (payment_of e)) events event
@@ -189,7 +190,7 @@ shares_of_before events event company place none =
     balance_before _ (λ e. brought_to company place (transfer_of e)) (λ e. taken_from company place (transfer_of e))
     events event (ap (brought_to company place) none) (ap (taken_from company place) none)
 
--- the shares at a place: what the event brings is added, and what it takes is taken off
+-- the shares at a place: what the event adds is added, and what it takes is taken off
 pub shares_of_at_end : (events : List Event) (event : Event) (company : Company) (place : Shareholder)
     → shares_of (events ++ event ∷ []) company place
     ≡ (shares_of events company place +ℤ pos (brought_to company place (transfer_of event))) -ℤ pos
@@ -223,7 +224,8 @@ is_floated_before events event company none =
     ap is_some (last_said_before (λ e. float_said company (floated_by e)) _ events event refl
     (ap (float_said company) none))
 
--- the trains of a kind at a place: one that the event brings is added, and one that it takes is taken off
+-- the trains of a kind at a place: one that the event adds is added, and one that it takes is taken
+-- off
 pub trains_at_end : (events : List Event) (event : Event) (place : TrainPlace) (kind : Kind)
     → trains_at (events ++ event ∷ []) place kind ≡ (trains_at events place kind +ℤ pos
     (one_if (train_comes place kind (train_moved event)))) -ℤ pos (one_if (train_goes place kind (train_moved event)))

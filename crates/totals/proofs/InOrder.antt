@@ -1,5 +1,5 @@
--- All that was said of a thing, in order, and the counts of tokens and of a seat's rulings, once one more event is at
--- the end.
+-- All that was said of a thing, in order, and the counts of tokens and of a seat's rulings, once
+-- one more event is at the end.
 use Rattle.std.proofs.Common.{◌≡◌, ℕ, ◌+◌, List, [], ◌∷◌, ◌++◌, Option, Some, None, Bor, option_copied, cond, count_by}
 use Rattle.std.proofs.Common.{slice_get, ap, sym, ◌∙◌}
 use Rattle.std.proofs.lemmas.Option.{slice_get-get_or, slice_get_past}

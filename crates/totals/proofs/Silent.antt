@@ -1,4 +1,5 @@
--- A ruling that obeys no order that speaks of a thing, and the event that tells of it, say nothing of it.
+-- A ruling that obeys no order that speaks of a thing, and the event that tells of it, say nothing
+-- of it.
 use Rattle.std.proofs.Common.{◌≡◌, ℕ, ◌==◌, Bool, true, false, if◌then◌else◌, Option, None, refl, subst, sym, ap, ◌∙◌}
 use Rattle.events.specs.Event.{obeyed_by, obeyed_of}
 use Rattle.events.specs.Orders.{said_by}

@@ -54,7 +54,7 @@ go_once : (owner : Option Company) (move : Option TrainMove)
 go_once owner None = refl
 go_once owner (Some move) = of_one move.kind (any_goes owner (Some move))
 
--- how many there are with an event in front
+-- how many there are with an event before them
 size_in_front : (event : Event) (events : List Event) (owner : Option Company)
     → train_count (event ∷ events) owner ≡ (train_count events owner +ℤ pos
     (one_if (any_comes owner (train_moved event)))) -ℤ pos (one_if (any_goes owner (train_moved event)))
@@ -72,7 +72,7 @@ size_in_front event events owner =
       go_once owner (train_moved event),
     )
 
--- how many came less how many went, with an event in front
+-- how many came minus how many went, with an event before them
 balance_in_front : (event : Event) (events : List Event) (owner : Option Company)
     → balance 0 (λ e. one_if (any_comes owner (train_moved e))) (λ e. one_if (any_goes owner (train_moved e)))
     (event ∷ events) ≡ (balance 0 (λ e. one_if (any_comes owner (train_moved e)))

@@ -1,4 +1,5 @@
--- What a list says once one more event is at its end: what that event says, or else what the list said before.
+-- What a list says once one more event is at its end: what that event says, or else what the list
+-- said before.
 use Rattle.std.specs.Prelude.{◌≡◌, ℕ, ◌+◌, List, [], ◌∷◌, ◌++◌, Option, pos, ◌-ℤ◌, ◌+ℤ◌}
 use Rattle.std.specs.Option.{option_or}
 use Rattle.events.specs.Event.{IsQuiet, payment_of}
@@ -58,7 +59,7 @@ abbrev pub LaysGrow : Type 0
 LaysGrow = (events : List Event) (event : Event)
     → lays_of (events ++ event ∷ []) ≡ lays_of events ++ lays_of (event ∷ [])
 
--- and a token that it places
+-- a token that the event at the end places is the last
 abbrev pub TokensGrow : Type 0
 TokensGrow =
     (events : List Event) (event : Event) → tokens_of (events ++ event ∷ [])

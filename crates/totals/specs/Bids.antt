@@ -1,7 +1,7 @@
 -- Standing bids. A seat's newest bid on a private replaces its older one there, and the sale of the
 -- private ends the bids on it. A seat's standing bids tie its cash.
 use Rattle.std.specs.Prelude.{◌≡◌, ℕ, ◌<◌, ◌==◌, ◌&&◌, if◌then◌else◌, List, [], ◌∷◌, Option, Some, None, sum_by, pos}
-use Rattle.std.specs.Prelude.{◌-ℤ◌, ℤ, slice_index_or, unwrap_or}
+use Rattle.std.specs.Prelude.{◌-ℤ◌, ℤ, max, slice_index_or, unwrap_or}
 use Rattle.std.specs.List.{flat_map}
 use Rattle.events.specs.Event.{bidding_of, party_at}
 use Rattle.events.specs.declared.event.Bid.{Bid}
@@ -25,6 +25,28 @@ bid_said private seat (Some (Ended other)) = if same_private other private then 
 abbrev pub bid_of : List Event → Private → Seat → Option ℕ
 bid_of events private seat = now_said (λ event. bid_said private seat (bidding_of event)) events
 
+-- how much a bid on a private is that is made here, if one is
+abbrev pub bid_made : Private → Option Bidding → Option ℕ
+bid_made private None = None
+bid_made private (Some (Made other bid)) = if same_private other private then Some bid.amount else None
+bid_made private (Some (Ended other)) = None
+
+-- the greater of a bid and an earlier one, if there are any
+abbrev pub greater_bid : Option ℕ → Option ℕ → Option ℕ
+greater_bid None earlier = earlier
+greater_bid (Some later) None = Some later
+greater_bid (Some later) (Some earlier) = Some (max earlier later)
+
+-- the greatest of a bid and those that are made on a private in a list
+abbrev pub greatest_bid_from : Private → Option ℕ → List Event → Option ℕ
+greatest_bid_from private bid [] = bid
+greatest_bid_from private bid (event ∷ events) =
+    greatest_bid_from private (greater_bid (bid_made private (bidding_of event)) bid) events
+
+-- the greatest bid ever made on a private, whoever made it and whether it stands or not
+abbrev pub greatest_bid_of : List Event → Private → Option ℕ
+greatest_bid_of events private = greatest_bid_from private None events
+
 -- a seat with its bid, if it has one
 abbrev pub as_bid : Seat → Option ℕ → List Bid
 as_bid seat None = []
@@ -39,7 +61,8 @@ abbrev pub AreStanding : List Event → Private → List (Option ℕ) → Type 0
 AreStanding events private standing =
     (number : ℕ) → number < 6 → slice_index_or standing number None ≡ bid_of events private (seat_at number)
 
--- a table after a word on bids has what that says of the bids on a private, and else what it had
+-- a table after a word on bids has what that says of the bids on a private, and otherwise what it
+-- had
 abbrev pub AppliesBidOn : Private → Option Bidding → List (Option ℕ) → List (Option ℕ) → Type 0
 AppliesBidOn private bidding old new =
     (number : ℕ) → number < 6 →
@@ -54,11 +77,11 @@ tied_on events seat private = unwrap_or (bid_of events private seat) 0
 abbrev pub bids_of : List Event → Seat → ℕ
 bids_of events seat = sum_by (tied_on events seat) privates
 
--- what a seat's standing bid on a private ties, where it is another private than this
+-- what a seat's standing bid on a private ties, if it is not this private
 abbrev pub tied_elsewhere : List Event → Seat → Private → Private → ℕ
 tied_elsewhere events seat this other = if same_private other this then 0 else tied_on events seat other
 
--- the sum of a seat's standing bids on other privates than one
+-- the sum of a seat's standing bids on all privates but one
 abbrev pub bids_elsewhere_of : List Event → Seat → Private → ℕ
 bids_elsewhere_of events seat private = sum_by (tied_elsewhere events seat private) privates
 

@@ -1,5 +1,6 @@
--- What a list of events, oldest first, says when it is looked back over. There are two ways: what the last event about
--- a thing says, and a start with all that came in minus all that went out. Where it says so is a place in the list.
+-- What a list of events, oldest first, says when one looks back over it. There are two ways: what
+-- the last event about a thing says, and a start with all that came in minus all that went out.
+-- Where it says so is a place in the list.
 use Rattle.std.specs.Prelude.{ℕ, ◌<◌, ◌+◌, ◌==◌, Bool, true, false, if◌then◌else◌, List, [], ◌∷◌, ◌++◌, Option, Some}
 use Rattle.std.specs.Prelude.{None, sum_by, pos, neg_ℤ, ◌-ℤ◌, ◌≤ℤ◌, ℤ, ◌^◌, is_none, length, is_some, ◌&&◌, unwrap_or}
 use Rattle.std.specs.Prelude.{slice_index_or}
@@ -37,7 +38,7 @@ abbrev pub last_said : {A : Type 0} → (Event → Option A) → List Event → 
 last_said says [] = None
 last_said says (event ∷ events) = option_or (last_said says events) (says event)
 
--- what holds now, where the last event that speaks of it says that it is this, or that it is nothing
+-- what holds now, if the last event that speaks of it says that it is this, or that it is nothing
 abbrev pub now_said : {A : Type 0} → (Event → Option (Option A)) → List Event → Option A
 now_said says events = option_flatten (last_said says events)
 
@@ -45,7 +46,8 @@ now_said says events = option_flatten (last_said says events)
 abbrev pub in_round : {A : Type 0} → (Event → Option A) → Event → Option (Option A)
 in_round says event = if is_some (round_begun_by event) then Some None else option_map Some (says event)
 
--- the place in a list of the last event that says something of this kind, where the first has this place
+-- the place in a list of the last event that says something of this kind, if the first has this
+-- place
 abbrev pub last_place_from : {A : Type 0} → (Event → Option A) → ℕ → List Event → Option ℕ
 last_place_from says place [] = None
 last_place_from says place (event ∷ events) =
@@ -78,12 +80,12 @@ same_party (party.Holder a) (party.Holder b) = same_holder a b
 same_party party.Bank (party.Holder b) = false
 same_party (party.Holder a) party.Bank = false
 
--- what a payment brings to a party
+-- what a payment adds to the cash of a party
 abbrev pub paid_to : Party → Option Payment → ℕ
 paid_to party None = 0
 paid_to party (Some payment) = if same_party payment.to party then payment.amount else 0
 
--- what a payment takes from a party
+-- what a payment takes from the cash of a party
 abbrev pub paid_by : Party → Option Payment → ℕ
 paid_by party None = 0
 paid_by party (Some payment) = if same_party payment.from party then payment.amount else 0

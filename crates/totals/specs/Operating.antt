@@ -1,5 +1,6 @@
--- Operating rounds: the tiles that were laid and the tokens that were placed, oldest first; which companies
--- have operated since the last round began, and how many lines of a seat's sheet were ruled since then.
+-- Operating rounds: the tiles that were laid and the tokens that were placed, oldest first. Also
+-- which companies have operated since the last round began, and how many lines of a seat's sheet
+-- were ruled since then.
 use Rattle.std.specs.Prelude.{ℕ, ◌+◌, ◌==◌, Bool, if◌then◌else◌, List, Option, Some, None, is_some}
 use Rattle.std.specs.List.{count_by, filter_map, fold}
 use Rattle.events.specs.Event.{operated_by, round_begun_by, ruled_by, tile_laid, token_placed}
@@ -15,7 +16,7 @@ use Rattle.tables.specs.declared.seat.Seat.{Seat}
 abbrev pub lays_of : List Event → List Lay
 lays_of events = filter_map tile_laid events
 
--- the tokens that were placed, oldest first, those of homes among them
+-- the tokens that were placed, oldest first, including those of homes
 abbrev pub tokens_of : List Event → List (Place × Company)
 tokens_of events = filter_map token_placed events
 
@@ -32,7 +33,7 @@ turn_said company (Some operated) = if same_company operated company then Some o
 abbrev pub has_operated : List Event → Company → Bool
 has_operated events company = is_some (now_said (in_round (λ event. turn_said company (operated_by event))) events)
 
--- one more, where the line that was ruled is this seat's
+-- one more, if the line that was ruled is this seat's
 abbrev pub ruling_added : Seat → ℕ → Option Seat → ℕ
 ruling_added seat count None = count
 ruling_added seat count (Some by) = if by.0 == seat.0 then count + 1 else count

@@ -1,5 +1,5 @@
--- What the obeyed standing orders of a seat say: how far it goes in an auction of a private, which holds for
--- the round; and the par value that it sets for BO, in this round or an earlier one.
+-- What the obeyed standing orders of a seat say: its limit in an auction of a private, which holds
+-- for the round. Also the par value that it sets for BO, in this round or an earlier one.
 use Rattle.std.specs.Prelude.{ℕ, List, Option}
 use Rattle.events.specs.Event.{obeyed_of}
 use Rattle.events.specs.Orders.{limit_in, par_of_baltimore_in, said_by}
@@ -8,7 +8,7 @@ use Rattle.totals.specs.LookBack.{in_round, last_said, now_said}
 use Rattle.tables.specs.declared.roster.Private.{Private}
 use Rattle.tables.specs.declared.seat.Seat.{Seat}
 
--- how far a seat goes in an auction of a private, by its last obeyed order of this round
+-- the limit of a seat in an auction of a private, by its last obeyed order of this round
 abbrev pub bid_limit_of : List Event → Private → Seat → Option ℕ
 bid_limit_of events private seat = now_said (in_round (λ event. said_by seat (limit_in private) (obeyed_of event)))
     events

@@ -1,5 +1,6 @@
--- Shares of the companies, in shares; their par values, squares and presidents; which have floated, and what a seat has
--- sold in a round. A company is started once its token has a square, at first that of its par value.
+-- Shares of the companies, in shares; their par values, squares and presidents; which have floated,
+-- and what a seat has sold in a round. A company is started once its token has a square, at first
+-- that of its par value.
 use Rattle.std.specs.Prelude.{ℕ, ◌==◌, Bool, true, false, if◌then◌else◌, List, [], ◌∷◌, Option, Some, None, ℤ, pos}
 use Rattle.std.specs.Prelude.{◌+ℤ◌, is_some, unwrap_or, ◌&&◌}
 use Rattle.events.specs.Event.{floated_by, office_of, par_set, square_set, transfer_of}
@@ -24,7 +25,7 @@ same_shareholder BankPool BankPool = true
 same_shareholder (OfSeat a) (OfSeat b) = a.0 == b.0
 same_shareholder other another = false
 
--- the shares of a company that a transfer brings to a place
+-- the shares of a company that a transfer adds to a place
 abbrev pub brought_to : Company → Shareholder → Option Transfer → ℕ
 brought_to company place None = 0
 brought_to company place (Some transfer) =
@@ -71,7 +72,7 @@ square_of events company = last_said (λ event. square_said company (square_set 
 abbrev pub is_started : List Event → Company → Bool
 is_started events company = is_some (square_of events company)
 
--- the place in the list of the event that set the square of a company's token; 0 where none did
+-- the place in the list of the event that set the square of a company's token; 0 if none did
 abbrev pub arrival_of : List Event → Company → ℕ
 arrival_of events company =
     unwrap_or (last_place_from (λ event. square_said company (square_set event)) 0 events) 0

@@ -1,5 +1,6 @@
--- The totals of a list of events: what its readers answer, kept while the events come. Tables are by the places
--- of the privates and the companies in the roster, and by the numbers of the six seats that a table has.
+-- The totals of a list of events: what its readers return, kept while the events come. Tables are
+-- by the places of the privates and the companies in the roster, and by the numbers of the six
+-- seats that a table has.
 use Rattle.std.specs.Prelude.{◌≡◌, ℕ, ◌<◌, ◌≤◌, ◌+◌, ◌*◌, ◌^◌, ℤ, pos, neg_ℤ, ◌≤ℤ◌, [], List, length, Bool, false, ◌||◌}
 use Rattle.std.specs.Prelude.{Option, Some, None, is_some, if◌then◌else◌, slice_index_or}
 use Rattle.events.specs.Event.{actor_of, floated_by, ownership_of, payment_of, phase_set, round_begun_by, square_set}
@@ -13,7 +14,7 @@ use Rattle.events.specs.declared.event.Shareholder.{Shareholder}
 use Rattle.events.specs.declared.event.Shareholder.TheVariants.{InitialOffering, BankPool, Seat as OfSeat}
 use Rattle.events.specs.declared.event.TrainPlace.{TrainPlace}
 use Rattle.events.specs.declared.event.TrainPlace.TheVariants as train_place
-use Rattle.totals.specs.Bids.{bid_of}
+use Rattle.totals.specs.Bids.{bid_of, greatest_bid_of}
 use Rattle.totals.specs.LookBack.{balance, bankrupt_in, broken_in, last_place_from, last_said, owner_said, paid_by}
 use Rattle.totals.specs.LookBack.{paid_to}
 use Rattle.totals.specs.Operating.{has_operated, rulings_in_round, tokens_placed}
@@ -47,9 +48,13 @@ float_on events company = last_said (λ event. float_said company (floated_by ev
 abbrev pub at_company : {A : Type 0} → List (Option A) → Company → Option A
 at_company table company = slice_index_or table (place_of_company company) None
 
--- what a table has as a seat's standing bid on a private, or as how far it goes for one
+-- what a table has as a seat's standing bid on a private, or as its limit for one
 abbrev pub bid_in : List (List (Option ℕ)) → Private → ℕ → Option ℕ
 bid_in bids private number = slice_index_or (slice_index_or bids (place_of_private private) []) number None
+
+-- what a table has for a private
+abbrev pub at_private : {A : Type 0} → List (Option A) → Private → Option A
+at_private table private = slice_index_or table (place_of_private private) None
 
 -- this place, if an event speaks
 abbrev pub here_if : {A : Type 0} → Option A → ℕ → Option ℕ
@@ -123,15 +128,15 @@ pub record IsSafe (total : ℤ) : Type 0 where
 abbrev pub cash_balance : List ℤ → Party → ℤ
 cash_balance balances party = balance_at balances (party_entry party)
 
--- the same of the shares of a company at a place
+-- how many shares of a company came to a place minus how many went from it, as a table has it
 abbrev pub shares_balance : List ℤ → Company → Shareholder → ℤ
 shares_balance balances company place = balance_at balances (shares_entry company place)
 
--- the same of the trains of a kind at a place
+-- how many trains of a kind came to a place minus how many went from it, as a table has it
 abbrev pub train_balance : List ℤ → TrainPlace → Kind → ℤ
 train_balance balances place kind = balance_at balances (train_entry place kind)
 
--- how many trains a company has, or the bank pool where there is none, as a table has it
+-- how many trains a company has, or the bank pool if there is no owner, as a table has it
 abbrev pub train_count_balance : List ℤ → Option Company → ℤ
 train_count_balance balances owner = balance_at balances (train_row (train_owner_place owner))
 
@@ -140,7 +145,7 @@ pub record IsCounted (count : ℕ) (events : List Event) (kept : ℕ) : Type 0 w
   pub is : kept ≡ count
   pub few : kept ≤ length events
 
--- a balance is what came in minus what went out, and no further from 0 than the events can bring it
+-- a balance is what came in minus what went out, and no further from 0 than the events can move it
 pub record IsBalance (brings takes : Event → ℕ) (events : List Event) (total : ℤ) : Type 0 where
   pub is : total ≡ balance 0 brings takes events
   pub not_under : neg_ℤ (pos (2 ^ 32 * length events)) ≤ℤ total
@@ -152,6 +157,7 @@ pub record AreTotalsOf (totals : Totals) (events : List Event) : Type 0 where
   pub owners : (private : Private) → word_in totals.owners private ≡ word_on events private
   pub bids : (private : Private) (number : ℕ) → number < 6
       → bid_in totals.bids private number ≡ bid_of events private (seat_at number)
+  pub greatest_bids : (private : Private) → at_private totals.greatest_bids private ≡ greatest_bid_of events private
   pub sv_price : totals.sv_price ≡ last_said sv_price_set events
   pub actor : totals.actor ≡ last_said actor_of events
   pub round : totals.round ≡ last_said round_begun_by events

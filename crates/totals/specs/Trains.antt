@@ -1,6 +1,7 @@
--- Trains: where they lie, how many of a kind the bank has sold, and the phase. The bank's own trains have never
--- been sold; those of the bank pool were given back by companies; a train that rusts leaves play. The game
--- begins in phase 2, and the first train of a later kind from the bank begins the next phase.
+-- Trains: where they lie, how many of a kind the bank has sold, and the phase. The bank's own
+-- trains have never been sold; those of the bank pool were given back by companies; a train that
+-- rusts leaves play. The game begins in phase 2, and the first train of a later kind from the bank
+-- begins the next phase.
 use Rattle.std.specs.Prelude.{◌≡◌, ℕ, Bool, true, false, ◌&&◌, if◌then◌else◌, List, [], ◌∷◌, map, Option, Some, None, ℤ}
 use Rattle.std.specs.Prelude.{pos, negsuc, ◌+ℤ◌, ◌≤ℤ◌, ◌≤◌, ◌<◌, unwrap_or}
 use Rattle.std.specs.List.{count_by}
@@ -36,45 +37,45 @@ abbrev pub train_goes : TrainPlace → Kind → Option TrainMove → Bool
 train_goes place kind None = false
 train_goes place kind (Some move) = same_kind move.kind kind && same_train_place move.from place
 
--- a train of any kind goes to a company, or to the bank pool where there is none
+-- a train of any kind goes to a company, or to the bank pool if there is no owner
 abbrev pub any_comes : Option Company → Option TrainMove → Bool
 any_comes owner None = false
 any_comes owner (Some move) = same_train_place move.to (train_owner_place owner)
 
--- or goes from it
+-- a train of any kind goes from a company, or from the bank pool if there is no owner
 abbrev pub any_goes : Option Company → Option TrainMove → Bool
 any_goes owner None = false
 any_goes owner (Some move) = same_train_place move.from (train_owner_place owner)
 
--- 1 where a test holds, and 0 where not
+-- 1 if a test holds, otherwise 0
 abbrev pub one_if : Bool → ℕ
 one_if test = if test then 1 else 0
 
--- how many events bring a train, less how many take one
+-- how many events add a train, minus how many take one
 abbrev pub count_of : (Event → Bool) → (Event → Bool) → List Event → ℤ
 count_of comes goes events = balance 0 (λ event. one_if (comes event)) (λ event. one_if (goes event)) events
 
--- the trains of a kind at a place: what came there minus what went. The bank's own are fewer than none by those that it
--- has sold
+-- the trains of a kind at a place: what came there minus what went. The bank's own count is
+-- negative: minus those that it has sold
 abbrev pub trains_at : List Event → TrainPlace → Kind → ℤ
 trains_at events place kind =
     count_of (λ event. train_comes place kind (train_moved event))
     (λ event. train_goes place kind (train_moved event)) events
 
--- the trains of a kind that a company has, or the bank pool where there is none
+-- the trains of a kind that a company has, or those of the bank pool if there is no owner
 abbrev pub trains_held : List Event → Option Company → Kind → ℤ
 trains_held events owner kind = trains_at events (train_owner_place owner) kind
 
--- the trains of some kinds that a company has, or the bank pool where there is none
+-- the trains of some kinds that a company has, or those of the bank pool if there is no owner
 abbrev pub trains_of_kinds : List Event → Option Company → List Kind → ℤ
 trains_of_kinds events owner [] = pos 0
 trains_of_kinds events owner (kind ∷ others) = trains_held events owner kind +ℤ trains_of_kinds events owner others
 
--- how many trains it has
+-- how many trains a company has, or the bank pool if there is no owner
 abbrev pub train_count : List Event → Option Company → ℤ
 train_count events owner = trains_of_kinds events owner kinds
 
--- as many as a number says, and none where it is under 0
+-- a number that is not negative: 0 if it is under 0
 abbrev pub at_least_zero : ℤ → ℕ
 at_least_zero (pos n) = n
 at_least_zero (negsuc n) = 0
@@ -106,12 +107,14 @@ AllTrainsStay =
     (events : List Event) (kind : Kind) → trains_in_play events kind +ℤ trains_at events place.OutOfPlay kind
     ≡ pos (trains_sold events kind)
 
--- nobody has fewer than no trains of a kind, and the bank has sold no more of them than there are
+-- nobody has a negative number of trains of a kind, and the bank has sold no more of them than
+-- there are
 pub record TrainsAreHeld (events : List Event) : Type 0 where
   pub held : (owner : Option Company) (kind : Kind) → pos 0 ≤ℤ trains_held events owner kind
   pub sold : (kind : Kind) (number : ℕ) → (trains_of kind).number ≡ Some number → trains_sold events kind ≤ number
 
--- a train of the kind is there to be bought: one that the bank has not sold, one of the pool, or one of a company
+-- a train of the kind is there to be bought: one that the bank has not sold, one of the pool, or
+-- one of a company
 abbrev pub IsThere : List Event → TrainSeller → Kind → Type 0
 IsThere events seller.Bank kind =
     (number : ℕ) → (trains_of kind).number ≡ Some number → trains_sold events kind < number

@@ -1,4 +1,4 @@
-//! How an event changes what the totals have, table by table.
+//! How an event changes the totals, table by table.
 ghost use Rattle.std.specs.Prelude.{◌≡◌, ℕ, ◌<◌, ◌+◌, ◌^◌, ◌&&◌, ◌||◌, [], ◌∷◌, None, Some, false, is_some};
 ghost use Rattle.std.specs.Prelude.{slice_index_or, unwrap_or};
 ghost use Rattle.std.specs.Option.{option_map, option_or};
@@ -6,7 +6,8 @@ ghost use Rattle.events.specs.Event.{floated_by, obeyed_of, office_of, operated_
 ghost use Rattle.events.specs.Event.{says_broken, transfer_of};
 ghost use Rattle.events.specs.Orders.{limit_in, par_of_baltimore_in, said_by};
 ghost use Rattle.events.specs.declared.event.Shareholder.TheVariants.{BankPool, Seat as OfSeat};
-ghost use Rattle.totals.specs.Bids.{bid_said};
+ghost use Rattle.totals.specs.Bids.{bid_made, bid_said, greater_bid};
+ghost use Rattle.totals.specs.Totals.{at_private};
 ghost use Rattle.totals.specs.Totals.{at_company, bid_in, count_at, flag_of, flag_then, here_if, sale_in};
 ghost use Rattle.totals.specs.LookBack.{in_round};
 ghost use Rattle.totals.specs.Operating.{rulings_then, tokens_placed, turn_said};
@@ -83,6 +84,27 @@ pub(crate) fn apply_bids(bids: &mut [[Option<Amount>; PLAYERS_MOST]; 6], bidding
     apply_bid_on(&mut bids[private.place()], private, bidding);
 }
 
+/// Applies a bid that is made, in a table of the greatest bids by the places of the privates.
+pub(crate) fn apply_greatest_bid(greatest: &mut [Option<Amount>; 6], bidding: Option<Bidding>)
+    ensures { (private : Private) → at_private greatest.new private
+        ≡ greater_bid (bid_made private bidding) (at_private greatest.old private) }
+{
+    if let Some(Bidding::Made(private, bid)) = bidding {
+        let place = private.place();
+        greatest[place] = greater_bid(bid.amount, greatest[place]);
+    }
+}
+
+/// The greater of a bid and an earlier one, if there is one.
+fn greater_bid(later: Amount, earlier: Option<Amount>) -> Option<Amount>
+    ensures { result ≡ greater_bid (Some later) earlier }
+{
+    match earlier {
+        Some(earlier) => Some(earlier.max(later)),
+        None => Some(later),
+    }
+}
+
 /// Applies an event that says that the bank is broken.
 pub(crate) fn apply_broken(broken: &mut bool, event: &Event)
     ensures { broken.new ≡ (broken.old || says_broken event.now) }
@@ -101,7 +123,7 @@ pub(crate) fn apply_bankrupt(bankrupt: &mut bool, event: &Event)
     }
 }
 
-/// Applies where the event of this place in the list sets the square of a company.
+/// Applies the place in the list of an event that sets the square of a company.
 pub(crate) fn apply_arrival(arrivals: &mut [Option<usize>; 8], place: usize, event: &Event)
     ensures { (company : Company) → at_company arrivals.new company
         ≡ option_or (here_if (square_said company (square_set event.now)) place)
@@ -125,8 +147,8 @@ pub(crate) fn apply_token(tokens: &mut [usize; 8], event: &Event)
     }
 }
 
-/// Applies whose turn of an operating round an event says it is; one that begins a round empties
-/// the table.
+/// Applies whose turn of an operating round an event says it is; one that begins a round clears the
+/// table.
 pub(crate) fn apply_turn(operated: &mut [bool; 8], event: &Event)
     ensures { (company : Company) → flag_of operated.new company
         ≡ flag_then event.now (is_some (turn_said company (operated_by event.now)))
@@ -141,14 +163,14 @@ pub(crate) fn apply_turn(operated: &mut [bool; 8], event: &Event)
     }
 }
 
-/// A table that names no sale.
+/// Returns a table that names no sale.
 pub(crate) fn no_sales() -> [[bool; PLAYERS_MOST]; 8]
     ensures { (company : Company) (seat : Seat) → sale_in result company seat ≡ false }
 {
     [[false; PLAYERS_MOST]; 8]
 }
 
-/// Applies which shares a seat sells by an event; one that begins a round empties the table.
+/// Applies which shares a seat sells by an event; one that begins a round clears the table.
 pub(crate) fn apply_sale(sales: &mut [[bool; PLAYERS_MOST]; 8], event: &Event)
     ensures { (company : Company) (seat : Seat) → seat.0 < 6 → sale_in sales.new company seat
         ≡ flag_then event.now (is_some (sale_said company seat (transfer_of event.now)))
@@ -181,15 +203,15 @@ fn apply_sale_of(sales: &mut [bool; PLAYERS_MOST], from: Shareholder, to: Shareh
     }
 }
 
-/// A table in which no line was ruled.
+/// Returns a table in which no line was ruled.
 pub(crate) fn no_rulings() -> [usize; PLAYERS_MOST]
     ensures { (entry : ℕ) → count_at result entry ≡ 0 }
 {
     [0; PLAYERS_MOST]
 }
 
-/// Applies whose sheet an event rules a line of, in a table of how many lines were ruled of each
-/// seat's; one that begins a round empties the table.
+/// Applies the seat whose line an event rules, in a table of how many lines of each seat were
+/// ruled; an event that begins a round clears the table.
 pub(crate) fn apply_ruling(rulings: &mut [usize; PLAYERS_MOST], event: &Event)
     ensures { (seat : Seat) → seat.0 < 6 → count_at rulings.old seat.0 < 2 ^ 63 →
         count_at rulings.new seat.0 ≡ rulings_then seat (count_at rulings.old seat.0) event.now }
@@ -206,7 +228,7 @@ pub(crate) fn apply_ruling(rulings: &mut [usize; PLAYERS_MOST], event: &Event)
     }
 }
 
-/// A table that names no limit.
+/// Returns a table that names no limit.
 pub(crate) fn no_limits() -> [[Option<Amount>; PLAYERS_MOST]; 6]
     ensures { (private : Private) (number : ℕ) → number < 6 →
         bid_in result private number ≡ None }
@@ -214,7 +236,8 @@ pub(crate) fn no_limits() -> [[Option<Amount>; PLAYERS_MOST]; 6]
     [[None; PLAYERS_MOST]; 6]
 }
 
-/// How far a seat goes in an auction of a private by the line that an event rules, as a bid.
+/// Returns the limit of a seat in an auction of a private, by the line that an event rules, as a
+/// bid.
 fn limit_in_event(event: &Event) -> Option<Bidding>
     ensures { (private : Private) (seat : Seat) → bid_said private seat result
         ≡ option_map Some (said_by seat (limit_in private) (obeyed_of event.now)) }
@@ -231,8 +254,8 @@ fn limit_in_event(event: &Event) -> Option<Bidding>
     }
 }
 
-/// Applies how far a seat goes in an auction of a private by an event, in a table like that of
-/// bids; one that begins a round empties the table.
+/// Applies the limit of a seat in an auction of a private by an event, in a table like that of
+/// bids; one that begins a round clears the table.
 pub(crate) fn apply_limit(limits: &mut [[Option<Amount>; PLAYERS_MOST]; 6], event: &Event)
     ensures { (private : Private) (seat : Seat) → seat.0 < 6 → bid_in limits.new private seat.0
         ≡ unwrap_or (in_round (λ e. said_by seat (limit_in private) (obeyed_of e)) event.now)

@@ -14,12 +14,12 @@ pub(crate) trait Topic {
 
     ghost word: { Self → Event → Option Self.Word };
 
-    /// What an event says of it; `None` where the event does not speak of it.
+    /// Returns what an event says of it; `None` if the event does not speak of it.
     fn word(&self, event: &Event) -> Option<Self::Word>
         ensures { result ≡ word self.now event.now };
 }
 
-/// A thing that holds within a round only: an event that begins a round says that nothing does.
+/// A thing that holds only within a round: an event that begins a round says that nothing holds.
 #[derive(Clone, Copy)]
 pub(crate) struct InRound<T>(pub T);
 
@@ -39,7 +39,7 @@ impl<T: Topic> Topic for InRound<T> {
     }
 }
 
-/// What the last event that speaks of a thing says.
+/// Returns what the last event that speaks of a thing says.
 pub(crate) fn last_said<T: Topic>(topic: &T, events: &[Event]) -> Option<T::Word>
     ensures { result ≡ last_said (T.word topic.now) events.now }
 {
@@ -51,22 +51,22 @@ pub(crate) fn last_said<T: Topic>(topic: &T, events: &[Event]) -> Option<T::Word
     None
 }
 
-/// An account to which some events bring and from which some take.
+/// An account that some events add to and some take from.
 pub(crate) trait Account {
     ghost brings: { Self → Event → ℕ };
 
     ghost takes: { Self → Event → ℕ };
 
-    /// What an event brings in.
+    /// Returns what an event adds.
     fn brings(&self, event: &Event) -> Amount
         ensures { result ≡ brings self.now event.now };
 
-    /// What an event takes out.
+    /// Returns what an event takes.
     fn takes(&self, event: &Event) -> Amount
         ensures { result ≡ takes self.now event.now };
 }
 
-/// What an account begins with, plus all that came in, minus all that went out.
+/// Returns what an account begins with, plus all that came in, minus all that went out.
 pub(crate) fn balance<A: Account>(account: &A, start: Amount, events: &[Event]) -> Money
     ensures sum { result ≡ balance start (A.brings account.now) (A.takes account.now) events.now }
     ensures within { IsModerate result }

@@ -1,5 +1,5 @@
 //! Tables of balances: what came to each entry, minus what went from it. The entries are those of
-//! the bank, the companies and six seats; a further seat has an entry behind the table's end.
+//! the bank, the companies and six seats; a further seat has an entry past the table's end.
 ghost use Rattle.std.specs.Prelude.{◌≡◌, ◌==◌, ◌<◌, ◌≤◌, ◌+ℤ◌, ◌-ℤ◌, ◌≤ℤ◌, ◌^◌, ℕ, if◌then◌else◌, length, neg_ℤ, pos};
 ghost use Rattle.std.specs.Prelude.{Option};
 ghost use Rattle.events.specs.Event.{payment_of, train_moved, transfer_of};
@@ -13,7 +13,7 @@ ghost use Rattle.totals.specs.Trains.{any_comes, any_goes, one_if, train_comes, 
 use events::{Event, Holder, Party, Shareholder, TrainPlace};
 use tables::{Amount, Company, Kind, Money};
 
-/// A balance with a change that is a sum of money, or less one.
+/// Returns a balance with a change, which is a sum of money or minus one.
 fn changed(balance: Money, change: Money) -> Money
     requires not_under { neg_ℤ (pos (2 ^ 32)) ≤ℤ change }
     requires not_over { change ≤ℤ pos (2 ^ 32) }
@@ -50,7 +50,7 @@ fn move_sum(balances: &mut [Money], from: usize, to: usize, sum: Amount)
     change(balances, from, -Money::from(sum));
 }
 
-/// The entry of a party in a table of cash.
+/// Returns the entry of a party in a table of cash.
 pub(crate) fn entry_of_party(party: Party) -> usize
     ensures { result ≡ party_entry party }
 {
@@ -78,7 +78,7 @@ pub(crate) fn apply_payment(balances: &mut [Money; 15], event: &Event)
     }
 }
 
-/// The entry of the shares of a company at a place in a table of shares.
+/// Returns the entry of the shares of a company at a place in a table of shares.
 pub(crate) fn entry_of_shares(company: Company, place: Shareholder) -> usize
     ensures { result ≡ shares_entry company place }
 {
@@ -110,7 +110,8 @@ pub(crate) fn apply_transfer(balances: &mut [Money; 64], event: &Event)
     }
 }
 
-/// The row of a place in a table of trains, and its entry in a table of how many it has.
+/// Returns the row of a place in a table of trains, which is also its entry in a table of how many
+/// it has.
 pub(crate) fn row_of_trains(place: TrainPlace) -> usize
     ensures row { result ≡ train_row place }
     ensures within { result < 11 }
@@ -123,7 +124,7 @@ pub(crate) fn row_of_trains(place: TrainPlace) -> usize
     }
 }
 
-/// The entry of the trains of a kind at a place in a table of trains.
+/// Returns the entry of the trains of a kind at a place in a table of trains.
 pub(crate) fn entry_of_train(place: TrainPlace, kind: Kind) -> usize
     ensures entry { result ≡ train_entry place kind }
     ensures within { result < 88 }

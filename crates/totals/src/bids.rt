@@ -2,7 +2,7 @@
 ghost use Rattle.std.specs.Prelude.{◌≡◌, ◌^◌, ◌<◌, ◌≤◌, option_map, pos};
 ghost use Rattle.totals.specs.Orders.{bid_limit_of, par_ordered_of};
 ghost use Rattle.totals.specs.Bids.{AppliesBidOn, AreStanding, bid_of, bids_elsewhere_of, bids_of, bids_on};
-ghost use Rattle.totals.specs.Bids.{free_cash_of};
+ghost use Rattle.totals.specs.Bids.{free_cash_of, greatest_bid_of};
 ghost use Rattle.totals.specs.Bids.{free_for, tied_on};
 
 use crate::aspect::{InRound, last_said};
@@ -13,14 +13,14 @@ use events::{Bid, Bidding, Holder, Party};
 use tables::{Amount, Money, PLAYERS_MOST, Private, Seat};
 
 impl GameView<'_> {
-    /// A seat's standing bid on a private, in dollars.
+    /// Returns a seat's standing bid on a private, in dollars.
     pub fn bid(&self, private: Private, seat: Seat) -> Option<Money>
         ensures { result ≡ option_map pos (bid_of self.now.events.now private seat) }
     {
         self.standing_bid(private, seat).map(Money::from)
     }
 
-    /// A seat's standing bid on a private, as the sum that an order names.
+    /// Returns a seat's standing bid on a private, as the sum that an order names.
     pub fn standing_bid(&self, private: Private, seat: Seat) -> Option<Amount>
         ensures { result ≡ bid_of self.now.events.now private seat }
     {
@@ -31,7 +31,7 @@ impl GameView<'_> {
         }
     }
 
-    /// The standing bids on a private, in the order of the seats.
+    /// Returns the standing bids on a private, in the order of the seats.
     pub fn bids_on(&self, private: Private) -> ArrayVec<Bid, PLAYERS_MOST>
         requires { self.now.seats ≤ 6 }
         ensures { result.items ≡ bids_on self.now.seats self.now.events.now private }
@@ -47,7 +47,7 @@ impl GameView<'_> {
         bids
     }
 
-    /// The standing bid of each of six seats on a private.
+    /// Returns the standing bid of each of six seats on a private.
     fn standing_by_seat(&self, private: Private) -> [Option<Amount>; PLAYERS_MOST]
         ensures { AreStanding self.now.events.now private result }
     {
@@ -57,7 +57,19 @@ impl GameView<'_> {
         }
     }
 
-    /// How far a seat goes in an auction of a private, by its last obeyed LIMIT line of this round.
+    /// Returns the greatest bid that was ever made on a private, in dollars, whether or not it is
+    /// held; `None` if nobody has bid on it.
+    pub fn greatest_bid(&self, private: Private) -> Option<Amount>
+        ensures { result ≡ greatest_bid_of self.now.events.now private }
+    {
+        match self.totals() {
+            Some(totals) => totals.greatest_bids[private.place()],
+            None => None,
+        }
+    }
+
+    /// Returns the limit of a seat in an auction of a private, in dollars, by its last obeyed LIMIT
+    /// line of this round.
     pub fn limit(&self, private: Private, seat: Seat) -> Option<Amount>
         ensures { result ≡ bid_limit_of self.now.events.now private seat }
     {
@@ -68,7 +80,8 @@ impl GameView<'_> {
         }
     }
 
-    /// The par value that a seat sets for BO if it buys BOP, by its last obeyed standing PAR line.
+    /// Returns the par value that a seat sets for BO if it buys BOP, by its last obeyed standing
+    /// PAR line.
     pub fn par_ordered(&self, seat: Seat) -> Option<Amount>
         ensures { result ≡ par_ordered_of self.now.events.now seat }
     {
@@ -79,7 +92,7 @@ impl GameView<'_> {
         }
     }
 
-    /// The sum of a seat's standing bids, in dollars.
+    /// Returns the sum of a seat's standing bids, in dollars.
     pub fn bids_of(&self, seat: Seat) -> Money
         ensures sum { result ≡ pos (bids_of self.now.events.now seat) }
         ensures within { bids_of self.now.events.now seat < 2 ^ 35 }
@@ -91,15 +104,15 @@ impl GameView<'_> {
         Money::from(sum)
     }
 
-    /// What a seat can spend on a private, in dollars: its cash minus its standing bids on the
-    /// others.
+    /// Returns what a seat can spend on a private, in dollars: its cash minus its standing bids on
+    /// the others.
     pub fn free_for(&self, seat: Seat, private: Private) -> Money
         ensures { result ≡ free_for self.now.seats self.now.events.now seat private }
     {
         self.cash(Party::Holder(Holder::Seat(seat))) - self.bids_elsewhere(seat, private)
     }
 
-    /// The sum of a seat's standing bids on other privates than one, in dollars.
+    /// Returns the sum of a seat's standing bids on all privates but one, in dollars.
     pub fn bids_elsewhere(&self, seat: Seat, private: Private) -> Money
         ensures sum { result ≡ pos (bids_elsewhere_of self.now.events.now seat private) }
         ensures within { bids_elsewhere_of self.now.events.now seat private < 2 ^ 35 }
@@ -107,14 +120,14 @@ impl GameView<'_> {
         self.bids_of(seat) - Money::from(self.tied_on(seat, private))
     }
 
-    /// A seat's cash minus its standing bids, in dollars.
+    /// Returns a seat's cash minus its standing bids, in dollars.
     pub fn free_cash(&self, seat: Seat) -> Money
         ensures { result ≡ free_cash_of self.now.seats self.now.events.now seat }
     {
         self.cash(Party::Holder(Holder::Seat(seat))) - self.bids_of(seat)
     }
 
-    /// What a seat's standing bid on a private ties.
+    /// Returns the cash that a seat's standing bid on a private ties, in dollars.
     fn tied_on(&self, seat: Seat, private: Private) -> Amount
         ensures { result ≡ tied_on self.now.events.now seat private }
     {

@@ -1,18 +1,19 @@
-//! What a list of events says when it is looked back over, and the totals that say the same at once.
+//! What a list of events says when one looks back over it, and the totals that say the same at
+//! once.
 //!
 //! Every fact about a game is what the list of its events says. An event has a few aspects: the
 //! payment that it makes, the shares that it moves, what it says of a private's owner and of the
-//! bids on it, the par value, square and president of a company that it sets, .. There are a few
-//! ways of looking back, each generic over the aspect: an account, such as a party's cash, is its
-//! start with all that came in minus all that went out, and so is a count of trains; the tiles and
-//! the tokens on the map are all that was said of them, in order; nearly anything else is what the
-//! last event that speaks of it says. The totals of a list have all of it, and are applied an event
-//! at a time; a view of a game answers from them.
+//! bids on it, the par value, square and president that it sets for a company, and so on. There are
+//! a few ways of looking back, each generic over the aspect. An account, such as a party's cash, is
+//! its start with all that came in minus all that went out, and so is a count of trains. The tiles
+//! and the tokens on the map are all that was said of them, in order. Nearly anything else is what
+//! the last event that speaks of it says. The totals of a list have all of it, and are applied an
+//! event at a time; a view of a game reads them.
 //!
 //! Reading order: `look_back`, `owners`, `bids`, `offers`, `shares`, `operating` and `trains` (the
-//! readers of `GameView`), `totals` (what a list says, an event at a time), `balances` and `applying`
-//! (how an event changes what the totals have), `aspect` (the ways of looking back), `topics` (what
-//! is looked for).
+//! readers of `GameView`), `totals` (what a list says, an event at a time), `balances` and
+//! `applying` (how an event changes the totals), `aspect` (the ways of looking back), `topics`
+//! (what is looked for).
 #![tactic(auto)]
 
 mod applying;

@@ -25,9 +25,9 @@ pub struct GameView<'a> {
     pub seats: usize,
     /// What had happened, oldest first.
     pub events: &'a [Event],
-    /// What they say; `None` only where nothing has happened.
+    /// What they say; `None` only if nothing has happened.
     totals: Option<&'a Totals>,
-    /// The sales that were offered in the round that began last; `None` where they are not kept.
+    /// The sales that were offered in the round that began last; `None` if they are not kept.
     offers: Option<&'a [(Seat, Offer)]>,
     ghost short: { FitsMemory events.now },
     ghost empty: { totals ≡ None → length events.now ≡ 0 },
@@ -36,7 +36,7 @@ pub struct GameView<'a> {
 }
 
 impl<'a> GameView<'a> {
-    /// A game as it stood after these events, of which these are the totals.
+    /// Returns a game as it stood after these events, of which these are the totals.
     pub fn of(seats: usize, events: &'a [Event], totals: &'a Totals) -> GameView<'a>
         requires short { FitsMemory events.now }
         requires kept { AreTotalsOf totals.now events.now }
@@ -51,8 +51,8 @@ impl<'a> GameView<'a> {
         }
     }
 
-    /// A game as it stood after these events, of which these are the totals, if there are any:
-    /// where nothing has happened there may be none; and these are the sales offered in the round.
+    /// Returns a game as it stood after these events, with their totals and the sales offered in
+    /// the round. There may be no totals if nothing has happened.
     pub fn with_totals(
         seats: usize,
         events: &'a [Event],
@@ -73,7 +73,7 @@ impl<'a> GameView<'a> {
         }
     }
 
-    /// The totals; there may be none where nothing has happened.
+    /// Returns the totals; there may be none if nothing has happened.
     pub(crate) fn totals(&self) -> Option<&'a Totals>
         ensures { MatchOption result (self.now.events.now ≡ [])
             (λ totals. AreTotalsOf totals.now self.now.events.now) }
@@ -81,7 +81,7 @@ impl<'a> GameView<'a> {
         self.totals
     }
 
-    /// The sales that were offered in the round that began last, where they are kept.
+    /// Returns the sales that were offered in the round that began last, if they are kept.
     pub(crate) fn offers(&self) -> Option<&'a [(Seat, Offer)]>
         ensures { ForSome result (λ offers. AreOffersOf offers.now self.now.events.now) }
     {
@@ -90,8 +90,8 @@ impl<'a> GameView<'a> {
 }
 
 impl GameView<'_> {
-    /// What a party has, in dollars: its start money, plus all that came in, minus all that went
-    /// out.
+    /// Returns what a party has, in dollars: its start money, plus all that came in, minus all that
+    /// went out.
     pub fn cash(&self, party: Party) -> Money
         ensures sum { result ≡ cash_of self.now.seats self.now.events.now party }
         ensures within { IsModerate result }
@@ -104,21 +104,21 @@ impl GameView<'_> {
         }
     }
 
-    /// Who owns a private; `None` while it is unsold, and once it is closed.
+    /// Returns who owns a private; `None` while it is unsold, and once it is closed.
     pub fn owner(&self, private: Private) -> Option<Holder>
         ensures { result ≡ owner_of self.now.events.now private }
     {
         self.owners().owner(private)
     }
 
-    /// Whether a private has been sold.
+    /// Returns whether a private has been sold.
     pub fn is_sold(&self, private: Private) -> bool
         ensures { result ≡ is_sold self.now.events.now private }
     {
         self.owners().is_sold(private)
     }
 
-    /// The owners of all privates, as the totals have them.
+    /// Returns the owners of all privates, as the totals have them.
     pub fn owners(&self) -> Owners
         ensures owner { (private : Private) →
             owner_in result private ≡ owner_of self.now.events.now private }
@@ -132,14 +132,14 @@ impl GameView<'_> {
         }
     }
 
-    /// The first private in roster order that is unsold.
+    /// Returns the first private in roster order that is unsold.
     pub fn cheapest_unsold(&self) -> Option<Private>
         ensures { result ≡ cheapest_of self.now.events.now }
     {
         self.owners().cheapest_unsold()
     }
 
-    /// The price of SV in dollars, at first its face.
+    /// Returns the price of SV in dollars, at first its face.
     pub fn sv_price(&self) -> Amount
         ensures { result ≡ sv_price_of self.now.events.now }
     {
@@ -149,7 +149,7 @@ impl GameView<'_> {
         }
     }
 
-    /// Whether the bank is broken.
+    /// Returns whether the bank is broken.
     pub fn broken(&self) -> bool
         ensures { result ≡ broken_in self.now.events.now }
     {
@@ -159,7 +159,7 @@ impl GameView<'_> {
         }
     }
 
-    /// Whether a president is bankrupt, so that the game is over.
+    /// Returns whether a president is bankrupt, so that the game is over.
     pub fn bankrupt(&self) -> bool
         ensures { result ≡ bankrupt_in self.now.events.now }
     {
@@ -169,7 +169,7 @@ impl GameView<'_> {
         }
     }
 
-    /// The round that began last; `None` before the first.
+    /// Returns the round that began last; `None` before the first.
     pub fn round(&self) -> Option<Round>
         ensures { result ≡ round_of self.now.events.now }
     {
@@ -179,8 +179,8 @@ impl GameView<'_> {
         }
     }
 
-    /// The holder of priority: the seat at the left of the last seat that bought a private, bid on
-    /// one, or bought or sold shares in its own turn; at first seat 0.
+    /// Returns the holder of priority: the seat at the left of the last seat that bought a private,
+    /// bid on one, or bought or sold shares in its own turn. At first it is seat 0.
     pub fn priority(&self) -> Seat
         ensures { result ≡ priority_of self.now.seats self.now.events.now }
     {
@@ -190,7 +190,8 @@ impl GameView<'_> {
         }
     }
 
-    /// The last seat that bought a private, bid on one, or bought or sold shares in its own turn.
+    /// Returns the last seat that bought a private, bid on one, or bought or sold shares in its own
+    /// turn.
     fn actor(&self) -> Option<Seat>
         ensures { result ≡ last_said actor_of self.now.events.now }
     {
@@ -201,7 +202,7 @@ impl GameView<'_> {
     }
 }
 
-/// What a party begins with.
+/// Returns what a party begins with, in dollars.
 fn start_of(seats: usize, party: Party) -> Amount
     ensures { result ≡ start_of seats party }
 {

@@ -10,8 +10,8 @@ use order_grammar::Offer;
 use tables::Seat;
 
 impl GameView<'_> {
-    /// Whether a seat has offered exactly this sale, by an OFFER line that was obeyed in this
-    /// round.
+    /// Returns whether a seat has offered exactly this sale, by an OFFER line that was obeyed in
+    /// this round.
     pub fn has_offered(&self, seat: Seat, sale: Offer) -> bool
         ensures { result ≡ has_offered self.now.events.now seat sale }
     {
@@ -23,8 +23,8 @@ impl GameView<'_> {
         }
     }
 
-    /// Whether the seat that gives a thing consents to its sale, where this seat takes it: it is
-    /// the same one, or it has offered exactly this sale in this round.
+    /// Returns whether the seat that gives a thing consents to its sale to this seat: they are the
+    /// same, or the giver has offered exactly this sale in this round.
     pub fn has_consent(&self, giver: Seat, taker: Seat, sale: Offer) -> bool
         ensures { result ≡ has_consent self.now.events.now giver taker sale }
     {
@@ -32,7 +32,7 @@ impl GameView<'_> {
     }
 }
 
-/// Whether a seat's offer of exactly this sale is among these.
+/// Returns whether a seat's offer of exactly this sale is among these.
 fn is_among(offers: &[(Seat, Offer)], seat: Seat, sale: Offer) -> bool
     ensures { result ≡ is_among seat sale offers.now }
 {

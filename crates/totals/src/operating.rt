@@ -7,7 +7,7 @@ use events::Event;
 use tables::{Company, PLAYERS_MOST, Seat};
 
 impl GameView<'_> {
-    /// How many tokens a company has placed, that of its home among them.
+    /// Returns how many tokens a company has placed, including that of its home.
     pub fn tokens_placed(&self, company: Company) -> usize
         ensures { result ≡ tokens_placed self.now.events.now company }
     {
@@ -17,7 +17,7 @@ impl GameView<'_> {
         }
     }
 
-    /// Whether a company has operated since the last round began.
+    /// Returns whether a company has operated since the last round began.
     pub fn has_operated(&self, company: Company) -> bool
         ensures { result ≡ has_operated self.now.events.now company }
     {
@@ -27,7 +27,7 @@ impl GameView<'_> {
         }
     }
 
-    /// How many lines of a seat's sheet were ruled since the last round began.
+    /// Returns how many lines of a seat's sheet were ruled since the last round began.
     pub fn rulings_in_round(&self, seat: Seat) -> usize
         ensures { result ≡ rulings_in_round self.now.events.now seat }
     {
@@ -39,8 +39,8 @@ impl GameView<'_> {
     }
 }
 
-/// How many lines of a seat's sheet were ruled since the last round began, by one look over the
-/// events.
+/// Returns how many lines of a seat's sheet were ruled since the last round began, by one look over
+/// the events.
 fn count_rulings(events: &[Event], seat: Seat) -> usize
     ensures { result ≡ rulings_in_round events.now seat }
 {

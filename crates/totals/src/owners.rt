@@ -8,15 +8,15 @@ ghost use Rattle.totals.specs.LookBack.{cheapest_in, is_sold_in, owner_in, owner
 use events::{Event, Holder};
 use tables::Private;
 
-/// What was said last of the owner of each private, made by one look over a list of events.
+/// What was last said of the owner of each private, by one look over a list of events.
 #[derive(Clone, Copy, Debug)]
 pub struct Owners {
-    /// By the private's place in the roster; `None` where it is unsold.
+    /// By the private's place in the roster; `None` if it is unsold.
     pub(crate) said: [Option<Option<Holder>>; 6],
 }
 
 impl Owners {
-    /// No private is sold.
+    /// Returns owners by which no private is sold.
     pub(crate) fn unsold() -> Owners
         ensures word { (private : Private) → word_in result private ≡ None }
         ensures cheapest { cheapest_in result ≡ Some SchuylkillValley }
@@ -34,21 +34,21 @@ impl Owners {
         }
     }
 
-    /// Who owns a private; `None` while it is unsold, and once it is closed.
+    /// Returns who owns a private; `None` while it is unsold, and once it is closed.
     pub fn owner(&self, private: Private) -> Option<Holder>
         ensures { result ≡ owner_in self.now private }
     {
         self.said[private.place()].flatten()
     }
 
-    /// Whether a private has been sold.
+    /// Returns whether a private has been sold.
     pub fn is_sold(&self, private: Private) -> bool
         ensures { result ≡ is_sold_in self.now private }
     {
         self.said[private.place()].is_some()
     }
 
-    /// The first private in roster order that is unsold.
+    /// Returns the first private in roster order that is unsold.
     pub fn cheapest_unsold(&self) -> Option<Private>
         ensures { result ≡ cheapest_in self.now }
     {

@@ -16,7 +16,7 @@ use tables::{Amount, Company, Money, PLAYERS_MOST, Seat, Square};
 pub type ShareCount = i128;
 
 impl GameView<'_> {
-    /// The shares of a company at a place.
+    /// Returns the shares of a company at a place.
     pub fn shares(&self, company: Company, place: Shareholder) -> ShareCount
         ensures sum { result ≡ shares_of self.now.events.now company place }
         ensures within { IsModerate result }
@@ -30,14 +30,14 @@ impl GameView<'_> {
         }
     }
 
-    /// A company's par value in dollars; `None` while it has none.
+    /// Returns a company's par value in dollars; `None` while it has none.
     pub fn par(&self, company: Company) -> Option<Money>
         ensures { result ≡ option_map pos (par_of self.now.events.now company) }
     {
         self.par_set(company).map(Money::from)
     }
 
-    /// A company's par value as the sum that an event sets.
+    /// Returns a company's par value as the sum that an event sets.
     fn par_set(&self, company: Company) -> Option<Amount>
         ensures { result ≡ par_of self.now.events.now company }
     {
@@ -47,14 +47,14 @@ impl GameView<'_> {
         }
     }
 
-    /// Whether a company is started: its token has a square.
+    /// Returns whether a company is started: its token has a square.
     pub fn is_started(&self, company: Company) -> bool
         ensures { result ≡ is_started self.now.events.now company }
     {
         self.square(company).is_some()
     }
 
-    /// Whether a company has floated.
+    /// Returns whether a company has floated.
     pub fn floated(&self, company: Company) -> bool
         ensures { result ≡ is_floated self.now.events.now company }
     {
@@ -64,7 +64,7 @@ impl GameView<'_> {
         }
     }
 
-    /// Whether a seat has sold shares of a company since the last round began.
+    /// Returns whether a seat has sold shares of a company since the last round began.
     pub fn has_sold_in_round(&self, company: Company, seat: Seat) -> bool
         ensures { result ≡ has_sold_in_round self.now.events.now company seat }
     {
@@ -77,14 +77,14 @@ impl GameView<'_> {
         }
     }
 
-    /// The square of a company's token.
+    /// Returns the square of a company's token.
     pub fn square(&self, company: Company) -> Option<Square>
         ensures { result ≡ square_of self.now.events.now company }
     {
         self.squares()[company.place()]
     }
 
-    /// The square of each company's token, by the places of the companies.
+    /// Returns the square of each company's token, by the places of the companies.
     pub fn squares(&self) -> [Option<Square>; 8]
         ensures { (company : Company) →
             at_company result company ≡ square_of self.now.events.now company }
@@ -95,8 +95,8 @@ impl GameView<'_> {
         }
     }
 
-    /// The place in the list, from 0, of the event that set the square of a company's token: the
-    /// lesser, the earlier it came there. It is 0 where the token has no square.
+    /// Returns the place in the list, from 0, of the event that set the square of a company's
+    /// token: the less it is, the earlier the token came there. It is 0 if the token has no square.
     pub fn arrival(&self, company: Company) -> usize
         ensures { result ≡ arrival_of self.now.events.now company }
     {
@@ -106,14 +106,14 @@ impl GameView<'_> {
         }
     }
 
-    /// A company's president.
+    /// Returns a company's president.
     pub fn president(&self, company: Company) -> Option<Seat>
         ensures { result ≡ president_of self.now.events.now company }
     {
         self.presidents()[company.place()]
     }
 
-    /// The president of each company, by the places of the companies.
+    /// Returns the president of each company, by the places of the companies.
     pub fn presidents(&self) -> [Option<Seat>; 8]
         ensures { (company : Company) →
             at_company result company ≡ president_of self.now.events.now company }
@@ -125,7 +125,7 @@ impl GameView<'_> {
     }
 }
 
-/// The shares of a company that lie at a place at first.
+/// Returns how many shares of a company lie at a place at first.
 fn start_shares(place: Shareholder) -> Amount
     ensures { result ≡ start_shares place }
 {

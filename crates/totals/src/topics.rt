@@ -55,7 +55,7 @@ impl Topic for BidOn {
     }
 }
 
-/// How far a seat goes in an auction of a private.
+/// The limit of a seat in an auction of a private.
 #[derive(Clone, Copy)]
 pub(crate) struct LimitOn(pub Private, pub Seat);
 

@@ -1,13 +1,13 @@
-//! The totals of a list of events: what its readers answer, kept while the events come, so that an
-//! answer costs no more for a long list than for a short one.
+//! The totals of a list of events: what its readers return, kept while the events come. So reading
+//! a long list costs no more than reading a short one.
 ghost use Rattle.std.specs.Prelude.{◌++◌, ◌∷◌, ◌<◌, ◌^◌, [], List, length};
 ghost use Rattle.events.specs.declared.event.Event.{Event as TheEvent};
 ghost use Rattle.totals.specs.Totals.{AreTotalsOf};
 
 use crate::applying::{
-    apply, apply_arrival, apply_bankrupt, apply_bids, apply_broken, apply_float, apply_limit,
-    apply_par, apply_par_order, apply_president, apply_ruling, apply_sale, apply_square,
-    apply_token, apply_turn, no_limits,
+    apply, apply_arrival, apply_bankrupt, apply_bids, apply_broken, apply_float,
+    apply_greatest_bid, apply_limit, apply_par, apply_par_order, apply_president, apply_ruling,
+    apply_sale, apply_square, apply_token, apply_turn, no_limits,
 };
 use crate::balances::{apply_payment, apply_train, apply_train_owner, apply_transfer};
 use crate::owners::Owners;
@@ -15,16 +15,18 @@ use crate::shares::ShareCount;
 use events::Event;
 use tables::{Amount, Company, Kind, Money, PLAYERS_MOST, Round, Seat, Square};
 
-/// What a list of events says: what was said last of each thing, `None` where nothing was. Tables
-/// are by the places of the privates and the companies in the roster, and by the numbers of seats.
-/// Of cash, shares and trains it is what came to each party or place, minus what went from it. Of
-/// companies' turns, seats' sales, rulings and limits it is what the round has had that began last.
+/// What a list of events says: what was last said of each thing, `None` if nothing was. Tables are
+/// by the places of the privates and the companies in the roster, and by the numbers of seats.
+/// Balances of cash, shares and trains are what came to each party or place, minus what went from
+/// it. Companies' turns, seats' sales, rulings and limits are those of the round that began last.
+/// The greatest bids are of all bids that were ever made.
 #[derive(Clone, Copy, Debug)]
 pub struct Totals {
     /// How many events there are.
     event_count: usize,
     pub(crate) owners: Owners,
     pub(crate) bids: [[Option<Amount>; PLAYERS_MOST]; 6],
+    pub(crate) greatest_bids: [Option<Amount>; 6],
     pub(crate) sv_price: Option<Amount>,
     pub(crate) actor: Option<Seat>,
     pub(crate) round: Option<Round>,
@@ -52,7 +54,7 @@ pub struct Totals {
 const _: () = prove!(size_of::<Totals>() < 4096);
 
 impl Totals {
-    /// The totals of no events.
+    /// Returns the totals of no events.
     pub fn start() -> Totals
         ensures { AreTotalsOf result [] }
     {
@@ -60,6 +62,7 @@ impl Totals {
             event_count: 0,
             owners: Owners::unsold(),
             bids: [[None; PLAYERS_MOST]; 6],
+            greatest_bids: [None; 6],
             sv_price: None,
             actor: None,
             round: None,
@@ -92,6 +95,7 @@ impl Totals {
     {
         self.owners.apply(event);
         apply_bids(&mut self.bids, event.bidding());
+        apply_greatest_bid(&mut self.greatest_bids, event.bidding());
         apply(&mut self.sv_price, event.sv_price());
         apply(&mut self.actor, event.actor());
         apply(&mut self.round, event.round());

@@ -8,11 +8,12 @@ use crate::look_back::GameView;
 use events::TrainPlace;
 use tables::{Company, Kind, Money};
 
-/// A number of trains: those that came in less those that went out, at least 0 in a sound game.
+/// A number of trains: those that came in minus those that went out, at least 0 in a sound game.
 pub type TrainCount = i64;
 
 impl GameView<'_> {
-    /// The trains of a kind that a company has, or the bank pool where there is none.
+    /// Returns the trains of a kind that a company has, or those of the bank pool if there is no
+    /// owner.
     pub fn trains(&self, owner: Option<Company>, kind: Kind) -> TrainCount
         ensures sum { result ≡ trains_held self.now.events.now owner kind }
         ensures within { IsModerate result }
@@ -20,7 +21,7 @@ impl GameView<'_> {
         self.trains_at(TrainPlace::of_owner(owner), kind)
     }
 
-    /// The trains of a kind at a place.
+    /// Returns the trains of a kind at a place.
     fn trains_at(&self, place: TrainPlace, kind: Kind) -> TrainCount
         ensures sum { result ≡ trains_at self.now.events.now place kind }
         ensures within { IsModerate result }
@@ -31,7 +32,7 @@ impl GameView<'_> {
         }
     }
 
-    /// How many trains a company has, or the bank pool where there is none.
+    /// Returns how many trains a company has, or the bank pool if there is no owner.
     pub fn train_count(&self, owner: Option<Company>) -> TrainCount
         ensures sum { result ≡ train_count self.now.events.now owner }
         ensures within { IsModerate result }
@@ -44,14 +45,14 @@ impl GameView<'_> {
         }
     }
 
-    /// How many trains of a kind the bank has sold: none comes to it.
+    /// Returns how many trains of a kind the bank has sold; no train comes back to it.
     pub fn trains_sold(&self, kind: Kind) -> usize
         ensures { result ≡ trains_sold self.now.events.now kind }
     {
         self.trains_at(TrainPlace::Bank, kind).unsigned_abs() as usize
     }
 
-    /// The phase, at first that of the 2.
+    /// Returns the phase, at first that of the 2.
     pub fn phase(&self) -> Kind
         ensures { result ≡ phase_of self.now.events.now }
     {
@@ -62,7 +63,7 @@ impl GameView<'_> {
     }
 }
 
-/// As many as a count says, and none where it is under 0.
+/// Returns a count as a number that is not negative: 0 if it is under 0.
 pub fn at_least_zero(count: Money) -> u128
     ensures { result ≡ at_least_zero count }
 {

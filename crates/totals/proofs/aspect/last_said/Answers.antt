@@ -1,4 +1,5 @@
--- The event in hand is at the end of those that are left: it speaks of the thing, or it leaves what the others say.
+-- The event in hand is at the end of those that are left: it speaks of the thing, or it leaves what
+-- the others say.
 use Rattle.std.proofs.Common.{sym, ◌∙◌}
 use Rattle.totals.proofs.EventAtEnd.{last_said_here, last_said_before}
 use Rattle.totals.proofs.aspect.last_said.Goals as goal

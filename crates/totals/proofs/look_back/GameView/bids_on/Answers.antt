@@ -1,4 +1,4 @@
--- The next seat's bid is behind those of the seats before, if there is one.
+-- The next seat's bid comes after those of the seats before, if there is one.
 use Rattle.std.proofs.Common.{arith, sym, ◌∙◌}
 use Rattle.totals.proofs.Standing.{bid_added, bid_missing}
 use Rattle.totals.proofs.Tied.{is_standing, none_without}

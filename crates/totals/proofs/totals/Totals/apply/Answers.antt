@@ -4,7 +4,7 @@ use Rattle.events.specs.Event.{payment_of, phase_set, round_begun_by, square_set
 use Rattle.events.specs.Event.{says_broken, train_moved, transfer_of}
 use Rattle.events.specs.Orders.{limit_in, par_of_baltimore_in, said_by}
 use Rattle.totals.proofs.Applied.{balance_applied, bid_applied, flag_applied, one_low, place_applied}
-use Rattle.totals.proofs.Applied.{round_flag_applied}
+use Rattle.totals.proofs.Applied.{greatest_applied, round_flag_applied}
 use Rattle.totals.proofs.Applied.{round_word_applied, rulings_applied, said_applied, tokens_applied, word_applied}
 use Rattle.totals.specs.LookBack.{owner_said, paid_by, paid_to}
 use Rattle.totals.specs.Operating.{turn_said}
@@ -30,6 +30,9 @@ returns c = λ events short before.
       bids = λ private number low.
           bid_applied events event private (seat_at number) _ _ _ c.bidding.ensures
           (c.apply_bids.ensures private number low) (before.bids private number low);
+      greatest_bids = λ private.
+          greatest_applied events event private _ _ _ c.bidding-2.ensures (c.apply_greatest_bid.ensures private)
+          (before.greatest_bids private);
       sv_price = said_applied sv_price_set events event _ _ _ c.sv_price.ensures c.apply-2.ensures before.sv_price;
       actor = said_applied actor_of events event _ _ _ c.actor.ensures c.apply-3.ensures before.actor;
       round = said_applied round_begun_by events event _ _ _ c.round.ensures c.apply-4.ensures before.round;

@@ -5,7 +5,7 @@ use Rattle.totals.specs.Totals.{party_entry, shares_entry, train_entry, train_ro
 use Rattle.totals.specs.LookBack.{paid_by, paid_to}
 use Rattle.totals.specs.Shares.{brought_to, taken_from}
 use Rattle.totals.specs.Trains.{any_comes, any_goes, one_if, train_comes, train_goes}
-use Rattle.tables.specs.Roster.{place_of_company}
+use Rattle.tables.specs.Roster.{place_of_company, place_of_private}
 use Rattle.totals.proofs.totals.Totals.start.Goals as goal
 
 pub returns : goal.returns
@@ -13,6 +13,7 @@ returns c = record {
   event_count = refl;
   owners = c.unsold.ensures.word;
   bids = no_bid;
+  greatest_bids = λ private. same_throughout None 6 (place_of_private private);
   sv_price = refl;
   actor = refl;
   round = refl;
