@@ -41,7 +41,7 @@ pub record IsLow (count : ℤ) (companies_so_far : ℕ) : Type 0 where
   pub not_under : neg_ℤ (pos (companies_so_far * 2 ^ 105)) ≤ℤ count
   pub not_over : count ≤ℤ pos (6 + companies_so_far * 2 ^ 105)
 
--- one company more fits
+-- one more company fits
 pub low_fits : (count more : ℤ) (i : ℕ) → i < 8 → IsLow count i → IsFew more → SFits w128 (count +ℤ kept more)
 low_fits count more i less low few =
     let a = low.not_under in
@@ -59,7 +59,7 @@ sum_is count more i less low few =
     let e = few.not_over in
     omega (arith, ints, a, b, d, e)
 
--- one company more is low
+-- one more company is low
 pub low_more : (count more : ℤ) (i : ℕ) → i < 8 → IsLow count i → IsFew more → IsLow (kept (count +ℤ kept more)) (i + 1)
 low_more count more i less low few =
     let sum = sum_is count more i less low few in
@@ -69,7 +69,7 @@ low_more count more i less low few =
     let e = few.not_over in
     record { not_under = omega (arith, ints, sum, a, b, d, e); not_over = omega (arith, ints, sum, a, b, d, e) }
 
--- one company more is counted
+-- one more company is counted
 pub counted_more : (f : Company → ℤ) (count more whole : ℤ) (i : ℕ) → i < 8 → IsLow count i → IsFew more
     → more ≡ f (get_or companies i Pennsylvania) → count +ℤ certificates_in f (drop i companies) ≡ whole
     → kept (count +ℤ kept more) +ℤ certificates_in f (drop (i + 1) companies) ≡ whole

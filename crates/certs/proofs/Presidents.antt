@@ -19,7 +19,7 @@ most_le shares best (seat ∷ others) =
     ]
     refl
 
--- a seat in front of those among which another is the first with most
+-- a seat before those among which another is the first with most
 in_front : (shares : Seat → ℤ) (first best seat : Seat) (others : List Seat) → shares seat ≤ℤ shares best
     → IsFirstWithMost shares first (best ∷ others) → IsFirstWithMost shares first (best ∷ seat ∷ others)
 in_front shares first best seat others no_more is =
@@ -43,7 +43,7 @@ first_with_most shares best (seat ∷ others) =
     ]
     refl
 
--- one seat more to the left
+-- one more seat to the left
 pub one_more : (shares : Seat → ℤ) (seats counter : ℕ) (best seat next found : Seat) → counter < seats
     → next ≡ left_of seats seat → found ≡ better_of shares best next
     → with_most shares found (seats_from seats (seats - (counter + 1)) (left_of seats next))

@@ -121,6 +121,36 @@ bounded_moved row from to shares less more from_in to_in some held is_less is_mo
       short = omega (arith, length_same, length-set (set row from less) to more, bounded.short);
     }
 
+-- one change of an entry
+part_less : (there : Bool) (before after shares : ℤ) → after ≡ before +ℤ (if there then pos 0 -ℤ shares else pos 0)
+    → after ≡ before -ℤ (if there then shares else pos 0)
+part_less true before after shares is = omega (arith, ints)
+part_less false before after shares is = omega (arith, ints)
+
+-- an entry after shares have gone to none of the row
+pub entry_taken : (row : List ℤ) (from k : ℕ) (shares less : ℤ) → from < length row
+    → less ≡ get_or row from (pos 0) -ℤ shares
+    → get_or (set row from less) k (pos 0) ≡ get_or row k (pos 0) -ℤ part from k shares
+entry_taken row from k shares less from_in is_less =
+    part_less (from == k) _ _ shares
+    (entry_changed row from k (pos 0 -ℤ shares) less from_in (omega (arith, ints, is_less)))
+
+-- they leave it bounded
+pub bounded_less : (row : List ℤ) (from : ℕ) (shares less : ℤ) → from < length row → pos 0 ≤ℤ shares
+    → shares ≤ℤ get_or row from (pos 0) → less ≡ get_or row from (pos 0) -ℤ shares → IsBounded row
+    → IsBounded (set row from less)
+bounded_less row from shares less from_in some held is_less bounded =
+    let length_same = length-set row from less in
+    let first = total_set row from less from_in in
+    let sum = bounded.not_over in
+    record {
+      not_under = λ k.
+          let there = entry_taken row from k shares less from_in is_less in
+          not_under_moved row from k false shares _ some held (bounded.not_under k) (omega (arith, ints, there));
+      not_over = omega (arith, ints, first, is_less, some, sum);
+      short = omega (arith, length_same, bounded.short);
+    }
+
 -- less a part of a sum
 less_part : (part_there : Bool) (before after shares : ℤ) → pos 0 ≤ℤ shares
     → after ≡ (before +ℤ pos 0) -ℤ (if part_there then shares else pos 0) → after ≤ℤ before

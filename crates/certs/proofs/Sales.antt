@@ -89,7 +89,7 @@ president_sold game company seat shares price =
     president_broken game.seats (game.events ++ event.Sells company seat shares price ∷ []) company
     ∙ president_of_before game.events (event.Sells company seat shares price) company refl
 
--- one who sells nothing keeps what he has
+-- a seat that sells nothing keeps what it has
 untaken : (seat other : Seat) (held : ℤ) (shares : ℕ) → (seat.0 == other.0) ≡ false
     → (held -ℤ pos (if seat.0 == other.0 then shares else 0)) ≡ held
 untaken seat other held shares apart = rw apart (omega (arith, ints))

@@ -1,6 +1,6 @@
--- How many certificates of a seat count against the limit: its open privates, and of each company whose square lies in
--- no zone, or that has no square, its shares, less one if the seat presides, since the president's certificate is two
--- shares.
+-- How many certificates of a seat count against the limit. They are its open privates, and its
+-- shares of each company whose square lies in no zone, or that has no square. If the seat presides,
+-- one less counts, since the president's certificate is two shares.
 use Rattle.std.specs.Prelude.{◌≡◌, ℕ, ◌<◌, ◌==◌, Bool, true, false, if◌then◌else◌, List, [], ◌∷◌, Option, Some, None}
 use Rattle.std.specs.Prelude.{sum_by, ℤ, pos, ◌+ℤ◌, ◌-ℤ◌}
 use Rattle.certs.specs.Holdings.{AreHoldingsOf, president_in, square_in, shares_in}

@@ -1,5 +1,5 @@
--- The holdings of a game: the shares of each company at each place, who its president was said to be last, its square,
--- and the owners of the privates. A transfer moves shares and nothing else.
+-- The holdings of a game: the shares of each company at each place, its president as it was last
+-- said, its square, and the owners of the privates. A transfer moves shares and nothing else.
 use Rattle.std.specs.Prelude.{◌≡◌, [], Option, Some, None, ℤ, pos, ◌+ℤ◌, ◌-ℤ◌, slice_index_or}
 use Rattle.certs.specs.Rows.{HasPlace, index_of}
 use Rattle.certs.specs.declared.holdings.Holdings.{Holdings}
@@ -19,7 +19,7 @@ abbrev pub shares_in : Holdings → Company → Shareholder → ℤ
 shares_in holdings company place =
     slice_index_or (slice_index_or holdings.shares (place_of_company company) []) (index_of place) (pos 0)
 
--- the president of a company, as it was said last
+-- the president of a company, as it was last said
 abbrev pub president_in : Holdings → Company → Option Seat
 president_in holdings company = slice_index_or holdings.presidents (place_of_company company) None
 
@@ -42,7 +42,7 @@ AreHoldingsAt view holdings = AreHoldingsOf (record { seats = view.seats; events
 
 -- a transfer moves its shares, and nothing else
 pub record MovesShares (old new : Holdings) (transfer : Transfer) : Type 0 where
-  pub shares : (company : Company) (place : Shareholder)
+  pub shares : (company : Company) (place : Shareholder) → HasPlace place
       → shares_in new company place ≡ (shares_in old company place +ℤ pos (brought_to company place (Some transfer)))
       -ℤ pos (taken_from company place (Some transfer))
   pub seats : new.seats ≡ old.seats

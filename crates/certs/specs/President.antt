@@ -1,5 +1,5 @@
--- Who presides over a company. The president stays unless some seat has strictly more shares; then it is the seat with
--- most, among equals the first to the president's left.
+-- Who presides over a company. The president stays unless some seat has strictly more shares. Then
+-- it is the seat with most, among equals the first to the president's left.
 use Rattle.std.specs.Prelude.{◌≡◌, ◌⊎◌, ℕ, ◌-◌, ◌<◌, ◌≤◌, if◌then◌else◌, List, [], ◌∷◌, Option, Some, ℤ, ◌≤ℤ◌, ◌<ℤ◌}
 use Rattle.std.specs.Prelude.{option_map}
 use lib.Signed.{lt_z}
@@ -13,7 +13,7 @@ use Rattle.tables.specs.Seat.{left_of, seats_from}
 use Rattle.tables.specs.declared.roster.Company.{Company}
 use Rattle.tables.specs.declared.seat.Seat.{Seat}
 
--- the better of two seats: the second where it has strictly more shares
+-- the better of two seats: the second if it has strictly more shares
 abbrev pub better_of : (Seat → ℤ) → Seat → Seat → Seat
 better_of shares best seat = if lt_z (shares best) (shares seat) then seat else best
 
@@ -26,7 +26,7 @@ with_most shares best (seat ∷ others) = with_most shares (better_of shares bes
 abbrev pub others_from : ℕ → Seat → List Seat
 others_from seats seat = seats_from seats (seats - 1) (left_of seats seat)
 
--- who presides now by these shares, at a table of this many seats, where this seat presided
+-- who presides now by these shares, at a table of this many seats, if this seat presided
 abbrev pub successor : (Seat → ℤ) → ℕ → Seat → Seat
 successor shares seats old = with_most shares old (others_from seats old)
 
@@ -43,7 +43,7 @@ presiding_in holdings company =
 abbrev pub seat_shares_of : List Event → Company → Seat → ℤ
 seat_shares_of events company seat = shares_of events company (OfSeat seat)
 
--- who presides over a company now, by the events of a game, where this seat presided
+-- who presides over a company now, by the events of a game, if this seat presided
 abbrev pub successor_of : ℕ → List Event → Company → Seat → Seat
 successor_of seats events company old = successor (seat_shares_of events company) seats old
 
@@ -56,7 +56,8 @@ abbrev pub HaveAtMost : (Seat → ℤ) → ℤ → List Seat → Type 0
 HaveAtMost shares most [] = Unit {0}
 HaveAtMost shares most (seat ∷ others) = (shares seat ≤ℤ most) × HaveAtMost shares most others
 
--- a seat is the first with most among these in order: each before it has fewer, and none after it more
+-- a seat is the first with most among these in order: each before it has fewer, and none after it
+-- more
 abbrev pub IsFirstWithMost : (Seat → ℤ) → Seat → List Seat → Type 0
 IsFirstWithMost shares first [] = ⊥
 IsFirstWithMost shares first (seat ∷ others) =
@@ -69,7 +70,7 @@ FirstWithMostPresides =
     (shares : Seat → ℤ) (old : Seat) (others : List Seat)
     → IsFirstWithMost shares (with_most shares old others) (old ∷ others)
 
--- the president as it was said last, if there is one, is at the table
+-- the president as it was last said, if there is one, is at the table
 abbrev pub PresidentIsSeated : Game → Company → Type 0
 PresidentIsSeated game company = (seat : Seat) → president_of game.events company ≡ Some seat → seat.0 < game.seats
 

@@ -1,9 +1,10 @@
--- The rules of a purchase in a stock round. A seat sets the par value of a company that is not started, and so buys its
--- president's certificate, two shares; or it buys a share of one that is started, at the par value from the initial
--- offering, at the market price from the bank pool. It buys nothing of a company of which it has sold in this round,
--- holds no more certificates that count than the limit, nor over six shares of a company, and buys once in a turn. By
--- the zone in which the company's square lies before the purchase the certificates do not count, the limit of six
--- shares does not hold, or several may be bought in a turn.
+-- The rules of a purchase in a stock round. A seat sets the par value of a company that is not
+-- started, and so buys its president's certificate, two shares. Or it buys a share of one that is
+-- started, at the par value from the initial offering, at the market price from the bank pool. It
+-- buys nothing of a company of which it has sold in this round. It holds no more certificates that
+-- count than the limit, and no more than six shares of a company, and buys once in a turn. The zone
+-- of the company's square before the purchase may lift this. Then the certificates do not count,
+-- the limit of six shares does not hold, or several may be bought in a turn.
 use Rattle.std.specs.Prelude.{ℕ, ◌*◌, Bool, true, false, not, ◌&&◌, List, [], ◌∷◌, Option, Some, None, Result, Ok, Err}
 use Rattle.std.specs.Prelude.{pos, ◌+ℤ◌, unwrap_or}
 use Rattle.std.specs.Int.Signed.{le_z, lt_z}
@@ -78,7 +79,7 @@ abbrev pub in_zone : (Zone → Bool) → Option Square → Bool
 in_zone holds None = false
 in_zone holds (Some square) = holds (zone_of square)
 
--- none is where a share is to be bought
+-- no share is where one is to be bought
 unfoldable pub is_sold_out_there : List Event → Purchase → Bool
 is_sold_out_there events (Par company price) = false
 is_sold_out_there events (Share company from) = lt_z (shares_of events company (place_of_source from)) (pos 1)
@@ -93,7 +94,7 @@ abbrev pub is_wrong_start : List Event → Purchase → Bool
 is_wrong_start events (Par company price) = is_started events company
 is_wrong_start events (Share company from) = not (is_started events company)
 
--- the cost is over the seat's cash that is free of its bids
+-- the cost is over the seat's cash minus its bids
 unfoldable pub is_short_of_cash : ℕ → List Event → Seat → ℕ → Bool
 is_short_of_cash seats events seat cost = lt_z (free_cash_of seats events seat) (pos cost)
 
@@ -102,7 +103,8 @@ unfoldable pub is_at_limit : ℕ → List Event → Seat → Company → Bool
 is_at_limit seats events seat company =
     counts_on (square_of events company) && le_z (pos (certificate_limit_of seats)) (counted_of events seat)
 
--- with this many shares more the seat would have over six of a company, where the zone does not lift that
+-- with this many more shares the seat would have over six of a company, and the zone does not lift
+-- that limit
 unfoldable pub is_over_six : List Event → Seat → Company → ℕ → Bool
 is_over_six events seat company shares =
     not (in_zone lifts_six (square_of events company))
@@ -118,10 +120,17 @@ unfoldable pub is_second : List Event → Company → Option Company → Bool
 is_second events company None = false
 is_second events company (Some bought) = not (is_one_of_several events company bought)
 
--- the rules that a purchase may break, in a turn in which the seat has bought of this company, if it has bought: the
--- seat has sold of the company in this round; none is there; the sum is no par value; the company is started, or is
--- not; the cost is over the seat's cash; the certificate counts, and the limit is reached; the seat would have over six
--- shares; it has bought already
+-- The rules that a purchase may break, in a turn in which the seat has bought of this company, if
+-- it has bought. They are:
+--
+-- - the seat has sold of the company in this round;
+-- - no share is there;
+-- - the sum is no par value;
+-- - the company is started, or is not;
+-- - the cost is over the seat's cash;
+-- - the certificate counts, and the limit is reached;
+-- - the seat would have over six shares;
+-- - it has bought already.
 abbrev pub share_purchase_rules : ℕ → List Event → Seat → Purchase → Option Company → List (Rule StockRule)
 share_purchase_rules seats events seat purchase bought =
     record { code = SoldInRound; broken = has_sold_in_round events (company_of purchase) seat }

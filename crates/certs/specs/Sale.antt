@@ -1,7 +1,8 @@
--- The rules of a sale. From the second stock round on a seat sells shares that it has, as one block, to the bank pool,
--- which holds at most five of a company. The president sells only while he keeps two shares, or another seat has two
--- and can preside. A president who sells to pay for a company's train sells no shares of that company if another seat
--- would then have strictly more of them, since its presidency would move.
+-- The rules of a sale. From the second stock round on a seat sells shares that it has, as one
+-- block, to the bank pool, which holds at most five of a company. Presidents sell only while they
+-- keep two shares, or another seat has two and can preside. For a president who sells to pay for a
+-- company's train there is one more rule. They sell no shares of that company if another seat would
+-- then have strictly more of them, since its presidency would move.
 use Rattle.std.specs.Prelude.{ℕ, ◌==◌, Bool, false, not, ◌&&◌, ◌||◌, List, [], ◌∷◌, Option, Some, None, pos, ℤ, ◌+ℤ◌}
 use Rattle.std.specs.Prelude.{◌-ℤ◌}
 use Rattle.std.specs.Int.Signed.{le_z, lt_z}
@@ -56,7 +57,8 @@ abbrev pub none_is_left : ℕ → List Event → Seat → Sale → Bool
 none_is_left seats events seat sale =
     lt_z (kept_after events seat sale) (pos 2) && not (another_has seats events sale.company seat (pos 2))
 
--- the sale is of the operating company, if one operates, and another seat would have strictly more of it
+-- the sale is of the operating company, if one operates, and another seat would have strictly more
+-- of it
 abbrev pub moves_operating : ℕ → List Event → Seat → Sale → Option Company → Bool
 moves_operating seats events seat sale None = false
 moves_operating seats events seat sale (Some operating) =
@@ -69,9 +71,14 @@ must_stay seats events seat sale operating =
     presides seat (president_of events sale.company)
     && (none_is_left seats events seat sale || moves_operating seats events seat sale operating)
 
--- the rules that a sale may break, where this company operates, if it is to pay for a train: it is the first stock
--- round; no shares are to be sold, or more than the seat has; the pool would hold over five; the president must stay;
--- the company is not started
+-- The rules that a sale may break, with the company that operates, if the sale is to pay for a
+-- train. They are:
+--
+-- - it is the first stock round;
+-- - no shares are to be sold, or more than the seat has;
+-- - the pool would hold over five;
+-- - the president must stay;
+-- - the company is not started.
 abbrev pub sale_rules : ℕ → List Event → Seat → Sale → Option Company → List (Rule StockRule)
 sale_rules seats events seat sale operating =
     record { code = SaleInFirstRound; broken = is_first_stock (round_of events) }

@@ -1,7 +1,8 @@
--- What a sale brings, event by event, each on the list that the one before left. Each share brings the market price,
--- and the token then moves down as many squares. The presidency passes to a seat that has strictly more shares than the
--- president. A sale can be made where the seat has the shares, the pool has room for them, a president remains and the
--- company is started.
+-- What follows from a sale, event by event, each on the list that the one before left. The bank
+-- pays the market price for each share, and the token then moves down as many squares. The
+-- presidency passes to a seat that has strictly more shares than the president. A sale can be made
+-- if the seat has the shares, the pool has room for them, a president remains and the company is
+-- started.
 use Rattle.std.specs.Prelude.{◌≡◌, ℕ, ◌*◌, ◌==◌, true, false, if◌then◌else◌, List, [], ◌∷◌, ◌++◌, Option, Some, None}
 use Rattle.certs.specs.President.{successor_of}
 use Rattle.certs.specs.Purchase.{market_price_of}
@@ -16,11 +17,11 @@ use Rattle.market.specs.Token.{with_move}
 use Rattle.tables.specs.declared.roster.Company.{Company}
 use Rattle.tables.specs.declared.seat.Seat.{Seat}
 
--- with PRESIDENT where this seat now presides in place of another
+-- with PRESIDENT if this seat now presides in place of another
 abbrev pub succeeded : List Event → Company → Seat → Seat → List Event
 succeeded events company old new = if new.0 == old.0 then events else events ++ event.President company new ∷ []
 
--- with the presidency of a company moved, where this seat presided, if any did
+-- with the presidency of a company moved, if this seat presided, if any did
 abbrev pub with_successor : ℕ → List Event → Company → Option Seat → List Event
 with_successor seats events company None = events
 with_successor seats events company (Some old) = succeeded events company old (successor_of seats events company old)

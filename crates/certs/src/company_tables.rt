@@ -17,7 +17,7 @@ pub(crate) struct CompanyTables {
     pub squares: [Option<Square>; 8],
 }
 
-/// The tables of the companies of a game.
+/// Returns the tables of the companies of a game.
 pub(crate) fn company_tables_of(view: &GameView) -> CompanyTables
     ensures { AreCompanyTablesOf view.now.events.now result }
 {
@@ -28,7 +28,7 @@ pub(crate) fn company_tables_of(view: &GameView) -> CompanyTables
     }
 }
 
-/// The shares of each company.
+/// Returns the shares of each company.
 fn rows_of(view: &GameView) -> [Row; 8]
     ensures shares { AreSharesOf view.now.events.now result }
     ensures bounded { AreBounded result }
@@ -45,7 +45,7 @@ fn rows_of(view: &GameView) -> [Row; 8]
     ]
 }
 
-/// The shares of a company.
+/// Returns the shares of a company.
 fn row_of(view: &GameView, company: Company) -> Row
     ensures shares { IsRowOf view.now.events.now company result }
     ensures bounded { IsBounded result }

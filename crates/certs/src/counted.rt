@@ -12,11 +12,11 @@ use crate::holdings::Holdings;
 use history::{GameView, Holder, Owners, ShareCount, Shareholder};
 use tables::{Company, Private, Seat, Square, Zone, zone};
 
-/// What gives how many certificates of each company a seat has that count.
+/// Returns how many certificates of each company that count a seat has.
 trait Certificates {
     ghost certificates: { Self → Seat → Company → ℤ };
 
-    /// Those of a company.
+    /// Returns the number for a company.
     fn certificates_of(&self, seat: Seat, company: Company) -> ShareCount
         ensures certificates { result ≡ certificates self.now seat company }
         ensures small { IsFew result };
@@ -32,7 +32,7 @@ impl Certificates for Holdings {
     }
 }
 
-/// By the events.
+/// Returns the certificates by the events.
 impl Certificates for GameView<'_> {
     ghost certificates = { λ view. certificates_now view.events.now };
 
@@ -43,9 +43,9 @@ impl Certificates for GameView<'_> {
 }
 
 impl Holdings {
-    /// How many certificates of a seat count against the limit: its privates, and of each company
-    /// whose square lies in no zone, or that has no square, its shares, less one if the seat
-    /// presides.
+    /// Returns how many certificates of a seat count against the limit. They are its privates, and
+    /// its shares of each company whose square lies in no zone, or that has no square, minus one if
+    /// the seat presides.
     pub fn counted(&self, seat: Seat) -> ShareCount
         ensures { result ≡ counted_in self.now seat }
     {
@@ -53,14 +53,14 @@ impl Holdings {
     }
 }
 
-/// As many by the events of a game, of which the totals are read.
+/// Returns the same number by the events of a game, from the totals.
 pub(crate) fn counted_now(view: &GameView, seat: Seat) -> ShareCount
     ensures { result ≡ counted_of view.now.events.now seat }
 {
     counted(&view.owners(), view, seat)
 }
 
-/// How many certificates of a seat count: its privates, and those of each company.
+/// Returns how many certificates of a seat count: its privates, and those of each company.
 fn counted<C: Certificates>(owners: &Owners, held: &C, seat: Seat) -> ShareCount
     ensures { result ≡ pos (privates_owned (owner_in owners.now) seat)
         +ℤ certificates_in (C.certificates held.now seat) companies }
@@ -72,7 +72,7 @@ fn counted<C: Certificates>(owners: &Owners, held: &C, seat: Seat) -> ShareCount
     count
 }
 
-/// How many privates a seat owns.
+/// Returns how many privates a seat owns.
 fn privates_owned(owners: &Owners, seat: Seat) -> u8
     ensures count { result ≡ privates_owned (owner_in owners.now) seat }
     ensures few { result ≤ 6 }
@@ -84,7 +84,7 @@ fn privates_owned(owners: &Owners, seat: Seat) -> u8
     count
 }
 
-/// 1 where a seat is this owner of a private, else 0.
+/// Returns 1 if a seat is this owner of a private, otherwise 0.
 fn one_owned(seat: Seat, owner: Option<Holder>) -> u8
     ensures one { result ≡ one_owned seat owner }
     ensures few { result ≤ 1 }
@@ -95,7 +95,7 @@ fn one_owned(seat: Seat, owner: Option<Holder>) -> u8
     }
 }
 
-/// How many certificates this many shares of a company are that count, for a seat.
+/// Returns how many certificates that count this many shares of a company are for a seat.
 fn certificates_of(
     seat: Seat,
     square: Option<Square>,
@@ -116,7 +116,7 @@ fn certificates_of(
     }
 }
 
-/// Whether the certificates of a company on this square count.
+/// Returns whether the certificates of a company on this square count.
 pub(crate) fn counts_on(square: Option<Square>) -> bool
     ensures { result ≡ counts_on square }
 {
@@ -126,7 +126,7 @@ pub(crate) fn counts_on(square: Option<Square>) -> bool
     }
 }
 
-/// Whether a seat is this president.
+/// Returns whether a seat is this president.
 fn presides(seat: Seat, president: Option<Seat>) -> bool
     ensures { result ≡ presides seat president }
 {

@@ -15,7 +15,7 @@ pub enum Purchase {
 }
 
 impl Purchase {
-    /// The company whose share is bought.
+    /// Returns the company whose share is bought.
     pub fn company(self) -> Company
         ensures { result ≡ company_of self }
     {
@@ -24,7 +24,7 @@ impl Purchase {
         }
     }
 
-    /// How many shares are bought.
+    /// Returns how many shares are bought.
     pub fn shares(self) -> u8
         ensures { result ≡ shares_bought self }
     {

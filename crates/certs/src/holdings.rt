@@ -1,6 +1,5 @@
 ghost use Rattle.std.specs.Prelude.{◌≡◌, ◌≤ℤ◌, pos};
-ghost use Rattle.certs.specs.Rows.{AreBounded, HasPlace};
-ghost use Rattle.events.specs.declared.event.Shareholder.{Shareholder};
+ghost use Rattle.certs.specs.Rows.{AreBounded};
 ghost use Rattle.tables.specs.declared.roster.Company.{Company};
 
 use crate::company_tables::{CompanyTables, company_tables_of};
@@ -22,14 +21,15 @@ pub struct Holdings {
 impl Holdings {
     ghost use Rattle.certs.specs.Holdings.{AreHoldingsAt, AreHoldingsOf, MovesShares, shares_in};
 
-    /// The holdings of a game as it stands, read from the totals that it keeps of its events.
+    /// Returns the holdings of a game as it stands, read from the totals that it keeps of its
+    /// events.
     pub fn of(history: &History) -> Holdings
         ensures { AreHoldingsOf history.now result }
     {
         Holdings::at(&history.now())
     }
 
-    /// The holdings of a game as it stood, read from the totals that it kept of its events.
+    /// Returns the holdings of a game as it stood, read from the totals that it kept of its events.
     pub fn at(view: &GameView) -> Holdings
         ensures { AreHoldingsAt view.now result }
     {
@@ -47,7 +47,7 @@ impl Holdings {
         }
     }
 
-    /// The shares of a company at a place. Of the seats the first six have places.
+    /// Returns the shares of a company at a place. Of the seats the first six have places.
     pub fn shares(&self, company: Company, place: Shareholder) -> ShareCount
         ensures { result ≡ shares_in self.now company place }
     {
@@ -57,11 +57,10 @@ impl Holdings {
             .unwrap_or(0)
     }
 
-    /// Moves shares of a company from one place to another, of which the giver has them.
+    /// Moves shares of a company from one place, which has them, to another. A seat past the sixth
+    /// has no place: what goes to it leaves the table.
     pub fn transfer(&mut self, transfer: Transfer)
-        requires from { HasPlace transfer.from }
-        requires to { HasPlace transfer.to }
-        requires held { pos transfer.shares ≤ℤ shares_in self.old transfer.company transfer.from }
+        requires { pos transfer.shares ≤ℤ shares_in self.old transfer.company transfer.from }
         ensures { MovesShares self.old self.new transfer }
     {
         let place = transfer.company.place();

@@ -2,14 +2,14 @@
 //! of a player count against the limit, and what a player may buy and sell.
 //!
 //! The holdings are a small table that is read from the totals that a game keeps of its events. A
-//! transfer moves shares and nothing else; then the table answers who presides. The rules of a
-//! purchase and of a sale are looked at in the order of their numbers, and the first that is broken
-//! is the answer.
+//! transfer moves shares and nothing else; then the table gives who presides. The rules of a
+//! purchase and of a sale are checked in the order of their numbers, and the first that is broken
+//! is returned.
 //!
 //! Reading order: `holdings`, `company_tables` (what they are made of), `rows` (the shares of one
 //! company), `president`, `counted` (the certificates that count), `deal` (what is bought and
-//! sold), `purchase`, `sale`, `sell` (what a sale brings), `laws` (what the presidency goes by, and
-//! that it and what counts are the same by the events of a game).
+//! sold), `purchase`, `sale`, `sell` (what follows from a sale), `laws` (what decides the
+//! presidency, and that it and what counts are the same by the events of a game).
 #![tactic(auto)]
 
 mod company_tables;

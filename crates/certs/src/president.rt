@@ -7,11 +7,11 @@ use crate::holdings::Holdings;
 use history::{GameView, ShareCount, Shareholder};
 use tables::{Company, Seat};
 
-/// What gives how many shares of a company each seat has.
+/// Returns how many shares of a company each seat has.
 trait SharesOfSeats {
     ghost shares: { Self → Company → Seat → ℤ };
 
-    /// The shares that a seat has.
+    /// Returns the shares that a seat has.
     fn shares_of_seat(&self, company: Company, seat: Seat) -> ShareCount
         ensures { result ≡ shares self.now company seat };
 }
@@ -24,7 +24,7 @@ impl SharesOfSeats for Holdings {
     }
 }
 
-/// By the events.
+/// Returns the shares by the events.
 impl SharesOfSeats for GameView<'_> {
     ghost shares = { λ view. seat_shares_of view.events.now };
 
@@ -34,8 +34,8 @@ impl SharesOfSeats for GameView<'_> {
 }
 
 impl Holdings {
-    /// Who presides over a company; `None` where nobody has its president's certificate. The
-    /// president as it was said last stays unless some seat has strictly more shares; then it is
+    /// Returns who presides over a company; `None` if nobody has its president's certificate. The
+    /// president as it was last said stays unless some seat has strictly more shares. Then it is
     /// the seat with most, among equals the first to the president's left.
     pub fn president(&self, company: Company) -> Option<Seat>
         ensures { result ≡ presiding_in self.now company }
@@ -45,17 +45,17 @@ impl Holdings {
     }
 }
 
-/// Who presides over a company by the shares that the game tells, where this seat presided: it stays
-/// unless some seat has strictly more shares; then it is the seat with most, among equals the first
-/// to its left.
+/// Returns who presides over a company by the game's shares, if this seat presided. It stays unless
+/// some seat has strictly more shares. Then it is the seat with most, among equals the first to its
+/// left.
 pub fn successor(view: &GameView, company: Company, old: Seat) -> Seat
     ensures { result ≡ successor_of view.now.seats view.now.events.now company old }
 {
     with_most(view, company, view.seats, old)
 }
 
-/// The seat with most shares of a company at a table of this many seats, among equals the first from
-/// this one on.
+/// Returns the seat with most shares of a company at a table of this many seats, among equals the
+/// first from this one on.
 fn with_most<T: SharesOfSeats>(shares: &T, company: Company, seats: usize, old: Seat) -> Seat
     ensures { result ≡ successor (T.shares shares.now company) seats old }
 {
@@ -68,7 +68,7 @@ fn with_most<T: SharesOfSeats>(shares: &T, company: Company, seats: usize, old: 
     best
 }
 
-/// The better of two seats: the second where it has strictly more shares.
+/// Returns the better of two seats: the second if it has strictly more shares.
 fn better<T: SharesOfSeats>(shares: &T, company: Company, best: Seat, seat: Seat) -> Seat
     ensures { result ≡ better_of (T.shares shares.now company) best seat }
 {

@@ -1,4 +1,4 @@
-ghost use Rattle.std.specs.Prelude.{◌≡◌, ◌≤◌, ◌<◌, ◌+ℤ◌, pos, unwrap_or};
+ghost use Rattle.std.specs.Prelude.{◌≡◌, ◌≤◌, ◌+ℤ◌, pos, unwrap_or};
 ghost use Rattle.std.specs.Int.Signed.{le_z};
 ghost use Rattle.certs.specs.Counted.{counted_of};
 ghost use Rattle.certs.specs.Purchase.{allowed, allows_several, cost_of, in_zone, is_at_limit, is_sold_out_there};
@@ -14,19 +14,17 @@ use history::{GameView, History, ShareCount, Shareholder, StockRule};
 use order_grammar::ShareSource;
 use tables::{Amount, Company, Money, Seat, Zone, certificate_limit, par_square, price, zone};
 
-/// The most shares of a company that a seat may hold where no zone lifts that.
+/// The most shares of a company that a seat may hold if no zone lifts that.
 const SHARES_MOST: ShareCount = 6;
 
-/// Whether a seat at a table of at most six may buy, in a turn in which it has bought of a company,
-/// if it has bought. An `Err` is the first rule that the purchase breaks, of S6 to S13.
+/// Checks whether a seat may buy, given the company of which it has bought in this turn, if any. The
+/// error is the first rule that the purchase breaks, of S6 to S13.
 pub fn may_buy(
     history: &History,
     seat: Seat,
     purchase: Purchase,
     bought: Option<Company>,
 ) -> Result<(), StockRule>
-    requires few { history.now.seats ≤ 6 }
-    requires at_table { seat.0 < history.now.seats }
     ensures { result ≡ allowed
         (purchase_judgement history.now.seats history.now.events seat purchase bought) }
 {
@@ -36,7 +34,7 @@ pub fn may_buy(
     }
 }
 
-/// The first rule that a purchase breaks.
+/// Returns the first rule that a purchase breaks.
 #[tactic(auto, unfolding(crate::specs::Purchase::purchase_judgement))]
 fn broken_by(
     now: &GameView,
@@ -44,8 +42,6 @@ fn broken_by(
     purchase: Purchase,
     bought: Option<Company>,
 ) -> Option<StockRule>
-    requires few { now.now.seats ≤ 6 }
-    requires at_table { seat.0 < now.now.seats }
     ensures { result
         ≡ purchase_judgement now.now.seats now.now.events.now seat purchase bought }
 {
@@ -77,7 +73,7 @@ fn broken_by(
     None
 }
 
-/// Whether none is where a share is to be bought.
+/// Returns whether no share is where one is to be bought.
 #[tactic(auto, unfolding(crate::specs::Purchase::is_sold_out_there))]
 fn is_sold_out_there(now: &GameView, purchase: Purchase) -> bool
     ensures { result ≡ is_sold_out_there now.now.events.now purchase }
@@ -90,7 +86,7 @@ fn is_sold_out_there(now: &GameView, purchase: Purchase) -> bool
     }
 }
 
-/// Whether a sum that is to be the par value is none of the six.
+/// Returns whether a sum that is to be the par value is none of the six.
 fn is_no_par(purchase: Purchase) -> bool
     ensures { result ≡ is_no_par purchase }
 {
@@ -100,7 +96,8 @@ fn is_no_par(purchase: Purchase) -> bool
     }
 }
 
-/// Whether a par value is set for a company that is started, or a share bought of one that is not.
+/// Returns whether a par value is set for a company that is started, or a share bought of one that
+/// is not.
 fn is_wrong_start(now: &GameView, purchase: Purchase) -> bool
     ensures { result ≡ is_wrong_start now.now.events.now purchase }
 {
@@ -110,7 +107,7 @@ fn is_wrong_start(now: &GameView, purchase: Purchase) -> bool
     }
 }
 
-/// What a purchase costs.
+/// Returns what a purchase costs, in dollars.
 fn cost(now: &GameView, purchase: Purchase) -> Money
     ensures { result ≡ pos (cost_of now.now.events.now purchase) }
 {
@@ -120,8 +117,8 @@ fn cost(now: &GameView, purchase: Purchase) -> Money
     }
 }
 
-/// What a share of a company costs: the par value in the initial offering, the market price in the
-/// pool.
+/// Returns what a share of a company costs, in dollars: the par value in the initial offering, the
+/// market price in the pool.
 pub fn share_price(now: &GameView, company: Company, from: ShareSource) -> Money
     ensures price { result ≡ pos (share_price_of now.now.events.now company from) }
     ensures small { unwrap_or (par_of now.now.events.now company) 0 ≤ 350 →
@@ -133,7 +130,8 @@ pub fn share_price(now: &GameView, company: Company, from: ShareSource) -> Money
     }
 }
 
-/// The market price of a company, which is that of its square; 0 where it has none.
+/// Returns the market price of a company, in dollars, which is that of its square; 0 if it has
+/// none.
 pub fn market_price(now: &GameView, company: Company) -> Amount
     ensures price { result ≡ market_price_of now.now.events.now company }
     ensures small { result ≤ 350 }
@@ -144,7 +142,7 @@ pub fn market_price(now: &GameView, company: Company) -> Amount
     }
 }
 
-/// Whether what a purchase costs is over a seat's cash that is free of its bids.
+/// Returns whether a purchase costs more than a seat's cash minus its bids.
 #[tactic(auto, unfolding(crate::specs::Purchase::is_short_of_cash))]
 fn is_short(now: &GameView, seat: Seat, purchase: Purchase) -> bool
     ensures { result ≡ is_short_of_cash now.now.seats now.now.events.now seat
@@ -153,7 +151,7 @@ fn is_short(now: &GameView, seat: Seat, purchase: Purchase) -> bool
     now.free_cash(seat) < cost(now, purchase)
 }
 
-/// Whether a certificate of a company would count, and a seat has reached the limit.
+/// Returns whether a certificate of a company would count, and a seat has reached the limit.
 #[tactic(auto, unfolding(crate::specs::Purchase::is_at_limit))]
 fn is_at_limit(now: &GameView, seat: Seat, company: Company) -> bool
     ensures { result ≡ is_at_limit now.now.seats now.now.events.now seat company }
@@ -161,7 +159,7 @@ fn is_at_limit(now: &GameView, seat: Seat, company: Company) -> bool
     counts_on(now.square(company)) && has_full_hand(now, seat)
 }
 
-/// Whether a seat has as many certificates that count as the limit.
+/// Returns whether a seat has as many certificates that count as the limit.
 fn has_full_hand(now: &GameView, seat: Seat) -> bool
     ensures { result ≡ le_z (pos (certificate_limit_of now.now.seats))
         (counted_of now.now.events.now seat) }
@@ -169,8 +167,8 @@ fn has_full_hand(now: &GameView, seat: Seat) -> bool
     counted_now(now, seat) >= certificate_limit(now.seats) as ShareCount
 }
 
-/// Whether with this many shares more a seat would have over six of a company, where the zone of
-/// the company's square does not lift that.
+/// Returns whether with this many more shares a seat would have over six of a company, and the zone
+/// of the company's square does not lift that limit.
 #[tactic(auto, unfolding(crate::specs::Purchase::is_over_six))]
 pub fn is_over_six(now: &GameView, seat: Seat, company: Company, shares: u8) -> bool
     ensures { result ≡ is_over_six now.now.events.now seat company shares }
@@ -178,7 +176,7 @@ pub fn is_over_six(now: &GameView, seat: Seat, company: Company, shares: u8) -> 
     !lifts_six(now, company) && would_have(now, seat, company, shares) > SHARES_MOST
 }
 
-/// Whether the zone of a company's square lifts the limit of six shares.
+/// Returns whether the zone of a company's square lifts the limit of six shares.
 fn lifts_six(now: &GameView, company: Company) -> bool
     ensures { result ≡ in_zone lifts_six (square_of now.now.events.now company) }
 {
@@ -188,15 +186,15 @@ fn lifts_six(now: &GameView, company: Company) -> bool
     }
 }
 
-/// What a seat would have of a company with this many shares more.
+/// Returns what a seat would have of a company with this many more shares.
 fn would_have(now: &GameView, seat: Seat, company: Company, shares: u8) -> ShareCount
     ensures { result ≡ shares_of now.now.events.now company (OfSeat seat) +ℤ pos shares }
 {
     now.shares(company, Shareholder::Seat(seat)) + ShareCount::from(shares)
 }
 
-/// Whether a seat has bought already in its turn, and a purchase of a company is not one of allows
-/// several.
+/// Returns whether a seat has bought already in its turn, and this purchase is not one of several
+/// that are allowed.
 #[tactic(auto, unfolding(crate::specs::Purchase::is_second))]
 fn is_second(now: &GameView, company: Company, bought: Option<Company>) -> bool
     ensures { result ≡ is_second now.now.events.now company bought }
@@ -207,7 +205,7 @@ fn is_second(now: &GameView, company: Company, bought: Option<Company>) -> bool
     }
 }
 
-/// Whether several certificates of a company may be bought in a turn.
+/// Returns whether several certificates of a company may be bought in a turn.
 fn allows_several(now: &GameView, company: Company) -> bool
     ensures { result ≡ in_zone allows_several (square_of now.now.events.now company) }
 {

@@ -1,5 +1,5 @@
 ghost use Rattle.std.specs.Prelude.{◌≡◌, ◌<◌, ◌≤ℤ◌, pos, slice_index_or};
-ghost use Rattle.certs.specs.Rows.{IsBounded, IsMoved, index_of};
+ghost use Rattle.certs.specs.Rows.{IsBounded, IsMoved, IsTaken, index_of};
 ghost use Rattle.events.specs.declared.event.Shareholder.{Shareholder};
 
 use history::{ShareCount, Shareholder};
@@ -9,7 +9,7 @@ use tables::Seat;
 /// each of six seats.
 pub(crate) type Row = [ShareCount; 8];
 
-/// The index of a place in a row.
+/// Returns the index of a place in a row.
 pub(crate) fn index_of(place: Shareholder) -> usize
     ensures { result ≡ index_of place }
 {
@@ -20,8 +20,38 @@ pub(crate) fn index_of(place: Shareholder) -> usize
     }
 }
 
-/// A row after this many shares have gone from one place to another, of which the giver has them.
-pub(crate) fn moved(mut row: Row, from: usize, to: usize, shares: u8) -> Row
+/// Returns a row after this many shares have gone from one place, which has them, to another. A place
+/// may be none of the row: it has no shares, and what goes to it leaves the row.
+pub(crate) fn moved(row: Row, from: usize, to: usize, shares: u8) -> Row
+    requires held { pos shares ≤ℤ slice_index_or row from (pos 0) }
+    requires bounded { IsBounded row }
+    ensures moved { IsMoved row result from to shares }
+    ensures bounded { IsBounded result }
+{
+    if from >= row.len() {
+        return row;
+    }
+    if to >= row.len() {
+        return taken(row, from, shares);
+    }
+    moved_within(row, from, to, shares)
+}
+
+/// Returns a row after this many shares have left it from one of its places.
+fn taken(mut row: Row, from: usize, shares: u8) -> Row
+    requires from { from < 8 }
+    requires held { pos shares ≤ℤ slice_index_or row from (pos 0) }
+    requires bounded { IsBounded row }
+    ensures taken { IsTaken row result from shares }
+    ensures bounded { IsBounded result }
+{
+    let shares = ShareCount::from(shares);
+    row[from] -= shares;
+    row
+}
+
+/// Returns a row after this many shares have gone from one of its places to another.
+fn moved_within(mut row: Row, from: usize, to: usize, shares: u8) -> Row
     requires from { from < 8 }
     requires to { to < 8 }
     requires held { pos shares ≤ℤ slice_index_or row from (pos 0) }

@@ -17,8 +17,8 @@ const POOL_MOST: ShareCount = 5;
 /// The shares of a president's certificate.
 const PRESIDENT_SHARES: ShareCount = 2;
 
-/// Whether a seat may sell. A sale to pay for a train of an operating company is given which that
-/// is. An `Err` is the first rule that the sale breaks, of S2 to S5 and S9.
+/// Checks whether a seat may sell. A sale to pay for a train names the operating company. The error
+/// is the first rule that the sale breaks, of S2 to S5 and S9.
 pub fn may_sell(
     history: &History,
     seat: Seat,
@@ -34,7 +34,7 @@ pub fn may_sell(
     }
 }
 
-/// The first rule that a sale breaks.
+/// Returns the first rule that a sale breaks.
 #[tactic(auto, unfolding(crate::specs::Sale::sale_judgement))]
 fn broken_by(
     now: &GameView,
@@ -62,14 +62,14 @@ fn broken_by(
     None
 }
 
-/// Whether the round is the first stock round.
+/// Returns whether the round is the first stock round.
 fn is_first_stock(now: &GameView) -> bool
     ensures { result ≡ is_first_stock (round_of now.now.events.now) }
 {
     matches!(now.round(), Some(Round::Stock(1)))
 }
 
-/// Whether no shares are to be sold, or more than the seat has.
+/// Returns whether no shares are to be sold, or more than the seat has.
 #[tactic(auto, unfolding(crate::specs::Sale::is_not_held))]
 fn is_not_held(now: &GameView, seat: Seat, sale: Sale) -> bool
     ensures { result ≡ is_not_held now.now.events.now seat sale }
@@ -78,7 +78,7 @@ fn is_not_held(now: &GameView, seat: Seat, sale: Sale) -> bool
         || now.shares(sale.company, Shareholder::Seat(seat)) < ShareCount::from(sale.shares)
 }
 
-/// Whether the bank pool would hold over five shares of the company.
+/// Returns whether the bank pool would hold over five shares of the company.
 #[tactic(auto, unfolding(crate::specs::Sale::is_over_five))]
 fn is_over_five(now: &GameView, sale: Sale) -> bool
     ensures { result ≡ is_over_five now.now.events.now sale }
@@ -86,14 +86,14 @@ fn is_over_five(now: &GameView, sale: Sale) -> bool
     would_be_pooled(now, sale) > POOL_MOST
 }
 
-/// What the bank pool would hold of the company.
+/// Returns what the bank pool would hold of the company.
 fn would_be_pooled(now: &GameView, sale: Sale) -> ShareCount
     ensures { result ≡ shares_of now.now.events.now sale.company BankPool +ℤ pos sale.shares }
 {
     now.shares(sale.company, Shareholder::BankPool) + ShareCount::from(sale.shares)
 }
 
-/// Whether the seat presides over the company, and may not sell this many of its shares.
+/// Returns whether the seat presides over the company, and may not sell this many of its shares.
 #[tactic(auto, unfolding(crate::specs::Sale::must_stay))]
 fn must_stay(now: &GameView, seat: Seat, sale: Sale, operating: Option<Company>) -> bool
     ensures { result ≡ must_stay now.now.seats now.now.events.now seat sale operating }
@@ -102,7 +102,7 @@ fn must_stay(now: &GameView, seat: Seat, sale: Sale, operating: Option<Company>)
         && (none_is_left(now, seat, sale) || moves_operating(now, seat, sale, operating))
 }
 
-/// Whether the president would keep fewer than two shares, and no other seat has two.
+/// Returns whether the president would keep fewer than two shares, and no other seat has two.
 fn none_is_left(now: &GameView, seat: Seat, sale: Sale) -> bool
     ensures { result ≡ none_is_left now.now.seats now.now.events.now seat sale }
 {
@@ -110,7 +110,8 @@ fn none_is_left(now: &GameView, seat: Seat, sale: Sale) -> bool
         && !another_has(now, sale.company, seat, PRESIDENT_SHARES)
 }
 
-/// Whether the sale is of the operating company, and another seat would have strictly more of it.
+/// Returns whether the sale is of the operating company, and another seat would have strictly more
+/// of it.
 fn moves_operating(now: &GameView, seat: Seat, sale: Sale, operating: Option<Company>) -> bool
     ensures { result ≡ moves_operating now.now.seats now.now.events.now seat sale operating }
 {
@@ -120,7 +121,7 @@ fn moves_operating(now: &GameView, seat: Seat, sale: Sale, operating: Option<Com
     }
 }
 
-/// Whether another seat would have strictly more of the company.
+/// Returns whether another seat would have strictly more of the company.
 fn another_has_more(now: &GameView, seat: Seat, sale: Sale) -> bool
     ensures { result ≡ another_has now.now.seats now.now.events.now sale.company seat
         (kept_after now.now.events.now seat sale +ℤ pos 1) }
@@ -128,7 +129,7 @@ fn another_has_more(now: &GameView, seat: Seat, sale: Sale) -> bool
     another_has(now, sale.company, seat, would_keep(now, seat, sale) + 1)
 }
 
-/// What the seat would keep of the company.
+/// Returns what the seat would keep of the company.
 fn would_keep(now: &GameView, seat: Seat, sale: Sale) -> ShareCount
     ensures kept { result ≡ kept_after now.now.events.now seat sale }
     ensures not_over { result ≤ℤ pos (2 ^ 100) }
@@ -136,7 +137,7 @@ fn would_keep(now: &GameView, seat: Seat, sale: Sale) -> ShareCount
     now.shares(sale.company, Shareholder::Seat(seat)) - ShareCount::from(sale.shares)
 }
 
-/// Whether another seat has at least this many shares of a company.
+/// Returns whether another seat has at least this many shares of a company.
 fn another_has(now: &GameView, company: Company, seat: Seat, least: ShareCount) -> bool
     ensures { result
         ≡ another_has now.now.seats now.now.events.now company seat least }

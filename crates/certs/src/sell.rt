@@ -1,4 +1,4 @@
-//! What a sale brings.
+//! What follows from a sale.
 ghost use Rattle.std.specs.Prelude.{◌≡◌, ◌≤◌, ◌<◌, OnOk};
 ghost use Rattle.certs.specs.SaleAct.{MaySell, after_sale, sold, succeeded, with_president};
 ghost use Rattle.history.specs.Sound.{IsSound};
@@ -11,9 +11,9 @@ use market::move_token_down;
 use std::alloc::AllocError;
 use tables::{Amount, Company, Seat};
 
-/// A seat sells shares of a company, as one block: the bank pays it, the presidency passes on where
-/// another seat then has more, and the token on the chart moves down. It fails only if memory is
-/// refused.
+/// Sells shares of a company that a seat has, as one block. The bank pays the seat, the presidency
+/// passes if another seat then has more, and the token on the chart moves down. Fails only if
+/// allocation fails.
 pub fn sell_block(history: &mut History, seat: Seat, sale: Sale) -> Result<(), AllocError>
     requires few { history.old.seats ≤ 6 }
     requires at_table { seat.0 < history.old.seats }
@@ -31,7 +31,7 @@ pub fn sell_block(history: &mut History, seat: Seat, sale: Sale) -> Result<(), A
     Ok(())
 }
 
-/// A seat has the price of shares of a company, and the pool has them.
+/// Pays a seat the price of shares of a company, and moves them to the pool.
 fn pay_for_block(
     history: &mut History,
     seat: Seat,
@@ -54,8 +54,8 @@ fn pay_for_block(
     Ok(())
 }
 
-/// Records who presides over a company, where the presidency has moved by a change of its shares.
-/// It fails only if memory is refused.
+/// Records who presides over a company, if the presidency has moved by a change of its shares.
+/// Fails only if allocation fails.
 pub fn record_president(history: &mut History, company: Company) -> Result<(), AllocError>
     ensures seats { OnOk result (history.new.seats ≡ history.old.seats) }
     ensures events { OnOk result (history.new.events
@@ -68,7 +68,7 @@ pub fn record_president(history: &mut History, company: Company) -> Result<(), A
     record_successor(history, company, old, new)
 }
 
-/// Records that a seat presides in place of another, where it is another.
+/// Records that a seat presides in place of another, if the two differ.
 fn record_successor(
     history: &mut History,
     company: Company,

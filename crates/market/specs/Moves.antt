@@ -1,5 +1,6 @@
--- Moves over the chart. Right goes to the next square of the row, and from the row's right end up; left to the one
--- before, and from the left end down. A move to no square is not made. So many squares down are this many single moves.
+-- Moves over the chart. Right goes to the next square of the row, and from the row's right end up;
+-- left to the one before, and from the left end down. A move to no square is not made. A fall by a
+-- number of squares is this many single moves down.
 use Rattle.std.specs.Prelude.{◌≡◌, ℕ, zero, suc, ◌+◌, true, Option, None, unwrap_or}
 use Rattle.tables.specs.Chart.{is_on_chart, square_at}
 use Rattle.tables.specs.Steps.{iterate}

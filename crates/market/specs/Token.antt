@@ -1,4 +1,4 @@
--- A company's token moves over the chart: MOVES tells of it where it reaches another square.
+-- A company's token moves over the chart: MOVES says so if it reaches another square.
 use Rattle.std.specs.Prelude.{ℕ, ◌==◌, Bool, ◌&&◌, if◌then◌else◌, List, [], ◌∷◌, ◌++◌, Option, Some, None}
 use Rattle.events.specs.declared.event.Event.{Event}
 use Rattle.events.specs.declared.event.Event.TheVariants.{Moves}
@@ -10,11 +10,11 @@ use Rattle.tables.specs.declared.squares.Square.{Square}
 abbrev pub same_square : Square → Square → Bool
 same_square a b = a.row == b.row && a.column == b.column
 
--- with MOVES where a company's token comes from one square to another
+-- with MOVES if a company's token comes from one square to another
 abbrev pub moved_to : List Event → Company → Square → Square → List Event
 moved_to events company from to = if same_square to from then events else events ++ Moves company to ∷ []
 
--- with the token of a company moved, where it is on this square, if on any
+-- with the token of a company moved, if it is on this square, if on any
 abbrev pub moved_from : (Square → Square) → List Event → Company → Option Square → List Event
 moved_from move events company None = events
 moved_from move events company (Some square) = moved_to events company square (move square)

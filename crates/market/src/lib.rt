@@ -1,7 +1,7 @@
 //! The stock market: how a company's token moves over the chart, and the order in which companies
 //! operate.
 //!
-//! A move answers the square to which a token comes. A move for which the chart has no square is
+//! A move returns the square to which a token comes. A move for which the chart has no square is
 //! not made: the token stays. The order is that of the floated companies by their squares.
 //!
 //! Reading order: `moves`, `token` (a company's token moves, which is recorded), `order`, `laws` (a

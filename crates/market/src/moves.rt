@@ -3,37 +3,37 @@ ghost use Rattle.market.specs.Moves.{above, at_left, at_right, below, down_of, f
 
 use tables::{Square, square};
 
-/// Where a token comes that moves right: to the next square of its row, and from the right end of
-/// the row up.
+/// Returns the square to which a token moves right: the next square of its row, or, at the right
+/// end of the row, the one above.
 pub fn right(from: Square) -> Square
     ensures { result ≡ right_of from }
 {
     square_at_right(from).unwrap_or(up(from))
 }
 
-/// Where a token comes that moves left: to the square before it in its row, and from the left end
-/// of the row down.
+/// Returns the square to which a token moves left: the square before it in its row, or, at the left
+/// end of the row, the one below.
 pub fn left(from: Square) -> Square
     ensures { result ≡ square_left_of from }
 {
     square_at_left(from).unwrap_or(down(from))
 }
 
-/// Where a token comes that moves up, to the same column of the row above.
+/// Returns the square to which a token moves up: the same column of the row above.
 pub fn up(from: Square) -> Square
     ensures { result ≡ up_of from }
 {
     square_above(from).unwrap_or(from)
 }
 
-/// Where a token comes that moves down, to the same column of the row below.
+/// Returns the square to which a token moves down: the same column of the row below.
 pub fn down(from: Square) -> Square
     ensures { result ≡ down_of from }
 {
     square_below(from).unwrap_or(from)
 }
 
-/// Where a token comes that moves down this many times, each a move of its own.
+/// Returns the square to which a token comes by this many single moves down.
 pub fn fall(from: Square, squares: u8) -> Square
     ensures { result ≡ fallen squares from }
 {
@@ -44,28 +44,28 @@ pub fn fall(from: Square, squares: u8) -> Square
     at
 }
 
-/// The next square of the row, if there is one.
+/// Returns the next square of the row, if there is one.
 fn square_at_right(from: Square) -> Option<Square>
     ensures { result ≡ at_right from }
 {
     square(from.row, from.column.checked_add(1)?)
 }
 
-/// The square before it in the row, if there is one.
+/// Returns the square before it in the row, if there is one.
 fn square_at_left(from: Square) -> Option<Square>
     ensures { result ≡ at_left from }
 {
     square(from.row, from.column.checked_sub(1)?)
 }
 
-/// The square of its column in the row above, if there is one.
+/// Returns the square of its column in the row above, if there is one.
 fn square_above(from: Square) -> Option<Square>
     ensures { result ≡ above from }
 {
     square(from.row.checked_sub(1)?, from.column)
 }
 
-/// The square of its column in the row below, if there is one.
+/// Returns the square of its column in the row below, if there is one.
 fn square_below(from: Square) -> Option<Square>
     ensures { result ≡ below from }
 {

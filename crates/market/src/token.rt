@@ -7,7 +7,8 @@ use history::{Event, History};
 use std::alloc::AllocError;
 use tables::{Company, Square};
 
-/// A company's token moves right, which is recorded where it reaches another square.
+/// Moves a company's token right, and records it if the token reaches another square. Fails only if
+/// allocation fails.
 pub fn move_token_right(history: &mut History, company: Company) -> Result<(), AllocError>
     ensures seats { OnOk result (history.new.seats ≡ history.old.seats) }
     ensures events { OnOk result (history.new.events
@@ -19,7 +20,8 @@ pub fn move_token_right(history: &mut History, company: Company) -> Result<(), A
     }
 }
 
-/// A company's token moves left, which is recorded where it reaches another square.
+/// Moves a company's token left, and records it if the token reaches another square. Fails only if
+/// allocation fails.
 pub fn move_token_left(history: &mut History, company: Company) -> Result<(), AllocError>
     ensures seats { OnOk result (history.new.seats ≡ history.old.seats) }
     ensures events { OnOk result (history.new.events
@@ -31,7 +33,8 @@ pub fn move_token_left(history: &mut History, company: Company) -> Result<(), Al
     }
 }
 
-/// A company's token moves up, if there is a square.
+/// Moves a company's token up, if there is a square, and records it. Fails only if allocation
+/// fails.
 pub fn move_token_up(history: &mut History, company: Company) -> Result<(), AllocError>
     ensures seats { OnOk result (history.new.seats ≡ history.old.seats) }
     ensures events { OnOk result (history.new.events
@@ -43,8 +46,8 @@ pub fn move_token_up(history: &mut History, company: Company) -> Result<(), Allo
     }
 }
 
-/// A company's token moves down this many squares, as far as there are squares; it is recorded
-/// once.
+/// Moves a company's token down this many squares, as far as there are squares; records it once.
+/// Fails only if allocation fails.
 pub fn move_token_down(
     history: &mut History,
     company: Company,
@@ -60,7 +63,8 @@ pub fn move_token_down(
     }
 }
 
-/// A company's token comes from one square to another, which is recorded where it is another.
+/// Moves a company's token from one square to another, and records it if the two differ. Fails only
+/// if allocation fails.
 fn move_token(
     history: &mut History,
     company: Company,

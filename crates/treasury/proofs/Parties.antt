@@ -1,5 +1,7 @@
 -- The accounts, party by party.
-use Rattle.std.proofs.Common.{◌≡◌, ◌==◌, ℕ, ◌<◌, List, ℤ, ◌+ℤ◌, pos, length, get_or, set, if◌then◌else◌, ap, ◌∙◌, arith}
+use Rattle.std.proofs.Common.{◌≡◌, ◌==◌, ℕ, ◌<◌, ◌≤◌, Bool, false, List, ℤ, ◌+ℤ◌, pos, length, get_or, set}
+use Rattle.std.proofs.Common.{if◌then◌else◌, sym, ap, ◌∙◌, arith}
+use Rattle.std.proofs.lemmas.Bool.Decides.{nat_tests}
 use Rattle.std.proofs.lemmas.Int.{ints}
 use Rattle.events.specs.Event.{party_at}
 use Rattle.events.specs.declared.event.Event.{Event}
@@ -10,6 +12,7 @@ use Rattle.totals.specs.LookBack.{Game, IsModerate, cash_of}
 use Rattle.tables.specs.Roster.{place_of_company}
 use Rattle.tables.specs.Seat.{seat_at}
 use Rattle.tables.specs.declared.roster.Company.{Company}
+use Rattle.tables.specs.declared.seat.Seat.{Seat}
 use Rattle.tables.proofs.Filled.{entry_changed}
 use Rattle.treasury.specs.Accounts.{AreAccountsOf, AreModerate, HasAccount, cash_in, part_of}
 use Rattle.treasury.specs.declared.accounts.Accounts.{Accounts}
@@ -63,3 +66,14 @@ company_changed accounts company change cash place is_place within is (party.Hol
     entry_changed accounts.companies place (place_of_company other) change cash within is
     ∙ ap (λ (n : ℕ). get_or accounts.companies (place_of_company other) (pos 0) +ℤ
     (if n == place_of_company other then change else pos 0)) is_place
+
+-- where a seat has no account, a change of what it has changes no account
+pub no_account : (accounts : Accounts) (seat : Seat) (change : ℤ) → 6 ≤ seat.0 → (other : Party) → HasAccount other →
+    cash_in accounts other ≡ cash_in accounts other +ℤ part_of (party.Holder (holder.Seat seat)) other change
+no_account accounts seat change past party.Bank has = omega (arith, ints)
+no_account accounts seat change past (party.Holder (holder.Seat other)) has =
+    let apart : (seat.0 == other.0) ≡ false = grind (arith, nat_tests) in
+    let had : ℤ = get_or accounts.seats other.0 (pos 0) in
+    let same : had ≡ had +ℤ pos 0 = omega (arith, ints) in
+    same ∙ ap (λ (b : Bool). had +ℤ (if b then change else pos 0)) (sym apart)
+no_account accounts seat change past (party.Holder (holder.Company other)) has = omega (arith, ints)

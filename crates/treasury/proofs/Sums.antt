@@ -14,7 +14,7 @@ passed sum = to_z w128 (of_z w128 sum)
 abbrev less : Bool → ℤ → ℤ
 less pays sum = if pays then passed (pos 0 -ℤ passed sum) else pos 0
 
--- the cash of the one that is paid stays within bounds, also where it is the one that pays
+-- the cash of the one that is paid stays within bounds, even if it is the one that pays
 pub paid_fits : (pays : Bool) (before between sum : ℤ) → IsModerate before → IsSum sum → SFits w128 sum
     → between ≡ before +ℤ less pays sum →
     SFits w128 (between +ℤ passed sum)

@@ -1,6 +1,6 @@
--- The accounts of a game: the bank's, one for each of six seats, and the companies'. Each holds what its
--- party has. A payment moves its sum from one party to another and leaves all others as they were; one
--- that is not the bank, and has less than the sum, is short and pays nothing.
+-- The accounts of a game: the bank's, one for each of six seats, and the companies'. Each holds
+-- what its party has. A payment moves its sum from one party to another and leaves all others as
+-- they were. A party other than the bank that has less than the sum is short and pays nothing.
 use Rattle.std.specs.Prelude.{◌≡◌, ℕ, ◌<◌, List, ℤ, pos, ◌+ℤ◌, ◌-ℤ◌, ◌≤ℤ◌, Bool, false, if◌then◌else◌, slice_index_or}
 use lib.Signed.{lt_z}
 use Rattle.events.specs.Event.{party_at}
@@ -37,11 +37,11 @@ AreAccountsOf game accounts =
 abbrev pub AreAccountsAt : GameView → Accounts → Type 0
 AreAccountsAt view accounts = AreAccountsOf (record { seats = view.seats; events = view.events.now }) accounts
 
--- and nobody has, or owes, more than 2 ^ 100
+-- no party has, or owes, more than 2 ^ 100
 abbrev pub AreModerate : Accounts → Type 0
 AreModerate accounts = (party : Party) → HasAccount party → IsModerate (cash_in accounts party)
 
--- a party that is not the bank has less than the sum that it is to pay
+-- a party other than the bank has less than the sum that it is to pay
 abbrev pub lacks_cash : Accounts → Party → ℤ → Bool
 lacks_cash accounts party.Bank sum = false
 lacks_cash accounts (party.Holder holder) sum = lt_z (cash_in accounts (party.Holder holder)) sum
@@ -50,8 +50,8 @@ lacks_cash accounts (party.Holder holder) sum = lt_z (cash_in accounts (party.Ho
 abbrev pub part_of : Party → Party → ℤ → ℤ
 part_of of party sum = if same_party of party then sum else pos 0
 
--- after a payment the one that pays has the sum less and the one that is paid has it more; all others have
--- what they had
+-- after a payment the one that pays has the sum less and the one that is paid has it more; all
+-- others have what they had
 abbrev pub ArePaid : Accounts → Accounts → Party → Party → ℤ → Type 0
 ArePaid old new from to sum =
     (party : Party) → HasAccount party → cash_in new party

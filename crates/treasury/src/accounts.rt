@@ -1,5 +1,6 @@
 ghost use Rattle.std.specs.Prelude.{◌≡◌, ◌↔◌, ◌+ℤ◌, FitsSigned, IsErr, OnErr, OnOk, true};
 ghost use Rattle.std.specs.Int.{w128};
+ghost use Rattle.events.specs.declared.event.Holder.TheVariants as holder;
 ghost use Rattle.events.specs.declared.event.Party.TheVariants as party;
 ghost use Rattle.totals.specs.LookBack.{IsModerate};
 ghost use Rattle.treasury.specs.Accounts.{
@@ -36,7 +37,8 @@ pub struct Accounts {
 pub struct Short;
 
 impl Accounts {
-    /// The accounts of a game as it stands, read from the totals that it keeps of its events.
+    /// Returns the accounts of a game as it stands, read from the totals that it keeps of its
+    /// events.
     pub fn of(history: &History) -> Accounts
         ensures accounts { AreAccountsOf history.now result }
         ensures moderate { AreModerate result }
@@ -44,7 +46,7 @@ impl Accounts {
         Accounts::at(&history.now())
     }
 
-    /// The accounts of a game as it stood.
+    /// Returns the accounts of a game as it stood.
     pub fn at(view: &GameView) -> Accounts
         ensures accounts { AreAccountsAt view.now result }
         ensures moderate { AreModerate result }
@@ -56,24 +58,24 @@ impl Accounts {
         }
     }
 
-    /// What a party has, in dollars; the bank's cash may be under 0. Of the seats the first six
-    /// have accounts.
+    /// Returns what a party has, in dollars; the bank's cash may be under 0. Of the seats the first
+    /// six have accounts, and the others have 0.
     pub fn cash(&self, party: Party) -> Money
-        requires { HasAccount party }
         ensures { result ≡ cash_in self.now party }
     {
         match party {
             Party::Bank => self.bank,
-            Party::Holder(Holder::Seat(seat)) => self.seats[seat.number()],
+            Party::Holder(Holder::Seat(seat)) => {
+                self.seats.get(seat.number()).copied().unwrap_or(0)
+            }
             Party::Holder(Holder::Company(company)) => self.companies[company.place()],
         }
     }
 
-    /// Pays a sum of 0 to 1,000,000 dollars from one party to another. `Short` comes where the
-    /// payer is a player or a company and has less; then nothing changes.
+    /// Pays a sum of 0 to 1,000,000 dollars from one party to another. The error is `Short` if the
+    /// payer is a player or a company and has less; then nothing changes. What is paid to a seat
+    /// without an account leaves the accounts.
     pub fn pay(&mut self, from: Party, to: Party, sum: Money) -> Result<(), Short>
-        requires from { HasAccount from }
-        requires to { HasAccount to }
         requires sum { IsSum sum }
         requires from_cash { IsModerate (cash_in self.old from) }
         requires to_cash { IsModerate (cash_in self.old to) }
@@ -89,32 +91,52 @@ impl Accounts {
         Ok(())
     }
 
-    /// Adds a change to what a party has.
+    /// Adds a change to what a party has, if it has an account.
     fn add(&mut self, party: Party, change: Money)
-        requires account { HasAccount party }
-        requires fits { FitsSigned w128 (cash_in self.old party +ℤ change) }
+        requires { HasAccount party → FitsSigned w128 (cash_in self.old party +ℤ change) }
         ensures { IsAdded self.old self.new party change }
     {
         match party {
-            Party::Bank => self.bank += change,
+            Party::Bank => self.add_to_bank(change),
             Party::Holder(holder) => self.add_to_holder(holder, change),
         }
     }
 
-    /// Adds a change to what a player or a company has.
+    /// Adds a change to what the bank has.
+    fn add_to_bank(&mut self, change: Money)
+        requires { FitsSigned w128 (cash_in self.old party.Bank +ℤ change) }
+        ensures { IsAdded self.old self.new party.Bank change }
+    {
+        self.bank += change;
+    }
+
+    /// Adds a change to what a player or a company has, if it has an account.
     fn add_to_holder(&mut self, holder: Holder, change: Money)
-        requires account { HasAccount (party.Holder holder) }
-        requires fits { FitsSigned w128 (cash_in self.old (party.Holder holder) +ℤ change) }
+        requires { let party = party.Holder holder in
+            HasAccount party → FitsSigned w128 (cash_in self.old party +ℤ change) }
         ensures { IsAdded self.old self.new (party.Holder holder) change }
     {
         match holder {
-            Holder::Seat(seat) => self.seats[seat.number()] += change,
+            Holder::Seat(seat) => self.add_to_seat(seat, change),
             Holder::Company(company) => self.companies[company.place()] += change,
         }
     }
+
+    /// Adds a change to what a player has, if the seat is one of six.
+    fn add_to_seat(&mut self, seat: Seat, change: Money)
+        requires { let party = party.Holder (holder.Seat seat) in
+            HasAccount party → FitsSigned w128 (cash_in self.old party +ℤ change) }
+        ensures { IsAdded self.old self.new (party.Holder (holder.Seat seat)) change }
+    {
+        let number = seat.number();
+        if number >= PLAYERS_MOST {
+            return;
+        }
+        self.seats[number] += change;
+    }
 }
 
-/// What each seat has, by its number.
+/// Returns what each seat has, by its number.
 fn cash_of_seats(now: &GameView) -> [Money; PLAYERS_MOST]
     ensures cash { AreOfSeats now.now.seats now.now.events.now result }
     ensures moderate { AreModerateForSeats result }
@@ -126,7 +148,7 @@ fn cash_of_seats(now: &GameView) -> [Money; PLAYERS_MOST]
     cash
 }
 
-/// What each company has, by its place in the roster.
+/// Returns what each company has, by its place in the roster.
 fn cash_of_companies(now: &GameView) -> [Money; 8]
     ensures cash { AreOfCompanies now.now.seats now.now.events.now result }
     ensures moderate { AreModerateForCompanies result }

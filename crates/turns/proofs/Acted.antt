@@ -1,4 +1,4 @@
--- The new events of a turn tell who acted in it, where those of each line do.
+-- The new events of a turn say who acted in it, if those of each line do.
 use Rattle.std.proofs.Common.{◌≡◌, ℕ, zero, suc, Bool, true, false, ◌||◌, if◌then◌else◌, List, [], ◌∷◌, ◌++◌, Option}
 use Rattle.std.proofs.Common.{Some, None, append-nil, refl, sym, subst, ap, ◌∙◌}
 use Rattle.std.specs.Option.{option_or}
@@ -43,7 +43,7 @@ in_one_of_both seat true false = refl
 in_one_of_both seat false true = refl
 in_one_of_both seat false false = refl
 
--- a list that stays as it is tells that nobody acted
+-- a list that stays as it is says that nobody acted
 pub nobody : (seat : Seat) (events : List Event) → SaysWhoActed seat false events events
 nobody seat events = record { more = []; longer = sym (append-nil events); last = refl }
 
@@ -85,7 +85,7 @@ pub in_either : (seat : Seat) (acted : Bool) (old one other : List Event) (b : B
 in_either seat acted old one other true first second = first
 in_either seat acted old one other false first second = second
 
--- a line of a turn tells who acted in it, and the turn has it too
+-- a line of a turn says who acted in it, and the turn has it too
 pub record LineSaysWhoActed {TurnActions : Type 0} (rules : RoundRules TurnActions) (seat : Seat)
     (old new : InTurn TurnActions) : Type 0 where
   pub acts : Bool
@@ -152,7 +152,7 @@ nobody_ruled rules seat turn number other none =
           or_nothing (rules.has_acted turn.actions);
     }
 
--- so each turn of a round tells it
+-- so each turn of a round says it
 pub turns_say : {TurnActions : Type 0} (rules : RoundRules TurnActions) → rules.has_acted rules.nothing ≡ false →
     ((seats : ℕ) (seat : Seat) (turn : InTurn TurnActions) (line : Numbered)
     → LineSaysWhoActed rules seat turn (rules.line seats seat turn line)) →

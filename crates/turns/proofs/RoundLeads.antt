@@ -1,4 +1,5 @@
--- What leads from each list to the next within a round of turns leads from its ROUND event to its end.
+-- What leads from each list to the next within a round of turns leads from its ROUND event to its
+-- end.
 use Rattle.std.proofs.Common.{ℕ, zero, suc, ◌+◌, ◌==◌, Bool, true, false, if◌then◌else◌, List, [], ◌∷◌, ◌++◌, sym}
 use Rattle.std.proofs.Common.{subst, append-nil}
 use Rattle.std.specs.List.{range_with_len}

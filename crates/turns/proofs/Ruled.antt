@@ -63,7 +63,8 @@ kept_under : (met : Bool) (broken : Option Refusal) → (if met then broken else
 kept_under true broken none = none
 kept_under false broken none = absurd (cc)
 
--- what holds after each order that is done, and after each ruling by which none is, holds after a line of a turn
+-- what holds after each order that is done, and after each ruling by which none is, holds after a
+-- line of a turn
 module _ {TurnActions : Type 0} (act : InTurn TurnActions → Order → InTurn TurnActions)
     (judgement : Order → Option Refusal) (seat : Seat) (turn : InTurn TurnActions) (number : ℕ)
     (P : InTurn TurnActions → Type 0)

@@ -37,13 +37,13 @@ small_reading : (version : Version) (line : List ℕ) (reading : Result Ordered 
 small_reading version line (Ok spelt) read = small_order spelt.order (read_spells_in version line spelt read).small.1
 small_reading version line (Err fault) read = tt
 
--- also where it is
+-- even if it is
 small_where : (past : Bool) (reading : Result Order Fault) → IsSmallReading reading
     → IsSmallReading (if past then Err PastLastLine else reading)
 small_where true reading small = tt
 small_where false reading small = small
 
--- a line in front of parts
+-- a line before parts
 small_with : (head : Bool) (line : Numbered) (parts : Parts) → IsSmallReading line.reading → PartsAreSmall parts →
     PartsAreSmall (if head then after_head line parts else after_line line parts)
 small_with true line parts small others = (tt, (others.0, others.1))

@@ -1,6 +1,7 @@
--- Whether a seat acted is said twice: by its turn, where it passes if it did not, and by the list of events,
--- where the holder of priority sits at the left of the seat that acted last. Both say the same of a turn where
--- its new events name its seat, and no other, as one that acted where it acted, and else nobody.
+-- Whether a seat acted is said twice. Its turn says so: a seat that did not act passes. The list of
+-- events says so: the holder of priority sits at the left of the seat that acted last. Both say the
+-- same of a turn if its new events name its seat, and no other, as one that acted where it acted,
+-- and otherwise nobody.
 use Rattle.std.specs.Prelude.{◌≡◌, ℕ, Bool, if◌then◌else◌, List, ◌++◌, Some, None}
 use Rattle.events.specs.Event.{actor_of}
 use Rattle.events.specs.declared.event.Event.{Event}
@@ -16,7 +17,7 @@ pub record SaysWhoActed (seat : Seat) (acted : Bool) (old new : List Event) : Ty
   pub longer : new ≡ old ++ more
   pub last : last_said actor_of more ≡ (if acted then Some seat else None)
 
--- a turn that has led from a list to this tells who acted in it
+-- a turn that has led from a list to this says who acted in it
 abbrev pub TurnSaysWhoActed : Seat → List Event → Turned (List Event) → Type 0
 TurnSaysWhoActed seat old turn = SaysWhoActed seat turn.acted old turn.state
 

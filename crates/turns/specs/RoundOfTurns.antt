@@ -1,8 +1,9 @@
--- A round of turns, from a list to a list: the ROUND event; the standing lines, seat by seat; turns to the left, the
--- first by the holder of priority, in each of which a seat takes up the next written turn of its sheet, and passes
--- where it does not act in it; then what follows the turns, and what was left. The turns are over once all seats have
--- passed in succession, or where something else ends them. What a line does, what acting is, what else ends the turns
--- and what follows them is each kind of round's own.
+-- A round of turns, from a list to a list. First comes the ROUND event, then the standing lines,
+-- seat by seat. Then come turns to the left, the first by the holder of priority. In each a seat
+-- takes up the next written turn of its sheet, and passes if it does not act in it. Then comes what
+-- follows the turns, and what was left. The turns are over once all seats have passed in
+-- succession, or something else ends them. Each kind of round has rules of its own for what a line
+-- does, what acting is, what else ends the turns and what follows them.
 use Rattle.std.specs.Prelude.{◌≡◌, ℕ, ◌*◌, ◌≤◌, Bool, List, [], ◌∷◌, ◌++◌}
 use Rattle.std.specs.List.{range_with_len}
 use Rattle.events.specs.declared.event.Event.{Event}
@@ -25,9 +26,14 @@ pub record InTurn (TurnActions : Type 0) : Type 0 where
 abbrev pub in_turn : {TurnActions : Type 0} → List Event → TurnActions → InTurn TurnActions
 in_turn events actions = record { events = events; actions = actions }
 
--- what a kind of round says for itself: the list after a standing line of a seat; what a seat has done before the first
--- line of its turn, and where a line of it leads at a table of this many seats; whether a seat that has done this has
--- acted; what ends the turns before all have passed; and the list after what follows the turns
+-- The rules of a kind of round. They are:
+--
+-- - the list after a standing line of a seat;
+-- - what a seat has done before the first line of its turn, and where a line of it leads at a table
+--   of this many seats;
+-- - whether a seat that has done this has acted;
+-- - what ends the turns before all have passed;
+-- - the list after what follows the turns.
 pub record RoundRules (TurnActions : Type 0) : Type 0 where
   pub standing : Seat → List Event → Numbered → List Event
   pub nothing : TurnActions
@@ -96,7 +102,8 @@ pub record IsRoundOfTurns {TurnActions : Type 0} (rules : RoundRules TurnActions
   pub turns : TurnsEnd (turns_of rules old.seats) (opened rules old.seats file round old.events) last
   pub after : new ≡ record { seats = old.seats; events = finished rules old.seats last }
 
--- a round of turns with the sheets of the file has an outcome, after at most 513 turns for each seat
+-- a round of turns with the sheets of the file has an outcome, after at most 513 turns for each
+-- seat
 pub record EndsSoon {TurnActions : Type 0} (rules : RoundRules TurnActions) (file : List ℕ) (round : Round)
     (old : Game) : Type 0 where
   pub new : Game

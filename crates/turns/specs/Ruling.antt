@@ -1,7 +1,13 @@
--- One way for a line. What becomes of it is the first of four: its own fault; that its order has no place where the
--- line is; that the condition of its order does not hold; the first rule that the order breaks. Else it is obeyed. That
--- is recorded, and an order that is obeyed is done. Each family of lines says for itself which orders have a place in
--- them, by which rules these are judged, and what an order brings.
+-- The one way to rule a line. What becomes of it is the first of four that applies:
+--
+-- 1. its own fault;
+-- 2. its order has no place where the line is;
+-- 3. the condition of its order does not hold;
+-- 4. the first rule that the order breaks.
+--
+-- Otherwise it is obeyed. That is recorded, and an order that is obeyed is done. Each family of
+-- lines has rules of its own: which orders have a place in them, by which rules these are judged,
+-- and what an order brings.
 use Rattle.std.specs.Prelude.{◌≡◌, ℕ, Bool, true, false, IsTrue, not, if◌then◌else◌, List, [], ◌∷◌, ◌++◌, Option, Some}
 use Rattle.std.specs.Prelude.{None, Result, Ok, Err}
 use Rattle.events.specs.declared.event.Event.{Event}
@@ -19,13 +25,14 @@ use Rattle.sheets.specs.Place.{is_of_file, placed}
 use Rattle.tables.specs.declared.seat.Seat.{Seat}
 use Rattle.turns.specs.RoundOfTurns.{InTurn, in_turn}
 
--- what becomes of an order that is under this condition, if any, and breaks this rule first, or none
+-- what becomes of an order that is under this condition, if any, and breaks this rule first, or
+-- none
 abbrev pub judged : Option Condition → Order → Option Refusal → Ruling
 judged condition order None = Obeyed condition order
 judged condition order (Some rule) = Refused rule condition order
 
--- the first rule that an order under this condition breaks, as the list is: that its condition holds comes before the
--- rules of its family
+-- the first rule that an order under this condition breaks, as the list is: its condition comes
+-- before the rules of its family
 abbrev pub under : List Event → Option Condition → (Order → Option Refusal) → Order → Option Refusal
 under events condition judgement order = if is_met events condition then judgement order else Some refusal.Condition
 
@@ -34,11 +41,12 @@ abbrev pub placed_ruling : (Order → Option Refusal) → Option Condition → R
 placed_ruling judgement condition (Err fault) = Faulty fault
 placed_ruling judgement condition (Ok order) = judged condition order (judgement order)
 
--- what becomes of a line with this condition and this reading, where the orders that pass this test have a place
+-- what becomes of a line with this condition and this reading, if the orders that pass this test
+-- have a place
 abbrev pub ruling_of : (Order → Bool) → (Order → Option Refusal) → Option Condition → Result Order Fault → Ruling
 ruling_of has_place judgement condition reading = placed_ruling judgement condition (placed has_place reading)
 
--- what becomes of a line, as the list is, where the family judges by these rules
+-- what becomes of a line, as the list is, if the family judges by these rules
 abbrev pub line_ruling : (Order → Bool) → (Order → Option Refusal) → List Event → Numbered → Ruling
 line_ruling has_place judgement events line =
     ruling_of has_place (under events line.condition judgement) line.condition line.reading
@@ -65,7 +73,7 @@ pub record IsToDo (has_place : Order → Bool) (judgement : Order → Option Ref
   pub kept : judgement order ≡ None
   pub obeyed : obeyed_by (line_ruling has_place judgement events line) ≡ Some order
 
--- whether this order of a line is obeyed, as the list is, and is to be done: else none is
+-- whether this order of a line is obeyed, as the list is, and is to be done: otherwise none is
 abbrev pub IsOrderToDo : (Order → Bool) → (Order → Option Refusal) → List Event → Numbered → Order → Bool → Type 0
 IsOrderToDo has_place judgement events line order true = IsToDo has_place judgement events line order
 IsOrderToDo has_place judgement events line order false = obeyed_by (line_ruling has_place judgement events line) ≡ None
@@ -74,7 +82,8 @@ IsOrderToDo has_place judgement events line order false = obeyed_by (line_ruling
 abbrev pub has_place_in_turn : Order → Bool
 has_place_in_turn order = not (is_of_file order)
 
--- in a turn of a seat, after a line with this number and this ruling, where an order that is done leads so far
+-- in a turn of a seat, after a line with this number and this ruling, where an order that is done
+-- leads so far
 abbrev pub after_ruling : {TurnActions : Type 0} → (InTurn TurnActions → Order → InTurn TurnActions) → Seat
     → InTurn TurnActions → ℕ → Ruling → InTurn TurnActions
 after_ruling act seat turn number ruling =

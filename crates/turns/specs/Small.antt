@@ -8,34 +8,35 @@ use Rattle.order_grammar.specs.declared.order.Order.TheVariants.{Bid, BuyTrain, 
 use Rattle.order_grammar.specs.declared.order.TrainSource.TheVariants.{Company}
 use Rattle.sheets.specs.Part.{Numbered, Parts, IsAtHead, written_turns_of}
 
--- the sum of a bid or a limit is at most 99,999, and the price at which a company is to sell a train
+-- the sum of a bid or a limit is at most 99,999, and the price at which a company is to sell a
+-- train
 abbrev pub IsSmallOrder : Order → Type 0
 IsSmallOrder (Bid private amount) = amount ≤ 99999
 IsSmallOrder (Limit private amount) = amount ≤ 99999
 IsSmallOrder (BuyTrain kind (Company seller price)) = price ≤ 99999
 IsSmallOrder other = Unit {0}
 
--- so is that of an order that is obeyed
+-- the sums of an order that is obeyed are at most 99,999
 abbrev pub IsSmallRuling : Ruling → Type 0
 IsSmallRuling (Obeyed condition order) = IsSmallOrder order
 IsSmallRuling other = Unit {0}
 
--- and that of an order that a line is read as
+-- the sums of an order that a line is read as are at most 99,999
 abbrev pub IsSmallReading : Result Order Fault → Type 0
 IsSmallReading (Ok order) = IsSmallOrder order
 IsSmallReading (Err fault) = Unit {0}
 
--- and those of some lines
+-- the sums of some lines are at most 99,999
 abbrev pub AreSmall : List Numbered → Type 0
 AreSmall [] = Unit {0}
 AreSmall (line ∷ lines) = IsSmallReading line.reading × AreSmall lines
 
--- and those of the lines of some written turns
+-- the sums of the lines of some written turns are at most 99,999
 abbrev pub WrittenTurnsAreSmall : List (List Numbered) → Type 0
 WrittenTurnsAreSmall [] = Unit {0}
 WrittenTurnsAreSmall (written ∷ written_turns) = AreSmall written × WrittenTurnsAreSmall written_turns
 
--- and those of a sheet
+-- the sums of a sheet are at most 99,999
 abbrev pub PartsAreSmall : Parts → Type 0
 PartsAreSmall parts = AreSmall parts.before × WrittenTurnsAreSmall (written_turns_of parts)
 

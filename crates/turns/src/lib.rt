@@ -1,13 +1,13 @@
-//! Rounds of turns, such as the opening and the stock rounds: how a round begins, how the sheets'
-//! lines are taken up, who has the turn, who passes, when the turns are over, and what is recorded
-//! of lines that were not taken up.
+//! Rounds of turns, such as the opening and the stock rounds. This crate says how a round begins,
+//! how the sheets' lines are taken up, who has the turn, who passes, when the turns are over, and
+//! what is recorded of lines that were not taken up.
 //!
-//! What a line does, what acting is, what else ends the turns and what follows them is each kind of
-//! round's own: a type says it that has the trait `TurnRules`.
+//! Each kind of round has rules of its own: what a line does, what acting is, what else ends the
+//! turns and what follows them. A type with the trait `TurnRules` has these rules.
 //!
 //! Lines of every kind of round are ruled in one way, that of `ruling`: by their own fault, their
-//! place, their condition and their rules, and what becomes of them is recorded. A type that has the trait `Family`
-//! says which orders have a place, and judges them.
+//! place, their condition and their rules, and what becomes of them is recorded. A type with the
+//! trait `Family` says which orders have a place, and judges them.
 //!
 //! Reading order: `ruling` (what becomes of a line), `rules` (the trait of a round), `turn` (the
 //! turn of a seat), `playing` (the whole round). In `specs/`, `Ruling` says what becomes of a line,

@@ -26,8 +26,8 @@ use tables::{PLAYERS_MOST, Round, Seat};
 type Unruled<'a> = ArrayVec<PartsLeft<'a>, PLAYERS_MOST>;
 
 /// Plays a round of turns with the sheets for it; a seat without a sheet passes. The list of events
-/// must be sound, its seats those of the sheets' players, and the round may begin. It fails only if
-/// memory is refused, and the game is dropped.
+/// must be sound, its seats must be those of the sheets' players, and the round must be one that
+/// may begin. Fails only if allocation fails, and the game is dropped.
 pub fn play_round<T: TurnRules>(
     rules: &T,
     mut history: History,
@@ -61,7 +61,7 @@ fn begin<T: TurnRules>(_rules: &T, history: &mut History, round: Round) -> Resul
     Ok(())
 }
 
-/// Rules the standing lines of each sheet, seat by seat. Answers what is left.
+/// Rules the standing lines of each sheet, seat by seat. Returns what is left.
 fn rule_all_standing<'a, T: TurnRules>(
     rules: &T,
     history: &mut History,
@@ -141,7 +141,7 @@ fn take_turns<T: TurnRules>(
     Ok(())
 }
 
-/// The turn of a seat, which passes where it does not act. Answers how many have passed in
+/// Plays the turn of a seat, which passes if it does not act. Returns how many have passed in
 /// succession.
 fn play_turn<T: TurnRules>(
     rules: &T,
@@ -174,7 +174,7 @@ fn play_turn<T: TurnRules>(
     Ok(passes + 1)
 }
 
-/// A seat passes.
+/// Records that a seat passes.
 fn pass<T: TurnRules>(_rules: &T, history: &mut History, seat: Seat) -> Result<(), AllocError>
     requires { T.holds history.old }
     ensures event { OnOk result (history.new ≡ with_event history.old (event.Passes seat)) }
@@ -184,7 +184,7 @@ fn pass<T: TurnRules>(_rules: &T, history: &mut History, seat: Seat) -> Result<(
     Ok(())
 }
 
-/// Records how many lines of each sheet were not taken up, heads of written turns not counted.
+/// Records how many lines of each sheet were not taken up; heads of written turns do not count.
 fn record_all_left<T: TurnRules>(
     rules: &T,
     history: &mut History,

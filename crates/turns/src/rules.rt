@@ -16,8 +16,8 @@ use sheets::UnreadLine;
 use std::alloc::AllocError;
 use tables::Seat;
 
-/// What a kind of round of turns says for itself. Each call that changes the game fails only if
-/// memory is refused, and the game is dropped then.
+/// The rules of one kind of round of turns. Each call that changes the game fails only if
+/// allocation fails, and the game is dropped then.
 pub trait TurnRules {
     /// What a seat has done in a turn.
     type TurnActions: Copy;
@@ -25,13 +25,13 @@ pub trait TurnRules {
     /// The rules of such a round.
     ghost rules: { RoundRules Self.TurnActions };
 
-    /// What such a round needs of the list before it, beside soundness.
+    /// What such a round needs of the list before it, besides soundness.
     ghost may_begin: { List Event → Type 0 };
 
     /// What holds of the game from the ROUND event on.
     ghost holds: { Game → Type 0 };
 
-    /// Rules a standing line of a seat. Its order is put in place of another.
+    /// Rules a standing line of a seat. Overwrites `order`.
     fn rule_standing_line(
         &self,
         history: &mut History,
@@ -46,12 +46,12 @@ pub trait TurnRules {
             ≡ rules.standing seat history.old.events (line_unread line.entry)) }
         ensures underway { OnOk result (holds history.new) };
 
-    /// What a seat has done before the first line of its turn.
+    /// Returns what a seat has done before the first line of its turn.
     fn nothing(&self) -> Self::TurnActions
         ensures { result ≡ rules.nothing };
 
-    /// Rules a line of a written turn, and does what it orders if it is obeyed. Its order is put in
-    /// place of another. Answers what the seat has done in its turn by then.
+    /// Rules a line of a written turn, and does what it orders if it is obeyed. Overwrites `order`.
+    /// Returns what the seat has done in its turn by then.
     fn rule_line(
         &self,
         history: &mut History,
@@ -70,11 +70,11 @@ pub trait TurnRules {
             (line_unread line.entry)) }
         ensures underway { OnOk result (holds history.new) };
 
-    /// Whether a seat that has done this has acted: else it passes.
+    /// Returns whether a seat that has done this has acted; otherwise it passes.
     fn has_acted(&self, actions: Self::TurnActions) -> bool
         ensures { result ≡ rules.has_acted actions };
 
-    /// Whether the turns are over though not all seats have passed in succession.
+    /// Returns whether the turns are over though not all seats have passed in succession.
     fn is_over(&self, history: &History) -> bool
         ensures { result ≡ rules.over history.now.events };
 

@@ -1,4 +1,4 @@
-//! One way for a line: what becomes of it, recorded.
+//! The one way to rule a line: what becomes of it, recorded.
 ghost use Rattle.std.specs.Prelude.{◌≡◌, Bool, IfOk, MatchResult, OnOk, Option, Ok, Err, is_none};
 ghost use Rattle.events.specs.declared.event.Event.TheVariants as event;
 ghost use Rattle.events.specs.declared.ruling.Refusal.{Refusal as RefusalCode};
@@ -17,8 +17,8 @@ use sheets::{ReadLine, UnreadLine};
 use std::alloc::AllocError;
 use tables::Seat;
 
-/// What a family of lines says for itself: which orders have a place in them, and by which rules
-/// those are judged.
+/// The rules of one kind of line: which orders have a place in it, and by which rules those are
+/// judged.
 pub trait Family {
     /// The orders that have a place in such a line.
     ghost place: { OrderOfPlay → Bool };
@@ -29,19 +29,19 @@ pub trait Family {
     /// What judging needs of the game and the seat.
     ghost may_judge: { Game → SeatNumber → Type 0 };
 
-    /// Whether an order has a place in such a line.
+    /// Returns whether an order has a place in such a line.
     fn has_place(&self, order: &Order) -> bool
         ensures { result ≡ place order.now };
 
-    /// The first rule that an order of a seat breaks; `None` if it breaks none.
+    /// Returns the first rule that an order of a seat breaks; `None` if it breaks none.
     fn judge(&self, history: &History, seat: Seat, order: &Order) -> Option<Refusal>
         requires { may_judge history.now seat }
         ensures { result ≡ judgement self.now history.now seat order.now };
 }
 
 /// Rules a line of a seat's sheet by its own fault, its place, its condition and its rules, in this
-/// order, and records what becomes of it. Its order is put in place of another. Answers whether that
-/// is obeyed and is to be done. It fails only if memory is refused.
+/// order, and records what becomes of it. Overwrites `order`. Returns whether that order is obeyed
+/// and is to be done. Fails only if allocation fails.
 pub fn rule_line<F: Family>(
     family: &F,
     history: &mut History,
@@ -68,8 +68,8 @@ pub fn rule_line<F: Family>(
     }
 }
 
-/// Reads a line and puts its order in place of another, or tells its fault: that its order has no
-/// place there is the last.
+/// Reads a line and overwrites `order` with its order. The error is its fault; the last fault is
+/// that its order has no place there.
 fn placed<F: Family>(family: &F, line: UnreadLine, order: &mut Order) -> Result<ReadLine, Fault>
     ensures placed { MatchResult result
         (λ read. placed_reading F.place (line_unread line.entry).reading ≡ Ok order.new)
@@ -84,9 +84,9 @@ fn placed<F: Family>(family: &F, line: UnreadLine, order: &mut Order) -> Result<
     }
 }
 
-/// Rules an order that has a place in a line by the line's condition and the rules of its family, and
-/// records what becomes of it. Answers whether it is obeyed and is to be done. It fails only if
-/// memory is refused.
+/// Rules an order that has a place in a line by the line's condition and the rules of its family,
+/// and records what becomes of it. Returns whether it is obeyed and is to be done. Fails only if
+/// allocation fails.
 pub fn rule_order<F: Family>(
     family: &F,
     history: &mut History,
@@ -110,8 +110,8 @@ pub fn rule_order<F: Family>(
     record(history, seat, line, order, broken)
 }
 
-/// The first rule that an order of a seat in a line breaks: that its condition holds comes before the
-/// rules of its family; `None` if it breaks none.
+/// Returns the first rule that an order of a seat in a line breaks; `None` if it breaks none. Its
+/// condition comes before the rules of its family.
 fn judge_under<F: Family>(
     family: &F,
     history: &History,
@@ -130,8 +130,8 @@ fn judge_under<F: Family>(
     }
 }
 
-/// Records what becomes of the order of a line under its condition, if it has one: it breaks this rule
-/// first, or none. Answers whether it is obeyed. It fails only if memory is refused.
+/// Records what becomes of the order of a line under its condition, if it has one: it breaks this
+/// rule first, or none. Returns whether it is obeyed. Fails only if allocation fails.
 pub fn record(
     history: &mut History,
     seat: Seat,
@@ -160,7 +160,7 @@ pub fn record(
     Ok(obeyed)
 }
 
-/// Records the fault of the line with this number. It fails only if memory is refused.
+/// Records the fault of the line with this number. Fails only if allocation fails.
 pub fn record_fault(
     history: &mut History,
     seat: Seat,

@@ -11,8 +11,8 @@ use sheets::PartsLeft;
 use std::alloc::AllocError;
 use tables::Seat;
 
-/// A seat's turn: it takes up the next written turn of its sheet, if there is one. Answers whether
-/// the seat acted.
+/// Plays a seat's turn: it takes up the next written turn of its sheet, if there is one. Returns
+/// whether the seat acted.
 pub(crate) fn take_turn<T: TurnRules>(
     rules: &T,
     history: &mut History,
@@ -39,7 +39,7 @@ pub(crate) fn take_turn<T: TurnRules>(
     Ok(rules.has_acted(actions))
 }
 
-/// Rules the lines of a written turn. Answers what the seat has done by them.
+/// Rules the lines of a written turn. Returns what the seat has done by them.
 fn rule_lines<T: TurnRules>(
     rules: &T,
     history: &mut History,

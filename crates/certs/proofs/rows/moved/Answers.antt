@@ -1,24 +1,12 @@
 use Rattle.std.proofs.Common.{◌≡◌, length, rules}
-use Rattle.certs.proofs.Moves.{bounded_after, can_move, entries_after, more_fits}
+use Rattle.certs.proofs.Moves.{moved_out, none_moved}
 use Rattle.certs.proofs.rows.moved.Goals as goal
 
-pub overflow_add-row : goal.overflow_add-row
-overflow_add-row c =
+pub returns-then-from-ge8-clause-moved : goal.returns-then-from-ge8-clause-moved
+returns-then-from-ge8-clause-moved c =
     let eight : length c.args.row ≡ 8 = search rules in
-    more_fits c.args.row c.args.from c.args.to c.args.shares c.from-shares.result
-    (can_move _ _ _ _ _ eight c.requires.from c.requires.to c.ranges.shares.fits c.from-shares.ensures
-    c.requires.held c.requires.bounded)
+    none_moved c.args.row c.args.from c.args.to c.args.shares eight c.if-from-ge8.true c.requires.held
 
-pub returns-clause-moved : goal.returns-clause-moved
-returns-clause-moved c =
-    let eight : length c.args.row ≡ 8 = search rules in
-    entries_after c.args.row c.args.from c.args.to c.args.shares c.from-shares.result
-    (can_move _ _ _ _ _ eight c.requires.from c.requires.to c.ranges.shares.fits c.from-shares.ensures
-    c.requires.held c.requires.bounded)
-
-pub returns-clause-bounded : goal.returns-clause-bounded
-returns-clause-bounded c =
-    let eight : length c.args.row ≡ 8 = search rules in
-    bounded_after c.args.row c.args.from c.args.to c.args.shares c.from-shares.result
-    (can_move _ _ _ _ _ eight c.requires.from c.requires.to c.ranges.shares.fits c.from-shares.ensures
-    c.requires.held c.requires.bounded)
+pub returns-then-to-ge8-clause-moved : goal.returns-then-to-ge8-clause-moved
+returns-then-to-ge8-clause-moved c =
+    moved_out c.args.row c.taken.result c.args.from c.args.to c.args.shares c.if-to-ge8.true c.taken.ensures.taken

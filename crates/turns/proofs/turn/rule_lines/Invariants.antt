@@ -4,7 +4,8 @@ use Rattle.turns.specs.RoundOfTurns.{after_lines, in_turn}
 use Rattle.turns.specs.Small.{PartsAreSmall}
 use Rattle.turns.proofs.turn.rule_lines.Given as goal
 
--- the lines that are left of the written turn lead from here where the whole written turn leads from the start
+-- the lines that are left of the written turn lead from here where the whole written turn leads
+-- from the start
 abbrev pub invariant-loop-line : goal.invariant-loop-line
 invariant-loop-line g l = record {
   seats : l.history.seats ≡ l.fn.history.seats;
