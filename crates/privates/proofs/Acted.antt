@@ -1,4 +1,4 @@
--- The new events of a line of an opening turn tell who acted in it.
+-- The new events of a line of an opening turn say who acted in it.
 use Rattle.std.proofs.Common.{◌≡◌, ℕ, Bool, true, false, ◌||◌, List, [], ◌∷◌, ◌++◌, Option, Some, None, refl}
 use Rattle.events.specs.Event.{actor_of}
 use Rattle.events.specs.declared.event.Bid.{Bid}
@@ -27,7 +27,7 @@ now_acted : (before : Bool) → true ≡ (before || true)
 now_acted true = refl
 now_acted false = refl
 
--- nobody acts by what a sale brings
+-- nobody acts by what comes with a sale
 no_giver : (events : List Event) (private : Private) (buyer : Seat)
     → last_said actor_of (gifts events private buyer) ≡ None
 no_giver events private.SchuylkillValley buyer = refl
@@ -48,7 +48,7 @@ in_sale seat events private buyer price =
           rw (no_giver events private buyer) refl;
     }
 
--- nor by the sale that the bids on a private bring
+-- nor by the sale that follows from the bids on a private
 in_bids : (seat : Seat) (seats : ℕ) (events : List Event) (private : Private) (bids : List Bid) →
     SaysWhoActed seat false events (settled_by seats events private bids)
 in_bids seat seats events private [] = nobody seat events
@@ -97,7 +97,7 @@ order_says seats seat turn number condition (order.Bid private amount) kept =
     }
 order_says seats seat turn number condition other kept = absurd (cc)
 
--- so each turn of an opening round tells who acted in it
+-- so each turn of an opening round says who acted in it
 pub opening_turns_say : TurnsSayWhoActed opening_rules
 opening_turns_say =
     turns_say opening_rules refl

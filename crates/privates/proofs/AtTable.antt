@@ -1,4 +1,5 @@
--- The rules of an opening round at its table: each turn is of a seat at the table, so a line of a seat elsewhere never comes.
+-- The rules of an opening round at its table: each turn is of a seat at the table, so a line of a
+-- seat elsewhere never comes.
 use Rattle.std.proofs.Common.{◌≡◌, ℕ, zero, suc, ◌<◌, Bool, true, false, nat_lt, if◌then◌else◌, List, Some, refl, sym, ap, ◌∙◌}
 use Rattle.std.proofs.Common.{arith}
 use Rattle.std.proofs.lemmas.Bool.Decides.{nat_tests}
@@ -18,7 +19,8 @@ use Rattle.tables.specs.declared.seat.Seat.{Seat}
 use Rattle.turns.proofs.Turns.{left_within, priority_within}
 use Rattle.turns.specs.RoundOfTurns.{IsRoundOfTurns, RoundRules, in_turn, opened, turned, turns_of}
 
--- the rules of an opening round at a table of this many seats: a line of a seat elsewhere does nothing
+-- the rules of an opening round at a table of this many seats: a line of a seat elsewhere does
+-- nothing
 abbrev pub rules_at : ℕ → RoundRules Bool
 rules_at seats =
     record {

@@ -1,4 +1,5 @@
--- The winner of an auction is ahead of all, and pays no more than his limit and no less than each bid.
+-- The winner of an auction is ahead of all, and pays no more than the winner's limit and no less
+-- than each bid.
 use Rattle.std.proofs.Common.{◌≡◌, ℤ, pos, ◌+ℤ◌, ◌≤ℤ◌, Bool, true, false, ◌≤◌, List, [], ◌∷◌, length, map, Option, None}
 use Rattle.std.proofs.Common.{unwrap_or, if◌then◌else◌, inl, inr, refl, sym, subst, arith}
 use Rattle.std.specs.Int.{int_max, int_min}
@@ -10,7 +11,7 @@ use Rattle.privates.specs.Auction.{Bidder, BidsDiffer, EachBidder, IsAhead, IsAm
 use Rattle.privates.specs.Auction.{ahead, auction_of, beats, bid_by, greatest_from, highest_bid, limit_by, second_limit}
 use Rattle.privates.specs.Auction.{winner_among}
 
--- a bidder is ahead of himself
+-- each bidder is ahead of itself
 ahead_of_himself : (one : Bidder) → IsAhead one one
 ahead_of_himself one = record { limit = omega (arith, ints); bid = λ same. omega (arith, ints) }
 
@@ -111,7 +112,8 @@ price_from_highest : (highest limit second bid : ℤ) → bid ≤ℤ highest
     → bid ≤ℤ int_max highest (int_min limit (second +ℤ pos 5))
 price_from_highest highest limit second bid within = omega (arith, ints, clamps)
 
--- one of some bidders wins, who is ahead of all, at a price within his limit and under no bid
+-- one of some bidders wins, who is ahead of all, at a price within that bidder's limit and under no
+-- bid
 pub record WinsWithin (bidders : List Bidder) (won : Seat × ℤ) : Type 0 where
   pub winner : Bidder
   pub bids : IsAmong bidders winner

@@ -24,12 +24,12 @@ limit_over_bid : (bid : ℤ) (ordered : Option ℕ) (free : ℤ) → bid ≤ℤ 
 limit_over_bid bid None free = omega (arith, ints)
 limit_over_bid bid (Some ordered) free = omega (arith, ints, clamps)
 
--- nor over what the bidder can spend, where his bid isn't
+-- nor over what the bidder can spend, if the bid isn't
 limit_in_cash : (bid : ℤ) (ordered : Option ℕ) (free : ℤ) → bid ≤ℤ free → limit_from bid ordered free ≤ℤ free
 limit_in_cash bid None free within = within
 limit_in_cash bid (Some ordered) free within = omega (arith, ints, clamps)
 
--- nor over 99,999, where neither his bid nor what he ordered is
+-- nor over 99,999, if neither the bid nor what was ordered is
 limit_is_small : (bid : ℕ) (ordered : Option ℕ) (free : ℤ) → bid ≤ 99999
     → ((amount : ℕ) → ordered ≡ Some amount → amount ≤ 99999) → limit_from (pos bid) ordered free ≤ℤ pos 99999
 limit_is_small bid None free small ordered_small = omega (arith, ints)

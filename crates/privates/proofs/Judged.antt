@@ -1,5 +1,5 @@
--- An order that breaks no rule can be done, and still can after an event that changes nothing of what
--- parties have and own.
+-- An order that breaks no rule can be done, and still can after an event that changes nothing of
+-- what parties have and own.
 use Rattle.std.proofs.Common.{◌≡◌, ℕ, Bool, false, T, not, List, [], ◌∷◌, ◌++◌, None, pos, ◌≤ℤ◌, ◌-ℤ◌, ◌+◌, ◌||◌}
 use Rattle.std.proofs.Common.{nat_lt, unwrap_or, arith, ℤ, refl, sym, subst, ap, ◌∙◌}
 use Rattle.std.specs.Int.Signed.{lt_z, lt_z_no}
@@ -12,8 +12,9 @@ use Rattle.totals.specs.AtEnd.{SaysTheSame}
 use Rattle.totals.specs.LookBack.{Game, cash_of, with_event}
 use Rattle.order_grammar.specs.declared.order.Order.{Order}
 use Rattle.order_grammar.specs.declared.order.Order.TheVariants.{BuyPrivate, Bid}
+use Rattle.privates.proofs.BidsMade.{near_after}
 use Rattle.privates.specs.Act.{MayAct, MayPay}
-use Rattle.privates.specs.Judgement.{bid_rules, is_near, judgement_of, price_of, private_purchase_rules}
+use Rattle.privates.specs.Judgement.{bid_rules, is_near_some, judgement_of, price_of, private_purchase_rules}
 use Rattle.tables.specs.Roster.{face_of}
 use Rattle.tables.proofs.Rules.{none_broken}
 use Rattle.tables.specs.declared.roster.Private.{Private}
@@ -59,7 +60,7 @@ same_free seats before after seat private same =
     ∙ ap (λ (bids : ℕ). cash_of seats before (party_at seat) -ℤ pos bids)
     (same_elsewhere before after seat private same)
 
--- what the bank asks stays where SV's price does
+-- the price of the bank stays where SV's price does
 same_price : (before after : List Event) (private : Private) → SaysTheSame before after
     → price_of after private ≡ price_of before private
 same_price before after SchuylkillValley same = same.sv_price
@@ -78,17 +79,17 @@ same_pay seats before after seat private price same_price same is_same may =
 
 -- an order can still be done where a list says the same
 still_may : (seats : ℕ) (before after : List Event) (seat : Seat) (order : Order) → SaysTheSame before after
+    → ((private : Private) (amount : ℕ) → is_near_some amount after private ≡ is_near_some amount before private)
     → MayAct seats before seat order → MayAct seats after seat order
-still_may seats before after seat (BuyPrivate private) same may =
+still_may seats before after seat (BuyPrivate private) same near may =
     same_pay seats before after seat private (price_of before private) (price_of after private) same
     (same_price before after private same) may
-still_may seats before after seat (Bid private amount) same may =
+still_may seats before after seat (Bid private amount) same near may =
     record {
       pays = same_pay seats before after seat private amount amount same refl may.pays;
-      high = ap (λ bids. nat_lt amount (face_of private + 5) || is_near amount bids) (same.bids_on seats private)
-          ∙ may.high;
+      high = ap (λ (b : Bool). nat_lt amount (face_of private + 5) || b) (near private amount) ∙ may.high;
     }
-still_may seats before after seat other same may = tt
+still_may seats before after seat other same near may = tt
 
 -- an order that breaks no rule can be done after its ruling
 pub may_act_after : (old new : Game) (event : Event) (seat : Seat) (used : Bool) (order : Order)
@@ -97,4 +98,5 @@ pub may_act_after : (old new : Game) (event : Event) (seat : Seat) (used : Bool)
 may_act_after old new event seat used order recorded quiet none =
     subst (λ (game : Game). MayAct game.seats game.events seat order) (sym recorded)
     (still_may old.seats old.events (old.events ++ event ∷ []) seat order (quiet_same old.events event quiet)
+    (λ private amount. near_after private amount old.events event quiet)
     (may_act old.seats old.events seat used order none))

@@ -2,7 +2,7 @@ pub mod Acted
 pub mod AtTable
 pub mod Auctions
 pub mod Bidders
-pub mod BidsRise
+pub mod BidsMade
 pub mod Judged
 pub mod OpeningBids
 pub mod Pars

@@ -1,4 +1,5 @@
--- Within an opening round bids rise: a bid that is obeyed is at least 5 over every earlier one on its private.
+-- Within an opening round bids rise: a bid that is obeyed is at least 5 over every earlier one on
+-- its private.
 use Rattle.std.proofs.Common.{◌≡◌, ℕ, zero, suc, ◌+◌, ◌-◌, ◌<◌, ◌==◌, ◌||◌, nat_lt, Bool, true, false, List, [], ◌∷◌}
 use Rattle.std.proofs.Common.{◌++◌, Option, Some, None, append-nil, unwrap_or, refl, sym, subst, ap, ◌∙◌, if◌then◌else◌}
 use Rattle.std.proofs.lemmas.List.{append_assoc}
@@ -18,20 +19,20 @@ use Rattle.history.proofs.BidWords.{seated_after_bid}
 use Rattle.history.proofs.NearlySound.{ruling_quiet}
 use Rattle.totals.proofs.EventAtEnd.{bid_of_at_end}
 use Rattle.totals.specs.Bids.{bid_of, bid_said, bids_on}
-use Rattle.totals.specs.LookBack.{Game, cheapest_of, is_sold, owner_of, priority_of, sv_price_of}
+use Rattle.totals.specs.LookBack.{cheapest_of, is_sold, owner_of, priority_of, sv_price_of}
 use Rattle.history.specs.Sound.{BiddersAreSeated}
 use Rattle.history.specs.Record.{after_revenues, breaks, paid_to_owner, with_broken}
 use Rattle.order_grammar.specs.declared.condition.Condition.{Condition}
 use Rattle.order_grammar.specs.declared.order.Order.{Order}
 use Rattle.order_grammar.specs.declared.order.Order.TheVariants as order
 use Rattle.privates.proofs.AtTable.{by_rules, is_under, rules_at}
-use Rattle.privates.proofs.BidsRise.{both, standing_bids_suffice}
+use Rattle.privates.proofs.BidsMade.{both}
 use Rattle.privates.proofs.Judged.{may_act_after}
 use Rattle.privates.proofs.Sales.{neither}
 use Rattle.privates.specs.Act.{MayBid}
-use Rattle.privates.specs.BidsRise.{BidsRise, OpeningBidsRise, is_near_earlier, is_near_ever}
+use Rattle.privates.specs.BidsRise.{BidsRise, OpeningBidsRise, is_near_earlier}
 use Rattle.privates.specs.Closing.{after_fall, after_passing, all_sold, closed, given_away}
-use Rattle.privates.specs.Judgement.{judgement_of, price_of, refusal_of}
+use Rattle.privates.specs.Judgement.{is_near_some, judgement_of, price_of, refusal_of}
 use Rattle.privates.specs.Sale.{after_sale, gifts, settle_auctions, settled, settled_by, settled_of}
 use Rattle.privates.specs.Standing.{standing_ruling}
 use Rattle.privates.specs.Turn.{InTurn, acted, after_opening_line, after_ruling}
@@ -123,7 +124,7 @@ in_either : (seats : ℕ) (b : Bool) (one other : List Event) → RiseAt seats o
 in_either seats true one other first second = first
 in_either seats false one other first second = second
 
--- a sale and what it brings are no bids
+-- a sale and what comes with it are no bids
 sale_bids_nothing : (events : List Event) (private : Private) (buyer : Seat) (price : ℕ) →
     list_all (λ e. is_no_bid (bidding_of e)) (event.Sold private buyer price ∷ gifts events private buyer) ≡ true
 sale_bids_nothing events private.SchuylkillValley buyer price = refl
@@ -141,7 +142,7 @@ after_sale_rise seats events private buyer price before =
     with_others seats events (event.Sold private buyer price ∷ gifts events private buyer)
     (sale_bids_nothing events private buyer price) before
 
--- after the sale that the bids on a private bring
+-- after the sale that follows from the bids on a private
 after_bids_rise : (seats : ℕ) (events : List Event) (private : Private) (bids : List Bid) → RiseAt seats events →
     RiseAt seats (settled_by seats events private bids)
 after_bids_rise seats events private [] before = before
@@ -214,10 +215,8 @@ bid_rise : (seats : ℕ) (events : List Event) (seat : Seat) (private : Private)
     → MayBid seats events seat private amount →
     seat.0 < seats → RiseAt seats events → RiseAt seats (events ++ event.Bids private seat amount ∷ [])
 bid_rise seats events seat private amount may under before =
-    let suffice = standing_bids_suffice (record { seats = seats; events = events }) private amount before.rise
-    before.seated may.pays.unsold in
-    let far : is_near_ever amount events private ≡ false =
-    (neither (nat_lt amount (face_of private + 5)) (is_near_ever amount events private) (sym suffice ∙ may.high)).1
+    let far : is_near_some amount events private ≡ false =
+    (neither (nat_lt amount (face_of private + 5)) (is_near_some amount events private) may.high).1
     in
     record {
       rise = rise_more events (event.Bids private seat amount) far before.rise;

@@ -1,32 +1,30 @@
--- What acts keep an opening round under way: bids, sales with what they bring, and the fall of SV.
-use Rattle.std.proofs.Common.{◌≡◌, ◌≢◌, ℕ, zero, suc, ◌+◌, ◌-◌, ◌<◌, ◌≤◌, Bool, true, false, ◌||◌, nat_lt, List, []}
+-- What acts keep an opening round under way: bids, sales with what comes with them, and the fall of
+-- SV.
+use Rattle.std.proofs.Common.{◌≡◌, ◌≢◌, ℕ, ◌+◌, ◌-◌, ◌<◌, ◌≤◌, Bool, true, false, ◌||◌, nat_lt, List, []}
 use Rattle.std.proofs.Common.{◌∷◌, ◌++◌, Option, Some, None, is_some, append_assoc, inl, inr, refl, sym, subst, ap, ◌∙◌}
 use Rattle.std.proofs.Common.{arith}
-use Rattle.std.proofs.lemmas.Bool.{cases_eq}
 use Rattle.std.proofs.lemmas.Bool.Decides.{nat_tests}
 use Rattle.events.specs.Event.{is_par_value, ownership_of, placed, square_set}
-use Rattle.events.specs.declared.event.Bid.{Bid}
 use Rattle.events.specs.declared.event.Event.{Event}
 use Rattle.events.specs.declared.event.Event.TheVariants as event
 use Rattle.history.proofs.Acts.{bid_sound, gift_sound, price_sound, sale_sound}
 use Rattle.totals.proofs.EventAtEnd.{last_said_at_end, last_said_before, square_of_before}
 use Rattle.history.proofs.Gifts.{ca_sound}
 use Rattle.history.proofs.Starts.{started_sound}
-use Rattle.totals.specs.Bids.{as_bid, bid_of, bids_on}
+use Rattle.totals.specs.Bids.{bid_of}
 use Rattle.totals.specs.LookBack.{Game, is_sold, owner_said, sv_price_of, with_event}
 use Rattle.totals.specs.Shares.{square_of, square_said}
 use Rattle.history.specs.Sound.{IsSound, IsSvPrice}
 use Rattle.privates.specs.LimitsKept.{limits_kept}
 use Rattle.privates.proofs.Pars.{par_set_is_par}
-use Rattle.privates.proofs.StandingBids.{EachBid, bids_from}
 use Rattle.privates.specs.UnderwayKept.{event_underway, unsold_before, waiting_silent}
 use Rattle.privates.specs.Act.{MayBid, MayPay}
-use Rattle.privates.specs.Judgement.{is_near}
+use Rattle.privates.proofs.BidsMade.{standing_was_made}
+use Rattle.privates.specs.Judgement.{is_near_some}
 use Rattle.privates.specs.Sale.{par_set_by}
 use Rattle.privates.specs.Underway.{IsUnderway, IsWaiting}
 use Rattle.tables.specs.Chart.{par_square_of}
 use Rattle.tables.specs.Roster.{face_of}
-use Rattle.tables.specs.Seat.{seat_at}
 use Rattle.tables.specs.declared.roster.Company.TheVariants as company
 use Rattle.tables.specs.declared.roster.Private.{Private}
 use Rattle.tables.specs.declared.roster.Private.TheVariants.{SchuylkillValley, CamdenAmboy, BaltimoreOhio}
@@ -156,45 +154,6 @@ bop_underway game new buyer price par may seated is_par recorded before =
           (λ its other. refl) after_gift;
     })
 
--- a sum that is near none of some bids is 5 over each at least
-pub far_from_each : (amount : ℕ) (bids : List Bid) → is_near amount bids ≡ false
-    → EachBid (λ bid. bid.amount + 5 ≤ amount) bids
-far_from_each amount [] far = tt
-far_from_each amount (bid ∷ bids) far =
-    let here : bid.amount + 5 ≤ amount = grind (arith, nat_tests) in
-    let rest : is_near amount bids ≡ false = grind (arith, nat_tests) in
-    (here, far_from_each amount bids rest)
-
--- what holds of each bid after a seat's, if it has one
-rest_of : (holds : Bid → Type 0) (seat : Seat) (found : Option ℕ) (rest : List Bid)
-    → EachBid holds (as_bid seat found ++ rest) → EachBid holds rest
-rest_of holds seat None rest all = all
-rest_of holds seat (Some amount) rest all = all.1
-
--- what holds of a seat's bid
-head_of : (holds : Bid → Type 0) (seat : Seat) (found : Option ℕ) (amount : ℕ) (rest : List Bid) → found ≡ Some amount
-    → EachBid holds (as_bid seat found ++ rest) → holds (record { seat = seat; amount = amount })
-head_of holds seat None amount rest is all = cc
-head_of holds seat (Some found) amount rest is all =
-    let same : found ≡ amount = cc in subst (λ (n : ℕ). holds (record { seat = seat; amount = n })) same all.0
-
--- of a seat's bid, among those of seats from one on, holds what holds of each
-pub of_seat : (holds : Bid → Type 0) (events : List Event) (private : Private) (first count : ℕ) (other : Seat)
-    (amount : ℕ) → first ≤ other.0 → other.0 < first + count → bid_of events private other ≡ Some amount
-    → EachBid holds (bids_from events private first count) → holds (record { seat = other; amount = amount })
-of_seat holds events private first zero other amount from under is all = absurd (omega arith)
-of_seat holds events private first (suc count) other amount from under is all =
-    let rest : List Bid = bids_from events private (first + 1) count in
-    let found : Option ℕ = bid_of events private (seat_at first) in
-    elim (cases_eq other.0 first) [
-      | inl same ↦
-          let seat : seat_at first ≡ other = ap seat_at (sym same) in
-          subst (λ (s : Seat). holds (record { seat = s; amount = amount })) seat
-          (head_of holds (seat_at first) found amount rest (ap (bid_of events private) seat ∙ is) all)
-      | inr apart ↦ of_seat holds events private (first + 1) count other amount (omega arith) (omega arith) is
-          (rest_of holds (seat_at first) found rest all)
-    ]
-
 -- neither of two tests passes
 pub neither : (a b : Bool) → (a || b) ≡ false → (a ≡ false) × (b ≡ false)
 neither true b fails = absurd (cc)
@@ -205,13 +164,11 @@ no_other_bid : (game : Game) (private : Private) (seat : Seat) (amount : ℕ)
     → MayBid game.seats game.events seat private amount → IsSound game → (other : Seat)
     → bid_of game.events private other ≡ Some amount → other ≡ seat
 no_other_bid game private seat amount may sound other is =
-    let far = far_from_each amount (bids_on game.seats game.events private)
-    (neither (nat_lt amount (face_of private + 5)) (is_near amount (bids_on game.seats game.events private))
-    may.high).1 in
-    let under = sound.seated private other amount is in
-    let over : amount + 5 ≤ amount = of_seat (λ bid. bid.amount + 5 ≤ amount) game.events private 0 game.seats other
-    amount (omega arith) (omega arith) is far in
-    absurd (omega arith)
+    let far = (neither (nat_lt amount (face_of private + 5)) (is_near_some amount game.events private) may.high).1 in
+    let itself : nat_lt amount (amount + 5) ≡ true = grind (arith, nat_tests) in
+    let near = standing_was_made game.events private other amount amount is itself in
+    let wrong : true ≡ false = sym near ∙ far in
+    cc
 
 -- a bid
 pub bid_underway : (game new : Game) (private : Private) (seat : Seat) (amount : ℕ) → amount ≤ 99999

@@ -38,7 +38,7 @@ later : {events : List Event} {private : Private} (first last : ℕ) (bid : Bid)
     → IsStandingBid events private (first + 1) last bid → IsStandingBid events private first last bid
 later first last bid is = let from = is.from in record { is_bid = is.is_bid; from = omega arith; under = is.under }
 
--- a seat's bid, if it has one, in front of those of later seats
+-- a seat's bid, if it has one, before those of later seats
 bid_first : (events : List Event) (private : Private) (first last : ℕ) (found : Option ℕ) (bids : List Bid)
     → bid_of events private (seat_at first) ≡ found → first < last
     → EachBid (IsStandingBid events private (first + 1) last) bids
@@ -87,7 +87,7 @@ other_amount events private first last amount differ within mine bid is same =
     let from = is.from in
     absurd (omega arith)
 
--- a seat's bid, if it has one, in front of others
+-- a seat's bid, if it has one, before others
 amount_first : (events : List Event) (private : Private) (first last : ℕ) (found : Option ℕ) (bids : List Bid)
     → SeatsDiffer last events private → first < last → bid_of events private (seat_at first) ≡ found
     → EachBid (IsStandingBid events private (first + 1) last) bids → AmountsDiffer bids
@@ -137,7 +137,7 @@ bid_free seats events private seat amount bids solvent =
     let split = bids_split events seat private in
     omega (arith, ints)
 
--- a bidder for the cheapest private can pay his bid
+-- a bidder for the cheapest private can pay the bid
 pub may_pay_bid : (game : Game) (private : Private) (bid : Bid) → cheapest_of game.events ≡ Some private
     → IsStandingBid game.events private 0 game.seats bid → IsSound game
     → MayPay game.seats game.events bid.seat private bid.amount

@@ -17,7 +17,7 @@ pub record MayPay (seats : ℕ) (events : List Event) (seat : Seat) (private : P
 -- the seat can bid this much on the private
 pub record MayBid (seats : ℕ) (events : List Event) (seat : Seat) (private : Private) (amount : ℕ) : Type 0 where
   pub pays : MayPay seats events seat private amount
-  pub high : is_too_low seats events private amount ≡ false
+  pub high : is_too_low events private amount ≡ false
 
 -- the order can be done
 abbrev pub MayAct : ℕ → List Event → Seat → Order → Type 0

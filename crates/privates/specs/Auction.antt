@@ -1,6 +1,6 @@
 -- An auction among those who bid on a private. The greatest limit wins, and among equal limits the
--- higher bid. The price is the larger of the highest bid and of the lesser of the winner's limit and the
--- second limit plus 5.
+-- higher bid. The price is the larger of the highest bid and of the lesser of the winner's limit
+-- and the second limit plus 5.
 use Rattle.std.specs.Prelude.{◌≡◌, ◌≢◌, ◌⊎◌, ℤ, pos, ◌+ℤ◌, ◌≤ℤ◌, ◌≤◌, length, Bool, ◌||◌, ◌&&◌, if◌then◌else◌, List, []}
 use Rattle.std.specs.Prelude.{◌∷◌, map, Option, Some, None, unwrap_or}
 use Rattle.std.specs.Int.{int_max, int_min}
@@ -8,7 +8,7 @@ use Rattle.std.specs.Ordering.{int_eq}
 use Rattle.std.specs.Int.Signed.{lt_z}
 use Rattle.tables.specs.declared.seat.Seat.{Seat}
 
--- a bidder: his seat, his bid and his limit, in dollars
+-- a bidder: the seat, its bid and its limit, in dollars
 abbrev pub Bidder : Type 0
 Bidder = Seat × ℤ × ℤ
 
@@ -16,11 +16,11 @@ Bidder = Seat × ℤ × ℤ
 abbrev pub bid_by : Bidder → ℤ
 bid_by bidder = bidder.1
 
--- what he goes up to
+-- the limit of a bidder
 abbrev pub limit_by : Bidder → ℤ
 limit_by bidder = bidder.2
 
--- a bidder beats another by a greater limit, or by the higher bid where the limits are equal
+-- a bidder beats another by a greater limit, or by the higher bid if the limits are equal
 abbrev pub beats : Bidder → Bidder → Bool
 beats one other =
     lt_z (limit_by other) (limit_by one) || (int_eq (limit_by other) (limit_by one) && lt_z (bid_by other) (bid_by one))
@@ -48,18 +48,19 @@ abbrev pub greater_of : Option ℤ → ℤ → ℤ
 greater_of None other = other
 greater_of (Some one) other = int_max one other
 
--- the greatest limit so far of the others than the winner, whom his bid tells from them, with one more
--- bidder
+-- the greatest limit so far of the bidders other than the winner, who is known by the bid, with one
+-- more bidder
 abbrev pub with_limit : Bidder → Option ℤ → Bidder → Option ℤ
 with_limit winner second bidder =
     if int_eq (bid_by bidder) (bid_by winner) then second else Some (greater_of second (limit_by bidder))
 
--- the greatest limit so far of the others than the winner, with more bidders
+-- the greatest limit so far of the bidders other than the winner, with more bidders
 abbrev pub with_limits : Bidder → Option ℤ → List Bidder → Option ℤ
 with_limits winner second [] = second
 with_limits winner second (bidder ∷ bidders) = with_limits winner (with_limit winner second bidder) bidders
 
--- the second limit: the greatest of those of the others than the winner; without another it is 0
+-- the second limit: the greatest of those of the bidders other than the winner; without another it
+-- is 0
 abbrev pub second_limit : Bidder → List Bidder → ℤ
 second_limit winner bidders = unwrap_or (with_limits winner None bidders) (pos 0)
 
@@ -96,7 +97,7 @@ abbrev pub IsAmong : List Bidder → Bidder → Type 0
 IsAmong [] one = ⊥
 IsAmong (bidder ∷ bidders) one = (bidder ≡ one) ⊎ IsAmong bidders one
 
--- a bidder's limit is no less than another's, and where they are equal his bid is no lower
+-- a bidder's limit is no less than another's, and if they are equal the bid is no lower
 pub record IsAhead (winner other : Bidder) : Type 0 where
   pub limit : limit_by other ≤ℤ limit_by winner
   pub bid : limit_by other ≡ limit_by winner → bid_by other ≤ℤ bid_by winner
@@ -123,8 +124,9 @@ pub record IsGreatest (sums : List ℤ) (greatest : ℤ) : Type 0 where
   pub is_one : IsOneOf sums greatest
   pub none_over : NoneIsOver sums greatest
 
--- An auction is won by a bidder who is ahead of all. The price is the larger of the highest bid and of the
--- lesser of his limit and the greatest limit of the others plus 5; so it is within his limit, and under no bid.
+-- An auction is won by a bidder who is ahead of all. The price is the larger of the highest bid and
+-- of the lesser of the winner's limit and the greatest limit of the others plus 5. So it is within
+-- the winner's limit, and under no bid.
 pub record IsWon (bidders : List Bidder) (won : Seat × ℤ) : Type 0 where
   pub winner : Bidder
   pub bids : IsAmong bidders winner
@@ -140,7 +142,8 @@ pub record IsWon (bidders : List Bidder) (won : Seat × ℤ) : Type 0 where
   pub within_limit : won.1 ≤ℤ limit_by winner
   pub at_least_each_bid : EachBidder (λ other. bid_by other ≤ℤ won.1) bidders
 
--- an auction of two bidders or more, whose bids differ and of whom no limit is under its bid, is won
+-- an auction of two bidders or more, whose bids differ and of whom no limit is under its bid, is
+-- won
 abbrev pub AuctionIsWon : Type 0
 AuctionIsWon =
     (bidders : List Bidder) → 2 ≤ length bidders → BidsDiffer bidders → LimitsHold bidders

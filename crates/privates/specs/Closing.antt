@@ -1,6 +1,7 @@
--- What follows the turns of an opening round. Once all privates are sold nothing falls and nothing is paid.
--- Else SV falls by 5 if it is unsold, and at 0 goes to the holder of priority for nothing, with the sales that
--- follow from it; if it is sold, each sold private pays its revenue, in roster order.
+-- What follows the turns of an opening round. Once all privates are sold nothing falls and nothing
+-- is paid. Otherwise SV falls by 5 if it is unsold, and at 0 goes to the holder of priority for
+-- nothing, with the sales that follow from it. If SV is sold, each sold private pays its revenue,
+-- in roster order.
 use Rattle.std.specs.Prelude.{ℕ, ◌-◌, Bool, ◌==◌, if◌then◌else◌, List, [], ◌∷◌, ◌++◌, is_none}
 use Rattle.events.specs.declared.event.Event.{Event}
 use Rattle.events.specs.declared.event.Event.TheVariants as event
@@ -19,12 +20,13 @@ all_sold events = is_none (cheapest_of events)
 abbrev pub given_away : List Event → Seat → List Event
 given_away events seat = after_sale (events ++ event.Price 0 ∷ []) SchuylkillValley seat 0
 
--- after SV's price has fallen to this; at 0 SV goes to this holder of priority, with the sales that follow
+-- after SV's price has fallen to this; at 0 SV goes to this holder of priority, with the sales that
+-- follow
 abbrev pub after_fall : ℕ → List Event → ℕ → Seat → List Event
 after_fall seats events price holder =
     if price == 0 then settled seats (given_away events holder) else events ++ event.Price price ∷ []
 
--- after all have passed: SV falls by 5 if it is unsold, and else each sold private pays
+-- after all have passed: SV falls by 5 if it is unsold, and otherwise each sold private pays
 abbrev pub after_passing : ℕ → List Event → List Event
 after_passing seats events =
     if is_sold events SchuylkillValley

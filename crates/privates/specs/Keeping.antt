@@ -1,5 +1,5 @@
--- What keeps an opening round under way, as a round of turns asks: the ROUND event, a pass, a count of lines
--- that were not taken up.
+-- What keeps an opening round under way, as a round of turns needs it: the ROUND event, a pass, a
+-- count of lines that were not taken up.
 use Rattle.std.proofs.Common.{refl}
 use Rattle.std.specs.Prelude.{ℕ}
 use Rattle.events.specs.declared.event.Event.TheVariants as event
@@ -24,7 +24,7 @@ passes game seat underway sound =
     event_underway game (with_event game (event.Passes seat)) (event.Passes seat) refl (λ its other. refl) refl sound
     underway
 
--- so does a count of lines
+-- a count of lines that were not taken up keeps it
 pub leaves : (game : Game) (seat : Seat) (lines : ℕ) → IsUnderway game → IsSound (left_recorded seat lines game)
     → IsUnderway (left_recorded seat lines game)
 leaves game seat lines underway sound = left_underway game (left_recorded seat lines game) seat lines refl sound

@@ -50,7 +50,8 @@ limit_small private (order.Limit other limit) amount small said =
     named_small (same_private other private) limit amount small said
 limit_small private other amount small said = cc
 
--- a limit after an order that was obeyed: what it says, if it is of the seat, or what was said before
+-- a limit after an order that was obeyed: what it says, if it is of the seat, or what was said
+-- before
 after_said : (private : Private) (seat : Seat) (events : List Event) (event : Event) (said : Option ℕ) (amount : ℕ)
     → limit_said private seat event ≡ option_map Some said
     → bid_limit_of (events ++ event ∷ []) private seat ≡ Some amount

@@ -1,6 +1,6 @@
--- An opening round is a round of turns, from a list to a list: the ROUND event, the standing lines seat by
--- seat, the turns until all privates are sold or all seats have passed in succession, what follows them, and
--- what was left.
+-- An opening round is a round of turns, from a list to a list. First comes the ROUND event, then
+-- the standing lines seat by seat, then the turns until all privates are sold or all seats have
+-- passed in succession. Last comes what follows them, and what was left.
 use Rattle.std.specs.Prelude.{ℕ, List}
 use Rattle.events.specs.declared.event.Event.{Event}
 use Rattle.totals.specs.LookBack.{Game}
@@ -19,6 +19,7 @@ opened seats file round events = turns.opened opening_rules seats file round eve
 abbrev pub IsOpeningRound : List ℕ → Round → Game → Game → Type 0
 IsOpeningRound file round old new = turns.IsRoundOfTurns opening_rules file round old new
 
--- an opening round with the sheets of the file has an outcome, after at most 513 turns for each seat
+-- an opening round with the sheets of the file has an outcome, after at most 513 turns for each
+-- seat
 abbrev pub EndsSoon : List ℕ → Round → Game → Type 0
 EndsSoon file round old = turns.EndsSoon opening_rules file round old

@@ -1,7 +1,8 @@
--- A sale of a private, what it brings, and the sales that follow from it. With CA goes a share of PRR. With BOP goes
--- the president's certificate of BO, two shares, and its buyer sets BO's par. When the cheapest private is sold, the
--- next is sold at once if there are bids on it: one bidder has it at his bid, and of more the one who wins the auction;
--- and so on, until there are no bids on the cheapest.
+-- A sale of a private, what comes with it, and the sales that follow from it. CA comes with a share
+-- of PRR. BOP comes with the president's certificate of BO, two shares, and its buyer sets BO's
+-- par. When the cheapest private is sold, the next is sold at once if there are bids on it. A
+-- single bidder buys it at that bid, and of more the winner of the auction. So it goes on, until
+-- there are no bids on the cheapest.
 use Rattle.std.specs.Prelude.{ℕ, ℤ, pos, List, [], ◌∷◌, ◌++◌, map, Option, Some, None, unwrap_or}
 use Rattle.std.specs.Int.{int_max, int_min}
 use Rattle.std.specs.Int.RustNames.{unsigned_abs}
@@ -18,7 +19,8 @@ use Rattle.tables.specs.declared.roster.Private.{Private}
 use Rattle.tables.specs.declared.roster.Private.TheVariants.{CamdenAmboy, BaltimoreOhio}
 use Rattle.tables.specs.declared.seat.Seat.{Seat}
 
--- the par value that a buyer of BOP sets for BO: that of his last obeyed order to set it, else 67
+-- the par value that a buyer of BOP sets for BO: that of their last obeyed order to set it,
+-- otherwise 67
 abbrev pub par_set_by : List Event → Seat → ℕ
 par_set_by events buyer = unwrap_or (par_ordered_of events buyer) 67
 
@@ -28,7 +30,7 @@ started_at president par =
     Par company.BaltimoreOhio par ∷ Given company.BaltimoreOhio president 2
     ∷ President company.BaltimoreOhio president ∷ []
 
--- what a sale brings beside the private
+-- what comes with a private
 abbrev pub gifts : List Event → Private → Seat → List Event
 gifts events CamdenAmboy buyer = Given company.Pennsylvania buyer 1 ∷ []
 gifts events BaltimoreOhio buyer = started_at buyer (par_set_by events buyer)
@@ -38,13 +40,13 @@ gifts events other buyer = []
 abbrev pub after_sale : List Event → Private → Seat → ℕ → List Event
 after_sale events private buyer price = events ++ Sold private buyer price ∷ gifts events private buyer
 
--- how far a bidder goes who bid this much, by the limit that he ordered, if he did, and by what he can
--- spend: at least to his bid, and without an order no further
+-- The limit of a bidder who bid this much, by the limit that they ordered, if they did, and by what
+-- they can spend. It is at least the bid, and without an order no more.
 abbrev pub limit_from : ℤ → Option ℕ → ℤ → ℤ
 limit_from bid None free = bid
 limit_from bid (Some ordered) free = int_max bid (int_min (pos ordered) free)
 
--- a bidder in the auction of a private, with his bid and his limit
+-- a bidder in the auction of a private, with a bid and a limit
 abbrev pub bidder_of : ℕ → List Event → Private → Bid → Bidder
 bidder_of seats events private bid = (
   bid.seat,
@@ -68,10 +70,12 @@ abbrev pub settled_of : ℕ → List Event → Option Private → List Event
 settled_of seats events None = events
 settled_of seats events (Some private) = settled_by seats events private (bids_on seats events private)
 
--- one step of the sales that follow from a sale: the cheapest private is sold if there are bids on it
+-- one step of the sales that follow from a sale: the cheapest private is sold if there are bids on
+-- it
 abbrev pub settle_auctions : ℕ → List Event → List Event
 settle_auctions seats events = settled_of seats events (cheapest_of events)
 
--- after the sales that follow from a sale: as there are six privates, nothing is left to settle then
+-- after the sales that follow from a sale: as there are six privates, nothing is left to settle
+-- then
 unfoldable pub settled : ℕ → List Event → List Event
 settled seats events = iterate (settle_auctions seats) 6 events

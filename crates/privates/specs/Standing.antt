@@ -1,6 +1,7 @@
--- The standing lines of an opening sheet, those before its first written turn, are ruled at the round's start, seat by
--- seat, and the condition of one is asked then. A LIMIT says how far the seat goes in an auction of a private, which
--- must be unsold. A PAR says the par value that the seat sets for BO if it buys BOP: it must name BO and a par value.
+-- The standing lines of an opening sheet, those before its first written turn. They are ruled at
+-- the round's start, seat by seat, and their conditions are checked then. A LIMIT sets the limit of
+-- the seat in an auction of a private, which must be unsold. A PAR sets the par value of BO for the
+-- case that the seat buys BOP: it must name BO and a par value.
 use Rattle.std.specs.Prelude.{ℕ, Bool, true, false, ◌&&◌, if◌then◌else◌, List, Option, Some, None, option_map}
 use Rattle.events.specs.Event.{is_par_value}
 use Rattle.events.specs.declared.event.Event.{Event}
@@ -35,7 +36,7 @@ standing_judgement events (Limit private amount) = if is_sold events private the
 standing_judgement events (Par company price) = if is_par_of_baltimore company price then None else Some NotOfOpening
 standing_judgement events other = Some NotOfOpening
 
--- the same, as a ruling refuses an order
+-- the rule that a standing order breaks, as a ruling refuses an order
 abbrev pub standing_refusal : List Event → Order → Option Refusal
 standing_refusal events order = option_map Opening (standing_judgement events order)
 

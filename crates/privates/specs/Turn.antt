@@ -1,6 +1,6 @@
--- A seat's turn: the lines of its written turn are ruled in order, each on the list that the one before left. An obeyed
--- purchase is a sale at the price that the bank asks, with the sales that follow from it; an obeyed bid stands. A seat
--- that neither bought nor bid passes.
+-- A seat's turn: the lines of its written turn are ruled in order, each on the list that the one
+-- before left. An obeyed purchase is a sale at the bank's price, with the sales that follow from
+-- it; an obeyed bid is held. A seat that neither bought nor bid passes.
 use Rattle.std.specs.Prelude.{ℕ, Bool, true, false, List, [], ◌∷◌, ◌++◌}
 use Rattle.events.specs.declared.event.Event.{Event}
 use Rattle.events.specs.declared.event.Event.TheVariants.{Bids}
@@ -23,14 +23,14 @@ use Rattle.turns.specs.Ruling.{after_ruling as turn_ruled, has_place_in_turn, li
 abbrev pub InTurn : Type 0
 InTurn = turns.InTurn Bool
 
--- after what an order brings that was obeyed in a turn
+-- after what follows from an order that was obeyed in a turn
 abbrev pub after_act : ℕ → Seat → List Event → Order → List Event
 after_act seats seat events (BuyPrivate private) =
     settled seats (after_sale events private seat (price_of events private))
 after_act seats seat events (Bid private amount) = events ++ Bids private seat amount ∷ []
 after_act seats seat events other = events
 
--- in a turn, after what an order brings that is done: the seat has bought or bid
+-- in a turn, after what follows from an order that is done: the seat has bought or bid
 abbrev pub acted : ℕ → Seat → InTurn → Order → InTurn
 acted seats seat turn order = in_turn (after_act seats seat turn.events order) true
 
@@ -47,8 +47,8 @@ ruling_in seats seat turn line =
 abbrev pub after_opening_line : ℕ → Seat → InTurn → Numbered → InTurn
 after_opening_line seats seat turn line = after_ruling seats seat turn line.number (ruling_in seats seat turn line)
 
--- the rules of an opening round: a seat that bought or bid has acted, and the turns are over once all privates
--- are sold, also where not all seats have passed in succession
+-- The rules of an opening round. A seat that bought or bid has acted. The turns are over once all
+-- privates are sold, even if not all seats have passed in succession.
 abbrev pub opening_rules : RoundRules Bool
 opening_rules =
     record {

@@ -1,5 +1,5 @@
--- What holds all through an opening round: the list is sound, PRR has no square while CA is unsold, nor has
--- BO while BOP is, and each limit that a seat ordered in this round is at most 99,999.
+-- What holds all through an opening round. The list is sound. PRR has no square while CA is unsold,
+-- nor has BO while BOP is. Each limit that a seat ordered in this round is at most 99,999.
 use Rattle.std.specs.Prelude.{◌≡◌, ℕ, ◌≤◌, List, false, Some, None}
 use Rattle.events.specs.declared.event.Event.{Event}
 use Rattle.totals.specs.LookBack.{Game, is_sold}
@@ -24,7 +24,7 @@ abbrev pub LimitsAreSmall : List Event → Type 0
 LimitsAreSmall events = (private : Private) (seat : Seat) (amount : ℕ)
     → bid_limit_of events private seat ≡ Some amount → amount ≤ 99999
 
--- what holds beside soundness
+-- what holds besides soundness
 pub record IsWaiting (events : List Event) : Type 0 where
   pub pennsylvania : PennsylvaniaWaits events
   pub baltimore : BaltimoreWaits events

@@ -21,7 +21,7 @@ use Rattle.tables.specs.declared.roster.Private.TheVariants as private
 use Rattle.tables.specs.declared.round.Round.{Round}
 use Rattle.tables.specs.declared.seat.Seat.{Seat}
 
--- nothing was said before where nothing is said in all
+-- nothing was said before if nothing is said in all
 none_before : {A : Type 0} (later earlier : Option A) → is_some (option_or later earlier) ≡ false
     → is_some earlier ≡ false
 none_before None earlier none = none
@@ -113,7 +113,7 @@ pub left_underway : (game new : Game) (seat : Seat) (lines : ℕ)
 left_underway game new seat lines recorded sound before =
     subst IsUnderway (sym recorded) (left_cases (lines == 0) game seat lines (subst IsSound recorded sound) before)
 
--- that the bank is broken, or not
+-- an event that says that the bank is broken, if it is
 waiting_broken : (seats : ℕ) (events : List Event) → IsWaiting events → IsWaiting (with_broken seats events)
 waiting_broken seats events before =
     elim (breaks seats events) as (λ b. IsWaiting (if b then events ++ event.Broken ∷ [] else events)) [
@@ -129,7 +129,7 @@ waiting_paid seats events its (Some owner) before =
     waiting_broken seats (events ++ event.Revenue its owner (revenue_of its) ∷ [])
     (waiting_silent events (event.Revenue its owner (revenue_of its)) refl (λ other seat. refl) before)
 
--- those of some privates
+-- the revenues of some privates
 waiting_revenues : (seats : ℕ) (events : List Event) (paying : List Private) → IsWaiting events
     → IsWaiting (after_revenues seats events paying)
 waiting_revenues seats events [] before = before

@@ -5,15 +5,16 @@ ghost use Rattle.privates.specs.Auction.{second_limit, winner_among, with_limit}
 
 use tables::{Money, Seat};
 
-/// A bidder: his seat, his bid and his limit, in dollars.
+/// A bidder: the seat, its bid and its limit, in dollars.
 type Bidder = (Seat, Money, Money);
 
-/// What the winner pays above the second limit.
+/// What the winner pays above the second limit, in dollars.
 const STEP: Money = 5;
 
-/// The winner of an auction among some bidders, each with his bid and his limit, and what he pays.
-/// The greatest limit wins, and among equal limits the higher bid; the price is the larger of the
-/// highest bid and of the lesser of the winner's limit and the second limit plus 5.
+/// Returns the winner of an auction among some bidders, each with a bid and a limit, and what the
+/// winner pays, in dollars. The greatest limit wins, and among equal limits the higher bid. The
+/// price is the larger of the highest bid and of the lesser of the winner's limit and the second
+/// limit plus 5.
 ///
 /// There are two bidders or more, their bids differ, and no limit is under its bid.
 pub fn auction(bidders: &[(Seat, Money, Money)]) -> (Seat, Money)
@@ -31,14 +32,14 @@ pub fn auction(bidders: &[(Seat, Money, Money)]) -> (Seat, Money)
     (winner.0, price(winner, highest, second))
 }
 
-/// What the winner pays, by the highest bid and the second limit.
+/// Returns what the winner pays, in dollars, by the highest bid and the second limit.
 fn price(winner: Bidder, highest: Money, second: Money) -> Money
     ensures { result ≡ int_max highest (int_min (limit_by winner) (second +ℤ pos 5)) }
 {
     highest.max(winner.2.min(second.saturating_add(STEP)))
 }
 
-/// The winner among a bidder and others.
+/// Returns the winner among a bidder and others.
 fn winner(first: Bidder, others: &[Bidder]) -> Bidder
     ensures { result ≡ winner_among first others.now }
 {
@@ -49,7 +50,7 @@ fn winner(first: Bidder, others: &[Bidder]) -> Bidder
     winner
 }
 
-/// Who of two is ahead.
+/// Returns who of two is ahead.
 fn ahead(one: Bidder, other: Bidder) -> Bidder
     ensures { result ≡ ahead one other }
 {
@@ -58,7 +59,7 @@ fn ahead(one: Bidder, other: Bidder) -> Bidder
     if greater || higher { other } else { one }
 }
 
-/// The highest bid of a bidder and others.
+/// Returns the highest bid of a bidder and others.
 fn highest_bid(first: Bidder, others: &[Bidder]) -> Money
     ensures { result ≡ highest_bid first others.now }
 {
@@ -69,7 +70,7 @@ fn highest_bid(first: Bidder, others: &[Bidder]) -> Money
     highest
 }
 
-/// The greatest limit of the others than the winner, or 0 where there is no other.
+/// Returns the greatest limit of the bidders other than the winner, or 0 if there is no other.
 fn second_limit(bidders: &[Bidder], winner: Bidder) -> Money
     ensures { result ≡ second_limit winner bidders.now }
 {
@@ -80,7 +81,7 @@ fn second_limit(bidders: &[Bidder], winner: Bidder) -> Money
     second.unwrap_or(0)
 }
 
-/// The greatest limit so far of the others than the winner, with one more bidder.
+/// Returns the greatest limit so far of the bidders other than the winner, with one more bidder.
 fn with_limit(second: Option<Money>, bidder: Bidder, winner: Bidder) -> Option<Money>
     ensures { result ≡ with_limit winner second bidder }
 {
@@ -90,7 +91,7 @@ fn with_limit(second: Option<Money>, bidder: Bidder, winner: Bidder) -> Option<M
     Some(greater(second, bidder.2))
 }
 
-/// The greater of two sums, if there are two.
+/// Returns the greater of two sums, if there are two.
 fn greater(one: Option<Money>, other: Money) -> Money
     ensures { result ≡ greater_of one other }
 {

@@ -14,7 +14,7 @@ use tables::{Amount, Private, Seat};
 /// What SV's price falls by in a round in which all pass before it is sold.
 const FALL: u32 = 5;
 
-/// The end of the turns: unless all privates are sold SV falls, or each sold private pays.
+/// Ends the turns: unless all privates are sold SV falls, or each sold private pays.
 pub(crate) fn close(history: &mut History) -> Result<(), AllocError>
     requires few { history.old.seats ≤ 6 }
     requires some { 0 < history.old.seats }
@@ -35,7 +35,7 @@ pub(crate) fn close(history: &mut History) -> Result<(), AllocError>
     }
 }
 
-/// SV falls, which is unsold; at 0 it goes to the holder of priority for nothing.
+/// Lowers the price of SV, which is unsold; at 0 SV goes to the holder of priority for nothing.
 fn lower_price(history: &mut History) -> Result<(), AllocError>
     requires few { history.old.seats ≤ 6 }
     requires some { 0 < history.old.seats }
@@ -56,7 +56,7 @@ fn lower_price(history: &mut History) -> Result<(), AllocError>
     set_price(history, price)
 }
 
-/// SV's price falls to a sum over 0.
+/// Records that SV's price falls to a sum over 0.
 fn set_price(history: &mut History, price: Amount) -> Result<(), AllocError>
     requires fallen { price ≡ sv_price_of history.old.events - 5 }
     requires some { price ≢ 0 }
@@ -68,7 +68,7 @@ fn set_price(history: &mut History, price: Amount) -> Result<(), AllocError>
     Ok(())
 }
 
-/// SV's price falls to 0, and SV goes to a seat at the table for nothing.
+/// Records that SV's price falls to 0, and that SV goes to a seat at the table for nothing.
 fn give_away(history: &mut History, seat: Seat) -> Result<(), AllocError>
     requires unsold { is_sold history.old.events SchuylkillValley ≡ false }
     requires at_table { seat.0 < history.old.seats }
@@ -86,7 +86,7 @@ fn give_away(history: &mut History, seat: Seat) -> Result<(), AllocError>
     Ok(())
 }
 
-/// Each sold private pays its owner, in roster order.
+/// Pays the revenue of each sold private to its owner, in roster order.
 fn pay_revenues(history: &mut History) -> Result<(), AllocError>
     requires { IsUnderway history.old }
     ensures game { OnOk result (history.new ≡ revenues_recorded history.old) }

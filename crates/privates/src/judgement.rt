@@ -1,4 +1,4 @@
-ghost use Rattle.std.specs.Prelude.{◌≡◌, ◌≤◌, pos};
+ghost use Rattle.std.specs.Prelude.{◌≡◌, pos};
 ghost use Rattle.std.specs.Int.Signed.{lt_z};
 ghost use Rattle.totals.specs.Bids.{free_for};
 ghost use Rattle.totals.specs.LookBack.{cheapest_in};
@@ -6,14 +6,15 @@ ghost use Rattle.privates.specs.Judgement.{bid_rules, is_near, is_the, is_too_lo
 ghost use Rattle.privates.specs.Judgement.{private_purchase_rules};
 ghost use Rattle.tables.specs.Rules.{first_broken};
 
-use history::{Bid, GameView, History, OpeningRule, Owners};
+use history::{GameView, History, OpeningRule, Owners};
 use order_grammar::Order;
 use tables::{Amount, Money, Private, Seat, face};
 
-/// What a bid is over the face, and over each standing bid on the private, at least.
+/// How far a bid must be over the face, and over each earlier bid on the private, at least.
 const STEP: u64 = 5;
 
-/// What the bank asks for a private: SV's price may have fallen, the others' is their face.
+/// Returns the price of a private at the bank, in dollars: SV's price may have fallen, the others'
+/// is their face.
 pub(crate) fn price_of(view: &GameView, private: Private) -> Amount
     ensures { result ≡ price_of view.now.events.now private }
 {
@@ -23,10 +24,9 @@ pub(crate) fn price_of(view: &GameView, private: Private) -> Amount
     }
 }
 
-/// The first rule that an order of a seat breaks in its turn, which is used or not; `None` if it
-/// breaks none. There are at most six seats.
+/// Returns the first rule that an order of a seat breaks in its turn, which is used or not; `None`
+/// if it breaks none. `judge_standing` judges standing lines.
 pub fn judge(history: &History, seat: Seat, order: &Order, turn_used: bool) -> Option<OpeningRule>
-    requires { history.now.seats ≤ 6 }
     ensures { result ≡ judgement_of history.now.seats history.now.events seat turn_used order.now }
 {
     let now = history.now();
@@ -37,7 +37,7 @@ pub fn judge(history: &History, seat: Seat, order: &Order, turn_used: bool) -> O
     }
 }
 
-/// The first rule that a purchase breaks.
+/// Returns the first rule that a purchase breaks.
 fn judge_purchase(
     view: &GameView,
     seat: Seat,
@@ -63,7 +63,7 @@ fn judge_purchase(
     None
 }
 
-/// The first rule that a bid breaks.
+/// Returns the first rule that a bid breaks.
 fn judge_bid(
     view: &GameView,
     seat: Seat,
@@ -71,7 +71,6 @@ fn judge_bid(
     amount: Amount,
     turn_used: bool,
 ) -> Option<OpeningRule>
-    requires { view.now.seats ≤ 6 }
     ensures { result ≡ first_broken
         (bid_rules view.now.seats view.now.events.now seat turn_used private amount) }
 {
@@ -94,39 +93,37 @@ fn judge_bid(
     None
 }
 
-/// Whether a private is the cheapest that is unsold.
+/// Returns whether a private is the cheapest unsold one.
 fn is_cheapest(owners: &Owners, private: Private) -> bool
     ensures { result ≡ is_the private (cheapest_in owners.now) }
 {
     owners.cheapest_unsold() == Some(private)
 }
 
-/// Whether a sum is over what a seat can spend on a private.
+/// Returns whether a sum is over what a seat can spend on a private.
 fn is_short(view: &GameView, seat: Seat, private: Private, sum: Amount) -> bool
     ensures { result ≡ lt_z (free_for view.now.seats view.now.events.now seat private) (pos sum) }
 {
     view.free_for(seat, private) < Money::from(sum)
 }
 
-/// Whether a bid on a private is too low.
+/// Returns whether a bid on a private is too low, by its face and the greatest earlier bid on it.
+#[tactic(auto, using(crate::proofs::BidsMade::near_greatest))]
 fn is_too_low(view: &GameView, private: Private, amount: Amount) -> bool
-    requires { view.now.seats ≤ 6 }
-    ensures { result ≡ is_too_low view.now.seats view.now.events.now private amount }
+    ensures { result ≡ is_too_low view.now.events.now private amount }
 {
     if u64::from(amount) < u64::from(face(private)) + STEP {
         return true;
     }
-    is_near(amount, view.bids_on(private).as_slice())
+    is_near(amount, view.greatest_bid(private))
 }
 
-/// Whether a sum is less than the step over one of these bids.
-fn is_near(amount: Amount, bids: &[Bid]) -> bool
-    ensures { result ≡ is_near amount bids.now }
+/// Returns whether a sum is less than the step over a bid, if there is one.
+fn is_near(amount: Amount, bid: Option<Amount>) -> bool
+    ensures { result ≡ is_near amount bid }
 {
-    for bid in bids {
-        if u64::from(amount) < u64::from(bid.amount) + STEP {
-            return true;
-        }
+    match bid {
+        Some(bid) => u64::from(amount) < u64::from(bid) + STEP,
+        None => false,
     }
-    false
 }

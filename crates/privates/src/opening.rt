@@ -11,11 +11,11 @@ use crate::{closing, standing, turn};
 use history::History;
 use order_grammar::Order;
 use sheets::{Sheets, UnreadLine};
-use std::alloc::AllocError;
+use std::alloc::{AllocError, Global};
 use tables::{Round, Seat};
 use turns::{TurnRules, play_round};
 
-/// What an opening round says for itself. In a turn a seat has bought or bid, or it has not.
+/// The rules of an opening round. In a turn a seat has bought or bid, or it has not.
 struct OpeningTurns;
 
 impl TurnRules for OpeningTurns {
@@ -76,9 +76,14 @@ impl TurnRules for OpeningTurns {
 }
 
 /// Plays an opening round with the sheets for it. PRR has no square while CA is unsold, nor has BO
-/// while BOP is: they wait for the gifts. It fails only if memory is refused, and the game is
-/// dropped.
-pub fn play_opening(history: History, sheets: &Sheets, round: Round) -> Result<History, AllocError>
+/// while BOP is: they wait for the gifts. Fails only if allocation fails, and the game is dropped.
+/// The game allocates by the allocator with which it began.
+pub fn play_opening(
+    _alloc: Global,
+    history: History,
+    sheets: &Sheets,
+    round: Round,
+) -> Result<History, AllocError>
     requires sound { IsSound history }
     requires seats { history.seats ≡ length (players_of sheets.now) }
     requires pennsylvania { PennsylvaniaWaits history.events }

@@ -14,10 +14,10 @@ use history::{Bid, Event, GameView, History};
 use std::alloc::AllocError;
 use tables::{Amount, Company, Money, PLAYERS_MOST, Private, Seat};
 
-/// The par value of BO where the buyer of BOP ordered none.
+/// The par value of BO if the buyer of BOP ordered none.
 const PAR_UNLESS_ORDERED: Amount = 67;
 
-/// Sells a private that is unsold to a seat that has its price, with what the sale brings.
+/// Sells a private that is unsold to a seat that has its price, with what comes with the sale.
 pub(crate) fn sell(
     history: &mut History,
     private: Private,
@@ -43,7 +43,7 @@ pub(crate) fn sell(
     }
 }
 
-/// Sells a private that brings nothing else.
+/// Sells a private that comes with nothing else.
 fn sell_alone(
     history: &mut History,
     private: Private,
@@ -124,7 +124,8 @@ fn sell_baltimore(history: &mut History, buyer: Seat, price: Amount) -> Result<(
     Ok(())
 }
 
-/// The par value that a buyer of BOP sets for BO: that of his last obeyed PAR line, else 67.
+/// Returns the par value that a buyer of BOP sets for BO, in dollars: that of their last obeyed PAR
+/// line, otherwise 67.
 fn par_set_by(view: &GameView, buyer: Seat) -> Amount
     ensures par { result ≡ par_set_by view.now.events.now buyer }
     ensures small { result ≤ 1000000 }
@@ -132,8 +133,8 @@ fn par_set_by(view: &GameView, buyer: Seat) -> Amount
     view.par_ordered(buyer).unwrap_or(PAR_UNLESS_ORDERED)
 }
 
-/// The sales that follow from a sale: as long as there are bids on the cheapest private, it is
-/// sold.
+/// Makes the sales that follow from a sale: as long as there are bids on the cheapest private, it
+/// is sold.
 pub(crate) fn settle_all(history: &mut History) -> Result<(), AllocError>
     requires few { history.old.seats ≤ 6 }
     requires underway { IsUnderway history.old }
@@ -199,7 +200,7 @@ fn sell_by_auction(history: &mut History, private: Private, bids: &[Bid]) -> Res
     sell(history, private, won.0, price_paid(won))
 }
 
-/// What the winner of an auction pays, which is at most 99,999.
+/// Returns what the winner of an auction pays, in dollars, at most 99,999.
 fn price_paid(won: (Seat, Money)) -> Amount
     requires sum { pos (unsigned_abs won.1) ≡ won.1 }
     requires small { unsigned_abs won.1 ≤ 99999 }
@@ -208,7 +209,7 @@ fn price_paid(won: (Seat, Money)) -> Amount
     won.1 as Amount
 }
 
-/// Those who bid on a private, each with his bid and his limit.
+/// Returns those who bid on a private, each with a bid and a limit.
 fn bidders_of(
     view: &GameView,
     private: Private,
@@ -225,7 +226,7 @@ fn bidders_of(
     bidders
 }
 
-/// A bidder with his bid and his limit.
+/// Returns a bidder with a bid and a limit.
 fn bidder_of(view: &GameView, private: Private, bid: Bid) -> (Seat, Money, Money)
     ensures { result ≡ bidder_of view.now.seats view.now.events.now private bid }
 {

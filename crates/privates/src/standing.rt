@@ -31,7 +31,7 @@ impl Family for StandingLines {
     }
 }
 
-/// Rules a standing line of a seat. Its order is put in place of another.
+/// Rules a standing line of a seat. Overwrites `order`.
 pub(crate) fn rule_standing_line(
     history: &mut History,
     seat: Seat,
@@ -49,15 +49,17 @@ pub(crate) fn rule_standing_line(
     Ok(())
 }
 
-/// Whether an order may be before the first written turn: LIMIT and PAR.
+/// Returns whether an order may be before the first written turn: LIMIT and PAR.
 fn may_stand_before(order: &Order) -> bool
     ensures { result ≡ may_stand_before order.now }
 {
     matches!(order, Order::Limit { .. } | Order::Par { .. })
 }
 
-/// The rule that a standing order breaks, if it breaks one.
-fn judge_standing(history: &History, order: &Order) -> Option<OpeningRule>
+/// Returns the rule that an order breaks as a standing line; `None` if it breaks none. A LIMIT breaks
+/// A2 if its private is sold. A PAR breaks A1 if it is not of BO or sets no par value, and so does
+/// every order that is neither.
+pub fn judge_standing(history: &History, order: &Order) -> Option<OpeningRule>
     ensures { result ≡ standing_judgement history.now.events order.now }
 {
     match order {

@@ -31,7 +31,7 @@ impl Family for TurnLines {
 
     ghost judgement = { λ lines game seat. refusal_of game.seats game.events seat lines.turn_used };
 
-    ghost may_judge = { λ game seat. game.seats ≤ 6 };
+    ghost may_judge = { λ game seat. Unit {0} };
 
     fn has_place(&self, order: &Order) -> bool {
         !is_of_file(order)
@@ -42,8 +42,8 @@ impl Family for TurnLines {
     }
 }
 
-/// Rules a line of a written turn, and does what it orders if it is obeyed. Its order is put in
-/// place of another. Answers whether the seat has bought or bid in its turn by then.
+/// Rules a line of a written turn, and does what it orders if it is obeyed. Overwrites `order`.
+/// Returns whether the seat has bought or bid in its turn by then.
 pub(crate) fn rule_line(
     history: &mut History,
     seat: Seat,
@@ -87,7 +87,7 @@ fn act(history: &mut History, seat: Seat, order: &Order) -> Result<(), AllocErro
     }
 }
 
-/// A seat buys a private at the price that the bank asks.
+/// Buys a private for a seat at the bank's price.
 fn buy(history: &mut History, seat: Seat, private: Private) -> Result<(), AllocError>
     requires few { history.old.seats ≤ 6 }
     requires at_table { seat.0 < history.old.seats }
@@ -105,7 +105,7 @@ fn buy(history: &mut History, seat: Seat, private: Private) -> Result<(), AllocE
     settle_all(history)
 }
 
-/// A seat bids on a private.
+/// Bids on a private for a seat.
 fn bid(
     history: &mut History,
     seat: Seat,

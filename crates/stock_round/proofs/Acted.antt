@@ -1,4 +1,4 @@
--- The new events of a line of a stock turn tell who acted in it.
+-- The new events of a line of a stock turn say who acted in it.
 use Rattle.std.proofs.Common.{◌≡◌, ℕ, ◌*◌, ◌==◌, Bool, true, false, ◌||◌, List, [], ◌∷◌, ◌++◌, Option, Some, None, refl}
 use Rattle.std.specs.Prelude.{is_some, unwrap_or}
 use Rattle.certs.specs.President.{successor_of}
@@ -160,7 +160,7 @@ order_says seats seat turn number condition order.ExchangeMohawk kept =
     }
 order_says seats seat turn number condition other kept = absurd (cc)
 
--- so each turn of a stock round tells who acted in it
+-- so each turn of a stock round says who acted in it
 pub stock_turns_say : TurnsSayWhoActed stock_rules
 stock_turns_say =
     turns_say stock_rules refl

@@ -1,4 +1,4 @@
--- What an obeyed order brings keeps a list sound.
+-- What follows from an obeyed order keeps a list sound.
 use Rattle.std.proofs.Common.{◌≡◌, ℕ, ◌*◌, ◌≤◌, ◌<◌, Bool, true, false, not, ◌&&◌, ◌||◌, if◌then◌else◌, List, Option}
 use Rattle.std.proofs.Common.{Some, None, is_some, ℤ, pos, ◌≤ℤ◌, refl, sym, subst, ap, arith}
 use Rattle.std.proofs.lemmas.Bool.Decides.{nat_tests}

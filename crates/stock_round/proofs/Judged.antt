@@ -1,5 +1,5 @@
--- An order that breaks no rule can be done, and still can after an event that changes nothing of what
--- parties have and own.
+-- An order that breaks no rule can be done, and still can after an event that changes nothing of
+-- what parties have and own.
 use Rattle.std.proofs.Common.{◌≡◌, ℕ, ◌*◌, Bool, false, not, ◌||◌, ◌&&◌, List, [], ◌∷◌, ◌++◌, Option, Some, None}
 use Rattle.std.proofs.Common.{is_some, unwrap_or, ℤ, pos, ◌-ℤ◌, ◌+ℤ◌, refl, sym, subst, ap, ◌∙◌}
 use Rattle.std.specs.Int.Signed.{lt_z}

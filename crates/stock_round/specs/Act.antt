@@ -1,8 +1,9 @@
--- What an obeyed order of a stock turn brings, event by event, each on the list that the one before left. To set a par
--- value is to buy the president's certificate, two shares, at it. A share of the initial offering costs the par value,
--- one of the pool the market price. What a sale brings is said with the certificates, and so is the presidency that
--- passes to a seat that has strictly more shares than the president. A company floats once at most four shares are left
--- in its initial offering, and has ten times its par value then.
+-- What follows from an obeyed order of a stock turn, event by event, each on the list that the one
+-- before left. To set a par value is to buy the president's certificate, two shares, at it. A share
+-- of the initial offering costs the par value, one of the pool the market price. What follows from
+-- a sale is defined with the certificates, and so is the presidency that passes to a seat that has
+-- strictly more shares than the president. A company floats once at most four shares are left in
+-- its initial offering, and then has ten times its par value.
 use Rattle.std.specs.Prelude.{ℕ, ◌*◌, Bool, not, ◌&&◌, if◌then◌else◌, List, [], ◌∷◌, ◌++◌, unwrap_or, pos}
 use Rattle.std.specs.Int.Signed.{lt_z}
 use Rattle.certs.specs.Purchase.{share_price_of}
@@ -34,11 +35,11 @@ abbrev pub is_to_float : List Event → Company → Bool
 is_to_float events company = not (is_floated events company)
     && not (lt_z (pos float_most) (shares_of events company AtOffering))
 
--- with FLOATS for a company with this par value, and BROKEN where that breaks the bank
+-- with FLOATS for a company with this par value, and BROKEN if that breaks the bank
 abbrev pub floated_at : ℕ → List Event → Company → ℕ → List Event
 floated_at seats events company par = with_broken seats (events ++ event.Floats company (10 * par) ∷ [])
 
--- with FLOATS where a company floats
+-- with FLOATS if a company floats
 abbrev pub with_float : ℕ → List Event → Company → List Event
 with_float seats events company =
     if is_to_float events company then floated_at seats events company (unwrap_or (par_of events company) 0) else events
@@ -70,7 +71,7 @@ abbrev pub after_exchange : ℕ → List Event → Seat → List Event
 after_exchange seats events seat =
     with_float seats (with_president seats (exchanged events seat) NewYorkCentral) NewYorkCentral
 
--- after what an obeyed order of a seat brings
+-- after what follows from an obeyed order of a seat
 abbrev pub after_act : ℕ → Seat → List Event → Order → List Event
 after_act seats seat events (Par company price) = after_start events seat company price
 after_act seats seat events (BuyShare company from) = after_purchase seats events seat company from

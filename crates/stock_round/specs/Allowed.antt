@@ -1,5 +1,6 @@
--- What an order needs so that it can be done: those of its rules that say what the game has, and not what was
--- done before in the turn or the round. They are kept after the ruling as they were before it.
+-- What an order needs so that it can be done. It is those of its rules that depend on what the game
+-- has, and not on what was done before in the turn or the round. They are kept after the ruling as
+-- they were before it.
 use Rattle.std.specs.Prelude.{◌≡◌, ℕ, ◌*◌, List, true, false}
 use Rattle.certs.specs.Purchase.{is_no_par, is_sold_out_there, is_short_of_cash, share_price_of}
 use Rattle.certs.specs.declared.deal.Purchase.TheVariants as purchase

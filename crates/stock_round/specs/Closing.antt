@@ -1,6 +1,6 @@
--- What follows the turns of a stock round: the moves of the companies that are sold out. A company is sold out where
--- all its shares are with players; its token then moves up. These companies move in operating order, as it is when the
--- turns are over.
+-- What follows the turns of a stock round: the moves of the companies that are sold out. A company
+-- is sold out if all its shares are with players; its token then moves up. These companies move in
+-- operating order, as it is when the turns are over.
 use Rattle.std.specs.Prelude.{Bool, ◌&&◌, if◌then◌else◌, List, [], ◌∷◌, pos}
 use Rattle.std.specs.Ordering.{int_eq}
 use Rattle.events.specs.declared.event.Event.{Event}
@@ -11,7 +11,8 @@ use Rattle.market.specs.OperatingOrder.{operating_order_of}
 use Rattle.market.specs.Token.{with_move}
 use Rattle.tables.specs.declared.roster.Company.{Company}
 
--- all ten shares of a company are with players: none is in the initial offering, and none in the pool
+-- all ten shares of a company are with players: none is in the initial offering, and none in the
+-- pool
 abbrev pub is_sold_out : List Event → Company → Bool
 is_sold_out events company =
     int_eq (shares_of events company InitialOffering) (pos 0) && int_eq (shares_of events company BankPool) (pos 0)

@@ -1,7 +1,8 @@
--- The rules of a turn of a stock round. A seat may set a company's par value and so buy its president's certificate,
--- buy a share, or sell shares, by the rules on certificates; or give up MH for a share of NYC, if it owns MH, the
--- initial offering or the pool has such a share, and it would not hold over six then, where the zone of NYC's square
--- limits that. There is one purchase a turn, but of a company whose square is brown there may be several.
+-- The rules of a turn of a stock round. A seat may set a company's par value and so buy its
+-- president's certificate, buy a share, or sell shares, by the rules on certificates. Or it may
+-- give up MH for a share of NYC, if it owns MH, and the initial offering or the pool has such a
+-- share. It may not hold over six then, if the zone of NYC's square limits that. There is one
+-- purchase a turn, but of a company whose square is brown there may be several.
 use Rattle.std.specs.Prelude.{ℕ, ◌==◌, Bool, false, not, ◌||◌, if◌then◌else◌, List, [], ◌∷◌, Option, Some, None}
 use Rattle.std.specs.Prelude.{option_map, pos}
 use Rattle.std.specs.Int.Signed.{lt_z}
@@ -42,16 +43,16 @@ is_offered events = lt_z (pos 0) (shares_of events NewYorkCentral InitialOfferin
 abbrev pub is_pooled : List Event → Bool
 is_pooled events = lt_z (pos 0) (shares_of events NewYorkCentral BankPool)
 
--- where the share of NYC for MH comes from: the initial offering first, else the bank pool
+-- where the share of NYC for MH comes from: the initial offering first, otherwise the bank pool
 abbrev pub exchange_source : List Event → ShareSource
 exchange_source events = if is_offered events then source.InitialOffering else source.BankPool
 
--- how many shares MH brings
+-- how many shares are given for MH
 abbrev pub exchange_shares : ℕ
 exchange_shares = 1
 
--- the seat may not give up MH for a share of NYC: it does not own MH; neither the initial offering nor the pool has
--- one; the seat would hold over six shares
+-- The seat may not give up MH for a share of NYC. It does not own MH, or neither the initial
+-- offering nor the pool has one, or the seat would hold over six shares.
 abbrev pub is_no_exchange : List Event → Seat → Bool
 is_no_exchange events seat =
     not (is_owner seat (owner_of events MohawkHudson))
@@ -61,8 +62,8 @@ is_no_exchange events seat =
 abbrev pub exchange_rules : List Event → Seat → List (Rule StockRule)
 exchange_rules events seat = record { code = NoExchange; broken = is_no_exchange events seat } ∷ []
 
--- the first rule that an order breaks in a turn in which the seat has bought of this company, if it has
--- bought; any order but these four breaks the first
+-- The first rule that an order breaks in a turn in which the seat has bought of this company, if it
+-- has bought. Any order but these four breaks the first.
 abbrev pub judgement_of : ℕ → List Event → Seat → Option Company → Order → Option StockRule
 judgement_of seats events seat bought (Par company price) =
     purchase_judgement seats events seat (purchase.Par company price) bought
@@ -73,6 +74,6 @@ judgement_of seats events seat bought (Sell company shares) =
 judgement_of seats events seat bought ExchangeMohawk = first_broken (exchange_rules events seat)
 judgement_of seats events seat bought other = Some NotOfStock
 
--- the same, as a ruling refuses an order
+-- the first rule that an order breaks, as a ruling refuses an order
 abbrev pub refusal_of : ℕ → List Event → Seat → Option Company → Order → Option Refusal
 refusal_of seats events seat bought order = option_map Stock (judgement_of seats events seat bought order)

@@ -1,5 +1,5 @@
--- The standing lines of a stock sheet, those before its first written turn, are ruled at the round's start: no order
--- has a place there, whatever its condition.
+-- The standing lines of a stock sheet, those before its first written turn, are ruled at the
+-- round's start: no order has a place there, whatever its condition.
 use Rattle.std.specs.Prelude.{List, Result, Ok, Err}
 use Rattle.events.specs.declared.event.Event.{Event}
 use Rattle.events.specs.declared.ruling.Ruling.TheVariants.{Faulty}
@@ -10,7 +10,7 @@ use Rattle.sheets.specs.Part.{Numbered}
 use Rattle.tables.specs.declared.seat.Seat.{Seat}
 use Rattle.turns.specs.Ruling.{recorded}
 
--- the fault of a line where no order has a place: its own, else that one
+-- the fault of a line where no order has a place: its own, otherwise that one
 abbrev pub fault_of_standing : Result Order Fault → Fault
 fault_of_standing (Err fault) = fault
 fault_of_standing (Ok order) = OutOfPlace

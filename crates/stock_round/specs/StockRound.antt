@@ -1,6 +1,6 @@
--- A stock round is a round of turns, from a list to a list: the ROUND event, the standing lines seat by seat,
--- none of which has a place, the turns until all have passed in succession, what follows them, and what was
--- left.
+-- A stock round is a round of turns, from a list to a list. First comes the ROUND event, then the
+-- standing lines seat by seat, none of which has a place, then the turns until all have passed in
+-- succession. Last comes what follows them, and what was left.
 use Rattle.std.specs.Prelude.{ℕ, List}
 use Rattle.events.specs.declared.event.Event.{Event}
 use Rattle.totals.specs.LookBack.{Game}

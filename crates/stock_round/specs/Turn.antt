@@ -1,6 +1,7 @@
--- A seat's turn: the lines of its written turn are ruled in order, each on the list that the one before left. In a turn
--- a seat buys once, but several certificates of a company whose square is brown, and sells as often as it likes, before
--- and after. A seat that neither bought nor sold passes, also where it gave up MH.
+-- A seat's turn: the lines of its written turn are ruled in order, each on the list that the one
+-- before left. In a turn a seat buys once, but may buy several certificates of a company whose
+-- square is brown, and sells any number of times, before and after. A seat that neither bought nor
+-- sold passes, even if it gave up MH.
 use Rattle.std.specs.Prelude.{ℕ, Bool, true, false, ◌||◌, List, Some, None, is_some}
 use Rattle.events.specs.declared.event.Event.{Event}
 use Rattle.events.specs.declared.ruling.Ruling.{Ruling}
@@ -18,15 +19,15 @@ use Rattle.turns.specs.RoundOfTurns.{RoundRules, in_turn, turns_of}
 use Rattle.turns.specs.RoundOfTurns as turns
 use Rattle.turns.specs.Ruling.{after_ruling as turn_ruled, has_place_in_turn, line_ruling}
 
--- nothing yet
+-- a seat has done nothing yet
 abbrev pub no_deals : ShareDeals
 no_deals = record { bought = None; sold = false }
 
--- it has bought or sold
+-- a seat has bought or sold
 abbrev pub has_acted : ShareDeals → Bool
 has_acted deals = is_some deals.bought || deals.sold
 
--- what it has done after an order that was obeyed; an exchange is neither a purchase nor a sale
+-- what a seat has done after an order that was obeyed; an exchange is neither a purchase nor a sale
 abbrev pub with_deal : ShareDeals → Order → ShareDeals
 with_deal deals (Par company price) = record { bought = Some company; sold = deals.sold }
 with_deal deals (BuyShare company from) = record { bought = Some company; sold = deals.sold }
@@ -37,7 +38,7 @@ with_deal deals other = deals
 abbrev pub InTurn : Type 0
 InTurn = turns.InTurn ShareDeals
 
--- in a turn, after what an order brings that is done
+-- in a turn, after what follows from an order that is done
 abbrev pub acted : ℕ → Seat → InTurn → Order → InTurn
 acted seats seat turn order = in_turn (after_act seats seat turn.events order) (with_deal turn.actions order)
 
@@ -54,8 +55,8 @@ ruling_in seats seat turn line =
 abbrev pub after_stock_line : ℕ → Seat → InTurn → Numbered → InTurn
 after_stock_line seats seat turn line = after_ruling seats seat turn line.number (ruling_in seats seat turn line)
 
--- the rules of a stock round: a seat that bought or sold has acted, and the turns are over once all seats have
--- passed in succession
+-- the rules of a stock round: a seat that bought or sold has acted, and the turns are over once all
+-- seats have passed in succession
 abbrev pub stock_rules : RoundRules ShareDeals
 stock_rules =
     record {

@@ -15,7 +15,7 @@ use tables::{Amount, Company, Seat};
 /// The shares of a president's certificate.
 const PRESIDENT_SHARES: u8 = 2;
 
-/// Does what a seat orders in its turn, which nothing keeps it from.
+/// Does what a seat orders in its turn, by an order that breaks no rule.
 pub(crate) fn act(history: &mut History, seat: Seat, order: &Order) -> Result<(), AllocError>
     requires few { history.old.seats ≤ 6 }
     requires at_table { seat.0 < history.old.seats }
@@ -38,7 +38,7 @@ pub(crate) fn act(history: &mut History, seat: Seat, order: &Order) -> Result<()
     }
 }
 
-/// A seat sets the par value of a company, and so buys its president's certificate.
+/// Sets the par value of a company, and so buys its president's certificate for a seat.
 fn start(
     history: &mut History,
     seat: Seat,
@@ -65,7 +65,7 @@ fn start(
     Ok(())
 }
 
-/// A seat buys a share of a company.
+/// Buys a share of a company for a seat.
 fn buy(
     history: &mut History,
     seat: Seat,
@@ -86,7 +86,7 @@ fn buy(
     record_float(history, company)
 }
 
-/// A seat gives up MH for a share of NYC.
+/// Exchanges MH of a seat for a share of NYC.
 fn exchange(history: &mut History, seat: Seat) -> Result<(), AllocError>
     requires few { history.old.seats ≤ 6 }
     requires at_table { seat.0 < history.old.seats }

@@ -7,7 +7,7 @@ use market::{move_token_up, operating_order};
 use std::alloc::AllocError;
 use tables::Company;
 
-/// The end of the turns: each company that is sold out moves up, in operating order.
+/// Ends the turns: each company that is sold out moves up, in operating order.
 pub(crate) fn close(history: &mut History) -> Result<(), AllocError>
     requires { IsSound history.old }
     ensures seats { OnOk result (history.new.seats ≡ history.old.seats) }
@@ -18,7 +18,7 @@ pub(crate) fn close(history: &mut History) -> Result<(), AllocError>
     raise_all(history, order.as_slice())
 }
 
-/// Each of some companies that is sold out moves up, in order.
+/// Moves up each of some companies that is sold out, in order.
 fn raise_all(history: &mut History, companies: &[Company]) -> Result<(), AllocError>
     requires { IsSound history.old }
     ensures seats { OnOk result (history.new.seats ≡ history.old.seats) }
@@ -32,7 +32,7 @@ fn raise_all(history: &mut History, companies: &[Company]) -> Result<(), AllocEr
     Ok(())
 }
 
-/// A company moves up, if it is sold out.
+/// Moves up a company, if it is sold out.
 fn move_up_if_sold_out(history: &mut History, company: Company) -> Result<(), AllocError>
     requires { IsSound history.old }
     ensures seats { OnOk result (history.new.seats ≡ history.old.seats) }
@@ -46,7 +46,7 @@ fn move_up_if_sold_out(history: &mut History, company: Company) -> Result<(), Al
     Ok(())
 }
 
-/// Whether all shares of a company are with players.
+/// Returns whether all shares of a company are with players.
 fn is_sold_out(history: &History, company: Company) -> bool
     ensures { result ≡ is_sold_out history.now.events company }
 {

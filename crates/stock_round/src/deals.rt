@@ -15,8 +15,8 @@ pub(crate) struct ShareDeals {
 }
 
 impl ShareDeals {
-    /// What has been done once an order is obeyed too. An exchange is neither a purchase nor a
-    /// sale.
+    /// Returns what has been done once an order is obeyed too. An exchange is neither a purchase
+    /// nor a sale.
     pub(crate) fn with(self, order: &Order) -> ShareDeals
         ensures { result ≡ with_deal self order.now }
     {
@@ -33,7 +33,7 @@ impl ShareDeals {
         }
     }
 
-    /// Whether the seat has bought or sold: else it passes.
+    /// Returns whether the seat has bought or sold; otherwise it passes.
     pub(crate) fn has_acted(self) -> bool
         ensures { result ≡ has_acted self }
     {

@@ -14,7 +14,7 @@ const FLOAT_MOST: ShareCount = 4;
 /// How many times its par value a company has when it floats.
 const SHARES_OF_COMPANY: Amount = 10;
 
-/// A company floats, where few enough of its shares are left in the initial offering and it has not
+/// Floats a company, if few enough of its shares are left in the initial offering and it has not
 /// floated yet: the bank pays it ten times its par value.
 pub(crate) fn record_float(history: &mut History, company: Company) -> Result<(), AllocError>
     requires { IsSound history.old }
@@ -30,14 +30,14 @@ pub(crate) fn record_float(history: &mut History, company: Company) -> Result<()
     }
 }
 
-/// Whether a company is to float.
+/// Returns whether a company is to float.
 fn is_to_float(history: &History, company: Company) -> bool
     ensures { result ≡ is_to_float history.now.events company }
 {
     !history.floated(company) && history.shares(company, Shareholder::InitialOffering) <= FLOAT_MOST
 }
 
-/// A company floats.
+/// Records that a company floats.
 fn float(history: &mut History, company: Company) -> Result<(), AllocError>
     requires ready { is_to_float history.old.events company ≡ true }
     requires sound { IsSound history.old }

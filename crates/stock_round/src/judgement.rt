@@ -1,4 +1,4 @@
-ghost use Rattle.std.specs.Prelude.{◌≡◌, ◌≤◌, ◌<◌, None};
+ghost use Rattle.std.specs.Prelude.{◌≡◌, None};
 ghost use Rattle.totals.specs.LookBack.{owner_of};
 ghost use Rattle.stock_round.specs.Judgement.{exchange_rules, exchange_source, is_no_exchange, is_offered, is_owner};
 ghost use Rattle.stock_round.specs.Judgement.{is_pooled, judgement_of};
@@ -10,19 +10,17 @@ use history::{History, Holder, Shareholder, StockRule};
 use order_grammar::{Order, ShareSource};
 use tables::{Company, Private, Seat};
 
-/// How many shares MH brings.
+/// How many shares are given for MH.
 const EXCHANGE_SHARES: u8 = 1;
 
-/// The first rule that an order of a seat breaks in its turn, in which it has bought of this
-/// company or of none; `None` if it breaks none. There are at most six seats.
+/// Returns the first rule that an order of a seat breaks in its turn, in which it has bought of
+/// this company or of none; `None` if it breaks none.
 pub(crate) fn judge(
     history: &History,
     seat: Seat,
     order: &Order,
     bought: Option<Company>,
 ) -> Option<StockRule>
-    requires few { history.now.seats ≤ 6 }
-    requires at_table { seat.0 < history.now.seats }
     ensures { result ≡ judgement_of history.now.seats history.now.events seat bought order.now }
 {
     match order {
@@ -52,7 +50,7 @@ pub(crate) fn judge(
     }
 }
 
-/// The rule that an exchange of MH by a seat breaks, if it breaks it.
+/// Returns the rule that an exchange of MH by a seat breaks; `None` if it breaks none.
 fn judge_exchange(history: &History, seat: Seat) -> Option<StockRule>
     ensures { result ≡ first_broken (exchange_rules history.now.events seat) }
 {
@@ -62,8 +60,8 @@ fn judge_exchange(history: &History, seat: Seat) -> Option<StockRule>
     None
 }
 
-/// Whether a seat may not exchange MH: it does not own it, no share of NYC is there, or the seat
-/// would come over six.
+/// Returns whether a seat may not exchange MH: it does not own it, no share of NYC is there, or the
+/// seat would have over six.
 fn is_no_exchange(history: &History, seat: Seat) -> bool
     ensures { result ≡ is_no_exchange history.now.events seat }
 {
@@ -77,7 +75,7 @@ fn is_no_exchange(history: &History, seat: Seat) -> bool
         )
 }
 
-/// Whether a seat owns MH.
+/// Returns whether a seat owns MH.
 fn owns_mohawk(history: &History, seat: Seat) -> bool
     ensures { result ≡ is_owner seat (owner_of history.now.events MohawkHudson) }
 {
@@ -87,21 +85,22 @@ fn owns_mohawk(history: &History, seat: Seat) -> bool
     }
 }
 
-/// Whether there is a share of NYC in the initial offering.
+/// Returns whether there is a share of NYC in the initial offering.
 fn is_offered(history: &History) -> bool
     ensures { result ≡ is_offered history.now.events }
 {
     history.shares(Company::NewYorkCentral, Shareholder::InitialOffering) > 0
 }
 
-/// Whether there is one in the bank pool.
+/// Returns whether there is one in the bank pool.
 fn is_pooled(history: &History) -> bool
     ensures { result ≡ is_pooled history.now.events }
 {
     history.shares(Company::NewYorkCentral, Shareholder::BankPool) > 0
 }
 
-/// Where the share of NYC for MH comes from: the initial offering first, else the bank pool.
+/// Returns where the share of NYC for MH comes from: the initial offering first, otherwise the bank
+/// pool.
 pub(crate) fn exchange_source(history: &History) -> ShareSource
     ensures { result ≡ exchange_source history.now.events }
 {

@@ -1,15 +1,15 @@
 //! Stock rounds: players buy and sell shares of the companies.
 //!
 //! In a turn a player may set a company's par value and so buy its president's certificate, or buy
-//! one share of a company, and may sell shares before and after; or he passes. Shares of the
-//! initial offering cost the par value, those of the pool the market price, which a sale lowers.
-//! Whoever has more of a company than its president presides over it. A company floats once few
-//! shares are left in its initial offering. The round is over when all seats have passed in
-//! succession; then the companies that are all in players' hands move up.
+//! one share of a company, and may sell shares before and after; or the player passes. Shares of
+//! the initial offering cost the par value, those of the pool the market price, which a sale
+//! lowers. Whoever has more of a company than its president presides over it. A company floats once
+//! few shares are left in its initial offering. The round is over when all seats have passed in
+//! succession; then the companies whose shares are all with players move up.
 //!
-//! Reading order: `judgement` (the rules that an order may break), `act` (what an obeyed order
-//! brings) with `payments`, `prices` and `float`, `deals` (what a seat has done in a turn), `turn`
-//! (the lines of a turn), `standing` (the lines before the first written turn), `closing`,
+//! Reading order: `judgement` (the rules that an order may break), `act` (what follows from an
+//! obeyed order) with `payments`, `prices` and `float`, `deals` (what a seat has done in a turn),
+//! `turn` (the lines of a turn), `standing` (the lines before the first written turn), `closing`,
 //! `playing` (what makes it a round of `turns`), `laws` (what holds of every stock round).
 #![tactic(auto)]
 

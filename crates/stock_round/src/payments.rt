@@ -11,7 +11,7 @@ use order_grammar::ShareSource;
 use std::alloc::AllocError;
 use tables::{Company, Seat};
 
-/// A seat pays for a share of a company, and has it.
+/// Pays for a share of a company, which the seat then has.
 pub(crate) fn pay_for_share(
     history: &mut History,
     seat: Seat,
@@ -37,7 +37,7 @@ pub(crate) fn pay_for_share(
     Ok(())
 }
 
-/// A seat has a share of NYC, and nobody has MH.
+/// Gives a seat a share of NYC for MH, which nobody then owns.
 pub(crate) fn give_up_mohawk(history: &mut History, seat: Seat) -> Result<(), AllocError>
     requires at_table { seat.0 < history.old.seats }
     requires may { MayExchange history.old.events seat }

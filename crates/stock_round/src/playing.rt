@@ -9,11 +9,11 @@ use crate::{closing, standing, turn};
 use history::History;
 use order_grammar::Order;
 use sheets::{Sheets, UnreadLine};
-use std::alloc::AllocError;
+use std::alloc::{AllocError, Global};
 use tables::{Round, Seat};
 use turns::{TurnRules, play_round};
 
-/// What a stock round says for itself. In a turn a seat has made some deals.
+/// The rules of a stock round. In a turn a seat has made some deals.
 struct StockTurns;
 
 impl TurnRules for StockTurns {
@@ -76,10 +76,15 @@ impl TurnRules for StockTurns {
     ghost idle = { refl };
 }
 
-/// Plays a stock round with the sheets for it. The list of events must be sound, and its seats
-/// those of the sheets' players; a seat without a sheet passes. It fails only if memory is refused,
-/// and the game is dropped.
-pub fn play_stock(history: History, sheets: &Sheets, round: Round) -> Result<History, AllocError>
+/// Plays a stock round with the sheets for it. The list of events must be sound, and its seats must
+/// be those of the sheets' players; a seat without a sheet passes. Fails only if allocation fails,
+/// and the game is dropped. The game allocates by the allocator with which it began.
+pub fn play_stock(
+    _alloc: Global,
+    history: History,
+    sheets: &Sheets,
+    round: Round,
+) -> Result<History, AllocError>
     requires sound { IsSound history }
     requires seats { history.seats ≡ length (players_of sheets.now) }
     ensures round { IfOk result (λ new. IsStockRound sheets.now round history new) }

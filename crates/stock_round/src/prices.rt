@@ -9,7 +9,7 @@ use history::History;
 use order_grammar::ShareSource;
 use tables::{Amount, Company, Money};
 
-/// What a seat pays for a share of a company that is started, in dollars.
+/// Returns what a seat pays for a share of a company that is started, in dollars.
 pub(crate) fn share_cost(history: &History, company: Company, from: ShareSource) -> Amount
     requires { IsLed history.now.events company }
     ensures price { result ≡ share_price_of history.now.events company from }
@@ -18,7 +18,7 @@ pub(crate) fn share_cost(history: &History, company: Company, from: ShareSource)
     amount_of(share_price(&history.now(), company, from))
 }
 
-/// The par value of a company that is started, in dollars.
+/// Returns the par value of a company that is started, in dollars.
 pub(crate) fn par_value(history: &History, company: Company) -> Amount
     requires { IsLed history.now.events company }
     ensures par { result ≡ unwrap_or (par_of history.now.events company) 0 }
@@ -30,7 +30,7 @@ pub(crate) fn par_value(history: &History, company: Company) -> Amount
     }
 }
 
-/// A small sum of money as an amount.
+/// Returns a small sum of money as an amount.
 fn amount_of(sum: Money) -> Amount
     requires sum { pos (unsigned_abs sum) ≡ sum }
     requires small { unsigned_abs sum ≤ 350 }

@@ -11,7 +11,7 @@ use tables::Seat;
 use turns::record_fault;
 
 /// Rules a standing line of a seat, one before the first written turn of its sheet. No order has a
-/// place there. Its order is put in place of another.
+/// place there. Overwrites `order`.
 pub(crate) fn rule_standing_line(
     history: &mut History,
     seat: Seat,

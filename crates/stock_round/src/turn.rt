@@ -38,8 +38,8 @@ impl Family for TurnLines {
     }
 }
 
-/// Rules a line of a written turn, and does what it orders if it is obeyed. Its order is put in
-/// place of another. Answers what the seat has done by then.
+/// Rules a line of a written turn, and does what it orders if it is obeyed. Overwrites `order`.
+/// Returns what the seat has done by then.
 pub(crate) fn rule_line(
     history: &mut History,
     seat: Seat,

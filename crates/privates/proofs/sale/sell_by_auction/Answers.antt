@@ -1,4 +1,4 @@
--- The winner of the auction can pay, and the sale to him settles the bids.
+-- The winner of the auction can pay, and that sale settles the bids.
 use Rattle.std.proofs.Common.{◌≡◌, ℕ, List, OnOk, sym, subst, arith}
 use Rattle.events.specs.declared.event.Event.{Event}
 use Rattle.privates.proofs.Bidders.{auction_differs, auction_settles, limits_hold, payable, same_bidders}

@@ -1,4 +1,4 @@
--- The only bidder can pay his bid.
+-- The only bidder can pay the bid.
 use Rattle.std.proofs.Common.{ℕ, List, ap, ◌∙◌, arith}
 use Rattle.events.specs.declared.event.Event.{Event}
 use Rattle.totals.specs.Bids.{bids_on}

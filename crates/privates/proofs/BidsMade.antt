@@ -1,0 +1,124 @@
+-- A bid that stands was made, so a sum that is near it is near some earlier bid; and what is near some bid is near the
+-- greatest.
+use Rattle.std.proofs.Common.{◌≡◌, ℕ, ◌+◌, max, ◌==◌, ◌⊎◌, inl, inr, Bool, true, false, ◌||◌, ◌&&◌, nat_lt}
+use Rattle.std.proofs.Common.{if◌then◌else◌, List, [], ◌∷◌, ◌++◌, Option, Some, None, refl, sym, ap, ◌∙◌, arith}
+use Rattle.std.proofs.lemmas.Bool.Decides.{nat_tests}
+use Rattle.std.proofs.lemmas.List.Folds.{list_any-append}
+use Rattle.std.specs.Option.{option_flatten, option_or}
+use Rattle.events.specs.Event.{IsQuiet, bidding_of}
+use Rattle.events.specs.declared.event.Bidding.{Bidding}
+use Rattle.events.specs.declared.event.Bidding.TheVariants.{Made, Ended}
+use Rattle.events.specs.declared.event.Event.{Event}
+use Rattle.totals.specs.Bids.{bid_made, bid_of, bid_said, greater_bid, greatest_bid_from, greatest_bid_of}
+use Rattle.totals.specs.LookBack.{last_said}
+use Rattle.privates.specs.Judgement.{is_near, is_near_some}
+use Rattle.tables.specs.Roster.{same_private}
+use Rattle.tables.specs.declared.roster.Private.{Private}
+use Rattle.tables.specs.declared.seat.Seat.{Seat}
+
+-- the word that holds is one of the later or of the earlier
+flatten_cases : (later earlier : Option (Option ℕ)) (amount : ℕ)
+    → option_flatten (option_or later earlier) ≡ Some amount →
+    (option_flatten later ≡ Some amount) ⊎ (option_flatten earlier ≡ Some amount)
+flatten_cases None earlier amount holds = inr holds
+flatten_cases (Some word) earlier amount holds = inl holds
+
+-- a bid that is said here is the one that was made here
+made_here : (here seat : Bool) (made amount sum : ℕ)
+    → option_flatten (if here && seat then Some (Some made) else None) ≡ Some amount →
+    nat_lt sum (amount + 5) ≡ true → is_near sum (if here then Some made else None) ≡ true
+made_here true true made amount sum said near = let same : made ≡ amount =
+    cc in ap (λ (n : ℕ). nat_lt sum (n + 5)) same ∙ near
+made_here true false made amount sum said near = absurd (cc)
+made_here false seat made amount sum said near = absurd (cc)
+
+-- an end is no bid
+no_bid_at_end : (here : Bool) (amount : ℕ) → option_flatten (if here then Some None else None) ≡ Some amount
+    → false ≡ true
+no_bid_at_end true amount said = absurd (cc)
+no_bid_at_end false amount said = absurd (cc)
+
+-- a sum near a bid that is said here is near the bid that was made here
+near_here : (private : Private) (seat : Seat) (amount sum : ℕ) (word : Option Bidding)
+    → option_flatten (bid_said private seat word) ≡ Some amount →
+    nat_lt sum (amount + 5) ≡ true → is_near sum (bid_made private word) ≡ true
+near_here private seat amount sum None said near = absurd (cc)
+near_here private seat amount sum (Some (Made other bid)) said near =
+    made_here (same_private other private) (bid.seat.0 == seat.0) bid.amount amount sum said near
+near_here private seat amount sum (Some (Ended other)) said near =
+    no_bid_at_end (same_private other private) amount said
+
+-- either test
+first_passes : (a b : Bool) → a ≡ true → (a || b) ≡ true
+first_passes true b pass = refl
+first_passes false b pass = absurd (cc)
+
+-- or the other
+second_passes : (a b : Bool) → b ≡ true → (a || b) ≡ true
+second_passes true b pass = refl
+second_passes false b pass = pass
+
+-- a bid that stands was made
+pub standing_was_made : (events : List Event) (private : Private) (seat : Seat) (amount sum : ℕ)
+    → bid_of events private seat ≡ Some amount →
+    nat_lt sum (amount + 5) ≡ true → is_near_some sum events private ≡ true
+standing_was_made [] private seat amount sum is_bid near = absurd (cc)
+standing_was_made (event ∷ events) private seat amount sum is_bid near =
+    let here : Bool = is_near sum (bid_made private (bidding_of event)) in
+    let rest : Bool = is_near_some sum events private in
+    elim (flatten_cases (last_said (λ e. bid_said private seat (bidding_of e)) events)
+    (bid_said private seat (bidding_of event)) amount is_bid) [
+      | inl later ↦ second_passes here rest (standing_was_made events private seat amount sum later near)
+      | inr now ↦ first_passes here rest (near_here private seat amount sum (bidding_of event) now near)
+    ]
+
+-- both tests pass
+pub both : (a b : Bool) → (a && b) ≡ true → (a ≡ true) × (b ≡ true)
+both true b pass = (refl, pass)
+both false b pass = absurd (cc)
+
+-- near the greater of two sums is near one of them
+near_max : (sum a b : ℕ) → nat_lt sum (max a b + 5) ≡ (nat_lt sum (a + 5) || nat_lt sum (b + 5))
+near_max sum a b = grind (arith, nat_tests)
+
+-- a test that fails adds nothing
+or_none : (b : Bool) → b ≡ (b || false)
+or_none true = refl
+or_none false = refl
+
+-- near the greater of two bids is near one of them
+near_greater : (sum : ℕ) (earlier later : Option ℕ)
+    → is_near sum (greater_bid later earlier) ≡ (is_near sum earlier || is_near sum later)
+near_greater sum None None = refl
+near_greater sum None (Some later) = refl
+near_greater sum (Some earlier) None = or_none (nat_lt sum (earlier + 5))
+near_greater sum (Some earlier) (Some later) = near_max sum earlier later
+
+-- three tests in either grouping
+or_assoc : (a b c : Bool) → ((a || b) || c) ≡ (a || (b || c))
+or_assoc true b c = refl
+or_assoc false b c = refl
+
+-- near the greatest of a bid and those of a list is near one of them
+near_from : (private : Private) (sum : ℕ) (bid : Option ℕ) (events : List Event)
+    → is_near sum (greatest_bid_from private bid events) ≡ (is_near sum bid || is_near_some sum events private)
+near_from private sum bid [] = or_none (is_near sum bid)
+near_from private sum bid (event ∷ events) =
+    let made : Option ℕ = bid_made private (bidding_of event) in
+    near_from private sum (greater_bid made bid) events
+    ∙ ap (λ (b : Bool). b || is_near_some sum events private) (near_greater sum bid made)
+    ∙ or_assoc (is_near sum bid) (is_near sum made) (is_near_some sum events private)
+
+-- a sum is near the greatest bid on a private where it is near some bid on it
+pub near_greatest : (private : Private) (sum : ℕ) (events : List Event)
+    → is_near sum (greatest_bid_of events private) ≡ is_near_some sum events private
+near_greatest private sum events = near_from private sum None events
+
+-- an event that is no bid leaves the bids that a sum is near
+pub near_after : (private : Private) (sum : ℕ) (events : List Event) (event : Event) → IsQuiet event
+    → is_near_some sum (events ++ event ∷ []) private ≡ is_near_some sum events private
+near_after private sum events event quiet =
+    let near : Event → Bool = λ its. is_near sum (bid_made private (bidding_of its)) in
+    list_any-append near events (event ∷ [])
+    ∙ ap (λ word. is_near_some sum events private || (is_near sum (bid_made private word) || false)) quiet.bidding
+    ∙ sym (or_none (is_near_some sum events private))
