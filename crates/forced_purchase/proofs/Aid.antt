@@ -1,4 +1,5 @@
--- What the president pays of a forced purchase: what the company lacks and no more, which is small and which he has.
+-- What the president pays of a forced purchase: what the company lacks and no more, which is small
+-- and which they have.
 use Rattle.std.proofs.Common.{◌≡◌, ℕ, ◌≤◌, ◌<◌, inl, inr, Bool, true, false, if◌then◌else◌, ℤ, pos, negsuc, ◌≤ℤ◌, ◌<ℤ◌}
 use Rattle.std.proofs.Common.{◌+ℤ◌, ◌-ℤ◌, refl, sym, ap, subst, ◌∙◌, arith}
 use Rattle.std.proofs.lemmas.Bool.{cases_eq}

@@ -1,5 +1,5 @@
--- A company that is made to buy has a train then: what rusts by its purchase is of another kind, and it has none too
--- many to be discarded.
+-- A company that is made to buy has a train then: what rusts by its purchase is of another kind,
+-- and it has none too many to be discarded.
 use Rattle.std.proofs.Common.{◌≡◌, inl, inr, ℕ, zero, suc, ◌≤◌, Bool, true, false, ◌&&◌, if◌then◌else◌}
 use Rattle.std.proofs.Common.{Option, Some, None, ℤ, pos, negsuc, ◌≤ℤ◌, ◌-ℤ◌, refl, sym, ap, subst}
 use Rattle.std.proofs.Common.{◌∙◌, arith}
@@ -185,7 +185,7 @@ module _ (company : Company) (own : Kind) where
             (excess_of game other) game one
       ]
 
-  -- so it is after all that a phase brings
+  -- so it is after all consequences of a phase
   by_phase : (game : Game) → Stays game (with_phase game own)
   by_phase game =
       let begun : Game = with_event game (event.Phase own) in

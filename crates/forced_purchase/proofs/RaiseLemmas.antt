@@ -21,7 +21,7 @@ use Rattle.sheets.specs.Part.{Numbered, reading_at}
 use Rattle.sheets.specs.Reading.{order_read}
 use Rattle.tables.specs.declared.roster.Company.{Company}
 
--- a line is read as an order under a condition exactly where it spells it
+-- a line is read as an order under a condition exactly if it spells it
 abbrev pub ReadWhereSpelt : Type 0
 ReadWhereSpelt =
     (version : Version) (line : List ℕ) (spelt : Ordered)

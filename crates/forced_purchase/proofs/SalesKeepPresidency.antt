@@ -49,7 +49,7 @@ most_stays events company shares first (other ∷ others) fewer none =
     ap (λ (b : Bool). with_most shares (if b then other else first) others) no_more
     ∙ most_stays events company shares first others fewer parts.1
 
--- what a sale takes from a place, and brings to a seat
+-- what a sale takes from a place, and adds to a seat
 none_brought : (b : Bool) (shares : ℕ) → (if b then (if false then shares else 0) else 0) ≡ 0
 none_brought true shares = refl
 none_brought false shares = refl

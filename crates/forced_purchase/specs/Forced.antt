@@ -1,10 +1,12 @@
--- The purchase that a company must make. It is due at the end of its turn where it has no train and could run a
--- 2-train. It buys the cheapest train that the bank or the pool sells, the bank's where both sell it. What the company
--- lacks its president pays, by his cash minus his standing bids. While he falls short he sells: the RAISE lines of the
--- company's orders serve in order, each by its condition and then by the rules of a sale, of which none may move the
--- presidency of the company; a line is refused, whatever its condition, once he does not fall short, and where no
--- purchase is due. Then he sells one share at a time, of the first company in roster order that he may sell one of. If
--- he still falls short he is bankrupt, and nothing is bought.
+-- The purchase that a company must make. It is due at the end of its turn if it has no train and
+-- could run a 2-train. It buys the cheapest train that the bank or the pool sells, from the bank if
+-- both sell it. Its president pays what the company lacks, by their cash minus their standing bids.
+--
+-- While they fall short they sell. The RAISE lines of the company's orders are used in order, each
+-- by its condition and then by the rules of a sale. No sale may move the presidency of the company.
+-- A line is refused, whatever its condition, once they do not fall short, and if no purchase is
+-- due. Then they sell one share at a time, of the first company in roster order of which they may
+-- sell one. If they still fall short they are bankrupt, and nothing is bought.
 use Rattle.std.specs.Prelude.{ℕ, Bool, true, ◌&&◌, ◌||◌, if◌then◌else◌, List, [], ◌∷◌, Option, Some}
 use Rattle.std.specs.Prelude.{None, option_map, Result, Ok, is_none, find, codes, ℤ, pos, ◌-ℤ◌}
 use Rattle.std.specs.Int.Signed.{lt_z}
@@ -46,8 +48,8 @@ use Rattle.turns.specs.Ruling.{done, judged, obeyed_by}
 abbrev pub plain : Kind → TrainSeller → Purchase
 plain kind from = record { kind = kind; from = from; trade_in = None; asked = None }
 
--- the first of these kinds that is for sale, from the bank where it sells the kind, and else from the pool; a D of the
--- bank where none is
+-- the first of these kinds that is for sale, from the bank if it sells the kind, otherwise from the
+-- pool; a D of the bank if none is
 unfoldable pub first_on_sale : List Event → List Kind → Purchase
 first_on_sale events [] = plain Diesel seller.Bank
 first_on_sale events (kind ∷ others) =
@@ -57,21 +59,21 @@ first_on_sale events (kind ∷ others) =
     then plain kind seller.BankPool
     else first_on_sale events others)
 
--- the cheapest train that is for sale: the kinds are in the order of their price, and the bank sells a D once it has
--- none of the others
+-- the cheapest train that is for sale: the kinds are in the order of their price, and the bank
+-- sells a D once it has none of the others
 unfoldable pub cheapest : List Event → Purchase
 cheapest events = first_on_sale events numbered_kinds
 
--- what the company lacks for it, in dollars; nothing where it has enough
+-- what the company lacks for it, in dollars; nothing if it has enough
 unfoldable pub lack_of : Game → Company → ℤ
 lack_of game company =
     pos (cost_of (cheapest game.events)) -ℤ cash_of game.seats game.events (party_of_company company)
 
--- the president has less than that free of his bids
+-- the president has less cash than that free of standing bids
 unfoldable pub falls_short : Operator → Game → Bool
 falls_short by game = lt_z (free_cash_of game.seats game.events by.president) (lack_of game by.company)
 
--- the first rule that a sale breaks by which money is raised for the company
+-- the first rule that a sale to raise money for the company breaks
 unfoldable pub sale_rule : Operator → Game → Sale → Option StockRule
 sale_rule by game sale = sale_judgement game.seats game.events by.president sale (Some by.company)
 
@@ -80,13 +82,13 @@ abbrev pub with_sale : Operator → Game → Sale → Game
 with_sale by game sale =
     record { seats = game.seats; events = after_sale game.seats game.events by.president sale.company sale.shares }
 
--- the first rule that a RAISE under this condition breaks, where it is needed: the condition is asked, and then the
--- rules of a sale
+-- the first rule that a RAISE under this condition breaks, if it is needed: the condition comes
+-- first, and then the rules of a sale
 abbrev pub needed_rule : Operator → Game → Option Condition → Sale → Option Refusal
 needed_rule by game condition sale =
     if is_met game.events condition then option_map refusal.Stock (sale_rule by game sale) else Some refusal.Condition
 
--- the first rule that it breaks, where a purchase is due, or is not
+-- the first rule that it breaks, given whether a purchase is due
 unfoldable pub raise_rule : Bool → Operator → Game → Option Condition → Sale → Option Refusal
 raise_rule due by game condition sale =
     if due && falls_short by game then needed_rule by game condition sale else Some (refusal.Stock NotOfStock)
@@ -95,7 +97,7 @@ raise_rule due by game condition sale =
 abbrev pub with_ruling : Operator → Game → Numbered → Ruling → Game
 with_ruling by game line ruling = with_event game (event.Ruled by.president line.number ruling)
 
--- after a RAISE in this line, where this rule refuses it, if one does
+-- after a RAISE in this line, with the rule that refuses it, if one does
 abbrev pub raise_ruled : Operator → Game → Numbered → Sale → Option Refusal → Game
 raise_ruled by game line sale broken =
     let ruling = judged line.condition (order.Raise sale.company sale.shares) broken in
@@ -105,7 +107,8 @@ raise_ruled by game line sale broken =
 abbrev pub after_raise : Bool → Operator → Game → Numbered → Sale → Game
 after_raise due by game line sale = raise_ruled by game line sale (raise_rule due by game line.condition sale)
 
--- after this line of the company's orders with this reading: others than RAISE were ruled at their place
+-- after this line of the company's orders with this reading: lines other than RAISE were ruled at
+-- their place
 abbrev pub after_raise_line : Bool → Operator → Game → Numbered → Result Order Fault → Game
 after_raise_line due by game line (Ok (order.Raise company shares)) =
     after_raise due by game line (record { company = company; shares = shares })
@@ -127,32 +130,32 @@ after_raises due by game (line ∷ lines) =
 abbrev pub one_share : Company → Sale
 one_share company = record { company = company; shares = 1 }
 
--- the first of these companies that the president may sell a share of
+-- the first of these companies of which the president may sell a share
 abbrev pub first_to_sell : Operator → Game → List Company → Option Company
 first_to_sell by game among = find (λ company. is_none (sale_rule by game (one_share company))) among
 
--- the first company in roster order that he may sell one of
+-- the first company in roster order of which they may sell one
 unfoldable pub next_to_sell : Operator → Game → Option Company
 next_to_sell by game = first_to_sell by game companies
 
--- after he has sold a share of this company, if of any
+-- after they have sold a share of this company, if of any
 abbrev pub with_one_sold : Operator → Game → Option Company → Game
 with_one_sold by game None = game
 with_one_sold by game (Some company) = with_sale by game (one_share company)
 
--- after he has sold one share more, where he falls short and may
+-- after they have sold one more share, if they fall short and may
 unfoldable pub sold_further : Operator → Game → Game
 sold_further by game = if falls_short by game then with_one_sold by game (next_to_sell by game) else game
 
--- this many shares at most can be sold: the pool takes up to five of each company
+-- upper bound on the shares that can be sold: 8 companies times the 5 shares that the pool takes
 abbrev pub sales_most : ℕ
 sales_most = 40
 
--- after he has sold shares one at a time, until he does not fall short or may sell none
+-- after they have sold shares one at a time, until they do not fall short or may sell none
 unfoldable pub sold_singly : Operator → Game → Game
 sold_singly by game = iterate (sold_further by) sales_most game
 
--- with AID, where the company lacks anything
+-- with AID, if the company lacks anything
 unfoldable pub with_aid : Operator → Game → Game
 with_aid by game =
     if lt_z (pos 0) (lack_of game by.company)
@@ -166,7 +169,7 @@ concluded by game =
     then with_event game (event.Bankrupt by.president)
     else after_train (with_aid by game) by.company (cheapest game.events)
 
--- after a purchase that is due, where these are the company's orders
+-- after a purchase that is due, with these as the company's orders
 unfoldable pub after_forced : Operator → List Numbered → Game → Game
 after_forced by lines game =
     concluded by (sold_singly by (after_raises true by (with_event game (event.Forced by.company)) lines))

@@ -7,14 +7,15 @@ use Rattle.forced_purchase.specs.Forced.{cheapest, lack_of, with_aid}
 use Rattle.forced_purchase.specs.declared.operator.Operator.{Operator}
 use Rattle.purchases.specs.Trains.{cost_of}
 
--- once the president has paid what the company lacks for the cheapest train that is for sale, it has exactly its price
+-- once the president has paid what the company lacks for the cheapest train that is for sale, it
+-- has exactly its price
 abbrev pub AidIsWhatLacks : Type 0
 AidIsWhatLacks =
     (by : Operator) (game : Game) → lt_z (pos 0) (lack_of game by.company) ≡ true →
     cash_of (with_aid by game).seats (with_aid by game).events (party_of_company by.company)
     ≡ pos (cost_of (cheapest game.events))
 
--- where the company lacks nothing he pays nothing
+-- if the company lacks nothing the president pays nothing
 abbrev pub NoAidWithoutLack : Type 0
 NoAidWithoutLack = (by : Operator) (game : Game) → lt_z (pos 0) (lack_of game by.company) ≡ false
     → with_aid by game ≡ game

@@ -22,8 +22,8 @@ use std::alloc::{AllocError, Global};
 use tables::{Amount, Company, Kind, Money};
 use turns::record;
 
-/// A company that has no train buys the one that it must, or its president is bankrupt. The RAISE
-/// lines of its orders are ruled first. It fails only if memory is refused.
+/// Buys the train that a company without one must buy, or makes its president bankrupt. The RAISE
+/// lines of its orders are ruled first. Fails only if allocation fails.
 #[tactic(auto, unfolding(crate::specs::Forced::after_forced))]
 pub fn buy_by_force(
     alloc: Global,
@@ -45,8 +45,8 @@ pub fn buy_by_force(
     Ok(())
 }
 
-/// Rules the RAISE lines of a company's orders, where a purchase is due, or is not. It fails only
-/// if memory is refused.
+/// Rules the RAISE lines of a company's orders, given whether a purchase is due. Fails only if
+/// allocation fails.
 pub fn rule_raises(
     history: &mut History,
     by: Operator,
@@ -67,8 +67,8 @@ pub fn rule_raises(
     Ok(())
 }
 
-/// Rules a line of a company's orders if it is a RAISE. It is read only where its first word may
-/// begin one.
+/// Rules a line of a company's orders if it is a RAISE. It is read only if its first word may begin
+/// one.
 fn rule_if_raise(
     history: &mut History,
     by: Operator,
@@ -94,7 +94,7 @@ fn rule_if_raise(
     }
 }
 
-/// Whether the first word of a line is one with which a RAISE begins: that word, or IF.
+/// Returns whether the first word of a line is one with which a RAISE begins: that word, or IF.
 fn may_be_raise(line: &[u8]) -> bool
     ensures { result ≡ may_spell_raise line.now }
 {
@@ -120,7 +120,7 @@ fn rule_order_if_raise(
     match order {
         Order::Raise { company, shares } => {
             let (company, shares) = (*company, *shares);
-            rule_raise(history, by, line, Sale { company, shares }, due)?;
+            rule_raise(history, by, line, order, Sale { company, shares }, due)?;
             Ok(())
         }
         _ => Ok(()),
@@ -132,9 +132,11 @@ fn rule_raise(
     history: &mut History,
     by: Operator,
     line: ReadLine,
+    order: &Order,
     sale: Sale,
     due: bool,
 ) -> Result<(), AllocError>
+    requires is { order.now ≡ Raise sale.company sale.shares }
     requires few { history.old.seats ≤ 6 }
     requires at_table { by.president.0 < history.old.seats }
     requires sound { IsSound history.old }
@@ -143,22 +145,15 @@ fn rule_raise(
         ≡ after_raise due by history.old (line_with line (Raise sale.company sale.shares)) sale) }
     ensures sound { OnOk result (IsSound history.new) }
 {
-    let (company, shares) = (sale.company, sale.shares);
     let broken = raise_rule(history, by, line.condition.as_ref(), sale, due);
-    if record(
-        history,
-        by.president,
-        line,
-        &Order::Raise { company, shares },
-        broken,
-    )? {
+    if record(history, by.president, line, order, broken)? {
         sell_block(history, by.president, sale)?;
     }
     Ok(())
 }
 
-/// The first rule that a RAISE under this condition breaks, where a purchase is due, or is not. One
-/// that is not needed is refused whatever its condition.
+/// Returns the first rule that a RAISE under this condition breaks, given whether a purchase is
+/// due. One that is not needed is refused whatever its condition.
 #[tactic(auto, unfolding(crate::specs::Forced::raise_rule))]
 fn raise_rule(
     history: &History,
@@ -177,7 +172,7 @@ fn raise_rule(
     }
 }
 
-/// The first rule that a RAISE under this condition breaks, where it is needed.
+/// Returns the first rule that a RAISE under this condition breaks, if it is needed.
 fn needed_rule(
     history: &History,
     by: Operator,
@@ -194,7 +189,7 @@ fn needed_rule(
     }
 }
 
-/// The first rule that a sale breaks by which money is raised for the company.
+/// Returns the first rule that a sale to raise money for the company breaks.
 #[tactic(auto, unfolding(crate::specs::Forced::sale_rule))]
 fn sale_rule(history: &History, by: Operator, sale: Sale) -> Option<StockRule>
     ensures { result ≡ sale_rule by history.now sale }
@@ -205,10 +200,10 @@ fn sale_rule(history: &History, by: Operator, sale: Sale) -> Option<StockRule>
     }
 }
 
-/// So many shares at most can be sold: the pool takes up to five of each company.
+/// Upper bound on the shares that can be sold: 8 companies times the 5 shares that the pool takes.
 const SALES_MOST: usize = 40;
 
-/// The president sells shares one at a time, until he does not fall short or may sell none.
+/// Sells shares of the president one at a time, until they do not fall short or may sell none.
 #[tactic(auto, unfolding(crate::specs::Forced::sold_singly))]
 fn sell_singly(history: &mut History, by: Operator) -> Result<(), AllocError>
     requires few { history.old.seats ≤ 6 }
@@ -218,15 +213,14 @@ fn sell_singly(history: &mut History, by: Operator) -> Result<(), AllocError>
     ensures after { OnOk result (history.new ≡ sold_singly by history.old) }
     ensures sound { OnOk result (IsSound history.new) }
 {
-    // A loop with an end of its own, so that no measure has to be proved: a turn of it changes nothing where no
-    // share can be sold.
+    // Bounded, so that no measure has to be proved; extra passes do nothing.
     for _ in 0..SALES_MOST {
         sell_further(history, by)?;
     }
     Ok(())
 }
 
-/// The president sells one share more, where he falls short and may.
+/// Sells one more share of the president, if they fall short and may sell one.
 #[tactic(auto, unfolding(crate::specs::Forced::sold_further))]
 fn sell_further(history: &mut History, by: Operator) -> Result<(), AllocError>
     requires few { history.old.seats ≤ 6 }
@@ -243,7 +237,7 @@ fn sell_further(history: &mut History, by: Operator) -> Result<(), AllocError>
     Ok(())
 }
 
-/// The president sells one share more, where he may.
+/// Sells one more share of the president, if they may sell one.
 fn sell_next(history: &mut History, by: Operator) -> Result<(), AllocError>
     requires few { history.old.seats ≤ 6 }
     requires at_table { by.president.0 < history.old.seats }
@@ -260,14 +254,14 @@ fn sell_next(history: &mut History, by: Operator) -> Result<(), AllocError>
     Ok(())
 }
 
-/// One share of a company.
+/// Returns the sale of one share of a company.
 fn share_of(company: Company) -> Sale
     ensures { result ≡ one_share company }
 {
     Sale { company, shares: 1 }
 }
 
-/// The first company in roster order that the president may sell a share of.
+/// Returns the first company in roster order of which the president may sell a share.
 #[tactic(auto, unfolding(crate::specs::Forced::next_to_sell))]
 fn next_to_sell(history: &History, by: Operator) -> Option<Company>
     ensures { result ≡ next_to_sell by history.now }
@@ -275,14 +269,15 @@ fn next_to_sell(history: &History, by: Operator) -> Option<Company>
     first_to_sell(history, by, &Company::ALL)
 }
 
-/// The first of these companies that the president may sell a share of.
+/// Returns the first of these companies of which the president may sell a share.
 fn first_to_sell(history: &History, by: Operator, among: &[Company]) -> Option<Company>
     ensures { result ≡ first_to_sell by history.now among.now }
 {
     among.iter().copied().find(|company| sale_rule(history, by, share_of(*company)).is_none())
 }
 
-/// The president pays what the company lacks, and it buys; or he falls short, and is bankrupt.
+/// Pays what the company lacks with the president's money, and buys the train; or makes a president
+/// who falls short bankrupt.
 #[tactic(auto, unfolding(crate::specs::Forced::concluded))]
 fn conclude(alloc: Global, history: &mut History, by: Operator) -> Result<(), AllocError>
     requires at_table { by.president.0 < history.old.seats }
@@ -301,7 +296,7 @@ fn conclude(alloc: Global, history: &mut History, by: Operator) -> Result<(), Al
     Ok(())
 }
 
-/// The president pays what the company lacks, if it lacks anything.
+/// Pays what the company lacks with the president's money, if it lacks anything.
 #[tactic(auto, unfolding(crate::specs::Forced::with_aid))]
 fn aid(history: &mut History, by: Operator) -> Result<(), AllocError>
     requires at_table { by.president.0 < history.old.seats }
@@ -322,7 +317,8 @@ fn aid(history: &mut History, by: Operator) -> Result<(), AllocError>
     Ok(())
 }
 
-/// What a company lacks for the cheapest train that is for sale, in dollars; 0 where it has enough.
+/// Returns what a company lacks for the cheapest train that is for sale, in dollars; 0 if it has
+/// enough.
 #[tactic(auto, using(crate::proofs::Aid::lack_small))]
 fn lacking(history: &History, company: Company) -> Amount
     requires { IsSound history.now }
@@ -332,7 +328,7 @@ fn lacking(history: &History, company: Company) -> Amount
     at_least_zero(lack(history, company)) as Amount
 }
 
-/// Whether the president has less free of his bids than the company lacks.
+/// Returns whether the president has less cash free of standing bids than the company lacks.
 #[tactic(auto, unfolding(crate::specs::Forced::falls_short))]
 fn falls_short(history: &History, by: Operator) -> bool
     ensures { result ≡ falls_short by history.now }
@@ -340,7 +336,8 @@ fn falls_short(history: &History, by: Operator) -> bool
     history.now().free_cash(by.president) < lack(history, by.company)
 }
 
-/// What a company lacks for the cheapest train that is for sale; 0 or less where it has enough.
+/// Returns what a company lacks for the cheapest train that is for sale, in dollars; 0 or less if
+/// it has enough.
 #[tactic(auto, unfolding(crate::specs::Forced::lack_of))]
 fn lack(history: &History, company: Company) -> Money
     ensures { result ≡ lack_of history.now company }
@@ -349,7 +346,8 @@ fn lack(history: &History, company: Company) -> Money
     Money::from(cost) - history.cash(Party::of_company(company))
 }
 
-/// The cheapest train that the bank or the pool sells, the bank's where both sell it.
+/// Returns the purchase of the cheapest train that the bank or the pool sells, from the bank if
+/// both sell it.
 #[tactic(auto, unfolding(crate::specs::Forced::cheapest))]
 fn cheapest(view: &GameView) -> Purchase
     ensures purchase { result ≡ cheapest view.now.events.now }
@@ -358,7 +356,8 @@ fn cheapest(view: &GameView) -> Purchase
     first_on_sale(view, &NUMBERED)
 }
 
-/// The first of these kinds that is for sale; a D of the bank where none is.
+/// Returns the purchase of the first of these kinds that is for sale; of a D of the bank if none
+/// is.
 #[tactic(auto, unfolding(crate::specs::Forced::first_on_sale))]
 fn first_on_sale(view: &GameView, kinds: &[Kind]) -> Purchase
     ensures purchase { result ≡ first_on_sale view.now.events.now kinds.now }
@@ -375,7 +374,7 @@ fn first_on_sale(view: &GameView, kinds: &[Kind]) -> Purchase
     plain(Kind::Diesel, TrainSeller::Bank)
 }
 
-/// The purchase of a train for which none is traded in.
+/// Returns the purchase of a train for which none is traded in.
 fn plain(kind: Kind, from: TrainSeller) -> Purchase
     ensures { result ≡ plain kind from }
 {

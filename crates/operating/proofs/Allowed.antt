@@ -1,5 +1,5 @@
--- What a lay or a token that the rules of the board allow is: no rule is broken, its cost is that of the
--- board, and the company has it.
+-- What a lay or a token that the rules of the board allow is: no rule is broken, its cost is that
+-- of the board, and the company has it.
 use Rattle.std.proofs.Common.{◌≡◌, ℕ, ◌≤◌, ◌==◌, Bool, true, false, if◌then◌else◌, leb, List, ◌++◌, Option, Some, None}
 use Rattle.std.proofs.Common.{Ok, ℤ, pos, ◌≤ℤ◌, refl, sym, subst, ◌∙◌, arith}
 use Rattle.std.proofs.lemmas.Bool.{leb-true}
@@ -34,13 +34,14 @@ none_of_first {Code} rules later none =
     ]
     refl
 
--- an answer with a cost breaks no rule, and that is the cost
+-- a result with a cost breaks no rule, and that is the cost
 none_where_ok : {Fault : Type 0} (cost : ℤ) (priced : ℕ) (found : Option Fault) → Ok cost ≡ cost_or priced found
     → (found ≡ None) × (cost ≡ pos priced)
 none_where_ok cost priced None given = (refl, cc)
 none_where_ok cost priced (Some fault) given = cc
 
--- what is allowed at a cost: no rule that asks nothing of what is reached is broken, and the company has it
+-- what is allowed at a cost: no rule that does not depend on what is reached is broken, and the
+-- company has it
 pub record IsAllowed (none : Type 0) (cost cash : ℤ) (priced : ℕ) : Type 0 where
   pub allowed : none
   pub is : cost ≡ pos priced

@@ -1,4 +1,4 @@
--- From the answer of the rules of the board to where a line leads.
+-- From the outcome of the rules of the board to where a line leads.
 use Rattle.std.proofs.Common.{◌≡◌, ℕ, None, Result, Ok, Err, ℤ, pos, ◌≤ℤ◌, refl, sym, ap, subst, ◌∙◌}
 use Rattle.std.specs.Int.RustNames.{unsigned_abs}
 use Rattle.board_state.specs.MapState.{MapState}
@@ -34,7 +34,7 @@ use Rattle.tables.specs.Rules.{first_broken}
 use Rattle.tables.specs.declared.roster.Company.{Company}
 use Rattle.tables.specs.declared.seat.Seat.{Seat}
 
--- the answer to a lay, by the map state and by who asks
+-- the outcome of a lay, by the map state and the company
 pub lay_by :
     (board laid : MapState) (asker its : Asker) (lay : Lay) (answer : Result ℤ LayRule) → board ≡ laid → asker ≡ its →
     IsLayAnswer board asker lay answer → IsLayAnswer laid its lay answer
@@ -51,7 +51,7 @@ token_by board laid asker its place answer is_board is_asker answered =
     subst (λ (g : MapState). IsTokenAnswer g its place answer) is_board
     (subst (λ (a : Asker). IsTokenAnswer board a place answer) is_asker answered)
 
--- how far a turn has come once a tile is laid, by the map state and by who asks
+-- how far a turn has come once a tile is laid, by the map state and the company
 pub lay_done_by : (board laid : MapState) (asker its : Asker) (lay : Lay) (before after : Progress) → board ≡ laid
     → asker ≡ its →
     after ≡ lay_done board.lays asker lay before → after ≡ lay_done laid.lays its lay before

@@ -31,12 +31,12 @@ use Rattle.tables.specs.declared.roster.Company.{Company}
 use Rattle.tables.specs.declared.round.Round.{Round}
 use Rattle.tables.specs.declared.seat.Seat.{Seat}
 
--- no other event of a turn tells of one
+-- no other event of a turn says so
 tells_none : (company : Company) (game : Game) (its : Event) → IsOfTurn company game its → says_bankrupt its ≡ false
 tells_none company game (event.Bankrupt seat) is = absurd is
 tells_none company game other is = refl
 
--- with one event more
+-- with one more event
 one_more : (events : List Event) (its : Event) → says_bankrupt its ≡ false
     → bankrupt_in (events ++ its ∷ []) ≡ bankrupt_in events
 one_more events its none =

@@ -20,7 +20,7 @@ use Rattle.tables.specs.declared.roster.Company.{Company}
 use Rattle.tables.specs.declared.round.Round.{Round}
 
 module _ {Runner : Type 0} (earns : Earns Runner) where
-  -- a runner that was asked for the best runs, and answered
+  -- a runner that was called for the best runs, and returned
   is_asked :
       (events : List Event) (position : Position) (round : Round) (company : Company) (trains : List Kind)
       (answer : Result ℤ RunnerFault)
@@ -32,7 +32,7 @@ module _ {Runner : Type 0} (earns : Earns Runner) where
       subst (λ (held : List Kind). earns before (position_now events) round company held answer after) are_trains
       (subst (λ (at : Position). earns before at round company trains answer after) is_position earned)
 
-  -- it answered a revenue
+  -- it returned a revenue
   pub answered_revenue :
       (events : List Event) (position : Position) (round : Round) (company : Company) (trains : List Kind)
       (answer : Result ℤ RunnerFault) (revenue : ℕ)
@@ -54,7 +54,7 @@ module _ {Runner : Type 0} (earns : Earns Runner) where
         ),
       )
 
-  -- it answered why it has none
+  -- it returned why it has none
   pub answered_fault :
       (events : List Event) (position : Position) (round : Round) (company : Company) (trains : List Kind)
       (answer : Result ℤ RunnerFault)
@@ -76,7 +76,7 @@ module _ {Runner : Type 0} (earns : Earns Runner) where
         ),
       )
 
-  -- a RUN BEST that breaks a rule asks for nothing, also where memory is refused
+  -- a RUN BEST that breaks a rule makes no call, even if allocation fails
   pub broken_unasked :
       (by : Operator) (round : Round) (line : Numbered) (turn : InTurn) (found : Option RunRule) (rule : RunRule)
       (outcome : Result InTurn RunnerFault) (runner : Runner) →
@@ -89,7 +89,7 @@ module _ {Runner : Type 0} (earns : Earns Runner) where
       (sym broken ∙ judged)
       ([], (refl, refl), refl))
 
-  -- one that breaks none, where the runner does not answer
+  -- one that breaks none, if the runner's call fails
   pub best_unanswered :
       (by : Operator) (round : Round) (line : Numbered) (turn : InTurn) (found : Option RunRule) (fault : RunnerFault)
       (outcome : Result InTurn RunnerFault) (before after : Runner) →
@@ -104,7 +104,7 @@ module _ {Runner : Type 0} (earns : Earns Runner) where
       (broken_off earns (Asks by.company round) (Unasked Memory (IsCredited by turn line)) turn.game.events fault
       before after asked_it))
 
-  -- and one where it tells a revenue, and memory is refused after that
+  -- and one if it returns a revenue, and allocation fails after that
   pub best_unrecorded :
       (by : Operator) (round : Round) (line : Numbered) (turn : InTurn) (found : Option RunRule) (revenue : ℕ)
       (outcome : Result InTurn RunnerFault) (before after : Runner) →

@@ -1,5 +1,5 @@
--- Who runs his best is credited no less than by any written runs: the runs that were obeyed one after another are a legal
--- set of runs for the trains of the company.
+-- A company that runs its best is credited no less than by any written runs. The runs that were
+-- obeyed one after another are a legal set of runs for its trains.
 use Rattle.std.proofs.Common.{◌≡◌, ℕ, zero, suc, ◌+◌, ◌<◌, ◌≤◌, Bool, true, false, if◌then◌else◌, ◌==◌, inl, inr, List}
 use Rattle.std.proofs.Common.{[], ◌∷◌, ◌++◌, Option, None, Some, Result, Ok, Err, ℤ, pos, negsuc, ◌+ℤ◌, length}
 use Rattle.std.proofs.Common.{replicate, get_or, set, refl, sym, subst, ap, ◌∙◌, arith, get_or-set_other, length-set}
@@ -62,7 +62,7 @@ number_of_all kind counted n = by_test (same_kind kind counted) n refl
     by_test false zero is = refl
     by_test false (suc n) is = rw is (omega (arith, by_test false n is))
 
--- and behind others
+-- and after others
 number_behind :
     (counted kind : Kind) (n : ℕ) (trains : List Kind) →
     in_number counted (trains ++ replicate n kind)
@@ -71,14 +71,15 @@ number_behind counted kind n [] = omega (arith, number_of_all kind counted n)
 number_behind counted kind n (train ∷ trains) = omega (arith, number_behind counted kind n trains)
 
 module _ (events : List Event) (company : Company) where
-  -- how many trains of a kind a company has, and, where that kind is the one that is counted, this many
+  -- how many trains of a kind a company has, and, where that kind is the one that is counted, this
+  -- many
   abbrev held_of : Kind → ℕ
   held_of kind = at_least_zero (trains_held events (Some company) kind)
 
   abbrev if_counted : Kind → Kind → ℕ
   if_counted counted kind = if same_kind kind counted then held_of kind else 0
 
-  -- its trains of some kinds, and those of one kind more
+  -- its trains of some kinds, and those of one more kind
   abbrev of_kinds : List Kind → List Kind
   of_kinds some = fold (with_those_held events company) [] some
 
@@ -302,7 +303,7 @@ module _ (by : Operator) (first : InTurn) where
   after_judged runs now line its kind run (Ok ran) is have =
       (with_run now kind run runs, after_obeyed runs now line its kind run ran is have)
 
-  -- after a RUN that is asked for its condition
+  -- after a RUN whose condition is checked
   after_asked :
       (runs : List TrainRun) (now next : InTurn) (line : Numbered) (kind : Kind) (run : List Place) (held : Bool) →
       AskedLeads by now line (order.Run kind run) held next → HaveRun runs now

@@ -44,7 +44,7 @@ regrouped : {A : Type 0} (xs ys zs : List A) → (xs ++ ys) ++ zs ≡ xs ++ (ys 
 regrouped [] ys zs = refl
 regrouped (x ∷ xs) ys zs = ap (λ (rest : List _). x ∷ rest) (regrouped xs ys zs)
 
--- one more train behind this many of its kind
+-- one more train after this many of its kind
 pub one_more_train : (first : List Kind) (kind : Kind) (n : ℕ)
     → (first ++ replicate n kind) ++ kind ∷ [] ≡ first ++ replicate (n + 1) kind
 one_more_train first kind n =
@@ -62,7 +62,7 @@ small_greatest exists one position company trains revenue lawful greatest =
     let small : there.0 < 50000 = there.2 in
     omega (arith, same, small)
 
--- as many trains of a kind behind others
+-- as many trains of a kind after others
 pub same_count : (trains : List Kind) (kind : Kind) (count other : ℤ) → count ≡ other →
     trains ++ replicate (at_least_zero count) kind ≡ trains ++ replicate (at_least_zero other) kind
 same_count trains kind count other same = ap (λ (n : ℤ). trains ++ replicate (at_least_zero n) kind) same
@@ -98,7 +98,7 @@ module _ (exists : AGreatestExists) (one : OneGreatest) where
       let amounts : greatest.0 ≡ amount = ap unsigned_abs same in
       (subst (IsGreatest position company trains) amounts greatest.2, subst (λ (n : ℕ). n ≤ 50000) amounts small)
 
-  -- so it is by the board and the trains that it was asked of
+  -- so it is by the board and the trains of the call
   pub answered_greatest :
       (laid map_state : MapState) (company : Company) (trains held : List Kind) (money : ℤ) (amount : ℕ)
       → laid ≡ map_state → trains ≡ held →

@@ -1,4 +1,4 @@
--- Each call of a course that leads on is answered, since one that is not breaks it off.
+-- Each call of a course that leads on succeeds, since one that fails breaks it off.
 use Rattle.std.proofs.Common.{◌≡◌, ℕ, zero, suc, Bool, true, false, List, [], ◌∷◌, ◌++◌, Some, None, Result, Ok, Err}
 use Rattle.std.proofs.Common.{refl, sym, subst, inl, inr}
 use Rattle.std.specs.Prelude.{Option, pos}
@@ -52,7 +52,7 @@ times_answered course last one end zero = end
 times_answered course last one end (suc times) =
     then_answered course (TimesThen times course last) one (times_answered course last one end times)
 
--- a RUN BEST that is obeyed asks, and is answered
+-- a RUN BEST that is obeyed makes a call, which succeeds
 asks_answered : (company : Company) (round : Round) → IsAnswered (Asks company round)
 asks_answered company round events revenue calls is =
     let call : Call = asked company round events (Ok (pos revenue)) in
@@ -76,7 +76,7 @@ order_answered by round line order turn to calls course =
       | inr other ↦ none_answered calls other.1.1
     ]
 
--- those of an order that is asked for its condition
+-- those of an order whose condition is checked
 asked_answered : (by : Operator) (round : Round) (line : Numbered) (its : Order) (held : Bool)
     → IsAnswered (AskedCalls by round line its held)
 asked_answered by round line its true turn to calls course = none_answered calls course.1

@@ -1,5 +1,5 @@
--- A private that is closed stays so in a company's turn: one that names an owner is the purchase of a private from a
--- player who owns it.
+-- A private that is closed stays so in a company's turn: one that names an owner is the purchase of
+-- a private from a player who owns it.
 use Rattle.std.proofs.Common.{[], ◌∷◌, ◌++◌, refl}
 use Rattle.events.specs.Event.{ownership_of}
 use Rattle.events.specs.declared.event.Event.{Event}

@@ -1,5 +1,5 @@
--- What a company pays out: each dividend keeps a list sound, no place has more than ten shares, and what is paid to all
--- is paid step by step.
+-- What a company pays out: each dividend keeps a list sound, no place has more than ten shares, and
+-- what is paid to all is paid step by step.
 use Rattle.std.proofs.Common.{◌≡◌, ℕ, zero, suc, ◌+◌, ◌-◌, ◌<◌, ◌≤◌, ◌==◌, inl, inr, Bool, true, false, if◌then◌else◌}
 use Rattle.std.proofs.Common.{List, [], ◌∷◌, map, pos, ◌≤ℤ◌, refl, sym, subst, ap, ◌∙◌, arith}
 use Rattle.std.proofs.lemmas.Bool.{cases_eq}

@@ -1,5 +1,5 @@
--- What lies on the map by a list still fits after a lay, a token or a home token of a company's turn; so these
--- keep a list sound, and so does what a company withholds.
+-- What lies on the map by a list still fits after a lay, a token or a home token of a company's
+-- turn. So these keep a list sound, and so does what a company withholds.
 use Rattle.std.proofs.Common.{◌≡◌, ℕ, ◌+◌, ◌<◌, Bool, true, false, if◌then◌else◌, List, [], ◌∷◌, ◌++◌, length, take}
 use Rattle.std.proofs.Common.{get_or, Option, None, unwrap_or, refl, sym, subst, ap, ◌∙◌}
 use Rattle.std.proofs.lemmas.List.{append-nil, take_more}

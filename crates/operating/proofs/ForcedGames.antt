@@ -1,6 +1,6 @@
--- What holds of each event of a company's turn and of each purchase by the rules, of the sales by which money is raised
--- and of a bankruptcy, and of one after the other, holds of the end of its turn, where it may have to buy a train, and so
--- of the whole turn.
+-- What holds of the whole of a company's turn, up to its end, where it may have to buy a train. It
+-- has to hold of each event of the turn and of each purchase by the rules. It has to hold of the
+-- sales to raise money, of a bankruptcy, and of one after the other.
 use Rattle.std.proofs.Common.{◌≡◌, ℕ, zero, suc, ◌*◌, ◌==◌, Bool, true, false, if◌then◌else◌, List, [], ◌∷◌, ◌++◌}
 use Rattle.std.proofs.Common.{Option, Some, None, is_some, is_none, Result, Ok, inl, inr, pos, refl, sym, subst}
 use Rattle.std.specs.Int.Signed.{lt_z}
@@ -52,13 +52,15 @@ use Rattle.tables.specs.declared.squares.Square.{Square}
 abbrev with_events : Game → List Event → Game
 with_events game events = record { seats = game.seats; events = events }
 
--- what a forced purchase can add beside the events of any turn: a presidency that passes, and a bankruptcy
+-- what a forced purchase can add beside the events of any turn: a presidency that passes, and a
+-- bankruptcy
 abbrev pub IsOfForced : Event → Type 0
 IsOfForced (event.President its seat) = Unit
 IsOfForced (event.Bankrupt seat) = Unit
 IsOfForced other = ⊥
 
--- none of them begins a round, says who operates, sells to a company, bids, or gives a private an owner
+-- none of them begins a round, says who operates, sells to a company, bids, or gives a private an
+-- owner
 pub forced_begins_none : (its : Event) → IsOfForced its → is_some (round_begun_by its) ≡ false
 forced_begins_none (event.President company seat) is = refl
 forced_begins_none (event.Bankrupt seat) is = refl
@@ -240,7 +242,7 @@ module _ (by : Operator) (R : Game → Game → Type 0) (of : OfEvents by.compan
         | inr is ↦ subst Goes (sym is) (of.purchases game its.0 source.BankPool)
       ]
 
-  -- of what he pays, and of the purchase
+  -- of what the president pays, and of the purchase
   pub of_bought : (game : Game) → has_trains game.events by.company ≡ false
       → R game (after_train (with_aid by game) by.company (cheapest game.events))
   of_bought game none =
@@ -276,7 +278,8 @@ abbrev pub operator : Company → Seat → Operator
 operator company seat = record { company = company; president = seat }
 
 module _ (company : Company) (R : Game → Game → Type 0) (of : OfEvents company R) where
-  -- of what a company's orders bring at the end of the turn, where a president sells and may be bankrupt
+  -- of what a company's orders bring at the end of the turn, where a president sells and may be
+  -- bankrupt
   pub of_presided_end : (file : List ℕ) (round : Round) (game : Game) (president : Option Seat) (new : Game) →
       ((seat : Seat) → president ≡ Some seat → OfSales (operator company seat) R
       × OfBankruptcies (operator company seat) R) →
@@ -297,7 +300,7 @@ module _ (company : Company) (R : Game → Game → Type 0) (of : OfEvents compa
       (of_presided_end file round paid (president_of old.events company) new presided turn.after)
 
 module _ (company : Company) (R : Game → Game → Type 0) (of : OfEvents company R) (more : OfForced R) where
-  -- of the sales of a president, and of his bankruptcy
+  -- of the sales of a president, and of the bankruptcy
   of_president : (seat : Seat) → OfSales (operator company seat) R × OfBankruptcies (operator company seat) R
   of_president seat = (
     of_sale (operator company seat) R of (λ game its new. more game (event.President its new) tt refl refl refl),

@@ -1,5 +1,5 @@
--- What a company reaches in a lawful position can be found out: links are followed from its tokens until nothing is
--- added.
+-- What a company reaches in a lawful position can be found out: links are followed from its tokens
+-- until nothing is added.
 use Rattle.std.proofs.Common.{◌≡◌, ℕ, zero, suc, ◌+◌, ◌<◌, ◌≤◌, Bool, true, false, ◌⊎◌, inl, inr, List, [], ◌∷◌}
 use Rattle.std.proofs.Common.{length, get_or, set, replicate, refl, sym, subst, ◌∙◌, arith}
 use Rattle.std.proofs.lemmas.Bool.{cases_eq}

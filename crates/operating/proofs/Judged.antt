@@ -1,4 +1,5 @@
--- What a run is that is obeyed: it breaks no rule of runs, so that it is legal, and a train may do it.
+-- What a run is that is obeyed: it breaks no rule of runs, so that it is legal, and a train may do
+-- it.
 use Rattle.std.proofs.Common.{◌≡◌, ℕ, ◌+◌, ◌*◌, ◌≤◌, Bool, true, false, ◌||◌, List, [], ◌∷◌, Option, Some, None, Ok, ℤ}
 use Rattle.std.proofs.Common.{pos, ◌≤ℤ◌, refl, sym, subst, ap, ◌∙◌, arith}
 use Rattle.std.proofs.lemmas.Int.{ints}

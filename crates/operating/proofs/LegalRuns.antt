@@ -1,5 +1,5 @@
--- The marks of a turn are those of the borders that the walks of its obeyed runs cross: they are none at first, a run
--- that is obeyed adds its own, and no other order touches them.
+-- The marks of a turn are those of the borders that the walks of its obeyed runs cross. They are
+-- none at first, a run that is obeyed adds its own, and no other order touches them.
 use Rattle.std.proofs.Common.{◌≡◌, ℕ, Bool, true, false, List, [], ◌∷◌, ◌++◌, Option, Some, None, Result, Ok, Err}
 use Rattle.std.proofs.Common.{length, replicate, zero, suc, refl, sym, subst, ap}
 use Rattle.legal_runs.proofs.Kept.{crossed_used}
@@ -71,7 +71,7 @@ after_order by turn line before other new leads are =
     left_as before turn new (ap (λ (done : Bool × Runs). done.1.borders)
     (after_other by turn line other new tt leads)) are
 
--- after an order that is asked for its condition
+-- after an order whose condition is checked
 after_asked :
     (by : Operator) (turn : InTurn) (line : Numbered) (before : List (List Step)) (its : Order) (held : Bool)
     (new : InTurn) →

@@ -1,4 +1,5 @@
--- Where no train has run in a turn, none is set down as run: a run is counted, and what is counted is over 0.
+-- Where no train has run in a turn, none is set down as run: a run is counted, and what is counted
+-- is over 0.
 use Rattle.std.proofs.Common.{◌≡◌, ℕ, zero, suc, ◌<◌, Bool, true, false, not, ◌||◌, inl, inr, List, [], ◌∷◌, Option}
 use Rattle.std.proofs.Common.{Some, None, Result, Ok, Err, ℤ, pos, ◌≤ℤ◌, ◌<ℤ◌, ◌+ℤ◌, length, get_or, set, refl, sym}
 use Rattle.std.proofs.Common.{subst, ◌∙◌, arith, get_or-set_other, length-set}
@@ -64,8 +65,8 @@ least_set counts at other count low least rest =
 abbrev some_ran : Bool → Runs → Bool
 some_ran best runs = best || list_any is_some_run runs.trains
 
--- what is kept of the runs in a turn in which the best has been run or not: a count for each kind, none under 0, and
--- nothing where no train has run
+-- What is kept of the runs in a turn, whether or not the best has been run. It is a count for each
+-- kind, none under 0, and nothing if no train has run.
 pub record AreKept (best : Bool) (runs : Runs) : Type 0 where
   pub for_each : length runs.trains ≡ 6
   pub least : (kind : Kind) → pos 0 ≤ℤ has_run runs kind
@@ -127,7 +128,7 @@ after_order by turn line order.RunBest new leads are =
 after_order by turn line other new leads are =
     subst (λ (done : Bool × Runs). AreKept done.0 done.1) (sym (after_other by turn line other new tt leads)) are
 
--- after an order that is asked for its condition
+-- after an order whose condition is checked
 after_asked : (by : Operator) (turn : InTurn) (line : Numbered) (its : Order) (held : Bool) (new : InTurn)
     → AskedLeads by turn line its held new →
     IsKeptIn turn → IsKeptIn new

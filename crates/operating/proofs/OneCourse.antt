@@ -1,5 +1,5 @@
--- Courses of play that make one list of calls and lead to one end, and a prefix of those calls where they are broken
--- off.
+-- Courses of play that make one list of calls and lead to one end, and a prefix of those calls
+-- where they are broken off.
 use Rattle.std.proofs.Common.{◌≡◌, ℕ, zero, suc, List, [], ◌∷◌, ◌++◌, append_assoc, Result, Ok, Err, sym, ap, subst}
 use Rattle.std.proofs.Common.{◌∙◌, inl, inr}
 use Rattle.legal_runs.specs.declared.runner.RunnerFault.{RunnerFault}
@@ -73,8 +73,8 @@ pub none_first :
 none_first memory Tells fault some all refused none =
     inl (refused, record { later = all; are = sym (ap (λ (calls : List Call). calls ++ all) none) })
 
--- from each place two courses lead to one end by the same calls; and where the first is broken off, its calls are a
--- prefix of those of the other
+-- from each place two courses lead to one end by the same calls; and where the first is broken off,
+-- its calls are a prefix of those of the other
 pub record Agree {A B Fault : Type 0} (memory : Fault) (Tells : Fault → RunnerFault → Call → Type 0)
     (one other : Course A B Fault) : Type 0 where
   pub once : (from : A) (a b : B) (some others : List Call) → one from (Ok a) some → other from (Ok b) others
@@ -93,7 +93,7 @@ module _ {Fault : Type 0} (memory : Fault) (Tells : Fault → RunnerFault → Ca
         prefix = λ from fault to some all broken led. none_first memory Tells fault some all broken.0 broken.1;
       }
 
-  -- so do two courses, each with another behind it
+  -- so do two courses, each with another after it
   pub then_agree :
       {A B C : Type 0} (first first_too : Course A B Fault) (second second_too : Course B C Fault) →
       Agree memory Tells first first_too → Agree memory Tells second second_too →

@@ -26,15 +26,16 @@ use Rattle.tables.specs.declared.roster.Company.{Company}
 use Rattle.tables.specs.declared.round.Round.{Round}
 use Rattle.tables.specs.declared.seat.Seat.{Seat}
 
--- a fault in the turn of a company tells why a call for it was not answered
+-- a fault in the turn of a company says why a call for it failed
 abbrev TellsOf : Round → Company → RunnerFault → RunnerFault → Call → Type 0
 TellsOf round company fault why call = (fault ≡ why) × (call.round ≡ round) × (call.company ≡ company)
 
--- from each place such a course leads to one end by one list of calls, and by a prefix of them where it is broken off
+-- from each place such a course leads to one end by one list of calls, and by a prefix of them if
+-- it is broken off
 abbrev IsOne : {A B : Type 0} → Round → Company → Course A B RunnerFault → Type 0
 IsOne round company course = Agree Memory (TellsOf round company) course course
 
--- that a runner is asked for the best runs, of which it tells the greatest revenue
+-- that a runner is called for the best runs, of which it returns the greatest revenue
 asks_once : (round : Round) (company : Company) → IsOne round company (Asks company round)
 asks_once round company =
     record {
@@ -117,7 +118,7 @@ module _ (all : AllLawful) (by : Operator) (round : Round) where
             ];
       }
 
-  -- an order that is asked for its condition
+  -- an order whose condition is checked
   asked_once : (line : Numbered) (its : Order) (held : Bool)
       → IsOne round by.company (AskedCalls by round line its held)
   asked_once line its true =

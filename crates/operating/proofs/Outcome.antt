@@ -1,5 +1,5 @@
--- A company's turn has one outcome: the rules of the board give one answer to a lay and to a token, and all else
--- follows.
+-- A company's turn has one outcome: the rules of the board give one outcome to a lay and to a
+-- token, and all else follows.
 use Rattle.std.proofs.Common.{◌≡◌, ℕ, Bool, true, false, ◌↔◌, IsTrue, List, [], ◌∷◌, ◌++◌, Option, Some, None, Result}
 use Rattle.std.proofs.Common.{Ok, Err, inl, inr, refl, sym, ap, subst, ◌∙◌}
 use Rattle.board.proofs.RuleTables.{earlier}
@@ -57,7 +57,8 @@ same_tests false false first second = refl
 same_tests true false first second = let wrong : false ≡ true = second.1 (first.0 refl) in cc
 same_tests false true first second = let wrong : false ≡ true = first.1 (second.0 refl) in cc
 
--- a table that goes on by a test breaks one rule first, where the test is one once the first rules are kept
+-- a table that goes on by a test breaks one rule first, where the test is one once the first rules
+-- are kept
 same_break : {Code : Type 0} (first : List (Rule Code)) (later : Bool → List (Rule Code)) (a b : Bool) →
     (first_broken first ≡ None → a ≡ b) → first_broken (first ++ later a) ≡ first_broken (first ++ later b)
 same_break {Code} first later a b same =
@@ -73,7 +74,7 @@ abbrev pub AllLawful : Type 0
 AllLawful = (laid : MapState) → IsLawful (position_of laid)
 
 module _ (all : AllLawful) where
-  -- a lay has one answer
+  -- a lay has one outcome
   one_lay_answer : (laid : MapState) (asker : Asker) (lay : Lay) → IsOne (IsLayAnswer laid asker lay)
   one_lay_answer laid asker lay =
       let tested : IsTested (IsConnected (position_of (with_lay laid lay)) asker.company lay) = piece_tested
@@ -147,7 +148,7 @@ module _ (all : AllLawful) where
   order_once by turn line its a b first second = let one =
       one_order by turn line its in one.only a first ∙ sym (one.only b second)
 
-  -- one that is asked for its condition does
+  -- one whose condition is checked does
   one_asked : (by : Operator) (turn : InTurn) (line : Numbered) (its : Order) (held : Bool)
       → IsOne (AskedLeads by turn line its held)
   one_asked by turn line its true = record { it = _; so = refl; only = λ new leads. leads }

@@ -1,5 +1,5 @@
--- A board that has the first of what was laid has them still when events are added, and has all once it was brought the
--- rest.
+-- A board that has the first of what was laid has them still when events are added, and has all
+-- once it was brought the rest.
 use Rattle.std.proofs.Common.{◌≡◌, ◌-◌, ◌<◌, List, [], ◌∷◌, ◌++◌, length, Some, None, refl, ap, sym, subst, ◌∙◌, arith}
 use Rattle.std.proofs.Common.{length-append}
 use Rattle.std.proofs.lemmas.List.{append_assoc, append-nil}
@@ -25,7 +25,7 @@ use Rattle.sheets.specs.Part.{Numbered}
 use Rattle.tables.specs.declared.rolling_stock.Kind.{Kind}
 use Rattle.tables.specs.declared.roster.Company.{Company}
 
--- what is behind a prefix
+-- what is after a prefix
 behind : {A : Type 0} (prefix rest : List A) → slice_get (prefix ++ rest) (length prefix) ≡ slice_get rest 0
 behind [] rest = refl
 behind (x ∷ xs) rest = behind xs rest
@@ -49,7 +49,7 @@ none_in : {A : Type 0} (rest : List A) → slice_get rest 0 ≡ None → rest �
 none_in [] is = refl
 none_in (y ∷ ys) is = cc
 
--- a prefix with none behind it is all
+-- a prefix with none after it is all
 pub prefix_is_all : {A : Type 0} (prefix all : List A) → BeginsWith prefix all → slice_get all (length prefix) ≡ None
     → prefix ≡ all
 prefix_is_all prefix all begins is =

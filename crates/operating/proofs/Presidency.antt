@@ -1,4 +1,5 @@
--- No sale by which money is raised for a company moves its presidency, so its turn leaves its president.
+-- No sale by which money is raised for a company moves its presidency, so its turn leaves its
+-- president.
 use Rattle.std.proofs.Common.{◌≡◌}
 use Rattle.std.proofs.Common.{Option, Some, None, refl, sym, ◌∙◌}
 use Rattle.events.specs.Event.{office_of}
@@ -33,7 +34,7 @@ of_turn_events company president =
     by_each company (Stays company president) on
     (λ game its is leads. president_of_before game.events its company (no_office company game its is) ∙ leads)
 
--- so it is of the sales of a president, and of his bankruptcy
+-- so it is of the sales of a president, and of the bankruptcy
 of_his : (company : Company) (president : Option Seat) (seat : Seat) → president ≡ Some seat →
     OfSales (operator company seat) (Stays company president)
     × OfBankruptcies (operator company seat) (Stays company president)

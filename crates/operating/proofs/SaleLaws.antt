@@ -1,5 +1,5 @@
--- Laws of bids and of sales to companies in a company's turn: each sale to a company is agreed by the list before it,
--- and nobody bids.
+-- Laws of bids and of sales to companies in a company's turn: each sale to a company is agreed by
+-- the list before it, and nobody bids.
 use Rattle.std.proofs.Common.{◌≡◌, Bool, true, ◌&&◌, List, [], ◌∷◌, ◌++◌, is_none, refl, sym, ap, ◌∙◌}
 use Rattle.std.proofs.lemmas.List.{append_assoc, append-nil}
 use Rattle.std.proofs.lemmas.List.Folds.{list_all-append}

@@ -1,5 +1,5 @@
--- Who holds shares in a sound list sits at the table: ten shares of each company are at any table that is large enough
--- for all events, and ten at the table of the game, so none are elsewhere.
+-- Who holds shares in a sound list sits at the table. Ten shares of each company are at any table
+-- that is large enough for all events, and ten at the table of the game, so none are elsewhere.
 use Rattle.std.proofs.Common.{◌≡◌, ℕ, zero, suc, ◌+◌, ◌-◌, ◌<◌, ◌≤◌, Bool, true, false, nat_lt, List, [], ◌∷◌, ◌++◌}
 use Rattle.std.proofs.Common.{Option, Some, None, ℤ, pos, ◌≤ℤ◌, ◌+ℤ◌, refl, sym, ap, subst, ◌∙◌, arith}
 use Rattle.std.proofs.lemmas.Bool.{ltb-true, ltb-false}

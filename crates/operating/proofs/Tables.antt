@@ -1,4 +1,5 @@
--- A board that has the first of what was laid before a company's turn, or before its end, has it still after that.
+-- A board that has the first of what was laid before a company's turn, or before its end, has it
+-- still after that.
 use Rattle.std.proofs.Common.{◌≡◌, List, refl, sym, subst}
 use Rattle.board_state.specs.MapState.{MapState}
 use Rattle.events.specs.declared.event.Event.TheVariants as event

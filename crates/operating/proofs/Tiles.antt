@@ -94,7 +94,8 @@ module _ (lays : List Lay) (lay : Lay) (tile : TileNo) where
       (same_index lay.hex hex (eqb-true (index_of lay.hex) (index_of hex) here)) (one_for_one laid replaced)
   at_hex hex false apart = none_for_none laid replaced (is_tile tile (tile_on lays hex))
 
-  -- as many of the number lie after a lay as before, with the tile that is laid, without that which it replaces
+  -- as many of the number lie after a lay as before, with the tile that is laid, without that which
+  -- it replaces
   lie_then : on_map_of (lays ++ lay ∷ []) tile + cond replaced 1 0 ≡ on_map_of lays tile + cond laid 1 0
   unfolding on_map_of
   lie_then =

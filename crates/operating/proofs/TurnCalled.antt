@@ -127,7 +127,7 @@ order_leads by round line its turn new calls course =
       | inr other ↦ other.1.0
     ]
 
--- so does one that is asked for its condition
+-- so does one whose condition is checked
 asked_leads :
     (by : Operator) (round : Round) (line : Numbered) (its : Order) (held : Bool) (turn new : InTurn)
     (calls : List Call) →
@@ -216,7 +216,7 @@ order_called by round line order.RunBest turn new leads =
     let best = best_called by round line (best_judgement turn by.company) turn new leads in (best.0, inl (refl, best.1))
 order_called by round line other turn new leads = ([], inr ((λ (best : other ≡ order.RunBest). cc), (leads, refl)))
 
--- so does one that is asked for its condition
+-- so does one whose condition is checked
 asked_called :
     (by : Operator) (round : Round) (line : Numbered) (its : Order) (held : Bool) (turn new : InTurn) →
     AskedLeads by turn line its held new → (calls : List Call) × AskedCalls by round line its held turn (Ok new) calls

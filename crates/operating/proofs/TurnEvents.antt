@@ -9,8 +9,8 @@ use Rattle.purchases.specs.SaleLaws.{IsAgreed}
 use Rattle.tables.specs.Roster.{same_company}
 use Rattle.tables.specs.declared.roster.Company.{Company}
 
--- a company's turn can add this event to a game; its train runs and its withholdings are the company's, and what it
--- buys from a company or a seat is agreed by the list before it
+-- A company's turn can add this event to a game. Its train runs and its withholdings are the
+-- company's. The list before it agrees to what it buys from a company or a seat.
 abbrev pub IsOfTurn : Company → Game → Event → Type 0
 IsOfTurn company game (event.Ruled seat number ruling) = Unit
 IsOfTurn company game (event.Home its at) = Unit

@@ -1,5 +1,6 @@
--- What holds of each event of a company's turn and of each purchase by the rules, and of one after the other, holds of
--- what the steps of the turn do, and so of the whole.
+-- What holds of the whole of a company's turn. It has to hold of each event of the turn and of each
+-- purchase by the rules, and of one after the other. Then it holds of what the steps of the turn
+-- do.
 use Rattle.board.specs.LayRules.{map_rules}
 use Rattle.board.specs.declared.asker.Asker.{Asker}
 use Rattle.events.specs.Event.{phase_set, tile_laid, train_moved}
@@ -41,8 +42,9 @@ use Rattle.tables.specs.declared.round.Round.{Round}
 use Rattle.tables.specs.declared.seat.Seat.{Seat}
 use Rattle.tables.specs.declared.squares.Square.{Square}
 
--- what is to be shown of a relation between games that is passed on, so that it holds of a company's turn: it holds of
--- each event of the turn that lays no tile, moves no train and begins no phase, of a lay and of a purchase by the rules
+-- What is to be shown of a relation between games that is passed on, so that it holds of a
+-- company's turn. It holds of each event of the turn that lays no tile, moves no train and begins
+-- no phase. It holds of a lay and of a purchase by the rules.
 pub record OfEvents (company : Company) (R : Game → Game → Type 0) : Type 0 where
   pub on : IsPassedOn R
   pub others : (game : Game) (its : Event) → IsOfTurn company game its → tile_laid its ≡ None → train_moved its ≡ None

@@ -1,5 +1,5 @@
--- Laws of a company's turn: it only adds events and begins no round, trains are as they were, phases go on, and no tile
--- is lost.
+-- Laws of a company's turn: it only adds events and begins no round, trains are as they were,
+-- phases go on, and no tile is lost.
 use Rattle.std.proofs.Common.{◌≡◌, ◌≤◌, ◌||◌, Bool, false, List, [], ◌∷◌, ◌++◌, Result, is_some, refl, sym, ap, ◌∙◌}
 use Rattle.std.proofs.Common.{arith}
 use Rattle.std.proofs.lemmas.List.{append_assoc, append-nil}

@@ -1,5 +1,5 @@
--- A company's turn, step by step: the one place that goes over what becomes of its lines. What holds of each of its
--- steps, and of one after the other, holds of all of them.
+-- A company's turn, step by step: the one place that goes over what becomes of its lines. What
+-- holds of each of its steps, and of one after the other, holds of all of them.
 use Rattle.std.proofs.Common.{◌≡◌, ℕ, Bool, true, false, if◌then◌else◌, List, [], ◌∷◌, Option, Some, None, Result, Ok}
 use Rattle.std.proofs.Common.{Err, ℤ, refl, sym, subst, ◌∙◌}
 use Rattle.std.specs.Int.RustNames.{unsigned_abs}
@@ -60,9 +60,10 @@ use Rattle.tables.specs.declared.roster.Private.{Private}
 use Rattle.tables.specs.declared.round.Round.{Round}
 use Rattle.tables.specs.declared.seat.Seat.{Seat}
 
--- what is to be shown of the steps of a company's turn: it holds of none and of one after the other; of an event of the
--- turn that by itself changes nothing in how far the turn has come, as a ruling is; and of what an obeyed line brings
--- after its ruling, by what the rules ask: a lay, a token, a run, what is paid out, what is withheld, and a purchase
+-- What is to be shown of the steps of a company's turn. It holds of none and of one after the
+-- other. It holds of an event of the turn that does not change how far the turn has come, as a
+-- ruling is. It holds of what follows from an obeyed line after its ruling. That is a lay, a token,
+-- a run, what is paid out, what is withheld, or a purchase by the rules.
 pub record OfSteps (company : Company) (R : InTurn → InTurn → Type 0) : Type 0 where
   pub same : (turn : InTurn) → R turn turn
   pub both : (a b c : InTurn) → R a b → R b c → R a c
@@ -232,7 +233,7 @@ module _ (by : Operator) (R : InTurn → InTurn → Type 0) (steps : OfSteps by.
   of_order turn line (order.Raise company shares) new leads = subst (R turn) (sym leads) (steps.same turn)
   of_order turn line other new leads = subst (R turn) (sym leads) (of_ruling turn line _)
 
-  -- of an order that is asked for its condition
+  -- of an order whose condition is checked
   of_asked : (turn : InTurn) (line : Numbered) (its : Order) (held : Bool) (new : InTurn)
       → AskedLeads by turn line its held new → R turn new
   of_asked turn line its true new leads = subst (R turn) (sym leads) (of_ruling turn line _)

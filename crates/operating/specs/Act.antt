@@ -1,7 +1,7 @@
--- What a company does in its turn, each on the list that was before: its home token, for nothing, where no token of
--- it lies at its home; a tile; a further token; and that it withholds what it earned, which the bank pays it, so
--- that its token on the chart moves left. The first token that a company places in play is that of its home: it has
--- placed none where none lies there.
+-- What a company does in its turn, each on the list that was before. It places its home token, for
+-- nothing, if no token of it lies at its home. It lays a tile, and places a further token. It
+-- withholds what it earned: the bank pays it, and its token on the chart moves left. The first
+-- token that a company places in play is that of its home: it has placed none if none lies there.
 use Rattle.std.specs.Prelude.{ℕ, Bool, if◌then◌else◌, List}
 use Rattle.events.specs.declared.event.Event.{Event}
 use Rattle.events.specs.declared.event.Event.TheVariants as event
@@ -21,7 +21,7 @@ use Rattle.tables.specs.declared.roster.Company.{Company}
 abbrev pub has_home_token : List Event → Company → Bool
 has_home_token events company = has_token (tokens_of events) (home_of company) company
 
--- with HOME, where none lies there
+-- with HOME, if none lies there
 abbrev pub with_home : Game → Company → Game
 with_home game company =
     if has_home_token game.events company then game else with_event game

@@ -1,6 +1,7 @@
--- The best runs of a company. A RUN BEST needs the step of runs or one before it, a train, and that no train has run in
--- the turn. The company is then credited the greatest revenue that any legal set of runs for its trains earns by the
--- map state: that is the revenue of the turn, which is past its token, and no train is left to run.
+-- The best runs of a company. A RUN BEST needs the step of runs or one before it, a train, and that
+-- no train has run in the turn. The company is then credited the greatest revenue that any legal
+-- set of runs for its trains earns by the map state. That is the revenue of the turn, which is then
+-- past its token, and no train is left to run.
 use Rattle.std.specs.Prelude.{◌≡◌, ℕ, Bool, true, not, ◌||◌, List, [], ◌∷◌, ◌++◌, Option, Some, None, replicate}
 use Rattle.std.specs.List.{fold}
 use Rattle.board.specs.declared.asker.TurnStep.TheVariants as step
@@ -25,7 +26,7 @@ use Rattle.tables.specs.Train.{kinds}
 use Rattle.tables.specs.declared.rolling_stock.Kind.{Kind}
 use Rattle.tables.specs.declared.roster.Company.{Company}
 
--- some trains, and behind them those of a kind that a company has
+-- some trains, and after them those of a kind that a company has
 abbrev pub with_those_held : List Event → Company → List Kind → Kind → List Kind
 with_those_held events company trains kind = trains ++ replicate (at_least_zero (trains_held events (Some company) kind)) kind
 
@@ -58,7 +59,7 @@ best_earned by turn line revenue =
     in_turn (with_event (line_recorded by turn line (Obeyed line.condition order.RunBest)).game
     (event.Runs by.company revenue)) (best_done turn.progress revenue)
 
--- a RUN BEST in this line leads to new, where this rule refuses it, if one does
+-- a RUN BEST in this line leads to new, with the rule that refuses it, if one does
 abbrev pub BestRuled : Operator → InTurn → Numbered → Option RunRule → InTurn → Type 0
 BestRuled by turn line (Some rule) new = new ≡ line_recorded by turn line
     (Refused (refusal.Run rule) line.condition order.RunBest)

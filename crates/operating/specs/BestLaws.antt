@@ -1,4 +1,5 @@
--- Who runs his best is credited no less than by any runs that he could write out in that turn.
+-- A company that runs its best is credited no less than by any runs that its president could write
+-- out in that turn.
 use Rattle.std.specs.Prelude.{◌≡◌, ◌≤◌, List, None, Ok}
 use Rattle.std.specs.List.{AllByRecursion}
 use Rattle.totals.specs.LookBack.{Game}
@@ -15,9 +16,9 @@ use Rattle.tables.specs.declared.rolling_stock.Kind.{Kind}
 abbrev pub OrdersRun : Numbered → Type 0
 OrdersRun line = (kind : Kind) × (run : List Place) × (line.reading ≡ Ok (order.Run kind run))
 
--- Some lines have been ruled of a company's turn, and it has come so far that a RUN BEST is obeyed. Lines that order
--- runs, each of them obeyed or refused, lead from there to one turn, and a RUN BEST to another: the first has earned no
--- more than the second.
+-- Some lines of a company's turn have been ruled, and it has come so far that a RUN BEST is obeyed.
+-- Lines that order runs, each of them obeyed or refused, lead from there to one turn, and a RUN
+-- BEST to another. The first has earned no more than the second.
 abbrev pub BestEarnsNoLess : Type 0
 BestEarnsNoLess =
     (by : Operator) (game : Game) (earlier lines : List Numbered) (turn written best : InTurn) (line : Numbered) →

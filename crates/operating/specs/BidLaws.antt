@@ -14,7 +14,7 @@ pub record SaysNoBid (before after : Game) : Type 0 where
   pub added : after ≡ record { seats = before.seats; events = before.events ++ more }
   pub no_bid : list_all (λ its. is_none (bidding_of its)) more ≡ true
 
--- so it is in each company's turn
+-- a company's turn adds only events that say nothing of bids
 abbrev pub TurnsSayNoBid : Type 0
 TurnsSayNoBid =
     (file : List ℕ) (round : Round) (company : Company) (old new : Game) →

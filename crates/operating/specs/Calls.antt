@@ -1,6 +1,7 @@
--- What is asked of a runner in the course of play. A course of play leads from somewhere to somewhere else, or to a
--- fault that breaks it off; and it makes calls of the runner, in order. Of courses one after another, the calls of the
--- second come after those of the first; where the first is broken off, the second does not begin.
+-- What play calls a runner for. A course of play leads from somewhere to somewhere else, or to a
+-- fault that breaks it off; and it makes calls of the runner, in order. Of courses one after
+-- another, the calls of the second come after those of the first. If the first is broken off, the
+-- second does not begin.
 use Rattle.std.specs.Prelude.{◌≡◌, ◌⊎◌, ℕ, zero, suc, ℤ, List, [], ◌∷◌, ◌++◌, Result, Ok, Err}
 use Rattle.legal_runs.specs.declared.runner.RunnerFault.{RunnerFault}
 use Rattle.reach.specs.Position.{Position}
@@ -8,7 +9,7 @@ use Rattle.tables.specs.declared.rolling_stock.Kind.{Kind}
 use Rattle.tables.specs.declared.roster.Company.{Company}
 use Rattle.tables.specs.declared.round.Round.{Round}
 
--- a call of a runner: what it was asked, and its answer
+-- a call of a runner: its arguments, and its result
 pub record Call : Type 0 where
   pub position : Position
   pub round : Round
@@ -16,7 +17,7 @@ pub record Call : Type 0 where
   pub trains : List Kind
   pub answer : Result ℤ RunnerFault
 
--- what a runner makes of a call: its value before, what it was asked, its answer, and its value after
+-- what a runner makes of a call: its value before, the arguments, the result, and its value after
 abbrev pub Earns : Type 0 → Type 1
 Earns Runner = Runner → Position → Round → Company → List Kind → Result ℤ RunnerFault → Runner → Type 0
 
@@ -35,7 +36,7 @@ Makes earns before Are after = (calls : List Call) × Are calls × AreMade earns
 abbrev pub Course : Type 0 → Type 0 → Type 0 → Type 1
 Course A B Fault = A → Result B Fault → List Call → Type 0
 
--- a course that makes no call: it leads so, or memory is refused
+-- a course that makes no call: it leads so, or allocation fails
 abbrev pub Unasked : {A B Fault : Type 0} → Fault → (A → B → Type 0) → Course A B Fault
 Unasked memory leads from (Ok to) calls = leads from to × (calls ≡ [])
 Unasked memory leads from (Err fault) calls = (fault ≡ memory) × (calls ≡ [])
@@ -68,13 +69,13 @@ TimesThen (suc times) course last = Then course (TimesThen times course last)
 abbrev pub SomeTimesThen : {A B Fault : Type 0} → Course A A Fault → Course A B Fault → Course A B Fault
 SomeTimesThen course last from outcome calls = (times : ℕ) × TimesThen times course last from outcome calls
 
--- a course whose faults bear another name
+-- a course whose faults have another name
 abbrev pub Named : {A B Fault Other : Type 0} → (Fault → Other) → Course A B Fault → Course A B Other
 Named name course from (Ok to) calls = course from (Ok to) calls
 Named {Fault = Fault} name course from (Err named) calls =
     (fault : Fault) × (named ≡ name fault) × course from (Err fault) calls
 
--- a call that was not answered, for this fault
+-- a call that failed, for this fault
 abbrev pub unanswered : RunnerFault → Call → Call
 unanswered why call = record call { answer = Err why }
 
@@ -83,7 +84,8 @@ pub record AreFirst (some all : List Call) : Type 0 where
   pub later : List Call
   pub are : all ≡ some ++ later
 
--- some calls are the first of all up to their last, which asks what the next of all asks and was not answered
+-- some calls are the first of all up to their last, which has the arguments of the next of all, and
+-- failed
 pub record AreCutShort (why : RunnerFault) (some all : List Call) : Type 0 where
   pub earlier : List Call
   pub next : Call
@@ -91,8 +93,8 @@ pub record AreCutShort (why : RunnerFault) (some all : List Call) : Type 0 where
   pub are : all ≡ earlier ++ next ∷ later
   pub cut : some ≡ earlier ++ unanswered why next ∷ []
 
--- the calls of a course that was broken off are a prefix of all its calls: where memory was refused, the first of them;
--- or those up to one that was not answered, of which the fault tells
+-- The calls of a course that was broken off are a prefix of all its calls. If allocation failed,
+-- they are the first of them; otherwise those up to one that failed, which the fault names.
 abbrev pub IsPrefix : {Fault : Type 0} → Fault → (Fault → RunnerFault → Call → Type 0) → Fault → List Call → List Call
     → Type 0
 IsPrefix memory Tells fault some all =

@@ -1,5 +1,6 @@
--- A company's turn as it is held while its lines are ruled: the company and its president, the round, the game so far,
--- how far the turn has come, and a board that has the first of the tiles and tokens that were laid.
+-- A company's turn while its lines are ruled: the company and its president, the round, the game so
+-- far, and how far the turn has come. It also has a board with the first of the tiles and tokens
+-- that were laid.
 use Rattle.std.specs.Prelude.{◌≡◌}
 use Rattle.history.specs.Sound.{IsSound}
 use Rattle.operating.specs.MapState.{IsPrefix}
@@ -15,8 +16,8 @@ pub record IsInOrder (turn : CompanyTurn) : Type 0 where
   pub sound : IsSound turn.history
   pub prefix : IsPrefix turn.board.value turn.history.events
 
--- a turn has gone on: it is that of the same company in the same round, its list is sound, and its board has the first of
--- what had been laid before
+-- A turn has gone on. It is that of the same company in the same round, its list is sound, and its
+-- board has the first of what had been laid before.
 pub record GoesOn (old new : CompanyTurn) : Type 0 where
   pub by : new.by ≡ old.by
   pub round : new.round ≡ old.round

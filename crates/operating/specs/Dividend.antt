@@ -1,8 +1,9 @@
--- What becomes of what the trains of a company earned in its turn. Where it pays, the bank pays each seat a share of
--- the revenue for each share of the company that the seat holds, seat by seat, and then the company as much for those
--- of the bank pool; those of the initial offering are paid nothing. Its token on the chart moves right. Where it
--- withholds, the bank pays the company all of it, and its token moves left. Either needs a turn that is not past its
--- pay, and to pay, a revenue over 0; the turn is then past it.
+-- What becomes of what the trains of a company earned in its turn. If it pays, the bank pays each
+-- seat a tenth of the revenue for each share of the company that the seat holds, seat by seat. Then
+-- it pays the company as much for each of those in the bank pool; those of the initial offering are
+-- paid nothing. Its token on the chart moves right. If it withholds, the bank pays the company all
+-- of it, and its token moves left. Either needs a turn that is not past its pay, and to pay needs a
+-- revenue over 0; the turn is then past it.
 use Rattle.std.specs.Prelude.{ℕ, ◌==◌, ◌*◌, ◌/◌, Bool, ◌||◌, nat_lt, if◌then◌else◌, List, [], ◌∷◌, Option, option_map}
 use Rattle.std.specs.Prelude.{pos, ◌-ℤ◌, ◌≤ℤ◌}
 use Rattle.board.specs.Turn.{place_of_step}
@@ -77,6 +78,7 @@ paid_out game company revenue = moved_right (all_paid company revenue game) comp
 abbrev pub is_past_pay : Progress → Bool
 is_past_pay progress = nat_lt (place_of_step step.Pay) (place_of_step progress.pointer)
 
+-- a rule of PAY and WITHHOLD, and whether it is broken
 abbrev rule : PayRule → Bool → Rule PayRule
 rule code broken = record { code = code; broken = broken }
 
@@ -84,23 +86,24 @@ rule code broken = record { code = code; broken = broken }
 abbrev pub pay_judgement : Progress → Option PayRule
 pay_judgement progress = first_broken (rule NothingToPay (is_past_pay progress || (progress.runs.revenue == 0)) ∷ [])
 
--- and the rule that WITHHOLD breaks
+-- the rule that WITHHOLD breaks, if it breaks it
 abbrev pub withhold_judgement : Progress → Option PayRule
 withhold_judgement progress = first_broken (rule NothingToPay (is_past_pay progress) ∷ [])
 
--- after this line, where this rule refuses its order, if one does; else the game is as given
+-- after this line, with the rule that refuses its order, if one does; otherwise the game is as
+-- given
 abbrev pub pay_ruled : Operator → InTurn → Numbered → Order → Option PayRule → (Game → Game) → InTurn
 pay_ruled by turn line order broken act =
     ruled by turn line order (option_map refusal.Pay broken)
     (λ (after : InTurn). in_turn (act after.game) (pay_done after.progress))
 
--- after an order to pay in this line
+-- after a PAY in this line
 abbrev pub after_pay : Operator → InTurn → Numbered → Order → InTurn
 after_pay by turn line order =
     pay_ruled by turn line order (pay_judgement turn.progress)
     (λ game. paid_out game by.company turn.progress.runs.revenue)
 
--- after an order to withhold
+-- after a WITHHOLD
 abbrev pub after_withhold : Operator → InTurn → Numbered → Order → InTurn
 after_withhold by turn line order =
     pay_ruled by turn line order (withhold_judgement turn.progress)

@@ -1,6 +1,7 @@
--- What the trains of a company have done in its turn: how many of each kind have run, by the place of the kind; the
--- borders that are used; and what the runs earned. They earned at most 160 dollars for each border that is used, or
--- else the greatest revenue, which is at most 50,000 dollars.
+-- What the trains of a company have done in its turn. It has how many of each kind have run, by the
+-- place of the kind, the borders that are used, and what the runs earned. They earned at most 160
+-- dollars for each border that is used, or otherwise the greatest revenue, which is at most 50,000
+-- dollars.
 use Rattle.std.specs.Prelude.{◌≡◌, ℕ, ◌+◌, ◌*◌, ◌≤◌, Bool, List, length, ℤ}
 use Rattle.legal_runs.specs.Law.{unused}
 

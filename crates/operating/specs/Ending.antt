@@ -1,5 +1,6 @@
--- The end of a company's turn. A purchase is due where the company has no train and could run a 2-train: it is made, or
--- its president is bankrupt. Where none is due, the RAISE lines of the company's orders are refused.
+-- The end of a company's turn. A purchase is due if the company has no train and could run a
+-- 2-train: it is made, or its president is bankrupt. If none is due, the RAISE lines of the
+-- company's orders are refused.
 use Rattle.std.specs.Prelude.{◌≡◌, ◌⊎◌, false, List}
 use Rattle.board_state.specs.MapState.{position_of}
 use Rattle.legal_runs.specs.TwoTrain.{CanRun}
@@ -15,7 +16,8 @@ use Rattle.tables.specs.declared.roster.Company.{Company}
 abbrev pub IsDue : Game → Company → Type 0
 IsDue game company = (has_trains game.events company ≡ false) × CanRun (position_of (map_state_now game.events)) company
 
--- the end of a company's turn leads to new, where these are the company's orders: by a purchase that is due, or none is
+-- the end of a company's turn leads to new, with these as the company's orders: by a purchase that
+-- is due, or none is due
 abbrev pub EndLeads : Operator → List Numbered → Game → Game → Type 0
 EndLeads by lines game new =
     (IsDue game by.company × (new ≡ after_forced by lines game))

@@ -1,5 +1,6 @@
--- In a company's turn: the game so far, how far the turn has come, and what its trains have done. The steps of the turn
--- are lay, token, run, pay and trains, and a step goes over them.
+-- In a company's turn: the game so far, how far the turn has come, and what its trains have done.
+-- The steps of the turn are lay, token, run, pay and trains, and obeyed orders move the turn past
+-- them.
 use Rattle.std.specs.Prelude.{Bool, false, not, ◌||◌, nat_lt, List, Option, replicate, pos}
 use Rattle.board.specs.Powers.{is_cs_lay, is_dh_lay}
 use Rattle.board.specs.Turn.{place_of_step}
@@ -25,7 +26,8 @@ no_runs = record { trains = replicate 6 (pos 0); borders = replicate 279 false; 
 abbrev pub at_start : Progress
 at_start = record { pointer = step.Lay; lay_used = false; dh_laid = false; best_run = false; runs = no_runs }
 
--- once a tile is laid: CS's lay leaves the lay of the turn as it is, and DH's is kept in mind for its token
+-- once a tile is laid: CS's lay leaves the lay of the turn as it is, and DH's is remembered for its
+-- token
 abbrev pub lay_done : List Lay → Asker → Lay → Progress → Progress
 lay_done lays asker lay progress =
     record progress {
@@ -59,7 +61,7 @@ abbrev pub line_recorded : Operator → InTurn → Numbered → Ruling → InTur
 line_recorded by turn line ruling = in_turn (with_event turn.game (event.Ruled by.president line.number ruling))
     turn.progress
 
--- after this line, whose order breaks this rule first, or none: it is done then
+-- after this line, whose order breaks this rule first, or none: then it is done
 abbrev pub ruled : Operator → InTurn → Numbered → Order → Option Refusal → (InTurn → InTurn) → InTurn
 ruled by turn line order broken act =
     done (λ (after : InTurn) (its : Order). act after) (line_recorded by turn line (judged line.condition order broken))

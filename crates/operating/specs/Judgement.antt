@@ -1,5 +1,5 @@
--- What the rules say to a lay and a token of a company's turn: those of the board, asked of the tiles and tokens by the
--- list so far.
+-- What the rules of the board make of a lay and a token of a company's turn, by the tiles and
+-- tokens of the list so far.
 use Rattle.std.specs.Prelude.{Bool, true, false, map, Option, Some, None}
 use Rattle.board.specs.declared.asker.Asker.{Asker}
 use Rattle.events.specs.Event.{party_of_company}
@@ -22,7 +22,8 @@ is_players None = false
 is_players (Some (holder.Seat seat)) = true
 is_players (Some (holder.Company owner)) = false
 
--- the company as one that asks to lay a tile or to place a token, where its turn has come so far
+-- the company as one that wants to lay a tile or to place a token, with its turn as far as it has
+-- come
 abbrev pub asker_of : Game → Company → Progress → Asker
 asker_of game company progress =
     record {

@@ -34,7 +34,8 @@ TurnOnlyAdds =
     (file : List ℕ) (round : Round) (company : Company) (old new : Game) → IsCompanyTurn file round company old new
     → OnlyAdds old new
 
--- after its turn a token of the company lies at its home, whatever events come after: no turn places another there for nothing
+-- after its turn a token of the company lies at its home, whatever events come after: no turn
+-- places another there for nothing
 abbrev pub HomeTokenLies : Type 0
 HomeTokenLies =
     (file : List ℕ) (round : Round) (company : Company) (old new : Game) →
@@ -46,7 +47,7 @@ OneCompanyTurn =
     (file : List ℕ) (round : Round) (company : Company) (old a b : Game) →
     IsCompanyTurn file round company old a → IsCompanyTurn file round company old b → a ≡ b
 
--- and it has one
+-- a turn has an outcome
 abbrev pub CompanyTurnEnds : Type 0
 CompanyTurnEnds =
     (file : List ℕ) (round : Round) (company : Company) (old : Game)

@@ -1,5 +1,6 @@
--- The runs of a company's turn share no border. Line by line the walks of the runs that are obeyed are set down, the
--- latest in front; a run that is obeyed is legal where the borders are used that these walks cross.
+-- The runs of a company's turn share no border. Line by line the walks of the runs that are obeyed
+-- are collected, the latest first. A run that is obeyed is legal over the borders that these walks
+-- have left free.
 use Rattle.std.specs.Prelude.{◌≡◌, Bool, true, false, List, [], ◌∷◌, ◌++◌, Result, Ok, Err}
 use Rattle.legal_runs.specs.Legal.{IsLegalRun, all_crossed}
 use Rattle.totals.specs.LookBack.{Game}
@@ -29,7 +30,7 @@ walk_ordered company turn (order.Run kind run) =
     walk_if_ran (steps_now turn.game.events run) (judged_run turn company kind run)
 walk_ordered company turn other = []
 
--- there is none where the condition of the order holds it up
+-- there is none if the condition of the order is not met
 abbrev pub walk_asked : Company → InTurn → Order → Bool → List (List Step)
 walk_asked company turn its true = []
 walk_asked company turn its false = walk_ordered company turn its
@@ -39,16 +40,16 @@ abbrev pub walk_obeyed : Company → InTurn → Numbered → Result Order Fault 
 walk_obeyed company turn line (Ok its) = walk_asked company turn its (is_held turn.game.events line.condition its)
 walk_obeyed company turn line (Err fault) = []
 
--- lines of a company's orders lead from a turn to new, one after another; to the walks before them those of their
--- obeyed runs come, which makes all
+-- Lines of a company's orders lead from a turn to new, one after another. The walks of their obeyed
+-- runs are added to the walks before them, which makes all.
 abbrev pub LinesRun : Operator → InTurn → List (List Step) → List Numbered → InTurn → List (List Step) → Type 0
 LinesRun by turn before [] new all = (new ≡ turn) × (all ≡ before)
 LinesRun by turn before (line ∷ lines) new all =
     (next : InTurn) × LineLeads by turn line next × LinesRun by next
     (walk_obeyed by.company turn line line.reading ++ before) lines new all
 
--- A run that is obeyed, once some lines of the company's turn have been ruled, is legal where the borders are used
--- that the walks of the runs cross which were obeyed before it in the turn.
+-- Some lines of the company's turn have been ruled. A run that is then obeyed is legal over the
+-- borders that the runs obeyed before it in the turn have left free.
 abbrev pub ObeyedRunsAreLegal : Type 0
 ObeyedRunsAreLegal =
     (by : Operator) (game : Game) (lines : List Numbered) (turn : InTurn) (before : List (List Step)) (kind : Kind)

@@ -1,5 +1,6 @@
--- What lies on the map by a list of events: the tiles and tokens that were laid, in the phase that has come. A board
--- that is kept through a turn has the first of them, and is brought the others when it is asked for.
+-- What lies on the map by a list of events: the tiles and tokens that were laid, in the phase that
+-- has come. A board that is kept through a turn has the first of them, and gets the others when it
+-- is used.
 use Rattle.std.specs.Prelude.{◌≡◌, List, ◌++◌}
 use Rattle.board_state.specs.MapState.{MapState, map_state_of}
 use Rattle.events.specs.declared.event.Event.{Event}

@@ -1,7 +1,8 @@
--- The runs of a company's turn. A RUN needs the step of runs or one before it, a train of its kind that has not run in
--- the turn, as all have once the best has been run, and a run that breaks no rule of runs, by the map state and by the
--- borders that the runs before it have used. It then earns what its stops are worth; the train has run, its borders are
--- used, and the turn is past its token. What all runs earn is the revenue of the turn.
+-- The runs of a company's turn. A RUN needs the step of runs or one before it. It needs a train of
+-- its kind that has not run in the turn; once the best has been run, all have. It needs a run that
+-- breaks no rule of runs, by the map state and by the borders that the runs before it have used. It
+-- then earns what its stops are worth; the train has run, its borders are used, and the turn is
+-- past its token. What all runs earn is the revenue of the turn.
 use Rattle.std.specs.Prelude.{◌≡◌, ◌+◌, ◌-◌, ◌*◌, ◌≤◌, ◌^◌, Bool, ◌||◌, nat_lt, List, [], ◌∷◌, length, Option, Some}
 use Rattle.std.specs.Prelude.{None, Result, Ok, Err, ℤ, pos, ◌+ℤ◌, ◌≤ℤ◌, slice_index_or, slice_set}
 use Rattle.std.specs.List.{list_any}
@@ -63,6 +64,7 @@ abbrev pub have_all_run : Game → Company → Progress → Kind → Bool
 have_all_run game company progress kind =
     progress.best_run || le_z (trains_held game.events (Some company) kind) (has_run progress.runs kind)
 
+-- a rule of runs, and whether it is broken
 abbrev pub rule : RunRule → Bool → Rule RunRule
 rule code broken = record { code = code; broken = broken }
 
@@ -72,8 +74,8 @@ rules_of_turn game company progress kind =
     rule run_rule.StepUsed (is_past_runs progress) ∷ rule run_rule.NoTrain (have_all_run game company progress kind)
     ∷ []
 
--- what a run over a position does, where the borders are used that are marked so: what it earns, and the borders that are used
--- once it is run
+-- what a run over a position does, with the borders used that are marked so: what it earns, and the
+-- borders that are used once it is run
 abbrev pub ran_by : Position → Kind → List Bool → List Place → CompletedRun
 ran_by position kind used run = record {
   kind = kind;
@@ -81,7 +83,7 @@ ran_by position kind used run = record {
   borders = marked used (crossed (named_steps position run));
 }
 
--- a run that breaks this rule, if it breaks one, and else does this
+-- a run that breaks this rule, if it breaks one, and otherwise does this
 abbrev pub ran_unless : CompletedRun → Option RunRule → Result CompletedRun RunRule
 ran_unless ran None = Ok ran
 ran_unless ran (Some rule) = Err rule
@@ -119,12 +121,12 @@ with_ran runs ran = record {
 abbrev pub run_done : Progress → CompletedRun → Progress
 run_done progress ran = record progress { pointer = step.Run; runs = with_ran progress.runs ran }
 
--- as many trains of a kind as may have run where one more is still to be counted
+-- as many trains of a kind as may have run if one more is still to be counted
 abbrev pub runs_most : ℤ
 runs_most = pos (2 ^ 63 - 2)
 
--- a train may still do this: few of its kind have run, it marks no more than the borders, and it earns at most 160
--- dollars for each one that it uses, so that it earns little
+-- A train may still do this. Few of its kind have run, and it marks no more than the borders. It
+-- earns at most 160 dollars for each one that it uses, so it earns little.
 pub record IsCounted (runs : Runs) (ran : CompletedRun) : Type 0 where
   pub few : has_run runs ran.kind ≤ℤ runs_most
   pub marks : length ran.borders ≡ length runs.borders
@@ -138,6 +140,6 @@ run_ruled by turn line order (Ok ran) =
     in_turn (with_event (line_recorded by turn line (Obeyed line.condition order)).game
     (event.Runs by.company ran.earned)) (run_done turn.progress ran)
 
--- after an order in this line that a train of a kind runs
+-- after an order in this line to run a train of a kind
 abbrev pub after_run : Operator → InTurn → Numbered → Order → Kind → List Place → InTurn
 after_run by turn line order kind run = run_ruled by turn line order (judged_run turn by.company kind run)

@@ -5,7 +5,7 @@ use Rattle.history.specs.Sound.{IsSound}
 use Rattle.operating.specs.MapState.{IsPrefix}
 use Rattle.operating.specs.declared.table.Table.{Table}
 
--- its list is sound, and its board has the first of the tiles and tokens that were laid
+-- the list of the game is sound, and its board has the first of the tiles and tokens that were laid
 pub record IsLaidOut (table : Table) : Type 0 where
   pub sound : IsSound table.history
   pub prefix : IsPrefix table.board.value table.history.events

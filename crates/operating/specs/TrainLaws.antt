@@ -1,4 +1,5 @@
--- Laws of trains in a company's turn: phases never go back, and the trains that are there stay as many until they rust.
+-- Laws of trains in a company's turn: phases never go back, and the trains that are there stay as
+-- many until they rust.
 use Rattle.std.specs.Prelude.{ℕ, ◌≤◌, List}
 use Rattle.totals.specs.LookBack.{Game}
 use Rattle.totals.specs.Trains.{phase_of}
@@ -14,7 +15,7 @@ PhasesGoOnInTurns =
     (file : List ℕ) (round : Round) (company : Company) (old new : Game) →
     IsCompanyTurn file round company old new → place_of_kind (phase_of old.events) ≤ place_of_kind (phase_of new.events)
 
--- where all trains are there before a company's turn, they are after it
+-- if all trains are there before a company's turn, they are there after it
 abbrev pub TurnsKeepAll : Type 0
 TurnsKeepAll =
     (file : List ℕ) (round : Round) (company : Company) (old new : Game) →

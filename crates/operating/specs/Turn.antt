@@ -1,13 +1,17 @@
--- A company's turn. At its first one it places its home token. Then the orders that its president's sheet has for it
--- are ruled, line by line, each on the list that the one before left: a line's own fault first, then an order without a
--- place in a company's orders, and then the condition of the line, which is asked of that list. Where it is not met the
--- line is refused, and nothing else happens. The steps of the turn are lay, token, run, pay and trains, and a step goes
--- over them: a lay needs the first step and is made once; a token needs one of the first two, and the turn is then past
--- both; a run, or that of the best, needs one of the first three, and the turn is then past its token; to pay or to
--- withhold needs one of the first four, and the turn is then past them. A company whose turn is not past its pay
--- withholds by itself before a TRAIN line is ruled whose condition is met, whatever becomes of that, and when the
--- orders end. It buys a private anywhere in the orders, which leaves the step. The RAISE lines are ruled last, when the
--- company buys the train that it must, or need not.
+-- A company's turn. At its first one it places its home token. Then the orders that its president's
+-- sheet has for it are ruled, line by line, each on the list that the one before left. First comes
+-- a line's own fault, then an order without a place in a company's orders, and then the condition
+-- of the line, by that list. If it is not met the line is refused, and nothing else happens.
+--
+-- The steps of the turn are lay, token, run, pay and trains. A lay needs the first step and is made
+-- once. A token needs one of the first two, and the turn is then past both. A run, or that of the
+-- best, needs one of the first three, and the turn is then past its token. To pay or to withhold
+-- needs one of the first four, and the turn is then past them.
+--
+-- A company whose turn is not past its pay withholds by itself when the orders end. It also does so
+-- before a TRAIN line is ruled whose condition is met, whatever becomes of that line. It buys a
+-- private anywhere in the orders, which leaves the step. The RAISE lines are ruled last, when the
+-- company buys the train that it must buy, or needs none.
 use Rattle.std.specs.Prelude.{◌≡◌, ℕ, Bool, true, false, not, ◌&&◌, if◌then◌else◌, List, [], ◌∷◌, Option, Some, None}
 use Rattle.std.specs.Prelude.{option_map, Result, Ok, Err, ℤ}
 use Rattle.std.specs.Int.RustNames.{unsigned_abs}
@@ -73,7 +77,7 @@ token_answered by turn line place (Ok cost) =
 token_answered by turn line place (Err rule) =
     line_recorded by turn line (Refused (refusal.Token rule) line.condition (order.Token place))
 
--- a LAY in this line leads to new: the rules of lays give an answer, by the map state
+-- a LAY in this line leads to new: the rules of lays give an outcome, by the map state
 pub record LayLeads (by : Operator) (turn : InTurn) (line : Numbered) (lay : Lay) (new : InTurn) : Type 0 where
   pub answer : Result ℤ LayRule
   pub answered : IsLayAnswer (map_state_now turn.game.events) (asker_of turn.game by.company turn.progress) lay answer
@@ -86,13 +90,13 @@ pub record TokenLeads (by : Operator) (turn : InTurn) (line : Numbered) (place :
       answer
   pub after : new ≡ token_answered by turn line place answer
 
--- with what the company withholds by itself, where the turn is not past its pay
+-- with what the company withholds by itself, if the turn is not past its pay
 abbrev pub withheld_if_unpaid : Company → InTurn → InTurn
 withheld_if_unpaid company turn =
     if is_unpaid turn.progress then in_turn (withheld turn.game company turn.progress.runs.revenue)
     (pay_done turn.progress) else turn
 
--- after a TRAIN in this line that orders this purchase, where this rule refuses it, if one does
+-- after a TRAIN in this line that orders this purchase, with the rule that refuses it, if one does
 abbrev pub train_ruled : Operator → InTurn → Numbered → Order → Purchase → Option TrainRule → InTurn
 train_ruled by turn line order purchase broken =
     ruled by turn line order (option_map refusal.Train broken)
@@ -104,7 +108,7 @@ after_buying by turn line kind from =
     train_ruled by turn line (order.BuyTrain kind from) (purchase_of kind from)
     (train_judgement turn.game by.company (purchase_of kind from))
 
--- after a PRIVATE in this line, where this rule refuses it, if one does
+-- after a PRIVATE in this line, with the rule that refuses it, if one does
 abbrev pub private_ruled : Operator → InTurn → Numbered → Private → ℕ → Option PrivateRule → InTurn
 private_ruled by turn line private price broken =
     ruled by turn line (order.BuyOwnedPrivate private price) (option_map refusal.Private broken)
@@ -115,7 +119,8 @@ abbrev pub after_private : Operator → InTurn → Numbered → Private → ℕ 
 after_private by turn line private price =
     private_ruled by turn line private price (private_judgement turn.game by.company private price)
 
--- an order in this line of the company's orders leads to new; those that are not named here have no place there
+-- an order in this line of the company's orders leads to new; those that are not named here have no
+-- place there
 abbrev pub OrderLeads : Operator → InTurn → Numbered → Order → InTurn → Type 0
 OrderLeads by turn line (order.Lay lay) new = LayLeads by turn line lay new
 OrderLeads by turn line (order.Token place) new = TokenLeads by turn line place new
@@ -129,7 +134,7 @@ OrderLeads by turn line (order.BuyOwnedPrivate private price) new = new ≡ afte
 OrderLeads by turn line (order.Raise company shares) new = new ≡ turn
 OrderLeads by turn line other new = new ≡ line_recorded by turn line (Faulty OutOfPlace)
 
--- the orders that are ruled where they are: a RAISE waits for the end, and others have no place
+-- the orders that are ruled at their place: a RAISE waits for the end, and others have no place
 abbrev pub is_ruled_there : Order → Bool
 is_ruled_there (order.Lay lay) = true
 is_ruled_there (order.Token place) = true
@@ -145,7 +150,8 @@ is_ruled_there other = false
 abbrev pub is_held : List Event → Option Condition → Order → Bool
 is_held events condition its = is_ruled_there its && not (is_met events condition)
 
--- an order in this line of the company's orders leads to new, where its condition holds it up, or does not
+-- an order in this line of the company's orders leads to new, given whether its condition is not
+-- met
 abbrev pub AskedLeads : Operator → InTurn → Numbered → Order → Bool → InTurn → Type 0
 AskedLeads by turn line its true new = new ≡ line_recorded by turn line (Refused refusal.Condition line.condition its)
 AskedLeads by turn line its false new = OrderLeads by turn line its new
@@ -164,7 +170,8 @@ abbrev pub LinesLead : Operator → InTurn → List Numbered → InTurn → Type
 LinesLead by turn [] new = new ≡ turn
 LinesLead by turn (line ∷ lines) new = (next : InTurn) × LineLeads by turn line next × LinesLead by next lines new
 
--- the orders for a company in the sheet of its president lead to new; without a president there is none
+-- the orders for a company in the sheet of its president lead to new; without a president there is
+-- none
 abbrev pub CompanyOrdersLead : List ℕ → Round → Company → InTurn → Option Seat → InTurn → Type 0
 CompanyOrdersLead file round company turn None new = new ≡ turn
 CompanyOrdersLead file round company turn (Some seat) new =
@@ -176,8 +183,8 @@ CompanyOrdersEnd file round company game None new = new ≡ game
 CompanyOrdersEnd file round company game (Some seat) new =
     EndLeads (record { company = company; president = seat }) (company_orders_for file round seat.0 company) game new
 
--- the orders of a company, these lines of its sheet, lead to new: line by line, then by what it withholds by itself,
--- and by the end of its turn
+-- the orders of a company, these lines of its sheet, lead to new: line by line, then by what it
+-- withholds by itself, and by the end of its turn
 abbrev pub OrdersLead : Operator → List Numbered → InTurn → Game → Type 0
 OrdersLead by lines turn new =
     (last : InTurn) × LinesLead by turn lines last × EndLeads by lines (withheld_if_unpaid by.company last).game new

@@ -1,6 +1,7 @@
--- The calls that a company's turn makes of a runner: one for each RUN BEST that is obeyed, in order, for the position
--- that lies then and the trains that the company has then. A line that is refused, be it by its condition, or orders
--- something else, makes none. Once a call is not answered the turn is broken off; so it is where memory is refused.
+-- The calls that a company's turn makes of a runner. There is one for each RUN BEST that is obeyed,
+-- in order, for the position that lies then and the trains that the company has then. A line that
+-- is refused, also by its condition, or orders something else, makes none. Once a call fails the
+-- turn is broken off, and so it is if allocation fails.
 use Rattle.std.specs.Prelude.{◌≡◌, ◌≢◌, ◌⊎◌, ℕ, ℤ, pos, Bool, true, false, List, [], ◌∷◌, Option, Some, None, Result}
 use Rattle.std.specs.Prelude.{Ok, Err}
 use Rattle.legal_runs.specs.Set.{IsGreatest}
@@ -28,7 +29,7 @@ use Rattle.tables.specs.declared.roster.Company.{Company}
 use Rattle.tables.specs.declared.round.Round.{Round}
 use Rattle.tables.specs.declared.seat.Seat.{Seat}
 
--- the call for the best runs of a company after these events, and its answer
+-- the call for the best runs of a company after these events, and its result
 abbrev pub asked : Company → Round → List Event → Result ℤ RunnerFault → Call
 asked company round events answer =
     record {
@@ -39,8 +40,8 @@ asked company round events answer =
       answer = answer;
     }
 
--- the runner is asked for the best runs of a company, and tells the greatest revenue or why it does not; or memory is
--- refused before
+-- the runner is called for the best runs of a company, and returns the greatest revenue or why it
+-- does not; or allocation fails before
 abbrev pub Asks : Company → Round → Course (List Event) ℕ RunnerFault
 Asks company round events (Ok revenue) calls =
     IsGreatest (position_now events) company (trains_now events company) revenue
@@ -52,53 +53,55 @@ Asks company round events (Err fault) calls =
 abbrev pub IsCredited : Operator → InTurn → Numbered → ℕ → InTurn → Type 0
 IsCredited by turn line revenue new = new ≡ best_earned by turn line revenue
 
--- the course of a RUN BEST in this line, where this rule refuses it, if one does
+-- the course of a RUN BEST in this line, with the rule that refuses it, if one does
 abbrev pub BestCalls : Operator → Round → Numbered → Option RunRule → Course InTurn InTurn RunnerFault
 BestCalls by round line (Some rule) turn =
     Unasked Memory (λ old new. BestRuled by old line (Some rule) new) turn
 BestCalls by round line None turn =
     Then (Asks by.company round) (Unasked Memory (IsCredited by turn line)) turn.game.events
 
--- that of an order in this line
+-- the course of an order in this line
 abbrev pub OrderCalls : Operator → Round → Numbered → Order → Course InTurn InTurn RunnerFault
 OrderCalls by round line its turn outcome calls =
     ((its ≡ order.RunBest) × BestCalls by round line (best_judgement turn by.company) turn outcome calls)
     ⊎ ((its ≢ order.RunBest) × Unasked Memory (λ old new. OrderLeads by old line its new) turn outcome calls)
 
--- that of an order in this line, where its condition holds it up, or does not: the runner is not asked where it does
+-- the course of an order in this line, given whether its condition is not met: then the runner is
+-- not called
 abbrev pub AskedCalls : Operator → Round → Numbered → Order → Bool → Course InTurn InTurn RunnerFault
 AskedCalls by round line its true = Unasked Memory (λ old new. AskedLeads by old line its true new)
 AskedCalls by round line its false = OrderCalls by round line its
 
--- that of this line with this reading
+-- the course of this line with this reading
 abbrev pub ReadingCalls : Operator → Round → Numbered → Result Order Fault → Course InTurn InTurn RunnerFault
 ReadingCalls by round line (Ok its) turn = AskedCalls by round line its (is_held turn.game.events line.condition its)
     turn
 ReadingCalls by round line (Err fault) turn = Unasked Memory (λ old new. new ≡ line_recorded by old line (Faulty fault))
     turn
 
--- that of a line
+-- the course of a line
 abbrev pub LineCalls : Operator → Round → Numbered → Course InTurn InTurn RunnerFault
 LineCalls by round line = ReadingCalls by round line line.reading
 
--- that of lines, one after another
+-- the course of lines, one after another
 abbrev pub LinesCall : Operator → Round → List Numbered → Course InTurn InTurn RunnerFault
 LinesCall by round [] = Unasked Memory (λ turn new. new ≡ turn)
 LinesCall by round (line ∷ lines) = Then (LineCalls by round line) (LinesCall by round lines)
 
--- that of the orders for a company in the sheet of its president; without a president there is none
+-- the course of the orders for a company in the sheet of its president; without a president there
+-- is none
 abbrev pub CompanyOrdersCall : List ℕ → Round → Company → Option Seat → Course InTurn InTurn RunnerFault
 CompanyOrdersCall file round company None = Unasked Memory (λ turn new. new ≡ turn)
 CompanyOrdersCall file round company (Some seat) =
     LinesCall (record { company = company; president = seat }) round (company_orders_for file round seat.0 company)
 
--- that of what follows the orders in the turn of a company
+-- the course of what follows the orders in the turn of a company
 abbrev pub EndCalls : List ℕ → Round → Company → Option Seat → Course InTurn Game RunnerFault
 EndCalls file round company president =
     Unasked Memory (λ last new. CompanyOrdersEnd file round company (withheld_if_unpaid company last).game president
     new)
 
--- that of a turn once its home token lies
+-- the course of a turn once its home token lies
 abbrev pub BegunCalls : List ℕ → Round → Company → Option Seat → Course InTurn Game RunnerFault
 BegunCalls file round company president =
     Then (CompanyOrdersCall file round company president) (EndCalls file round company president)
@@ -109,7 +112,7 @@ TurnCalls file round company old =
     Then (Unasked Memory (λ game turn. turn ≡ begun game company))
     (BegunCalls file round company (president_of old.events company)) old
 
--- that of the orders of a company, these lines of its sheet
+-- the course of the orders of a company, these lines of its sheet
 abbrev pub OrdersCall : Operator → Round → List Numbered → Course InTurn Game RunnerFault
 OrdersCall by round lines =
     Then (LinesCall by round lines)
@@ -120,8 +123,8 @@ abbrev pub led_to : {A : Type 0} → A → Result (Unit {0}) RunnerFault → Res
 led_to to (Ok done) = Ok to
 led_to to (Err fault) = Err fault
 
--- the calls of a turn that was broken off are a prefix of all its calls: one that was not answered is for this company
--- in this round
+-- the calls of a turn that was broken off are a prefix of all its calls: one that failed is for
+-- this company in this round
 abbrev pub IsTurnPrefix : Round → Company → RunnerFault → List Call → List Call → Type 0
 IsTurnPrefix round company =
     IsPrefix Memory (λ fault why call. (fault ≡ why) × (call.round ≡ round) × (call.company ≡ company))
@@ -139,7 +142,7 @@ SomeTurnCalls =
     (file : List ℕ) (round : Round) (company : Company) (old new : Game) →
     IsCompanyTurn file round company old new → (calls : List Call) × TurnCalls file round company old (Ok new) calls
 
--- where it is broken off, it has made a prefix of them
+-- if it is broken off, it has made a prefix of them
 abbrev pub RefusedTurnCallsAreAPrefix : Type 0
 RefusedTurnCallsAreAPrefix =
     (file : List ℕ) (round : Round) (company : Company) (old new : Game) (fault : RunnerFault)

@@ -8,7 +8,7 @@ use board::Asker;
 use history::{History, Holder, Owners, Party};
 use tables::{Company, Private};
 
-/// A company as the rules of the board see it, where its turn has come so far.
+/// Returns a company as the rules of the board see it, with its turn as far as it has come.
 pub(crate) fn asker(history: &History, company: Company, progress: Progress) -> Asker
     ensures { result ≡ asker_of history.now company progress }
 {
@@ -24,7 +24,7 @@ pub(crate) fn asker(history: &History, company: Company, progress: Progress) -> 
     }
 }
 
-/// Which privates a company owns, by their places in the roster.
+/// Returns which privates a company owns, by their places in the roster.
 fn of_company(owners: &Owners, company: Company) -> [bool; 6]
     ensures { result
         ≡ map (λ private. is_companys company (owner_in owners.now private)) privates }
@@ -39,7 +39,7 @@ fn of_company(owners: &Owners, company: Company) -> [bool; 6]
     ]
 }
 
-/// Which privates players own, by their places in the roster.
+/// Returns which privates players own, by their places in the roster.
 fn of_players(owners: &Owners) -> [bool; 6]
     ensures { result ≡ map (λ private. is_players (owner_in owners.now private)) privates }
 {
@@ -53,7 +53,7 @@ fn of_players(owners: &Owners) -> [bool; 6]
     ]
 }
 
-/// Whether an owner is this company.
+/// Returns whether an owner is this company.
 fn is_companys(company: Company, owner: Option<Holder>) -> bool
     ensures { result ≡ is_companys company owner }
 {
@@ -63,7 +63,7 @@ fn is_companys(company: Company, owner: Option<Holder>) -> bool
     }
 }
 
-/// Whether an owner is a player.
+/// Returns whether an owner is a player.
 fn is_players(owner: Option<Holder>) -> bool
     ensures { result ≡ is_players owner }
 {

@@ -29,16 +29,16 @@ use std::alloc::{AllocError, Global};
 use tables::{Amount, Company, Kind, Money};
 use turns::record;
 
-/// The most trains that a company may have in any phase: this many are kept without memory.
+/// The most trains that a company may have in any phase. This many are kept without allocating.
 const TRAINS_MOST: usize = 4;
 
 /// The trains of a company.
 type CompanyTrains = SmallVec<Kind, TRAINS_MOST>;
 
 impl CompanyTurn {
-    /// Rules an order to run the best in this line, and runs it if it is obeyed: the company is
-    /// credited the greatest revenue, which the runner gives. The errors are the runner's, and refused
-    /// memory.
+    /// Rules a RUN BEST in this line, and runs it if it is obeyed: the company is credited the
+    /// greatest revenue, which the runner finds. The errors are the runner's, and a failed
+    /// allocation.
     pub(crate) fn rule_best<R: Runner>(
         &mut self,
         line: ReadLine,
@@ -64,7 +64,7 @@ impl CompanyTurn {
         Ok(())
     }
 
-    /// Records that the order of this line to run the best breaks a rule.
+    /// Records that the RUN BEST of this line breaks a rule.
     fn refuse_best(&mut self, line: ReadLine, rule: RunRule) -> Result<(), AllocError>
         requires { IsInOrder self.old }
         ensures recorded { OnOk result (state self.new ≡ line_recorded self.old.by (state self.old)
@@ -83,7 +83,7 @@ impl CompanyTurn {
         Ok(())
     }
 
-    /// Records that the order of this line to run the best is obeyed, and what it earns.
+    /// Records that the RUN BEST of this line is obeyed, and what it earns.
     fn obey_best(&mut self, line: ReadLine, revenue: Amount) -> Result<(), AllocError>
         requires order { IsInOrder self.old }
         requires small { revenue ≤ 50000 }
@@ -98,8 +98,8 @@ impl CompanyTurn {
         Ok(())
     }
 
-    /// The greatest revenue of the company's trains by the map state, in dollars: at most 50,000.
-    /// The errors are the runner's, and refused memory.
+    /// Returns the greatest revenue of the company's trains by the map state, in dollars: at most
+    /// 50,000. The errors are the runner's, and a failed allocation.
     fn best_revenue<R: Runner>(&mut self, runner: &mut R) -> Result<Amount, RunnerFault>
         requires { IsInOrder self.old }
         ensures greatest { let events = self.old.history.events in
@@ -125,7 +125,7 @@ impl CompanyTurn {
     }
 }
 
-/// The first rule that an order to run the best breaks.
+/// Returns the first rule that a RUN BEST breaks; `None` if it breaks none.
 fn best_rule(history: &History, company: Company, progress: &Progress) -> Option<RunRule>
     ensures { result ≡ best_judgement (in_turn history.now progress.now) company }
 {
@@ -138,14 +138,14 @@ fn best_rule(history: &History, company: Company, progress: &Progress) -> Option
     }
 }
 
-/// Whether a company has no train, or some train of it has run in the turn.
+/// Returns whether a company has no train, or some train of it has run in the turn.
 fn has_none_to_run(view: &GameView, company: Company, progress: &Progress) -> bool
     ensures { result ≡ has_none_to_run view.now.events.now company progress.now }
 {
     !has_trains(view, company) || progress.has_any_run()
 }
 
-/// A sum of money that is none too great, in dollars.
+/// Returns a sum of money that is not too great, in dollars.
 fn amount(money: Money) -> Amount
     requires least { pos 0 ≤ℤ money }
     requires most { money ≤ℤ pos 50000 }
@@ -154,7 +154,7 @@ fn amount(money: Money) -> Amount
     money as Amount
 }
 
-/// The trains that a company has, kind by kind. It fails only if memory is refused.
+/// Returns the trains that a company has, kind by kind. Fails only if allocation fails.
 fn trains_of(alloc: Global, view: &GameView, company: Company) -> Result<CompanyTrains, AllocError>
     ensures { IfOk result (λ trains. trains.items ≡ trains_now view.now.events.now company) }
 {
@@ -165,7 +165,7 @@ fn trains_of(alloc: Global, view: &GameView, company: Company) -> Result<Company
     Ok(trains)
 }
 
-/// Adds this many trains of a kind at the end; none where the number is under 0.
+/// Adds this many trains of a kind at the end; none if the number is under 0.
 fn push_trains(trains: &mut CompanyTrains, kind: Kind, count: TrainCount) -> Result<(), AllocError>
     ensures { OnOk result (trains.new.items
         ≡ trains.old.items ++ replicate (at_least_zero count) kind) }

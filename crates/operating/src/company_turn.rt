@@ -9,7 +9,7 @@ use history::History;
 use std::alloc::Global;
 use tables::Round;
 
-/// The turn of a company that has a president. The runner is no part of it: RUN BEST alone asks it.
+/// The turn of a company that has a president. The runner is no part of it: only RUN BEST calls it.
 #[derive(Drop)]
 pub(crate) struct CompanyTurn {
     pub(crate) alloc: Global,
@@ -21,14 +21,14 @@ pub(crate) struct CompanyTurn {
     pub(crate) history: History,
     /// How far the turn has come.
     pub(crate) progress: Progress,
-    /// The tiles and tokens that lie on the map, or the first of them: behind a box, so that few bytes
-    /// are handed on with the turn.
+    /// The tiles and tokens that lie on the map, or the first of them: in a box, so that the turn
+    /// is passed on in few bytes.
     pub(crate) board: Box<Board>,
 }
 
 impl CompanyTurn {
-    /// A turn that begins, once the company's home token lies, with a board that has the first of the
-    /// tiles and tokens.
+    /// Returns a turn that begins once the company's home token lies, with a board that has the
+    /// first of the tiles and tokens.
     pub(crate) fn begin(
         alloc: Global,
         by: Operator,

@@ -3,7 +3,7 @@ ghost use Rattle.std.specs.Int.RustNames.{unsigned_abs};
 
 use tables::{Amount, Money};
 
-/// A cost that the rules of the board name, as an event names it.
+/// Returns a cost that the rules of the board name, as an event names it.
 pub(crate) fn amount_of(cost: Money) -> Amount
     requires whole { pos (unsigned_abs cost) ≡ cost }
     requires small { unsigned_abs cost ≤ 1000000 }

@@ -25,7 +25,7 @@ use turns::record;
 const SHARES: Amount = 10;
 
 impl CompanyTurn {
-    /// Rules an order to pay in this line, and pays if it is obeyed.
+    /// Rules a PAY in this line, and pays if it is obeyed.
     pub(crate) fn rule_pay(&mut self, line: ReadLine, order: &Order) -> Result<(), AllocError>
         requires few { self.old.history.seats ≤ 6 }
         requires order { IsInOrder self.old }
@@ -37,7 +37,7 @@ impl CompanyTurn {
         Ok(())
     }
 
-    /// Rules an order to withhold in this line, and withholds if it is obeyed.
+    /// Rules a WITHHOLD in this line, and withholds if it is obeyed.
     pub(crate) fn rule_withhold(&mut self, line: ReadLine, order: &Order) -> Result<(), AllocError>
         requires { IsInOrder self.old }
         ensures turn { OnOk result (state self.new
@@ -54,8 +54,7 @@ impl CompanyTurn {
     }
 }
 
-/// Rules an order to pay in this line, and pays if it is obeyed. Answers how far the turn has come
-/// then.
+/// Rules a PAY in this line, and pays if it is obeyed. Returns how far the turn has then come.
 fn rule_pay(
     history: &mut History,
     by: Operator,
@@ -77,7 +76,7 @@ fn rule_pay(
     Ok(progress.with_pay())
 }
 
-/// The rule that an order to pay breaks, if it breaks it.
+/// Returns the rule that a PAY breaks; `None` if it breaks none.
 fn pay_rule(progress: &Progress) -> Option<PayRule>
     ensures { result ≡ pay_judgement progress.now }
 {
@@ -88,7 +87,7 @@ fn pay_rule(progress: &Progress) -> Option<PayRule>
     }
 }
 
-/// The rule that an order to withhold breaks, if it breaks it.
+/// Returns the rule that a WITHHOLD breaks; `None` if it breaks none.
 fn withhold_rule(progress: &Progress) -> Option<PayRule>
     ensures { result ≡ withhold_judgement progress.now }
 {
@@ -99,7 +98,8 @@ fn withhold_rule(progress: &Progress) -> Option<PayRule>
     }
 }
 
-/// The bank pays a revenue for the shares of a company, and its token on the chart moves right.
+/// Pays a revenue for the shares of a company from the bank, and moves its token on the chart
+/// right.
 fn pay_out(history: &mut History, company: Company, revenue: Amount) -> Result<(), AllocError>
     requires few { history.old.seats ≤ 6 }
     requires small { revenue ≤ 100000 }
@@ -112,8 +112,8 @@ fn pay_out(history: &mut History, company: Company, revenue: Amount) -> Result<(
     Ok(())
 }
 
-/// The bank pays the seats for their shares of a company, seat by seat, and the company for those
-/// of the bank pool.
+/// Pays the seats for their shares of a company from the bank, seat by seat, and the company for
+/// those of the bank pool.
 fn pay_all(history: &mut History, company: Company, revenue: Amount) -> Result<(), AllocError>
     requires few { history.old.seats ≤ 6 }
     requires small { revenue ≤ 100000 }
@@ -130,7 +130,8 @@ fn pay_all(history: &mut History, company: Company, revenue: Amount) -> Result<(
     pay_for(history, company, holder, place, revenue)
 }
 
-/// The bank pays a holder for the shares of a company at a place, of which there are at most ten.
+/// Pays a holder from the bank for the shares of a company at a place, of which there are at most
+/// ten.
 fn pay_for(
     history: &mut History,
     company: Company,
@@ -149,7 +150,8 @@ fn pay_for(
     pay_to(history, company, holder, amount)
 }
 
-/// What the shares of a company at a place are paid, of which there are at most ten.
+/// Returns what the shares of a company at a place are paid, in dollars; there are at most ten of
+/// them.
 fn dividend(history: &History, company: Company, place: Shareholder, revenue: Amount) -> Amount
     requires most { shares_of history.now.events company place ≤ℤ pos 10 }
     requires small { revenue ≤ 100000 }
@@ -160,7 +162,7 @@ fn dividend(history: &History, company: Company, place: Shareholder, revenue: Am
     shares * (revenue / SHARES)
 }
 
-/// The bank pays a holder, if there is something to pay; perhaps that breaks it.
+/// Pays a holder from the bank, if there is something to pay; perhaps that breaks the bank.
 fn pay_to(
     history: &mut History,
     company: Company,

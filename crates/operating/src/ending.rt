@@ -17,8 +17,8 @@ use std::alloc::AllocError;
 use tables::Company;
 
 impl CompanyTurn {
-    /// Ends the turn once the company has paid or withheld: it buys a train if it must, and the RAISE
-    /// lines of its orders are ruled. It fails only if memory is refused.
+    /// Ends the turn once the company has paid or withheld: it buys a train if it must, and the
+    /// RAISE lines of its orders are ruled. Fails only if allocation fails.
     pub(crate) fn end(&mut self, orders: &mut PartsLeft) -> Result<(), AllocError>
         requires few { self.old.history.seats ≤ 6 }
         requires at_table { self.old.by.president.0 < self.old.history.seats }
@@ -38,7 +38,7 @@ impl CompanyTurn {
     }
 }
 
-/// Whether a company must buy a train: it has none, and could run one of kind 2.
+/// Returns whether a company must buy a train: it has none, and could run one of kind 2.
 fn is_due(board: &mut Board, history: &History, company: Company) -> Result<bool, AllocError>
     requires { IsPrefix board.old history.now.events }
     ensures due { IfOk result (λ due. IsTrue due ↔ IsDue history.now company) }

@@ -8,8 +8,9 @@ use map_tables::{Place, Stop, home, joined_stop};
 use std::alloc::AllocError;
 use tables::Company;
 
-/// A company without a token at its home places it there, for nothing. The first token that a
-/// company places in play is that of its home: it has placed none where none lies there.
+/// Places a token of a company without one at its home there, for nothing. The tokens on the map
+/// decide, and not whether the company had a turn. In play the two are the same: the first token
+/// that a company places is that of its home, so it has placed none if none lies there.
 pub(crate) fn place_home(history: &mut History, company: Company) -> Result<(), AllocError>
     requires { IsSound history.old }
     ensures seats { OnOk result (history.new.seats ≡ history.old.seats) }
@@ -26,21 +27,21 @@ pub(crate) fn place_home(history: &mut History, company: Company) -> Result<(), 
     Ok(())
 }
 
-/// Whether a token of a company lies at its home.
+/// Returns whether a token of a company lies at its home.
 fn has_home_token(history: &History, company: Company) -> bool
     ensures { result ≡ has_home_token history.now.events company }
 {
     has_token(history.tokens(), home(company), company)
 }
 
-/// Whether one of some tokens is a company's and lies at a stop.
+/// Returns whether one of some tokens is a company's and lies at a stop.
 fn has_token(tokens: &[(Place, Company)], stop: Stop, company: Company) -> bool
     ensures { result ≡ has_token tokens.now stop company }
 {
     tokens.iter().any(|token| names(stop, token.0) && token.1.place() == company.place())
 }
 
-/// Whether a place names a stop, or a part of it.
+/// Returns whether a place names a stop, or a part of it.
 fn names(stop: Stop, place: Place) -> bool
     ensures { result ≡ names stop place }
 {
@@ -50,7 +51,7 @@ fn names(stop: Stop, place: Place) -> bool
     }
 }
 
-/// Whether two stops are one.
+/// Returns whether two stops are one.
 fn is_same_stop(a: Stop, b: Stop) -> bool
     ensures { result ≡ same_stop a b }
 {

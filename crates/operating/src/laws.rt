@@ -1,4 +1,4 @@
-//! Laws of the definitions, each the contract of a function that does nothing.
+//! The laws of the definitions. Each is the contract of a function that does nothing.
 ghost use Rattle.operating.specs.Dividend.{NoMoreIsPaid};
 ghost use Rattle.operating.specs.Laws.{CompanyOperates, CompanyTurnEnds, HomeTokenLies, OneCompanyTurn, TurnOnlyAdds};
 ghost use Rattle.operating.specs.LegalRuns.{ObeyedRunsAreLegal};
@@ -11,23 +11,24 @@ pub use crate::sale_laws::{sellers_agree_in_turns, turns_say_no_bid};
 pub use crate::tile_laws::all_tiles_are_there;
 pub use crate::train_laws::{phases_go_on_in_turns, turns_keep_all_trains};
 
-/// After a company's turn it has operated, and else only those that had before.
+/// States that after a company's turn that company has operated, and of the others only those that
+/// had before.
 pub fn company_operates()
     ensures { CompanyOperates }
 {}
 
-/// A company's turn adds events to the list, and begins no round.
+/// States that a company's turn adds events to the list, and begins no round.
 pub fn turn_only_adds()
     ensures { TurnOnlyAdds }
 {}
 
-/// After a company's turn a token of it lies at its home, whatever comes after: it places no second
-/// one there for nothing.
+/// States that after a company's turn a token of it lies at its home, whatever comes after: it
+/// places no second one there for nothing.
 pub fn home_token_lies()
     ensures { HomeTokenLies }
 {}
 
-/// A company's turn has at most one outcome.
+/// States that a company's turn has at most one outcome.
 pub fn one_company_turn()
     ensures { OneCompanyTurn }
 {
@@ -37,7 +38,7 @@ pub fn one_company_turn()
     map_tables::laws::values_are_at_most_80();
 }
 
-/// A company's turn has an outcome.
+/// States that a company's turn has an outcome.
 pub fn company_turn_ends()
     ensures { CompanyTurnEnds }
 {
@@ -47,8 +48,8 @@ pub fn company_turn_ends()
     map_tables::laws::values_are_at_most_80();
 }
 
-/// A company's turn makes one list of calls of its runner, and there is one for each turn. Where the
-/// turn is broken off, the calls made are a prefix of that list.
+/// States that a company's turn makes one list of calls of its runner, and that there is one for
+/// each turn. If the turn is broken off, the calls made are a prefix of that list.
 pub fn one_list_of_turn_calls()
     ensures one { OneListOfTurnCalls }
     ensures some { SomeTurnCalls }
@@ -60,14 +61,14 @@ pub fn one_list_of_turn_calls()
     map_tables::laws::values_are_at_most_80();
 }
 
-/// A run that is obeyed is legal where the borders are used that the runs obeyed before it in the
-/// turn have crossed: the runs of a turn share no border.
+/// States that a run that is obeyed is legal over the borders that the runs obeyed before it in the
+/// turn have left free. So the runs of a turn share no border.
 pub fn obeyed_runs_are_legal()
     ensures { ObeyedRunsAreLegal }
 {}
 
-/// In a sound list a company that pays out what its trains earned gets no more than that from the
-/// bank for those who hold its shares.
+/// States that in a sound list a company that pays out what its trains earned gets no more than
+/// that from the bank for those who hold its shares.
 pub fn no_more_is_paid()
     ensures { NoMoreIsPaid }
 {}

@@ -1,7 +1,7 @@
-ghost use Rattle.std.specs.Prelude.{OnOk};
+ghost use Rattle.std.specs.Prelude.{◌≡◌, OnOk};
 ghost use Rattle.operating.specs.CompanyTurn.{GoesOn, IsInOrder, state};
 ghost use Rattle.operating.specs.Turn.{LayLeads};
-ghost use Rattle.order_grammar.specs.declared.order.Order.TheVariants as order;
+ghost use Rattle.order_grammar.specs.declared.order.Order.TheVariants as form;
 ghost use Rattle.sheets.specs.Part.{line_with};
 
 use crate::asker::asker;
@@ -18,20 +18,25 @@ use turns::record;
 
 impl CompanyTurn {
     /// Rules a LAY of this line, and lays the tile if it is obeyed.
-    pub(crate) fn rule_lay(&mut self, line: ReadLine, lay: Lay) -> Result<(), AllocError>
-        requires { IsInOrder self.old }
+    pub(crate) fn rule_lay(
+        &mut self,
+        line: ReadLine,
+        order: &Order,
+        lay: Lay,
+    ) -> Result<(), AllocError>
+        requires order { IsInOrder self.old }
+        requires is { order.now ≡ form.Lay lay }
         ensures turn { OnOk result (LayLeads self.old.by (state self.old)
-            (line_with line (order.Lay lay)) lay (state self.new)) }
+            (line_with line (form.Lay lay)) lay (state self.new)) }
         ensures order { OnOk result (GoesOn self.old self.new) }
     {
         let board = &mut *self.board;
         update_map_state(board, &self.history)?;
-        let order = Order::Lay(lay);
         let by = self.by;
         let asker = asker(&self.history, by.company, self.progress);
         match board.try_lay(&asker, lay) {
             Ok(cost) => {
-                record(&mut self.history, by.president, line, &order, None)?;
+                record(&mut self.history, by.president, line, order, None)?;
                 let company = by.company;
                 let cost = amount_of(cost);
                 self.history.append(Event::Laid { company, lay, cost })?;
@@ -40,7 +45,7 @@ impl CompanyTurn {
             }
             Err(LayFault::Rule(rule)) => {
                 let refusal = Refusal::Lay(rule);
-                record(&mut self.history, by.president, line, &order, Some(refusal))?;
+                record(&mut self.history, by.president, line, order, Some(refusal))?;
                 Ok(())
             }
             Err(LayFault::Memory(error)) => Err(error),

@@ -1,21 +1,25 @@
 //! Operating rounds: the turn of a company.
 //!
-//! At its first turn a company places its home token. Then the orders are ruled that its president has for it: it may
-//! lay a tile, place a token, run its trains, by orders of their own or at their best, pay out or withhold what they
-//! earned, and buy trains and privates. A line may be under a condition, which is asked as the line is taken up, before
-//! all that it brings. The steps of the turn are in order, and a step goes over them; an order for a step that is past
-//! is refused. A company that has neither paid nor withheld does so by itself before it buys trains, and at the end;
-//! its token on the chart then moves left. Last, a company without a train that could run one must buy one, for which
-//! its president may have to pay and to sell what he holds; if he cannot pay, he is bankrupt.
+//! At its first turn a company places its home token. Then the orders that its president has for it
+//! are ruled. It may lay a tile, place a token, run its trains, by orders of their own or at their
+//! best, pay out or withhold what they earned, and buy trains and privates. A line may be under a
+//! condition, which is checked as the line is taken up, before all that it brings. The steps of the
+//! turn are in order, and an obeyed order moves the turn past them; an order for a step that is
+//! past is refused. A company that has neither paid nor withheld does so by itself before it buys
+//! trains, and at the end; its token on the chart then moves left. Last, a company without a train
+//! that could run one must buy one. Its president may have to pay for it and to sell shares; a
+//! president who cannot pay is bankrupt.
 //!
-//! What it buys is ruled by `purchases`, and the train that it must buy by `forced_purchase`.
+//! `purchases` rules what it buys, and `forced_purchase` the train that it must buy.
 //!
-//! Reading order: `runs` (what its trains have done), `progress` (how far the turn has come), `company_turn` (all that
-//! lasts for the turn: the functions that rule a line are its methods), `table` (the game and its board between turns),
-//! `map_state` (the tiles and tokens on the map), `asker` (the company as the rules of the board see it), `home`, `lay`
-//! and `token` (what orders do) with `cost`, `running`, `best`, `withholding`, `dividend`, `train`, `private` (that it
-//! buys), `turn` (the company's orders), `ending` (what it must buy), `playing`, `laws` (what holds of every turn),
-//! `train_laws`, `tile_laws`, `private_laws`, `sale_laws`, `forced_laws`, `best_laws`.
+//! Reading order: `runs` (what its trains have done), `progress` (how far the turn has come),
+//! `company_turn` (all that lasts for the turn: the functions that rule a line are its methods),
+//! `table` (the game and its board between turns), `map_state` (the tiles and tokens on the map),
+//! `asker` (the company as the rules of the board see it), `home`, `lay` and `token` (what orders
+//! do) with `cost`, `running`, `best`, `withholding`, `dividend`, `train`, `private` (that it
+//! buys), `turn` (the company's orders), `ending` (what it must buy), `playing`, `laws` (what holds
+//! of every turn), `train_laws`, `tile_laws`, `private_laws`, `sale_laws`, `forced_laws`,
+//! `best_laws`.
 #![tactic(auto)]
 
 mod asker;

@@ -23,10 +23,12 @@ use std::alloc::Global;
 use tables::{Company, Round};
 
 /// Plays the turn of a company in an operating round, with the sheets for it. The list of events
-/// must be sound, and its seats those of the sheets' players; the company has floated. It is meant
-/// for one that has not operated in this round. The runner gives the greatest revenue where the
-/// company is ordered to run its best. An `Err` comes from refused memory, or from a runner that
-/// refuses to answer, and the game is dropped.
+/// must be sound, and its seats must be those of the sheets' players; the company has floated. It
+/// is meant for one that has not operated in this round. The turn begins with HOME if no token of
+/// the company lies at its home. In play that is at its first turn. In a list that no play makes,
+/// the tokens on the map decide, and not which turns or HOME events there were. The runner finds
+/// the greatest revenue if the company is ordered to run its best. The error comes from a failed
+/// allocation, or from a runner that refuses, and the game is dropped.
 pub fn play_company<R: Runner>(
     alloc: Global,
     history: History,
@@ -73,7 +75,7 @@ pub fn play_on<R: Runner>(
 {
     let Table { mut history, board } = table;
     let president = history.now().president(company);
-    // For the proof alone: the answer is at most six, and so the seats of the game are.
+    // For the proof alone: the number is at most six, and so is that of the seats of the game.
     let _few = sheets.seats();
     place_home(&mut history, company)?;
     let Some(president) = president else {
@@ -91,8 +93,8 @@ pub fn play_on<R: Runner>(
 }
 
 impl CompanyTurn {
-    /// Plays the turn once the company's home token lies: rules its orders, lets it withhold where it has
-    /// neither paid nor withheld, and ends the turn.
+    /// Plays the turn once the company's home token lies: rules its orders, lets it withhold if it
+    /// has neither paid nor withheld, and ends the turn.
     fn play<R: Runner>(&mut self, orders: &PartsLeft, runner: &mut R) -> Result<(), RunnerFault>
         requires few { self.old.history.seats ≤ 6 }
         requires at_table { self.old.by.president.0 < self.old.history.seats }

@@ -14,24 +14,25 @@ use tables::{Amount, Private};
 use turns::record;
 
 impl CompanyTurn {
-    /// Rules a PRIVATE of this line, and buys the private if it is obeyed. The turn has come as far as
-    /// before.
+    /// Rules a PRIVATE of this line, and buys the private if it is obeyed. The turn stays as far as
+    /// it had come.
     pub(crate) fn rule_private(
         &mut self,
         line: ReadLine,
+        order: &Order,
         private: Private,
         price: Amount,
     ) -> Result<(), AllocError>
-        requires { IsInOrder self.old }
+        requires order { IsInOrder self.old }
+        requires is { order.now ≡ BuyOwnedPrivate private price }
         ensures turn { OnOk result (state self.new
             ≡ after_private self.old.by (state self.old)
             (line_with line (BuyOwnedPrivate private price)) private price) }
         ensures order { OnOk result (GoesOn self.old self.new) }
     {
         let by = self.by;
-        let order = Order::BuyOwnedPrivate { private, price };
         let broken = judge_private(&self.history, by.company, private, price).map(Refusal::Private);
-        if record(&mut self.history, by.president, line, &order, broken)? {
+        if record(&mut self.history, by.president, line, order, broken)? {
             buy_private(&mut self.history, by.company, private, price)?;
         }
         Ok(())

@@ -25,7 +25,7 @@ pub(crate) struct Progress {
 }
 
 impl Progress {
-    /// A turn that begins.
+    /// Returns the progress of a turn that begins.
     pub(crate) fn start() -> Progress
         ensures { result ≡ at_start }
     {
@@ -38,8 +38,8 @@ impl Progress {
         }
     }
 
-    /// Once a tile is laid: CS's lay leaves the lay of the turn as it is, and DH's is kept in mind
-    /// for its token.
+    /// Returns the progress once a tile is laid: CS's lay leaves the lay of the turn as it is, and
+    /// DH's is remembered for its token.
     pub(crate) fn with_lay(self, board: &Board, asker: &Asker, lay: Lay) -> Progress
         ensures { result ≡ lay_done board.now.lays asker.now lay self }
     {
@@ -50,7 +50,7 @@ impl Progress {
         }
     }
 
-    /// Once a token is placed: the turn is past its lay, too.
+    /// Returns the progress once a token is placed: the turn is past its lay, too.
     pub(crate) fn with_token(self) -> Progress
         ensures { result ≡ token_done self }
     {
@@ -60,7 +60,7 @@ impl Progress {
         }
     }
 
-    /// Once a train has run: the turn is past its token, too.
+    /// Returns the progress once a train has run: the turn is past its token, too.
     pub(crate) fn with_run(self, ran: CompletedRun) -> Progress
         requires { IsCounted self.runs ran }
         ensures { result ≡ run_done self ran }
@@ -71,7 +71,7 @@ impl Progress {
         }
     }
 
-    /// Once the company has run its best, for this much.
+    /// Returns the progress once the company has run its best, for this much.
     pub(crate) fn with_best(self, revenue: Amount) -> Progress
         requires { revenue ≤ 50000 }
         ensures { result ≡ best_done self revenue }
@@ -84,7 +84,7 @@ impl Progress {
         }
     }
 
-    /// Once the company has paid or withheld.
+    /// Returns the progress once the company has paid or withheld.
     pub(crate) fn with_pay(self) -> Progress
         ensures { result ≡ pay_done self }
     {
@@ -94,28 +94,28 @@ impl Progress {
         }
     }
 
-    /// Whether the turn is past its runs.
+    /// Returns whether the turn is past its runs.
     pub(crate) fn is_past_runs(&self) -> bool
         ensures { result ≡ is_past_runs self.now }
     {
         TurnStep::Run.number() < self.pointer.number()
     }
 
-    /// Whether some train has run in the turn.
+    /// Returns whether some train has run in the turn.
     pub(crate) fn has_any_run(&self) -> bool
         ensures { result ≡ has_any_run self.now }
     {
         self.best_run || self.runs.are_any()
     }
 
-    /// Whether the turn is past its pay.
+    /// Returns whether the turn is past its pay.
     pub(crate) fn is_past_pay(&self) -> bool
         ensures { result ≡ is_past_pay self.now }
     {
         TurnStep::Pay.number() < self.pointer.number()
     }
 
-    /// Whether the turn is not past its pay.
+    /// Returns whether the turn is not past its pay.
     pub(crate) fn is_unpaid(&self) -> bool
         ensures { result ≡ is_unpaid self.now }
     {

@@ -27,7 +27,7 @@ use tables::{Amount, Company, Kind};
 use turns::record;
 
 impl CompanyTurn {
-    /// Rules an order of this line that a train of a kind runs, and lets it run if it is obeyed.
+    /// Rules an order of this line to run a train of a kind, and runs it if the order is obeyed.
     pub(crate) fn rule_run(
         &mut self,
         line: ReadLine,
@@ -45,8 +45,8 @@ impl CompanyTurn {
         self.rule_judged_run(line, order, judged)
     }
 
-    /// What a run of the company's train does, or the first rule that it breaks. The error is
-    /// refused memory.
+    /// Returns what a run of the company's train does, or the first rule that it breaks. Fails only
+    /// if allocation fails.
     fn judge_run(
         &mut self,
         kind: Kind,
@@ -99,8 +99,8 @@ impl CompanyTurn {
     }
 }
 
-/// What a run does by the map state, or the first rule of runs that it breaks. Few trains of its
-/// kind have run before.
+/// Returns what a run does by the map state, or the first rule of runs that it breaks. Few trains
+/// of its kind have run before.
 fn run_on(
     board: &Board,
     company: Company,
@@ -126,7 +126,7 @@ fn run_on(
     }
 }
 
-/// The first rule of the turn that a run of a train of a kind breaks.
+/// Returns the first rule of the turn that a run of a train of a kind breaks.
 fn rule_of_turn(
     history: &History,
     company: Company,
@@ -145,7 +145,7 @@ fn rule_of_turn(
     }
 }
 
-/// Whether each train of a kind that a company has, if any, has run by an order of its own.
+/// Returns whether each train of a kind that a company has, if any, has run by an order of its own.
 fn has_run_all(history: &History, company: Company, kind: Kind, runs: &Runs) -> bool
     ensures all { result ≡ le_z (trains_held history.now.events (Some company) kind) (has_run
         runs.now kind) }

@@ -23,12 +23,12 @@ pub(crate) struct Runs {
     trains: [TrainCount; 6],
     /// The borders that they have crossed.
     pub(crate) borders: Used,
-    /// What they have earned, in dollars: at most 160 for each border that is used, or else the
-    /// greatest revenue.
+    /// What they have earned, in dollars: at most 160 for each border that is used, or otherwise
+    /// the greatest revenue.
     pub(crate) revenue: Amount,
 }
 
-/// To a contract it is the record of its fields.
+/// In a contract it is the record of its fields.
 impl Model for Runs {
     ghost use Rattle.operating.specs.Done.{Done, IsBounded};
 
@@ -56,7 +56,7 @@ impl Runs {
     ghost use Rattle.std.specs.Prelude.{◌≤◌, pos};
     ghost use lib.Signed.{lt_z};
 
-    /// No train has run.
+    /// Returns runs of no train.
     pub(crate) fn none() -> Runs
         ensures { result ≡ no_runs }
     {
@@ -67,7 +67,7 @@ impl Runs {
         }
     }
 
-    /// Once a train has run.
+    /// Returns the runs once a train has run.
     pub(crate) fn with(self, ran: CompletedRun) -> Runs
         requires { IsCounted self ran }
         ensures { result ≡ with_ran self ran }
@@ -81,7 +81,7 @@ impl Runs {
         }
     }
 
-    /// Once the best runs have earned this.
+    /// Returns the runs once the best runs have earned this.
     pub(crate) fn with_revenue(self, revenue: Amount) -> Runs
         requires { revenue ≤ 50000 }
         ensures { result ≡ record self { revenue = revenue } }
@@ -89,14 +89,14 @@ impl Runs {
         Runs { revenue, ..self }
     }
 
-    /// Whether some train has run by an order of its own.
+    /// Returns whether some train has run by an order of its own.
     pub(crate) fn are_any(&self) -> bool
         ensures { result ≡ list_any (λ count. lt_z (pos 0) count) self.now.trains }
     {
         self.trains.iter().any(|count| *count > 0)
     }
 
-    /// How many trains of a kind have run.
+    /// Returns how many trains of a kind have run.
     pub(crate) fn of_kind(&self, kind: Kind) -> TrainCount
         ensures { result ≡ has_run self.now kind }
     {

@@ -16,12 +16,12 @@ use tables::Kind;
 pub struct Table {
     /// The game so far.
     pub history: History,
-    /// The board, behind a box, so that few bytes are handed on with the game.
+    /// The board, in a box, so that the game and the board are passed on in few bytes.
     pub board: Box<Board>,
 }
 
 impl Table {
-    /// A game with a board on which nothing lies yet. It fails only if memory is refused.
+    /// Returns a game with a board on which nothing lies yet. Fails only if allocation fails.
     pub fn lay_out(alloc: Global, history: History) -> Result<Table, AllocError>
         requires { IsSound history }
         ensures history { IfOk result (λ table. table.history ≡ history) }
@@ -32,8 +32,8 @@ impl Table {
     }
 }
 
-/// A board on which nothing lies, in a box. No other function has one among its locals, since it
-/// would pay for its bytes whenever it is called.
+/// Returns a board on which nothing lies, in a box. No other function has a board among its locals,
+/// since every call of it would pay for the board's bytes.
 #[inline(never)]
 fn empty_board(alloc: Global) -> Result<Box<Board>, AllocError>
     ensures { IfOk result (λ board. board.value ≡ map_state_of [] [] kind.Two) }

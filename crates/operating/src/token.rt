@@ -1,7 +1,7 @@
-ghost use Rattle.std.specs.Prelude.{OnOk};
+ghost use Rattle.std.specs.Prelude.{◌≡◌, OnOk};
 ghost use Rattle.operating.specs.CompanyTurn.{GoesOn, IsInOrder, state};
 ghost use Rattle.operating.specs.Turn.{TokenLeads};
-ghost use Rattle.order_grammar.specs.declared.order.Order.TheVariants as order;
+ghost use Rattle.order_grammar.specs.declared.order.Order.TheVariants as form;
 ghost use Rattle.sheets.specs.Part.{line_with};
 
 use crate::asker::asker;
@@ -18,20 +18,25 @@ use turns::record;
 
 impl CompanyTurn {
     /// Rules a TOKEN of this line, and places the token if it is obeyed.
-    pub(crate) fn rule_token(&mut self, line: ReadLine, place: Place) -> Result<(), AllocError>
-        requires { IsInOrder self.old }
+    pub(crate) fn rule_token(
+        &mut self,
+        line: ReadLine,
+        order: &Order,
+        place: Place,
+    ) -> Result<(), AllocError>
+        requires order { IsInOrder self.old }
+        requires is { order.now ≡ form.Token place }
         ensures turn { OnOk result (TokenLeads self.old.by (state self.old)
-            (line_with line (order.Token place)) place (state self.new)) }
+            (line_with line (form.Token place)) place (state self.new)) }
         ensures order { OnOk result (GoesOn self.old self.new) }
     {
         let board = &mut *self.board;
         update_map_state(board, &self.history)?;
-        let order = Order::Token(place);
         let by = self.by;
         let asker = asker(&self.history, by.company, self.progress);
         match board.try_token(&asker, place) {
             Ok(cost) => {
-                record(&mut self.history, by.president, line, &order, None)?;
+                record(&mut self.history, by.president, line, order, None)?;
                 let company = by.company;
                 let cost = amount_of(cost);
                 self.history.append(Event::Token {
@@ -44,7 +49,7 @@ impl CompanyTurn {
             }
             Err(TokenFault::Rule(rule)) => {
                 let refusal = Refusal::Token(rule);
-                record(&mut self.history, by.president, line, &order, Some(refusal))?;
+                record(&mut self.history, by.president, line, order, Some(refusal))?;
                 Ok(())
             }
             Err(TokenFault::Memory(error)) => Err(error),

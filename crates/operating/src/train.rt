@@ -15,15 +15,18 @@ use tables::Kind;
 use turns::record;
 
 impl CompanyTurn {
-    /// Rules a TRAIN of this line, in a turn that is past its pay, and buys the train if it is obeyed.
+    /// Rules a TRAIN of this line, in a turn that is past its pay, and buys the train if it is
+    /// obeyed.
     pub(crate) fn rule_train(
         &mut self,
         line: ReadLine,
+        order: &Order,
         kind: Kind,
         from: TrainSource,
     ) -> Result<(), AllocError>
         requires small { IsSmallOrder (BuyTrain kind from) }
         requires order { IsInOrder self.old }
+        requires is { order.now ≡ BuyTrain kind from }
         ensures turn { OnOk result (state self.new
             ≡ after_buying self.old.by (state self.old) (line_with line (BuyTrain kind from)) kind
             from) }
@@ -32,9 +35,8 @@ impl CompanyTurn {
     {
         let by = self.by;
         let purchase = purchase_of(kind, from);
-        let order = Order::BuyTrain { kind, from };
         let broken = judge_purchase(&self.history, by.company, purchase).map(Refusal::Train);
-        if record(&mut self.history, by.president, line, &order, broken)? {
+        if record(&mut self.history, by.president, line, order, broken)? {
             buy_train(self.alloc, &mut self.history, by.company, purchase)?;
         }
         Ok(())

@@ -45,8 +45,8 @@ impl CompanyTurn {
         Ok(())
     }
 
-    /// Rules a line of the company's orders, and does what it orders if it is obeyed. Its order is put
-    /// in place of another.
+    /// Rules a line of the company's orders, and does what it orders if it is obeyed. Overwrites
+    /// `order`.
     fn rule_line<R: Runner>(
         &mut self,
         line: UnreadLine,
@@ -69,8 +69,8 @@ impl CompanyTurn {
         }
     }
 
-    /// Rules an order in this line. One that is to be ruled where it is is first asked for its
-    /// condition: where that is not met it is refused, and nothing else happens.
+    /// Rules an order in this line. If it is ruled at its place, its condition comes first: if that
+    /// is not met the order is refused, and nothing else happens.
     fn rule_asked<R: Runner>(
         &mut self,
         line: ReadLine,
@@ -119,8 +119,8 @@ impl CompanyTurn {
         record_fault(&mut self.history, self.by.president, line, fault)
     }
 
-    /// Rules an order in this line, which its condition does not hold up, and does it if it is obeyed.
-    /// The runner is asked for the best runs alone.
+    /// Rules an order in this line whose condition is met or absent, and does it if it is obeyed.
+    /// The runner is called only for the best runs.
     fn rule_order<R: Runner>(
         &mut self,
         line: ReadLine,
@@ -144,8 +144,8 @@ impl CompanyTurn {
         }
     }
 
-    /// Rules an order other than RUN BEST. A RAISE is ruled at the end of the turn. An order that is
-    /// not named here has no place.
+    /// Rules an order other than RUN BEST. A RAISE is ruled at the end of the turn. An order that
+    /// is not named here has no place.
     fn rule_other(&mut self, line: ReadLine, order: &Order) -> Result<(), AllocError>
         requires few { self.old.history.seats ≤ 6 }
         requires small { IsSmallOrder order.now }
@@ -156,18 +156,18 @@ impl CompanyTurn {
         ensures order { OnOk result (GoesOn self.old self.new) }
     {
         match order {
-            Order::Lay(lay) => self.rule_lay(line, *lay),
-            Order::Token(place) => self.rule_token(line, *place),
+            Order::Lay(lay) => self.rule_lay(line, order, *lay),
+            Order::Token(place) => self.rule_token(line, order, *place),
             Order::Run { kind, run } => self.rule_run(line, order, *kind, run),
             Order::Pay => self.rule_pay(line, order),
             Order::Withhold => self.rule_withhold(line, order),
             Order::BuyTrain { kind, from } => {
                 self.withhold_if_unpaid()?;
-                self.rule_train(line, *kind, *from)?;
+                self.rule_train(line, order, *kind, *from)?;
                 Ok(())
             }
             Order::BuyOwnedPrivate { private, price } => {
-                self.rule_private(line, *private, *price)
+                self.rule_private(line, order, *private, *price)
             }
             Order::Raise { .. } => Ok(()),
             _ => self.rule_faulty(line.number, Fault::OutOfPlace),
@@ -175,9 +175,9 @@ impl CompanyTurn {
     }
 }
 
-/// Whether an order that is to be ruled where it is in a company's orders has a condition that is
-/// not met. A RAISE is asked for its condition at the end of the turn, and an order without a place
-/// never.
+/// Returns whether an order that is ruled at its place in a company's orders has a condition that
+/// is not met. The condition of a RAISE is checked at the end of the turn, and that of an order
+/// without a place never.
 fn is_held(history: &History, condition: Option<&Condition>, order: &Order) -> bool
     ensures { result
         ≡ is_held history.now.events (option_copied condition.entry) order.now }
@@ -185,8 +185,8 @@ fn is_held(history: &History, condition: Option<&Condition>, order: &Order) -> b
     is_ruled_there(order) && !history.is_met(condition)
 }
 
-/// Whether an order is ruled where it is in a company's orders: a RAISE waits for the end of the
-/// turn, and others have no place.
+/// Returns whether an order is ruled at its place in a company's orders: a RAISE waits for the end
+/// of the turn, and others have no place.
 fn is_ruled_there(order: &Order) -> bool
     ensures { result ≡ is_ruled_there order.now }
 {

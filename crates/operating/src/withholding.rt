@@ -11,7 +11,7 @@ use std::alloc::AllocError;
 use tables::{Amount, Company};
 
 impl CompanyTurn {
-    /// The company withholds by itself where its turn is not past its pay.
+    /// Withholds what the company earned, by itself, if its turn is not past its pay.
     pub(crate) fn withhold_if_unpaid(&mut self) -> Result<(), AllocError>
         requires { IsInOrder self.old }
         ensures turn { OnOk result (state self.new
@@ -32,7 +32,7 @@ impl CompanyTurn {
     }
 }
 
-/// The bank pays a company what it withholds, and its token on the chart moves left.
+/// Pays a company from the bank what it withholds, and moves its token on the chart left.
 pub(crate) fn withhold(
     history: &mut History,
     company: Company,

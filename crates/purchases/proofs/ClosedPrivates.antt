@@ -1,4 +1,5 @@
--- A private that is closed stays so: an event that names an owner names that of a private which is not closed.
+-- A private that is closed stays so: an event that names an owner names that of a private which is
+-- not closed.
 use Rattle.std.proofs.Common.{◌≡◌, Bool, true, false, ◌&&◌, if◌then◌else◌, List, [], ◌∷◌, ◌++◌, Option, Some, None}
 use Rattle.std.proofs.Common.{is_some, is_none, refl, sym, ap, ◌∙◌}
 use Rattle.std.specs.Option.{option_flatten, option_or}

@@ -1,5 +1,5 @@
--- The trains of a kind that are with the bank, the pool and the companies are as many as there were at first until
--- they rust, and none after.
+-- The trains of a kind that are with the bank, the pool and the companies are as many as there were
+-- at first until they rust, and none after.
 use Rattle.std.proofs.Common.{◌≡◌, ℕ, ◌<◌, Bool, true, false, ◌&&◌, List, [], ◌∷◌, ◌++◌, Option, None, unwrap_or, pos}
 use Rattle.std.proofs.Common.{◌-ℤ◌, refl, sym, ap, subst, ◌∙◌, arith}
 use Rattle.std.proofs.lemmas.Int.{ints}
@@ -145,7 +145,7 @@ others_keep_all events event none no_phase all =
           (subst (λ n. 0 < n) (sold_same events event later none) sold);
     }
 
--- and nobody has fewer than none then
+-- and nobody has a negative number then
 pub others_keep_standing : OthersKeepStanding
 others_keep_standing events event none no_phase are_there =
     record {

@@ -1,5 +1,5 @@
--- After the purchase of a train by the rules nobody has fewer than no trains of a kind, and the bank has sold no more
--- of them than there are.
+-- After the purchase of a train by the rules nobody has a negative number of trains of a kind. The
+-- bank has sold no more of them than there are.
 use Rattle.std.proofs.Common.{◌≡◌, ℕ, zero, suc, ◌≤◌, Option, Some, None, pos, ◌≤ℤ◌, refl, arith}
 use Rattle.std.proofs.lemmas.Int.{ints}
 use Rattle.events.specs.declared.event.Event.TheVariants as event

@@ -1,4 +1,5 @@
--- The game can be played on after what a phase brings: a train rusts or is discarded that is there.
+-- The game can be played on after the consequences of a phase: a train rusts or is discarded that
+-- is there.
 use Rattle.std.proofs.Common.{SFits, ◌≡◌, ℕ, not, ◌+◌, ◌<◌, ◌≤◌, Bool, true, false, if◌then◌else◌, List, [], ◌∷◌, ◌++◌}
 use Rattle.std.proofs.Common.{Option, Some, None, ℤ, pos, negsuc, ◌≤ℤ◌, ◌-ℤ◌, ◌+ℤ◌, refl, sym, ap, subst, ◌∙◌, arith}
 use Rattle.std.proofs.Common.{rules}
@@ -25,7 +26,7 @@ use Rattle.tables.specs.declared.rolling_stock.Kind.{Kind}
 use Rattle.tables.specs.declared.rolling_stock.Kind.TheVariants.{Two, Three, Four, Five, Six, Diesel}
 use Rattle.tables.specs.declared.roster.Company.{Company}
 
--- what a phase brings, step by step
+-- the consequences of a phase, step by step
 pub phase_begins : (game recorded rusted closed new : Game) (phase : Kind)
     → recorded ≡ with_event game (event.Phase phase) → rusted ≡ with_rusted phase recorded
     → closed ≡ with_privates_closed phase rusted → new ≡ with_limits_kept closed → new ≡ with_phase game phase
@@ -101,7 +102,7 @@ trade_small : (trade_in : Option Kind) → traded_count trade_in ≤ 1
 trade_small None = omega arith
 trade_small (Some kind) = omega arith
 
--- this many trains less those that are traded in are at the limit, counted so
+-- this many trains minus those that are traded in are at the limit, counted so
 pub at_limit : (sum size : ℤ) (trade_in : Option Kind) (phase : Kind) (traded : ℤ) (limit : ℕ) → sum ≡ size
     → IsModerate size → traded ≡ pos (traded_count trade_in) → limit ≡ limit_of phase
     → le_z (to_z w128 limit) (to_z w128 (of_z w128 (to_z w128 (of_z w128 sum) -ℤ to_z w128 (of_z w128 traded))))

@@ -1,5 +1,5 @@
--- The purchase of a private that breaks no rule: the company can pay it, so the game can be played on once it is
--- made; and the rules say the same after the ruling of the line.
+-- The purchase of a private that breaks no rule. The company can pay for it, so the game can be
+-- played on once it is made. The rules say the same after the ruling of the line.
 use Rattle.std.proofs.Common.{◌≡◌, ℕ, ◌+◌, ◌≤◌, ◌==◌, ◌||◌, Bool, true, false, not, nat_lt, if◌then◌else◌, List, []}
 use Rattle.std.proofs.Common.{◌∷◌, ◌++◌, Option, Some, None, is_some, unwrap_or, ℤ, pos, ◌≤ℤ◌, refl, ap, ◌∙◌}
 use Rattle.std.proofs.Common.{arith}

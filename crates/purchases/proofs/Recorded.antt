@@ -1,4 +1,5 @@
--- A line that was recorded, and whose order is to be done: it breaks no rule, and is recorded as obeyed.
+-- A line that was recorded, and whose order is to be done: it breaks no rule, and is recorded as
+-- obeyed.
 use Rattle.std.proofs.Common.{◌≡◌, true, Option, Some, None, is_none, is_some, refl}
 use Rattle.events.specs.declared.event.Event.TheVariants as event
 use Rattle.events.specs.declared.ruling.Refusal.{Refusal}

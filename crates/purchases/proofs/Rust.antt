@@ -101,7 +101,7 @@ by_train_owner P kind owner other game here kept =
       | inr apart ↦ subst P (sym (others_keep kind owner other (at_least_zero (has kind owner game)) game apart)) kept
     ]
 
--- nobody has fewer than none
+-- nobody has a negative number
 abbrev NoneOwed : Kind → Game → Type 0
 NoneOwed kind game = (owner : Option Company) → pos 0 ≤ℤ has kind owner game
 

@@ -1,4 +1,5 @@
--- Each sale to a company is agreed by the list before it, where one more event that is agreed is added.
+-- Each sale to a company is agreed by the list before it, where one more event that is agreed is
+-- added.
 use Rattle.std.proofs.Common.{◌≡◌, false, List, [], ◌∷◌, ◌++◌, sym, subst}
 use Rattle.std.proofs.lemmas.List.{append_assoc, append-nil}
 use Rattle.events.specs.declared.event.Event.{Event}
@@ -17,7 +18,7 @@ one_more before (event ∷ events) its agreed last = (
       (subst (λ (list : List Event). IsAgreed list its) (sym (append_assoc before (event ∷ []) events)) last),
 )
 
--- of an event that sells nothing to a company nothing is asked
+-- an event that sells nothing to a company needs no agreement
 nothing_asked : (events : List Event) (its : Event) → sells_to_company its ≡ false → IsAgreed events its
 nothing_asked events (event.Train buyer kind (seller.Company from) price) none = absurd (cc)
 nothing_asked events (event.Train buyer kind seller.Bank price) none = tt

@@ -1,5 +1,5 @@
--- The rules of the purchase of a train say the same after a ruling, so a line that breaks none leads where its
--- purchase does.
+-- The rules of the purchase of a train say the same after a ruling, so a line that breaks none
+-- leads where its purchase does.
 use Rattle.std.proofs.Common.{◌≡◌, ℕ, ◌+◌, Bool, true, false, not, nat_lt, ◌==◌, if◌then◌else◌, is_some, ◌||◌, ◌&&◌}
 use Rattle.std.proofs.Common.{cond, List, [], ◌∷◌, ◌++◌, Option, Some, None, ℤ, pos, ◌-ℤ◌, ◌+ℤ◌, unwrap_or, refl}
 use Rattle.std.proofs.Common.{ap, ◌∙◌, arith}

@@ -1,6 +1,7 @@
--- Who sells has agreed. Where no rule refuses a train of a company, that company is another than the buyer, has such
--- a train, and the one who presides over it presides over the buyer too, or has offered exactly this sale in this
--- round; and the price is not 0. Where no rule refuses a private, a player owns it, and he has agreed in the same way.
+-- Who sells has agreed. If no rule refuses a train of a company, that company is another than the
+-- buyer, has such a train, and the price is not 0. Its president presides over the buyer too, or
+-- has offered exactly this sale in this round. If no rule refuses a private, a player owns it, and
+-- they have agreed in the same way.
 use Rattle.std.specs.Prelude.{◌≡◌, ℕ, ◌<◌, true, false, Some, None}
 use Rattle.events.specs.declared.event.Holder.TheVariants as holder
 use Rattle.totals.specs.LookBack.{Game, owner_of}

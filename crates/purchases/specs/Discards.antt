@@ -1,7 +1,8 @@
--- Trains that a company discards. A seat's standing line DISCARD is obeyed where the seat is president of the
--- company and the company has such a train. When a company has too many trains, the obeyed lines of its
--- president in this round serve first, in order, each once; one is passed over where the company has no such
--- train, and may serve later in the round. Where no line serves, the company discards of its least kind.
+-- Trains that a company discards. A seat's standing line DISCARD is obeyed if the seat is president
+-- of the company and the company has such a train. If a company has too many trains, the obeyed
+-- lines of its president in this round come first, in order, each once. A line is passed over if
+-- the company has no such train, and may be used later in the round. If there is no line to use,
+-- the company discards a train of its least kind.
 use Rattle.std.specs.Prelude.{◌==◌, Bool, false, not, ◌||◌, if◌then◌else◌, List, [], ◌∷◌, ◌++◌, Option, Some, None}
 use Rattle.std.specs.Prelude.{is_some, pos}
 use Rattle.std.specs.Int.Signed.{lt_z}
@@ -37,12 +38,12 @@ abbrev pub is_no_discard : List Event → Seat → Company → Kind → Bool
 is_no_discard events seat company kind =
     not (is_president (president_of events company) seat) || not (has_train events company kind)
 
--- the rule of a line DISCARD
+-- the rule of a DISCARD line
 abbrev pub discard_rules : List Event → Seat → Company → Kind → List (Rule TrainRule)
 discard_rules events seat company kind = record { code = NoDiscard; broken = is_no_discard events seat company kind }
     ∷ []
 
--- the rule that a line DISCARD of a seat breaks, if it breaks it
+-- the rule that a DISCARD line of a seat breaks, if it breaks it
 abbrev pub discard_judgement : List Event → Seat → Company → Kind → Option TrainRule
 discard_judgement events seat company kind = first_broken (discard_rules events seat company kind)
 
@@ -51,7 +52,7 @@ abbrev pub discard_in : Company → Order → Option Kind
 discard_in company (order.Discard other kind) = if same_company other company then Some kind else None
 discard_in company other = None
 
--- a seat's lines for a company that are still to serve, and whether the seat presides
+-- a seat's lines for a company that are still to be used, and whether the seat presides
 pub record Lines : Type 0 where
   pub presides : Bool
   pub kinds : List Kind
@@ -81,8 +82,8 @@ abbrev pub discarded_by : Company → Event → Option Kind
 discarded_by company (Discarded other kind) = if same_company other company then Some kind else None
 discarded_by company other = None
 
--- the lines that are still to serve after an event: a round begins without any, one that is obeyed is the last,
--- and one serves where the company discards while the seat presides
+-- The lines that are still to be used after an event. A round begins without any, one that is
+-- obeyed is the last, and one is used up if the company discards while the seat presides.
 abbrev pub kinds_then : Seat → Company → Lines → Event → List Kind
 kinds_then seat company lines event =
     if is_some (round_begun_by event)
@@ -95,7 +96,7 @@ abbrev pub presides_then : Seat → Bool → Option Seat → Bool
 presides_then seat presides None = presides
 presides_then seat presides (Some president) = president.0 == seat.0
 
--- both after an event
+-- the lines that are still to be used, and whether the seat presides, after an event
 abbrev pub lines_then : Seat → Company → Lines → Event → Lines
 lines_then seat company lines event =
     record {
@@ -103,7 +104,7 @@ lines_then seat company lines event =
       kinds = kinds_then seat company lines event;
     }
 
--- the kinds of a seat's lines for a company that are still to serve in this round, in order
+-- the kinds of a seat's lines for a company that are still to be used in this round, in order
 abbrev pub lines_of : List Event → Company → Option Seat → List Kind
 lines_of events company None = []
 lines_of events company (Some seat) =
@@ -115,7 +116,8 @@ first_held events company [] = None
 first_held events company (kind ∷ others) = if has_train events company kind then Some kind else first_held events
     company others
 
--- the kind that the company discards next: by a line of its president, or else the least that it has
+-- the kind that the company discards next: by a line of its president, otherwise the least that it
+-- has
 abbrev pub next_discard : List Event → Company → Option Kind
 next_discard events company =
     option_or (first_held events company (lines_of events company (president_of events company)))

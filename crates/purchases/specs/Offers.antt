@@ -1,6 +1,7 @@
--- The standing lines OFFER, by which a seat consents to a sale in this round. An offer of a train is refused to a
--- seat that is not the president of the company that sells, and at price 0; an offer of a private to a seat that
--- does not own it. No other is refused: what a sale needs beside consent is asked at the sale.
+-- The standing lines OFFER, by which a seat consents to a sale in this round. An offer of a train
+-- is refused if the seat is not the president of the company that sells, or at price 0. An offer of
+-- a private is refused if the seat does not own it. No other is refused: what a sale needs besides
+-- consent is checked at the sale.
 use Rattle.std.specs.Prelude.{◌==◌, Bool, false, not, ◌||◌, List, [], ◌∷◌, Option, Some, None}
 use Rattle.events.specs.declared.event.Event.{Event}
 use Rattle.events.specs.declared.event.Holder.{Holder}

@@ -1,8 +1,9 @@
--- What the purchase of a train brings, event by event, each on the list that the one before left. A train that is
--- traded in goes to the pool, and then the train goes to the company. BOP closes once BO buys. The first train of a
--- later kind from the bank begins its phase: the trains that it rusts leave play, company by company and then those of
--- the pool; with the first 5 all privates close; and then each company with more trains than the new phase allows
--- discards those that are too many to the pool.
+-- What follows from the purchase of a train, event by event, each on the list that the one before
+-- left. A train that is traded in goes to the pool, and then the train goes to the company. BOP
+-- closes once BO buys. The first train of a later kind from the bank begins its phase. The trains
+-- that it rusts leave play, company by company and then those of the pool. With the first 5 all
+-- privates close. Then each company with more trains than the new phase allows discards those that
+-- are too many to the pool.
 use Rattle.std.specs.Prelude.{ℕ, ◌==◌, Bool, false, ◌&&◌, nat_lt, if◌then◌else◌, List, Option, Some, None, is_some, pos}
 use Rattle.std.specs.Prelude.{◌-ℤ◌}
 use Rattle.std.specs.List.{fold}
@@ -25,12 +26,12 @@ use Rattle.tables.specs.declared.roster.Company.TheVariants as company
 use Rattle.tables.specs.declared.roster.Private.{Private}
 use Rattle.tables.specs.declared.roster.Private.TheVariants as private
 
--- with TRADED, where a train is traded in
+-- with TRADED, if a train is traded in
 abbrev pub with_trade : Game → Company → Option Kind → Game
 with_trade game company None = game
 with_trade game company (Some kind) = with_event game (event.Traded company kind)
 
--- with CLOSED, where a private is open
+-- with CLOSED, if a private is open
 abbrev pub with_closed : Game → Private → Game
 with_closed game private =
     if is_some (owner_of game.events private) then with_event game (event.Closed private) else game
@@ -39,7 +40,7 @@ with_closed game private =
 abbrev pub with_all_closed : Game → Game
 with_all_closed game = fold with_closed game privates
 
--- with CLOSED of BOP, where BO has bought
+-- with CLOSED of BOP, if BO has bought
 abbrev pub with_bop_closed : Game → Company → Game
 with_bop_closed game buyer = if same_company buyer company.BaltimoreOhio then with_closed game
     private.BaltimoreOhio else game
@@ -74,7 +75,7 @@ with_kind_rusted_at new game kind = if rusts_at (rusting_of kind) new then with_
 abbrev pub with_rusted : Kind → Game → Game
 with_rusted new game = fold (with_kind_rusted_at new) game kinds
 
--- with CLOSED of each private that is open, where this phase closes them
+-- with CLOSED of each private that is open, if this phase closes them
 abbrev pub with_privates_closed : Kind → Game → Game
 with_privates_closed phase game = if same_kind phase Five then with_all_closed game else game
 

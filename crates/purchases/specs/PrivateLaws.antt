@@ -1,5 +1,5 @@
--- A law of privates. One that is closed has been sold and has no owner; nobody buys it, so it stays closed and has
--- no owner ever after.
+-- A law of privates. One that is closed has been sold and has no owner; nobody buys it, so it stays
+-- closed and has no owner ever after.
 use Rattle.std.specs.Prelude.{◌≡◌, ℕ, Bool, true, false, List, [], ◌∷◌, ◌++◌, Option, Some, None, is_some}
 use Rattle.events.specs.Event.{ownership_of}
 use Rattle.events.specs.declared.event.Event.{Event}
@@ -29,7 +29,7 @@ OthersKeepClosed =
     (events : List Event) (its : Event) →
     names_owner (ownership_of its) ≡ false → KeepsClosed events (events ++ its ∷ [])
 
--- so does the sale of a private that was unsold
+-- the sale of a private that was unsold leaves those closed that are
 abbrev pub SalesKeepClosed : Type 0
 SalesKeepClosed =
     (events : List Event) (sold : Private) (buyer : Seat) (price : ℕ) →

@@ -1,6 +1,11 @@
--- The purchase of a private by a company, from the player who owns it. It needs phase 3; a price from half of the
--- face value to twice that; the consent of the player, as for a train; a private that is not BOP, which is never
--- sold to a company; and the cash. The company owns the private from then on.
+-- The purchase of a private by a company, from the player who owns it. The company owns the private
+-- from then on. It needs, in this order:
+--
+-- - phase 3;
+-- - a price from half of the face value to twice that;
+-- - the consent of the player, as for a train;
+-- - a private that is not BOP, which is never sold to a company;
+-- - the cash.
 use Rattle.std.specs.Prelude.{ℕ, ◌+◌, Bool, false, not, ◌||◌, nat_lt, List, [], ◌∷◌, Option, Some, pos}
 use Rattle.std.specs.Int.Signed.{lt_z}
 use Rattle.events.specs.Event.{party_of_company}
@@ -35,11 +40,12 @@ abbrev pub is_wrong_price : Private → ℕ → Bool
 is_wrong_price private price =
     nat_lt (price + price) (face_of private) || nat_lt (face_of private + face_of private) price
 
--- a player owns the private, and consents to the sale where this seat takes it
+-- a player owns the private, and consents to the sale to this seat
 abbrev pub is_given_by : List Event → Option Holder → Option Seat → Offer → Bool
 is_given_by events (Some (holder.Seat giver)) (Some taker) sale = has_consent events giver taker sale
 is_given_by events owner taker sale = false
 
+-- the private has an owner who consents to the sale
 abbrev pub is_given : List Event → Company → Private → ℕ → Bool
 is_given events company private price =
     is_given_by events (owner_of events private) (president_of events company) (offer.Private private company price)

@@ -1,5 +1,5 @@
--- Sales to companies, by the list of events before each: whoever sells a train or a private to a company has agreed
--- to exactly this sale.
+-- Sales to companies, by the list of events before each: whoever sells a train or a private to a
+-- company has agreed to exactly this sale.
 use Rattle.std.specs.Prelude.{◌≡◌, ℕ, Bool, true, false, List, [], ◌∷◌, ◌++◌, Some}
 use Rattle.events.specs.declared.event.Event.{Event}
 use Rattle.events.specs.declared.event.Event.TheVariants as event
@@ -16,15 +16,15 @@ pub record IsGiven (events : List Event) (giver : Seat) (buyer : Company) (priva
   pub owns : owner_of events private ≡ Some (holder.Seat giver)
   pub agreed : (seats : ℕ) → OwnerAgrees (record { seats = seats; events = events }) buyer private price
 
--- an event that sells a train of a company to another, or a private to a company, is agreed by the list before it;
--- of other events nothing is asked
+-- the list before an event agrees to it, if it sells a train of a company to another, or a private
+-- to a company; other events need no agreement
 abbrev pub IsAgreed : List Event → Event → Type 0
 IsAgreed events (event.Train buyer kind (seller.Company from) price) =
     (seats : ℕ) → CompanyAgrees (record { seats = seats; events = events }) from buyer kind price
 IsAgreed events (event.PrivateBought private buyer giver price) = IsGiven events giver buyer private price
 IsAgreed events other = Unit
 
--- each of these events is agreed by the list before it, where this list comes before them all
+-- each of these events is agreed by the list before it, if this list comes before them all
 abbrev pub AreAgreed : List Event → List Event → Type 0
 AreAgreed before [] = Unit
 AreAgreed before (its ∷ later) = IsAgreed before its × AreAgreed (before ++ its ∷ []) later

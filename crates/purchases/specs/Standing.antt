@@ -1,7 +1,8 @@
--- The standing lines of an operating round's sheets, those before the first head: they are ruled seat by seat,
--- in order, each by its condition and then by its rule. DISCARD has a rule of its own. An OFFER of a train is refused
--- to a seat that is not the seller's president, and at price 0; an OFFER of a private to a seat that does not own it;
--- no other OFFER is refused. No other order has a place there.
+-- The standing lines of an operating round's sheets, those before the first head. They are ruled
+-- seat by seat, in order, each by its condition and then by its rule. DISCARD has a rule of its
+-- own. An OFFER of a train is refused if the seat is not the seller's president, or at price 0. An
+-- OFFER of a private is refused if the seat does not own it. No other OFFER is refused, and no
+-- other order has a place there.
 use Rattle.std.specs.Prelude.{ℕ, Bool, true, false, List, Option, None, option_map}
 use Rattle.std.specs.List.{range_with_len}
 use Rattle.events.specs.declared.event.Event.{Event}

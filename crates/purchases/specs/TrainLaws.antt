@@ -1,5 +1,5 @@
--- Laws of trains. Phases never go back. The trains of a kind that are with the bank, in its pool and with the
--- companies are as many as there were at first until they rust, and none after.
+-- Laws of trains. Phases never go back. Until they rust, the trains of a kind with the bank, in its
+-- pool and with the companies are as many as there were at first. After that there are none.
 use Rattle.std.specs.Prelude.{◌≡◌, ℕ, ◌<◌, ◌≤◌, Bool, true, false, not, nat_lt, List, [], ◌∷◌, ◌++◌, Option, Some, None}
 use Rattle.std.specs.Prelude.{ℤ, pos, ◌+ℤ◌, ◌-ℤ◌}
 use Rattle.events.specs.Event.{phase_set, train_moved}
@@ -28,13 +28,14 @@ has_come phase (Some rusting) = not (nat_lt (place_of_kind phase) (place_of_kind
 abbrev pub have_rusted : List Event → Kind → Bool
 have_rusted events kind = has_come (phase_of events) (rusting_of kind)
 
--- the trains of a kind that are with the bank, in its pool and with the companies, where there were this many at first
+-- the trains of a kind that are with the bank, in its pool and with the companies, if there were
+-- this many at first
 abbrev pub trains_there : List Event → Kind → ℕ → ℤ
 trains_there events kind number = (pos number -ℤ pos (trains_sold events kind)) +ℤ trains_in_play events kind
 
--- they are as many as there were at first until they rust, and none after; and the bank has sold each kind in
--- its turn: the phase is that of the latest kind that it has sold, and it sells a 3, 4, 5 or 6 or a D once all
--- trains of each earlier kind but the 6 are sold
+-- They are as many as there were at first until they rust, and none after. The bank has sold each
+-- kind in its turn. The phase is that of the latest kind that it has sold. It sells a 3, 4, 5 or 6
+-- or a D once all trains of each earlier kind but the 6 are sold.
 pub record TrainsAreAll (events : List Event) : Type 0 where
   pub until : (kind : Kind) (number : ℕ) → (trains_of kind).number ≡ Some number → have_rusted events kind ≡ false
       → trains_there events kind number ≡ pos number
@@ -46,12 +47,12 @@ pub record TrainsAreAll (events : List Event) : Type 0 where
       → place_of_kind earlier < 4 → place_of_kind earlier < place_of_kind later → 0 < trains_sold events later
       → trains_sold events earlier ≡ number
 
--- they are as many, and nobody has fewer than none
+-- the trains of a kind are as many as they should be, and nobody has a negative number
 pub record AllTrainsAreThere (events : List Event) : Type 0 where
   pub held : TrainsAreHeld events
   pub all : TrainsAreAll events
 
--- so it is at first
+-- at first the trains of a kind are as many as they should be
 abbrev pub AllTrainsAreThereAtFirst : Type 0
 AllTrainsAreThereAtFirst = AllTrainsAreThere []
 
@@ -61,13 +62,13 @@ OthersKeepAll =
     (events : List Event) (event : Event) → train_moved event ≡ None → phase_set event ≡ None → TrainsAreAll events
     → TrainsAreAll (events ++ event ∷ [])
 
--- and nobody has fewer than none
+-- after such an event nobody has a negative number
 abbrev pub OthersKeepStanding : Type 0
 OthersKeepStanding =
     (events : List Event) (event : Event) → train_moved event ≡ None → phase_set event ≡ None → AllTrainsAreThere events
     → AllTrainsAreThere (events ++ event ∷ [])
 
--- so it is after the purchase of a train by the rules
+-- after the purchase of a train by the rules they are still as many
 abbrev pub PurchasesKeepAll : Type 0
 PurchasesKeepAll =
     (game : Game) (buyer : Company) (purchase : Purchase) →

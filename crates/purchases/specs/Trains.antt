@@ -1,7 +1,8 @@
--- The purchase of a train. The bank sells the least kind of 2 to 6 of which some are left, and from the first 6 that it
--- has sold also a D, of which there is any number; the bank pool sells what is in it. A 4, 5 or 6 that the company has
--- may be traded in for a D of the bank, which is cheaper then. Another company sells a train that it has, at the price
--- that the order names, which is at least 1, where its president consents.
+-- The purchase of a train. The bank sells the least kind of 2 to 6 of which some are left. From the
+-- first 6 that it has sold it also sells a D, of which there is any number. The bank pool sells
+-- what is in it. A 4, 5 or 6 that the company has may be traded in for a D of the bank, which is
+-- cheaper then. Another company sells a train that it has, if its president consents, at the price
+-- that the order names, which is at least 1.
 use Rattle.std.specs.Prelude.{ℕ, ◌==◌, ◌≤◌, unwrap_or, Bool, true, false, not, ◌&&◌, ◌||◌, nat_lt, if◌then◌else◌, List}
 use Rattle.std.specs.Prelude.{[], ◌∷◌, Option, Some, None, pos, ◌-ℤ◌}
 use Rattle.std.specs.Int.Signed.{lt_z}
@@ -30,7 +31,7 @@ use Rattle.tables.specs.declared.rolling_stock.Kind.TheVariants.{Two, Three, Fou
 use Rattle.tables.specs.declared.roster.Company.{Company}
 use Rattle.tables.specs.declared.seat.Seat.{Seat}
 
--- some of this many are left, where this many are sold
+-- some of this many are left, if this many are sold
 abbrev pub are_left : Option ℕ → ℕ → Bool
 are_left None sold = true
 are_left (Some number) sold = nat_lt sold number
@@ -44,7 +45,7 @@ abbrev pub first_left_of : List Event → List Kind → Option Kind
 first_left_of events [] = None
 first_left_of events (kind ∷ others) = if is_left events kind then Some kind else first_left_of events others
 
--- the kinds among which the bank sells only the least that is left
+-- the kinds of which the bank sells only the least that is left
 abbrev pub numbered_kinds : List Kind
 numbered_kinds = Two ∷ Three ∷ Four ∷ Five ∷ Six ∷ []
 
@@ -52,7 +53,7 @@ numbered_kinds = Two ∷ Three ∷ Four ∷ Five ∷ Six ∷ []
 abbrev pub first_left : List Event → Option Kind
 first_left events = first_left_of events numbered_kinds
 
--- it is this kind
+-- the kind that is found is this one
 abbrev pub is_kind : Option Kind → Kind → Bool
 is_kind None kind = false
 is_kind (Some one) kind = same_kind one kind
@@ -76,13 +77,13 @@ abbrev pub traded_count : Option Kind → ℕ
 traded_count None = 0
 traded_count (Some kind) = 1
 
--- the company would have more trains than the phase allows. One that is to be traded in is not counted, whether
--- the company has it or not
+-- the company would have more trains than the phase allows; one that is to be traded in does not
+-- count, whether the company has it or not
 abbrev pub is_at_train_limit : List Event → Company → Option Kind → Bool
 is_at_train_limit events company trade_in =
     not (lt_z (train_count events (Some company) -ℤ pos (traded_count trade_in)) (pos (limit_of (phase_of events))))
 
--- the price of a train of a kind for a company that trades a train in: a D is cheaper then
+-- the price of a train of a kind for a company that trades in a train: a D is cheaper then
 abbrev pub price_for_trade : Kind → ℕ
 price_for_trade Diesel = 800
 price_for_trade other = (trains_of other).price
@@ -105,11 +106,11 @@ price_of_train kind (Some trade_in) = price_for_trade kind
 abbrev pub IsSmallPurchase : Purchase → Type 0
 IsSmallPurchase purchase = unwrap_or purchase.asked 0 ≤ 99999
 
--- what a train costs: one of a company what the order names
+-- what a train costs; one of a company costs what the order names
 abbrev pub cost_of : Purchase → ℕ
 cost_of purchase = unwrap_or purchase.asked (price_of_train purchase.kind purchase.trade_in)
 
--- it costs more than the company has
+-- a train costs more than the company has
 abbrev pub is_too_dear : Game → Company → Purchase → Bool
 is_too_dear game company purchase =
     lt_z (cash_of game.seats game.events (party_of_company company)) (pos (cost_of purchase))
@@ -119,12 +120,12 @@ abbrev pub may_trade : List Event → Company → Kind → Kind → Bool
 may_trade events company kind trade_in =
     same_kind kind Diesel && (may_be_traded trade_in && lt_z (pos 0) (trains_held events (Some company) trade_in))
 
--- a train is to be traded in that is not there, or that may not be
+-- a train is to be traded in that is not there, or that may not be traded in
 abbrev pub is_no_trade_in : List Event → Company → Kind → Option Kind → Bool
 is_no_trade_in events company kind None = false
 is_no_trade_in events company kind (Some trade_in) = not (may_trade events company kind trade_in)
 
--- the one president consents to what the other takes, where there are both
+-- one president consents to a sale to the other, if there are both
 abbrev pub presidents_agree : List Event → Option Seat → Option Seat → Offer → Bool
 presidents_agree events (Some giver) (Some taker) sale = has_consent events giver taker sale
 presidents_agree events giver taker sale = false
@@ -138,6 +139,7 @@ is_not_given events buyer purchase (seller.Company company) =
     || not (presidents_agree events (president_of events company) (president_of events buyer)
     (offer.Train purchase.kind company buyer (cost_of purchase)))
 
+-- the company that sells the train has not consented to exactly this sale
 abbrev pub lacks_consent : List Event → Company → Purchase → Bool
 lacks_consent events buyer purchase = is_not_given events buyer purchase purchase.from
 

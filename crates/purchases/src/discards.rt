@@ -1,4 +1,4 @@
-//! Trains that a company discards: by the lines of its president, or else the least that it has.
+//! Trains that a company discards: by the lines of its president, otherwise the least that it has.
 ghost use Rattle.std.specs.Prelude.{◌≡◌, OnOk, IfOk, Some};
 ghost use Rattle.purchases.specs.Discards.{discard_in, discard_judgement, discarded_by, first_held, has_train};
 ghost use Rattle.purchases.specs.Discards.{is_no_discard, is_president, kinds_then, line_of, lines_of, next_discard};
@@ -12,7 +12,7 @@ use order_grammar::Order;
 use std::alloc::{AllocError, Global};
 use tables::{Company, Kind, Seat};
 
-/// The rule that a line DISCARD of a seat breaks, if it breaks it.
+/// Returns the rule that a line DISCARD of a seat breaks; `None` if it breaks none.
 pub(crate) fn judge_discard(
     history: &History,
     seat: Seat,
@@ -27,29 +27,29 @@ pub(crate) fn judge_discard(
     None
 }
 
-/// Whether the seat is not president of the company, or the company has no such train.
+/// Returns whether the seat is not president of the company, or the company has no such train.
 fn is_no_discard(view: &GameView, seat: Seat, company: Company, kind: Kind) -> bool
     ensures { result ≡ is_no_discard view.now.events.now seat company kind }
 {
     !is_president(view.president(company), seat) || !has_train(view, company, kind)
 }
 
-/// Whether a seat presides.
+/// Returns whether a seat presides.
 pub(crate) fn is_president(president: Option<Seat>, seat: Seat) -> bool
     ensures { result ≡ is_president president seat }
 {
     matches!(president, Some(president) if president == seat)
 }
 
-/// Whether a company has a train of a kind.
+/// Returns whether a company has a train of a kind.
 pub(crate) fn has_train(view: &GameView, company: Company, kind: Kind) -> bool
     ensures { result ≡ has_train view.now.events.now company kind }
 {
     view.trains(Some(company), kind) > 0
 }
 
-/// The kind that a company discards next: by a line of its president, or else the least that it
-/// has. `None` where it has no train.
+/// Returns the kind that a company discards next: by a line of its president, otherwise the least
+/// that it has. `None` if it has no train.
 pub(crate) fn next_discard(
     alloc: Global,
     history: &History,
@@ -65,7 +65,7 @@ pub(crate) fn next_discard(
     }
 }
 
-/// The first of these kinds that a company has a train of.
+/// Returns the first of these kinds that a company has a train of.
 fn first_held(view: &GameView, company: Company, kinds: &[Kind]) -> Option<Kind>
     ensures { result ≡ first_held view.now.events.now company kinds.now }
 {
@@ -77,7 +77,8 @@ fn first_held(view: &GameView, company: Company, kinds: &[Kind]) -> Option<Kind>
     None
 }
 
-/// The kinds of a president's lines for a company that are still to serve in this round, in order.
+/// Returns the kinds of a president's lines for a company that are still to be used in this round,
+/// in order. Fails only if allocation fails.
 fn lines_of(
     alloc: Global,
     view: &GameView,
@@ -93,7 +94,8 @@ fn lines_of(
     }
 }
 
-/// The same of a list of events, for a seat.
+/// Returns the kinds of a seat's lines for a company that are still to be used after some events,
+/// in order. Fails only if allocation fails.
 fn lines_in(
     alloc: Global,
     events: &[Event],
@@ -111,8 +113,8 @@ fn lines_in(
     Ok(lines)
 }
 
-/// Applies what an event does to the lines of a seat for a company that are still to serve, where
-/// the seat presides or not.
+/// Applies an event to the lines of a seat for a company that are still to be used, given whether
+/// the seat presides.
 fn apply(
     lines: &mut Vec<Kind>,
     event: &Event,
@@ -137,7 +139,7 @@ fn apply(
     Ok(())
 }
 
-/// Whether a seat presides over a company after an event.
+/// Returns whether a seat presides over a company after an event.
 fn presides_after(presides: bool, event: &Event, seat: Seat, company: Company) -> bool
     ensures { result ≡ presides_then seat presides
         (president_said company (office_of event.now)) }
@@ -148,7 +150,7 @@ fn presides_after(presides: bool, event: &Event, seat: Seat, company: Company) -
     }
 }
 
-/// The kind that a company is to discard by a line of a seat that an event obeys.
+/// Returns the kind that a company is to discard as requested by this obeyed line of a seat.
 fn kind_ordered(event: &Event, seat: Seat, company: Company) -> Option<Kind>
     ensures { result ≡ line_of seat company (obeyed_of event.now) }
 {
@@ -165,7 +167,7 @@ fn kind_ordered(event: &Event, seat: Seat, company: Company) -> Option<Kind>
     }
 }
 
-/// The kind that a company is to discard by an order.
+/// Returns the kind that a company is to discard by an order.
 fn discard_in(order: &Order, company: Company) -> Option<Kind>
     ensures { result ≡ discard_in company order.now }
 {
@@ -178,7 +180,7 @@ fn discard_in(order: &Order, company: Company) -> Option<Kind>
     }
 }
 
-/// The kind that a company discards by an event.
+/// Returns the kind that a company discards by an event.
 fn discarded_by(event: &Event, company: Company) -> Option<Kind>
     ensures { result ≡ discarded_by company event.now }
 {
@@ -205,7 +207,7 @@ fn remove_first(lines: &mut Vec<Kind>, kind: Kind)
     }
 }
 
-/// Whether two kinds are the same.
+/// Returns whether two kinds are the same.
 fn is_kind(one: Kind, kind: Kind) -> bool
     ensures { result ≡ same_kind one kind }
 {

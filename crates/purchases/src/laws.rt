@@ -1,27 +1,28 @@
-//! Laws of what companies buy, each the contract of a function that does nothing.
+//! The laws of what companies buy. Each is the contract of a function that does nothing.
 ghost use Rattle.purchases.specs.ConsentLaws.{CompaniesAgree, OwnersAgree};
 ghost use Rattle.purchases.specs.PrivateLaws.{ClosedHasNoOwner, OthersKeepClosed, SalesKeepClosed};
 ghost use Rattle.purchases.specs.SaleLaws.{OthersKeepAgreed};
 ghost use Rattle.purchases.specs.TrainLaws.{AllTrainsAreThereAtFirst, OthersKeepAll, OthersKeepStanding, PhasesGoOn};
 ghost use Rattle.purchases.specs.TrainLaws.{PurchasesKeepAll};
 
-/// Whoever sells a train or a private to a company has agreed to exactly this sale: its president,
-/// or the player who owns it, presides over the buyer too, or has offered it in this round. Other
-/// events leave each sale of a list agreed by the part of the list before it.
+/// States that whoever sells a train or a private to a company has agreed to exactly this sale. The
+/// seller is the selling company's president, or the player who owns the private. They preside over
+/// the buyer too, or have offered the sale in this round. Other events leave each sale of a list
+/// agreed by the part of the list before it.
 pub fn sellers_agree()
     ensures trains { CompaniesAgree }
     ensures privates { OwnersAgree }
     ensures others { OthersKeepAgreed }
 {}
 
-/// Phases never go back by a purchase.
+/// States that phases never go back by a purchase.
 pub fn phases_go_on()
     ensures { PhasesGoOn }
 {}
 
-/// The trains of a kind that are with the bank, in its pool and with the companies are as many as
-/// there were at first until they rust, and none after; nobody has fewer than none. Each purchase
-/// by the rules keeps it so.
+/// States that the trains of a kind with the bank, in its pool and with the companies are as many
+/// as there were at first until they rust. After that there are none. Nobody has a negative number
+/// of them. Each purchase by the rules keeps it so.
 pub fn all_trains_are_there()
     ensures first { AllTrainsAreThereAtFirst }
     ensures others { OthersKeepAll }
@@ -29,8 +30,8 @@ pub fn all_trains_are_there()
     ensures purchases { PurchasesKeepAll }
 {}
 
-/// A private that is closed has no owner, and it stays closed after an event that names no owner, and
-/// after the sale of a private that was unsold.
+/// States that a private that is closed has no owner. It stays closed after an event that names no
+/// owner, and after the sale of a private that was unsold.
 pub fn closed_for_good()
     ensures owner { ClosedHasNoOwner }
     ensures others { OthersKeepClosed }

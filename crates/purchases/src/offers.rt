@@ -7,7 +7,7 @@ use history::{History, Holder, PrivateRule, Refusal, TrainRule};
 use order_grammar::Offer;
 use tables::Seat;
 
-/// The rule that an offer of a seat breaks; `None` if it breaks none.
+/// Returns the rule that an offer of a seat breaks; `None` if it breaks none.
 pub(crate) fn judge_offer(history: &History, seat: Seat, sale: Offer) -> Option<Refusal>
     ensures { result ≡ offer_judgement history.now.events seat sale }
 {
@@ -26,7 +26,7 @@ pub(crate) fn judge_offer(history: &History, seat: Seat, sale: Offer) -> Option<
     None
 }
 
-/// Whether a seat is this owner.
+/// Returns whether a seat is this owner.
 fn is_seats(seat: Seat, owner: Option<Holder>) -> bool
     ensures { result ≡ is_seats seat owner }
 {

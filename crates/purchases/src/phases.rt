@@ -1,4 +1,5 @@
-//! What the purchase of a train brings: the phase that it begins, and what follows from that.
+//! What follows from the purchase of a train: the phase that it begins, and the consequences of
+//! that.
 ghost use Rattle.std.specs.Prelude.{◌≡◌, OnOk, None};
 ghost use Rattle.totals.specs.Trains.{at_least_zero};
 ghost use Rattle.history.specs.Sound.{IsSound};
@@ -17,7 +18,7 @@ use history::{Event, History, TrainSeller, at_least_zero};
 use std::alloc::{AllocError, Global};
 use tables::{Company, Kind, Money, Private, limit, rusts};
 
-/// A company buys a train, which nothing keeps it from, and what follows from that comes about.
+/// Buys a legal train and applies its consequences. Fails only if allocation fails.
 pub fn buy_train(
     alloc: Global,
     history: &mut History,
@@ -38,7 +39,7 @@ pub fn buy_train(
     Ok(())
 }
 
-/// Whether a purchase is that of the first train of a later kind from the bank.
+/// Returns whether a purchase is that of the first train of a later kind from the bank.
 fn begins_phase(history: &History, from: TrainSeller, kind: Kind) -> bool
     ensures { result ≡ begins_phase history.now.events from kind }
 {
@@ -50,7 +51,7 @@ fn begins_phase(history: &History, from: TrainSeller, kind: Kind) -> bool
     }
 }
 
-/// A train goes to a company, for its price and the train that is traded in.
+/// Moves a train to a company, for its price and the train that is traded in.
 fn take_train(history: &mut History, company: Company, purchase: Purchase) -> Result<(), AllocError>
     requires small { IsSmallPurchase purchase }
     requires may { train_judgement history.old company purchase ≡ None }
@@ -68,7 +69,7 @@ fn take_train(history: &mut History, company: Company, purchase: Purchase) -> Re
     close_bop(history, company)
 }
 
-/// A company trades a train in, if it is to.
+/// Trades in a train of a company, if one is to be.
 fn trade_in(history: &mut History, company: Company, kind: Option<Kind>) -> Result<(), AllocError>
     ensures { OnOk result (history.new ≡ with_trade history.old company kind) }
 {
@@ -78,7 +79,7 @@ fn trade_in(history: &mut History, company: Company, kind: Option<Kind>) -> Resu
     Ok(())
 }
 
-/// BOP closes where BO has bought a train, if it is open.
+/// Closes BOP if BO has bought a train and BOP is open.
 fn close_bop(history: &mut History, buyer: Company) -> Result<(), AllocError>
     requires { IsSound history.old }
     ensures after { OnOk result (history.new ≡ with_bop_closed history.old buyer) }
@@ -90,7 +91,7 @@ fn close_bop(history: &mut History, buyer: Company) -> Result<(), AllocError>
     Ok(())
 }
 
-/// A private closes, if it is open.
+/// Closes a private, if it is open.
 fn close(history: &mut History, private: Private) -> Result<(), AllocError>
     requires { IsSound history.old }
     ensures after { OnOk result (history.new ≡ with_closed history.old private) }
@@ -103,7 +104,7 @@ fn close(history: &mut History, private: Private) -> Result<(), AllocError>
     Ok(())
 }
 
-/// A phase begins, by the first train of its kind: trains rust, privates close, and companies keep
+/// Begins a phase, by the first train of its kind: trains rust, privates close, and companies keep
 /// the limit of trains.
 fn begin_phase(alloc: Global, history: &mut History, phase: Kind) -> Result<(), AllocError>
     requires { IsSound history.old }
@@ -117,7 +118,7 @@ fn begin_phase(alloc: Global, history: &mut History, phase: Kind) -> Result<(), 
     Ok(())
 }
 
-/// The trains rust that the first train of a kind rusts.
+/// Rusts the trains that the first train of a kind rusts.
 fn rust_kinds(history: &mut History, new: Kind) -> Result<(), AllocError>
     requires { IsSound history.old }
     ensures after { OnOk result (history.new ≡ with_rusted new history.old) }
@@ -129,7 +130,7 @@ fn rust_kinds(history: &mut History, new: Kind) -> Result<(), AllocError>
     Ok(())
 }
 
-/// All trains of a kind rust, if the first train of the new kind rusts them.
+/// Rusts all trains of a kind, if the first train of the new kind rusts them.
 fn rust_kind_at(history: &mut History, kind: Kind, new: Kind) -> Result<(), AllocError>
     requires { IsSound history.old }
     ensures after { OnOk result (history.new ≡ with_kind_rusted_at new history.old kind) }
@@ -141,14 +142,14 @@ fn rust_kind_at(history: &mut History, kind: Kind, new: Kind) -> Result<(), Allo
     Ok(())
 }
 
-/// Whether the trains of a kind rust at the first train of the new kind.
+/// Returns whether the trains of a kind rust at the first train of the new kind.
 fn is_rusted_by(kind: Kind, new: Kind) -> bool
     ensures { result ≡ rusts_at (rusting_of kind) new }
 {
     matches!(rusts(kind), Some(rusting) if rusting == new)
 }
 
-/// All trains of a kind rust: company by company, then those of the pool.
+/// Rusts all trains of a kind: company by company, then those of the pool.
 fn rust_kind(history: &mut History, kind: Kind) -> Result<(), AllocError>
     requires { IsSound history.old }
     ensures after { OnOk result (history.new ≡ with_kind_rusted history.old kind) }
@@ -158,7 +159,7 @@ fn rust_kind(history: &mut History, kind: Kind) -> Result<(), AllocError>
     rust_trains_of(history, None, kind)
 }
 
-/// The trains of a kind rust that the companies have.
+/// Rusts the trains of a kind that the companies have.
 fn rust_of_companies(history: &mut History, kind: Kind) -> Result<(), AllocError>
     requires { IsSound history.old }
     ensures after { OnOk result (history.new
@@ -171,7 +172,7 @@ fn rust_of_companies(history: &mut History, kind: Kind) -> Result<(), AllocError
     Ok(())
 }
 
-/// The trains of a kind rust that a company has, or the pool where there is none.
+/// Rusts the trains of a kind that a company has, or those of the pool if there is no owner.
 fn rust_trains_of(
     history: &mut History,
     owner: Option<Company>,
@@ -187,7 +188,7 @@ fn rust_trains_of(
     Ok(())
 }
 
-/// The privates close, where a phase closes them.
+/// Closes the privates, if a phase closes them.
 fn close_privates(history: &mut History, phase: Kind) -> Result<(), AllocError>
     requires { IsSound history.old }
     ensures after { OnOk result (history.new ≡ with_privates_closed phase history.old) }
@@ -199,7 +200,7 @@ fn close_privates(history: &mut History, phase: Kind) -> Result<(), AllocError>
     Ok(())
 }
 
-/// Each private that is open closes.
+/// Closes each private that is open.
 fn close_all(history: &mut History) -> Result<(), AllocError>
     requires { IsSound history.old }
     ensures after { OnOk result (history.new ≡ with_all_closed history.old) }
@@ -211,7 +212,7 @@ fn close_all(history: &mut History) -> Result<(), AllocError>
     Ok(())
 }
 
-/// Each company discards the trains that it has over the limit of the phase.
+/// Discards the trains that each company has over the limit of the phase.
 fn keep_limits(alloc: Global, history: &mut History) -> Result<(), AllocError>
     requires { IsSound history.old }
     ensures after { OnOk result (history.new ≡ with_limits_kept history.old) }
@@ -223,7 +224,7 @@ fn keep_limits(alloc: Global, history: &mut History) -> Result<(), AllocError>
     Ok(())
 }
 
-/// A company discards the trains that it has over the limit of the phase.
+/// Discards the trains that a company has over the limit of the phase.
 fn keep_limit(alloc: Global, history: &mut History, company: Company) -> Result<(), AllocError>
     requires { IsSound history.old }
     ensures after { OnOk result (history.new ≡ with_limit_kept history.old company) }
@@ -235,14 +236,14 @@ fn keep_limit(alloc: Global, history: &mut History, company: Company) -> Result<
     Ok(())
 }
 
-/// How many trains a company has over the limit of the phase; under 0 where it may have more.
+/// Returns how many trains a company has over the limit of the phase; under 0 if it may have more.
 fn excess(history: &History, company: Company) -> Money
     ensures { excess_of history.now company ≡ at_least_zero result }
 {
     Money::from(history.now().train_count(Some(company))) - limit(history.phase()) as Money
 }
 
-/// A company discards a train, if it has one.
+/// Discards a train of a company, if it has one.
 fn discard(alloc: Global, history: &mut History, company: Company) -> Result<(), AllocError>
     requires { IsSound history.old }
     ensures after { OnOk result (history.new ≡ with_next_discarded company history.old) }

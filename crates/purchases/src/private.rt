@@ -12,7 +12,8 @@ use order_grammar::Offer;
 use std::alloc::AllocError;
 use tables::{Amount, Company, Kind, Money, Private, Seat, face};
 
-/// A company buys a private from the player who owns it, which nothing keeps it from.
+/// Buys a private for a company from the player who owns it, by an order that breaks no rule. Fails
+/// only if allocation fails.
 pub fn buy_private(
     history: &mut History,
     company: Company,
@@ -30,7 +31,7 @@ pub fn buy_private(
     buy_from(history, company, private, price, owner)
 }
 
-/// A company buys a private from this owner, if that is a player.
+/// Buys a private for a company from this owner, if that is a player.
 fn buy_from(
     history: &mut History,
     company: Company,
@@ -57,7 +58,8 @@ fn buy_from(
     Ok(())
 }
 
-/// The first rule that the purchase of a private by a company breaks; `None` if it breaks none.
+/// Returns the first rule that the purchase of a private by a company breaks; `None` if it breaks
+/// none.
 pub fn judge_private(
     history: &History,
     company: Company,
@@ -69,7 +71,7 @@ pub fn judge_private(
     broken_by(&history.now(), company, private, price)
 }
 
-/// The first rule that the purchase of a private breaks.
+/// Returns the first rule that the purchase of a private breaks.
 fn broken_by(
     view: &GameView,
     company: Company,
@@ -97,7 +99,7 @@ fn broken_by(
     None
 }
 
-/// Whether a company has less than a price.
+/// Returns whether a company has less than a price.
 fn is_too_dear(view: &GameView, company: Company, price: Amount) -> bool
     ensures { result ≡ is_too_dear
         (record { seats = view.now.seats; events = view.now.events.now }) company price }
@@ -105,14 +107,14 @@ fn is_too_dear(view: &GameView, company: Company, price: Amount) -> bool
     view.cash(Party::of_company(company)) < Money::from(price)
 }
 
-/// Whether phase 3 has not begun.
+/// Returns whether phase 3 has not begun.
 fn is_too_early(view: &GameView) -> bool
     ensures { result ≡ is_too_early view.now.events.now }
 {
     view.phase().place() < Kind::Three.place()
 }
 
-/// Whether a price is under half of the face value, or over twice that.
+/// Returns whether a price is under half of the face value, or over twice that.
 fn is_wrong_price(private: Private, price: Amount) -> bool
     ensures { result ≡ is_wrong_price private price }
 {
@@ -120,7 +122,7 @@ fn is_wrong_price(private: Private, price: Amount) -> bool
     price + price < face || face + face < price
 }
 
-/// Whether a player owns a private, and consents to its sale to a company at a price.
+/// Returns whether a player owns a private, and consents to its sale to a company at a price.
 fn is_given(view: &GameView, buyer: Company, private: Private, price: Amount) -> bool
     ensures { result ≡ is_given view.now.events.now buyer private price }
 {
@@ -132,7 +134,7 @@ fn is_given(view: &GameView, buyer: Company, private: Private, price: Amount) ->
     is_given_by(view, view.owner(private), view.president(buyer), sale)
 }
 
-/// Whether this owner is a player, and consents to a sale where this seat takes.
+/// Returns whether this owner is a player who consents to a sale to this seat.
 fn is_given_by(view: &GameView, owner: Option<Holder>, taker: Option<Seat>, sale: Offer) -> bool
     ensures { result ≡ is_given_by view.now.events.now owner taker sale }
 {

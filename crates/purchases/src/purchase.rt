@@ -22,12 +22,12 @@ pub struct Purchase {
     pub from: TrainSeller,
     /// The kind of a train that is traded in for it, if one is.
     pub trade_in: Option<Kind>,
-    /// The price that the order names, where another company sells it, in dollars.
+    /// The price that the order names, if another company sells it, in dollars.
     pub asked: Option<Amount>,
 }
 
 impl Purchase {
-    /// What it costs.
+    /// Returns what it costs, in dollars.
     pub fn price(&self) -> Amount
         requires { IsSmallPurchase self.now }
         ensures price { result ≡ cost_of self.now }
@@ -40,7 +40,7 @@ impl Purchase {
     }
 }
 
-/// The purchase that a TRAIN line orders.
+/// Returns the purchase that a TRAIN line orders.
 pub fn purchase_of(kind: Kind, from: TrainSource) -> Purchase
     requires { IsSmallOrder (BuyTrain kind from) }
     ensures purchase { result ≡ purchase_of kind from }
@@ -60,14 +60,14 @@ pub fn purchase_of(kind: Kind, from: TrainSource) -> Purchase
     }
 }
 
-/// Whether a company has a train.
+/// Returns whether a company has a train.
 pub fn has_trains(view: &GameView, company: Company) -> bool
     ensures { result ≡ has_trains view.now.events.now company }
 {
     view.train_count(Some(company)) > 0
 }
 
-/// What a train of the bank or the pool costs.
+/// Returns what a train of the bank or the pool costs, in dollars.
 fn price_of_train(kind: Kind, trade_in: Option<Kind>) -> Amount
     ensures price { result ≡ price_of_train kind trade_in }
     ensures small { result ≤ 1100 }
@@ -78,10 +78,10 @@ fn price_of_train(kind: Kind, trade_in: Option<Kind>) -> Amount
     }
 }
 
-/// The kinds among which the bank sells only the least that is left.
+/// The kinds of which the bank sells only the least that is left.
 pub const NUMBERED: [Kind; 5] = [Kind::Two, Kind::Three, Kind::Four, Kind::Five, Kind::Six];
 
-/// The first rule that a purchase by a company breaks; `None` if it breaks none.
+/// Returns the first rule that a purchase by a company breaks; `None` if it breaks none.
 pub fn judge_purchase(history: &History, company: Company, purchase: Purchase) -> Option<TrainRule>
     requires { IsSmallPurchase purchase }
     ensures { result ≡ train_judgement history.now company purchase }
@@ -89,7 +89,7 @@ pub fn judge_purchase(history: &History, company: Company, purchase: Purchase) -
     broken_by(&history.now(), company, purchase)
 }
 
-/// The first rule that a purchase breaks.
+/// Returns the first rule that a purchase breaks.
 fn broken_by(view: &GameView, company: Company, purchase: Purchase) -> Option<TrainRule>
     requires { IsSmallPurchase purchase }
     ensures { result ≡ train_judgement
@@ -116,7 +116,7 @@ fn broken_by(view: &GameView, company: Company, purchase: Purchase) -> Option<Tr
     None
 }
 
-/// Whether such a train is on sale there.
+/// Returns whether such a train is on sale there.
 fn is_on_sale(view: &GameView, from: TrainSeller, kind: Kind) -> bool
     ensures { result ≡ is_on_sale view.now.events.now from kind }
 {
@@ -127,28 +127,28 @@ fn is_on_sale(view: &GameView, from: TrainSeller, kind: Kind) -> bool
     }
 }
 
-/// Whether the bank sells trains of a kind.
+/// Returns whether the bank sells trains of a kind.
 pub fn sells(view: &GameView, kind: Kind) -> bool
     ensures { result ≡ sells view.now.events.now kind }
 {
     first_left(view) == Some(kind) || (kind == Kind::Diesel && sells_diesels(view))
 }
 
-/// Whether the bank sells a D: it has sold a 6.
+/// Returns whether the bank sells a D: it has sold a 6.
 fn sells_diesels(view: &GameView) -> bool
     ensures { result ≡ sells_diesels view.now.events.now }
 {
     view.trains_sold(Kind::Six) > 0
 }
 
-/// The least kind of 2 to 6 that the bank has some left of.
+/// Returns the least kind of 2 to 6 of which the bank has some left.
 fn first_left(view: &GameView) -> Option<Kind>
     ensures { result ≡ first_left view.now.events.now }
 {
     first_of(view, &NUMBERED)
 }
 
-/// The first of these kinds that the bank has some left of.
+/// Returns the first of these kinds of which the bank has some left.
 fn first_of(view: &GameView, kinds: &[Kind]) -> Option<Kind>
     ensures { result ≡ first_left_of view.now.events.now kinds.now }
 {
@@ -160,7 +160,7 @@ fn first_of(view: &GameView, kinds: &[Kind]) -> Option<Kind>
     None
 }
 
-/// Whether the bank has trains of a kind left.
+/// Returns whether the bank has trains of a kind left.
 fn is_left(view: &GameView, kind: Kind) -> bool
     ensures { result ≡ is_left view.now.events.now kind }
 {
@@ -170,8 +170,8 @@ fn is_left(view: &GameView, kind: Kind) -> bool
     }
 }
 
-/// Whether a company would have more trains than the phase allows. One that is to be traded in is
-/// not counted, whether the company has it or not.
+/// Returns whether a company would have more trains than the phase allows. A train that is to be
+/// traded in does not count, whether the company has it or not.
 fn is_full(view: &GameView, company: Company, trade_in: Option<Kind>) -> bool
     ensures { result ≡ is_at_train_limit view.now.events.now company trade_in }
 {
@@ -179,7 +179,8 @@ fn is_full(view: &GameView, company: Company, trade_in: Option<Kind>) -> bool
     kept >= limit(view.phase()) as Money
 }
 
-/// What a train of a kind costs a company that trades a train in: a D is cheaper then.
+/// Returns what a train of a kind costs a company that trades in a train, in dollars: a D is
+/// cheaper then.
 fn price_for_trade(kind: Kind) -> Amount
     ensures price { result ≡ price_for_trade kind }
     ensures small { result ≤ 1100 }
@@ -190,14 +191,14 @@ fn price_for_trade(kind: Kind) -> Amount
     }
 }
 
-/// Whether a train of a kind may be traded in for a D.
+/// Returns whether a train of a kind may be traded in for a D.
 fn may_be_traded(kind: Kind) -> bool
     ensures { result ≡ may_be_traded kind }
 {
     matches!(kind, Kind::Four | Kind::Five | Kind::Six)
 }
 
-/// How many trains are traded in.
+/// Returns how many trains are traded in.
 fn traded_count(trade_in: Option<Kind>) -> Money
     ensures { result ≡ pos (traded_count trade_in) }
 {
@@ -207,7 +208,7 @@ fn traded_count(trade_in: Option<Kind>) -> Money
     }
 }
 
-/// Whether a train costs more than the company has.
+/// Returns whether a train costs more than the company has.
 fn is_too_dear(view: &GameView, company: Company, purchase: Purchase) -> bool
     requires { IsSmallPurchase purchase }
     ensures { result ≡ is_too_dear
@@ -216,7 +217,7 @@ fn is_too_dear(view: &GameView, company: Company, purchase: Purchase) -> bool
     view.cash(Party::of_company(company)) < Money::from(purchase.price())
 }
 
-/// Whether a company that is to sell a train has not consented, or the price is 0.
+/// Returns whether a company that is to sell a train has not consented, or the price is 0.
 fn lacks_consent(view: &GameView, buyer: Company, purchase: Purchase) -> bool
     requires { IsSmallPurchase purchase }
     ensures { result ≡ lacks_consent view.now.events.now buyer purchase }
@@ -234,7 +235,7 @@ fn lacks_consent(view: &GameView, buyer: Company, purchase: Purchase) -> bool
     price == 0 || !presidents_agree(view, view.president(seller), view.president(buyer), sale)
 }
 
-/// Whether the one president consents to what the other takes; not where there are not both.
+/// Returns whether one president consents to a sale to the other; `false` if there are not both.
 fn presidents_agree(view: &GameView, giver: Option<Seat>, taker: Option<Seat>, sale: Offer) -> bool
     ensures { result ≡ presidents_agree view.now.events.now giver taker sale }
 {
@@ -244,7 +245,7 @@ fn presidents_agree(view: &GameView, giver: Option<Seat>, taker: Option<Seat>, s
     }
 }
 
-/// Whether a company that is to sell a train has none of the kind, or is the buyer.
+/// Returns whether a company that is to sell a train has none of the kind, or is the buyer.
 fn is_not_sellers(view: &GameView, buyer: Company, kind: Kind, from: TrainSeller) -> bool
     ensures { result ≡ is_not_sellers view.now.events.now buyer kind from }
 {
@@ -254,7 +255,7 @@ fn is_not_sellers(view: &GameView, buyer: Company, kind: Kind, from: TrainSeller
     }
 }
 
-/// Whether a train is to be traded in that is not there, or that may not be.
+/// Returns whether a train is to be traded in that is not there, or that may not be traded in.
 fn is_no_trade_in(view: &GameView, company: Company, kind: Kind, trade_in: Option<Kind>) -> bool
     ensures { result ≡ is_no_trade_in view.now.events.now company kind trade_in }
 {
@@ -264,7 +265,7 @@ fn is_no_trade_in(view: &GameView, company: Company, kind: Kind, trade_in: Optio
     }
 }
 
-/// Whether a train that the company has may be traded in for one of this kind.
+/// Returns whether a train that the company has may be traded in for one of this kind.
 fn may_trade(view: &GameView, company: Company, kind: Kind, trade_in: Kind) -> bool
     ensures { result ≡ may_trade view.now.events.now company kind trade_in }
 {

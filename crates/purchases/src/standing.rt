@@ -14,7 +14,7 @@ use tables::{Round, Seat};
 use turns::{Family, rule_line};
 
 /// Rules the standing lines of each sheet for an operating round, seat by seat. The list of events
-/// must be sound.
+/// must be sound. Fails only if allocation fails.
 pub fn rule_standing_lines(
     history: &mut History,
     sheets: &Sheets,
@@ -48,7 +48,8 @@ fn rule_standing(history: &mut History, seat: Seat, sheet: &mut PartsLeft) -> Re
     Ok(())
 }
 
-/// The standing lines of a sheet, those before its first head: DISCARD and OFFER have a place there.
+/// The standing lines of a sheet, those before its first head: DISCARD and OFFER have a place
+/// there.
 struct StandingLines;
 
 impl Family for StandingLines {

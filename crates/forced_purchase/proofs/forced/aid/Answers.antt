@@ -1,4 +1,4 @@
--- The president pays what the company lacks, which he has.
+-- The president pays what the company lacks, which they have.
 use Rattle.std.proofs.Common.{sym, ◌∙◌, arith}
 use Rattle.forced_purchase.proofs.Aid.{aid_keeps_sound, aid_recorded, no_aid}
 use Rattle.forced_purchase.proofs.forced.aid.Goals as goal

@@ -1,4 +1,4 @@
--- The company buys, once its president has paid what it lacks, or he is bankrupt.
+-- The company buys, once its president has paid what it lacks, or the president is bankrupt.
 use Rattle.std.proofs.Common.{◌≡◌, None, ap, sym, subst, ◌∙◌}
 use Rattle.totals.specs.LookBack.{Game}
 use Rattle.forced_purchase.proofs.Cheapest.{forced_allowed}

@@ -25,7 +25,7 @@ sell_block-requires-clause-may c =
     may_sell_after c.args.history.now c.record.new.history
     (event.Ruled c.args.by.president (line_with c.args.line (Raise c.args.sale.company c.args.sale.shares)).number
     _) c.args.by.president c.args.sale (Some c.args.by.company)
-    c.in_ok-record.ensures.ruling
+    (rw c.requires.is at c.in_ok-record.ensures.ruling)
     (record {
       payment = refl;
       ownership = refl;
@@ -59,5 +59,5 @@ returns-in_ok-sell_block-clause-after c =
     (sym c.as_ref.ensures.value) ∙ sym c.raise_rule-broken.ensures ∙ nothing c.raise_rule-broken.result none)
     (recorded_obeyed c.args.history.now c.record.new.history c.args.by.president
     (line_with c.args.line (Raise c.args.sale.company c.args.sale.shares))
-    (Raise c.args.sale.company c.args.sale.shares) c.raise_rule-broken.result c.in_ok-record.ensures.ruling none)
+    (Raise c.args.sale.company c.args.sale.shares) c.raise_rule-broken.result (rw c.requires.is at c.in_ok-record.ensures.ruling) none)
     c.in_ok-sell_block.ensures.seats c.in_ok-sell_block.ensures.events

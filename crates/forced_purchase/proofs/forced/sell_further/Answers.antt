@@ -1,4 +1,4 @@
--- The president sells one share more where he falls short.
+-- The president sells one more share if they fall short.
 use Rattle.std.proofs.Common.{sym, ◌∙◌}
 use Rattle.forced_purchase.proofs.Steps.{not_sold, sold_then}
 use Rattle.forced_purchase.proofs.forced.sell_further.Goals as goal

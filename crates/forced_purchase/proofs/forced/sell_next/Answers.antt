@@ -1,4 +1,4 @@
--- The president sells a share of the first company that he may sell one of.
+-- The president sells a share of the first company of which they may sell one.
 use Rattle.std.proofs.Common.{◌≡◌, None, sym, ◌∙◌}
 use Rattle.forced_purchase.proofs.Steps.{may_sell_share, none_sold, one_sold}
 use Rattle.forced_purchase.proofs.forced.sell_next.Goals as goal

@@ -1,4 +1,4 @@
--- So many times a share was sold, or none was to be.
+-- This many times a share was sold, or none was to be.
 use Rattle.std.proofs.Common.{◌≡◌}
 use Rattle.history.specs.Sound.{IsSound}
 use Rattle.forced_purchase.specs.Forced.{sold_further}

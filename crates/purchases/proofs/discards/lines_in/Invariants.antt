@@ -3,7 +3,7 @@ use Rattle.std.specs.List.{fold}
 use Rattle.purchases.specs.Discards.{Lines, lines_then}
 use Rattle.purchases.proofs.discards.lines_in.Given as goal
 
--- the lines that are to serve after the events so far
+-- the lines that are still to be used after the events so far
 abbrev pub invariant-loop-event : goal.invariant-loop-event
 invariant-loop-event l =
     ◌≡◌ {A = Lines} (record { presides = l.presides; kinds = l.lines.items })

@@ -1,4 +1,4 @@
--- No line of the president serves, so the least kind does that the company has.
+-- There is no line of the president to use, so the company discards of its least kind.
 use Rattle.std.proofs.Common.{◌≡◌, ◌∙◌, ap, sym, Option, None}
 use Rattle.std.specs.Option.{option_or}
 use Rattle.purchases.specs.Discards.{first_held, lines_of, next_discard}

@@ -1,4 +1,5 @@
--- The orders of a company lead where their lines do, then what it withholds by itself, and the end of its turn.
+-- The orders of a company lead where their lines do, then what it withholds by itself, and the end
+-- of its turn.
 use Rattle.std.proofs.Common.{◌≡◌, ℕ, ◌≤◌, ◌<◌, Ok, Err, Result, refl, ap, sym, subst, ◌∙◌}
 use Rattle.std.proofs.lemmas.Result.{err_from_is_err_and}
 use Rattle.legal_runs.specs.declared.runner.RunnerFault.{RunnerFault}

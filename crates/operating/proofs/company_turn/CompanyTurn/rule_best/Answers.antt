@@ -1,4 +1,4 @@
--- Where memory is refused, or the runner does not answer, its calls are those of the order up to there.
+-- If allocation fails, or the runner's call fails, its calls are those of the order up to there.
 use Rattle.std.proofs.Common.{◌≡◌, Err, ap, ◌∙◌}
 use Rattle.std.proofs.lemmas.Result.{err_from_is_err_and}
 use Rattle.legal_runs.specs.declared.runner.RunnerFault.TheVariants.{Memory}

@@ -8,7 +8,8 @@ use Rattle.operating.specs.TurnCalls.{LinesCall}
 use Rattle.turns.specs.Small.{AreSmall}
 use Rattle.operating.proofs.company_turn.CompanyTurn.rule_lines.Given as goal
 
--- where the lines that are left lead from here, all lead from the start; with the calls of those the calls of these are all
+-- where the lines that are left lead from here, all lead from the start; with the calls of those
+-- the calls of these are all
 abbrev pub invariant-loop-line : goal.invariant-loop-line
 invariant-loop-line g l = record {
   seats : l.self.history.seats ≡ l.fn.self.history.seats;

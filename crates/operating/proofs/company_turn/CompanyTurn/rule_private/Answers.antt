@@ -15,7 +15,7 @@ buy_private-requires-clause-may c =
     c.args.private c.args.price
     (recorded_obeyed c.args.self.now.history c.record.new.history c.args.self.now.by.president
     (line_with c.args.line (BuyOwnedPrivate c.args.private c.args.price))
-    (BuyOwnedPrivate c.args.private c.args.price) c.map-broken.result c.in_ok-record.ensures.ruling none)
+    (BuyOwnedPrivate c.args.private c.args.price) c.map-broken.result (rw c.requires.is at c.in_ok-record.ensures.ruling) none)
     ∙ sym c.judge_private.ensures
     ∙ kept_all c.judge_private.result c.map-broken.result none c.map-broken.ensures.variant
 
@@ -29,5 +29,5 @@ returns-in_ok-buy_private-clause-turn c =
     c.map-broken.ensures.variant)
     (recorded_obeyed c.args.self.now.history c.record.new.history c.args.self.now.by.president
     (line_with c.args.line (BuyOwnedPrivate c.args.private c.args.price))
-    (BuyOwnedPrivate c.args.private c.args.price) c.map-broken.result c.in_ok-record.ensures.ruling none)
+    (BuyOwnedPrivate c.args.private c.args.price) c.map-broken.result (rw c.requires.is at c.in_ok-record.ensures.ruling) none)
     c.in_ok-buy_private.ensures.after

@@ -45,7 +45,7 @@ returns-in_ok-append-in-Ok-clause-turn c =
       answered = answered;
       after = placed_steps c.args.self.now.by (in_turn game c.args.self.now.progress)
           (line_with c.args.line (Token c.args.place)) c.args.place cost c.record.new.history c.append.new.self _
-          c.amount_of-cost.result c.with_token-self.result c.in_ok-record-in-Ok.ensures.ruling refl
+          c.amount_of-cost.result c.with_token-self.result (rw c.requires.is at c.in_ok-record-in-Ok.ensures.ruling) refl
           c.in_ok-append-in-Ok.ensures.ok (c.amount_of-cost.ensures ∙ ap unsigned_abs may.kept)
           c.with_token-self.ensures;
     }
@@ -64,7 +64,7 @@ returns-in_ok-append-in-Ok-clause-order c =
       round = refl;
       sound = placed_sound game c.record.new.history c.append.new.self c.args.self.now.by.company
           c.args.self.now.progress c.args.self.now.by.president (line_with c.args.line (Token c.args.place)) _
-          c.args.place cost c.amount_of-cost.result answered c.in_ok-record-in-Ok.ensures.ruling
+          c.args.place cost c.amount_of-cost.result answered (rw c.requires.is at c.in_ok-record-in-Ok.ensures.ruling)
           c.in_ok-append-in-Ok.ensures.ok (c.amount_of-cost.ensures ∙ ap unsigned_abs may.kept)
           c.in_ok-record-in-Ok.ensures.sound;
       prefix = c.in_ok-update_map_state.ensures.prefix;
@@ -81,5 +81,5 @@ returns-in_ok-record-in-Err-Rule-clause-turn c =
           c.asker-asker.ensures answered;
       after = token_refused_steps c.args.self.now.by (in_turn game c.args.self.now.progress)
           (line_with c.args.line (Token c.args.place)) c.args.place rule c.record-in-Err-Rule.new.history _
-          (rw c.in-Err-Rule.field-0-is at c.in_ok-record-in-Err-Rule.ensures.ruling) refl;
+          (rw c.in-Err-Rule.field-0-is at rw c.requires.is at c.in_ok-record-in-Err-Rule.ensures.ruling) refl;
     }

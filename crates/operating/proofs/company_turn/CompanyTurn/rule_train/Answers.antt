@@ -15,7 +15,7 @@ buy_train-requires-clause-may c =
     c.purchase_of-purchase.result
     (recorded_obeyed c.args.self.now.history c.record.new.history c.args.self.now.by.president
     (line_with c.args.line (BuyTrain c.args.kind c.args.from)) (BuyTrain c.args.kind c.args.from)
-    c.map-broken.result c.in_ok-record.ensures.ruling none)
+    c.map-broken.result (rw c.requires.is at c.in_ok-record.ensures.ruling) none)
     ∙ sym c.judge_purchase.ensures
     ∙ kept_all c.judge_purchase.result c.map-broken.result none c.map-broken.ensures.variant
 
@@ -30,4 +30,4 @@ returns-in_ok-buy_train-clause-turn c =
     c.map-broken.ensures.variant)
     (recorded_obeyed c.args.self.now.history c.record.new.history c.args.self.now.by.president
     (line_with c.args.line (BuyTrain c.args.kind c.args.from)) (BuyTrain c.args.kind c.args.from)
-    c.map-broken.result c.in_ok-record.ensures.ruling none) c.in_ok-buy_train.ensures.after
+    c.map-broken.result (rw c.requires.is at c.in_ok-record.ensures.ruling) none) c.in_ok-buy_train.ensures.after
