@@ -1,0 +1,45 @@
+-- What a seat may do as its turn of an opening begins: buy a private at its price, or make the least bid on one that is
+-- not too low, 5 over the face and over each earlier bid. No bid names over 4,294,967,295 dollars. What it may of these
+-- is what the rules of an opening say in a turn that is not used.
+use Rattle.std.specs.Prelude.{◌≡◌, ◌≤◌, ℕ, ◌+◌, min, max, false, List, Option, Some, None, Result, ℤ}
+use Rattle.board.specs.LayRules.{cost_or}
+use Rattle.events.specs.declared.event.Event.{Event}
+use Rattle.events.specs.declared.ruling.OpeningRule.{OpeningRule}
+use Rattle.order_grammar.specs.declared.order.Order.TheVariants.{Bid, BuyPrivate}
+use Rattle.privates.specs.Judgement.{judgement_of, price_of}
+use Rattle.tables.specs.Roster.{face_of}
+use Rattle.tables.specs.declared.roster.Private.{Private}
+use Rattle.tables.specs.declared.seat.Seat.{Seat}
+use Rattle.totals.specs.Bids.{greatest_bid_of}
+
+-- 5 over a sum, as far as a line can name it
+abbrev pub step_over : ℕ → ℕ
+step_over sum = min (sum + 5) 4294967295
+
+-- the least sum that is no less than this one and 5 over a bid, if there is one
+abbrev pub least_over : ℕ → Option ℕ → ℕ
+least_over least None = least
+least_over least (Some bid) = max least (step_over bid)
+
+-- the least bid on a private: 5 over its face and over the greatest earlier bid on it
+abbrev pub least_bid_of : List Event → Private → ℕ
+least_bid_of events private = least_over (step_over (face_of private)) (greatest_bid_of events private)
+
+-- the answer to the purchase of a private: its price, or the first rule that it breaks
+abbrev pub IsPrivateAnswer : ℕ → List Event → Seat → Private → Result ℤ OpeningRule → Type 0
+IsPrivateAnswer seats events seat private answer =
+    answer ≡ cost_or (price_of events private) (judgement_of seats events seat false (BuyPrivate private))
+
+-- the answer to the least bid on a private: that bid, or the first rule that it breaks
+abbrev pub IsBidAnswer : ℕ → List Event → Seat → Private → Result ℤ OpeningRule → Type 0
+IsBidAnswer seats events seat private answer =
+    let least = least_bid_of events private in
+    answer ≡ cost_or least (judgement_of seats events seat false (Bid private least))
+
+-- if a seat may bid some sum on a private, it may make the least bid on it, which is no more
+abbrev pub LeastBidIsLeast : Type 0
+LeastBidIsLeast =
+    (seats : ℕ) (events : List Event) (seat : Seat) (private : Private) (amount : ℕ) → amount ≤ 4294967295
+    → judgement_of seats events seat false (Bid private amount) ≡ None
+    → (least_bid_of events private ≤ amount)
+    × (judgement_of seats events seat false (Bid private (least_bid_of events private)) ≡ None)

@@ -1,0 +1,26 @@
+//! What may be done: which tiles a company may lay and where it may place a token; what a seat may buy,
+//! sell and bid; which trains and privates a company may buy. It is all of that and nothing else.
+//!
+//! No rule is written here. Each list asks the call that rules a line, of every candidate in order, and
+//! its contract says so: a candidate is listed exactly where that call refuses it by no rule.
+//!
+//! Reading order: `priced` (what may be done, with its price), `lay_list`, `token_list`, `deal_list` (of a
+//! stock round), `bid_list` (of an opening), `train_list`, `owned` (privates that a company buys), `laws`.
+#![tactic(auto)]
+
+mod bid_list;
+mod deal_list;
+pub mod laws;
+mod lay_list;
+mod owned;
+mod priced;
+mod token_list;
+mod train_list;
+
+pub use bid_list::{OpeningMoves, bids};
+pub use deal_list::{StockMoves, deals};
+pub use lay_list::{Lays, lays};
+pub use owned::owned_privates;
+pub use priced::Priced;
+pub use token_list::{Tokens, tokens};
+pub use train_list::trains;
