@@ -1,4 +1,4 @@
--- Each call that leads to a game is answered.
+-- Each call that leads to a game succeeds.
 use Rattle.std.proofs.Common.{◌≡◌, ℕ, List, refl}
 use Rattle.totals.specs.LookBack.{Game}
 use Rattle.operating.proofs.CallsAnswered.{none_answered, then_answered, times_answered, turn_answered}

@@ -1,4 +1,5 @@
--- Files whose sheets are read alike have the same game; so have those with the same sheets of each player.
+-- Files whose sheets are read alike have the same game; so have those with the same sheets of each
+-- player.
 use Rattle.std.proofs.Common.{ℕ, zero, suc, List, is_some, sym, ap, ◌∙◌}
 use Rattle.std.specs.Prelude.{Option}
 use Rattle.rounds.proofs.ReadAlike.{same_before, same_goes_on, same_round}

@@ -29,7 +29,8 @@ calls_of_step file here to old new calls of_file at there goes its =
       | inr none ↦ absurd (true≢false (sym goes ∙ none.0))
     ]
 
--- where steps have led, with their calls: what follows the calls from there on makes the calls of the game with them
+-- where steps have led, with their calls: what follows the calls from there on makes the calls of
+-- the game with them
 record Joined (file : List ℕ) (play : Underway) (calls : List Call) : Type 0 where
   of_file : play.file ≡ file
   here : Between
@@ -39,7 +40,7 @@ record Joined (file : List ℕ) (play : Underway) (calls : List Call) : Type 0 w
       (Ok played) later →
       GameCalls file (Ok played) (calls ++ later)
 
--- one step more
+-- one more step
 joined_more :
     (file : List ℕ) (mid play : Underway) (round : Round) (before its : List Call) → Joined file mid before
     → PlaysNext mid round play → StepCalls mid play its →

@@ -102,7 +102,7 @@ order_for by round line order turn to calls course =
       | inr other ↦ of_none (IsFor round) calls other.1.1
     ]
 
--- where a condition holds an order up the runner is not asked
+-- the runner is not called if the condition of an order is not met
 asked_for : (by : _) (round : Round) (line : Numbered) (order : Order) (held : Bool)
     → AreFor round (AskedCalls by round line order held)
 asked_for by round line order true turn to calls course = of_none (IsFor round) calls course.1

@@ -1,5 +1,5 @@
--- Later sheets change nothing, since the sequence goes forward and each round is played from its own
--- sheets alone.
+-- Later sheets change nothing, since the sequence goes forward and each round is played from its
+-- own sheets alone.
 use Rattle.std.proofs.Common.{◌≡◌, ℕ, zero, suc, ◌≤◌, ◌<◌, List, length, sym, ap, ◌∙◌, arith}
 use Rattle.totals.specs.LookBack.{broken_in}
 use Rattle.privates.specs.Turn.{all_sold}

@@ -1,5 +1,5 @@
--- The turns of the companies in an operating round: they lead to one end, which comes after at most eight, and
--- no company takes two.
+-- The turns of the companies in an operating round: they lead to one end, which comes after at most
+-- eight, and no company takes two.
 use Rattle.std.proofs.Common.{◌≡◌, ℕ, zero, suc, ◌+◌, ◌<◌, ◌≤◌, Bool, true, false, ◌||◌, if◌then◌else◌, List, [], ◌∷◌}
 use Rattle.std.proofs.Common.{◌++◌, length, Option, Some, None, is_some, refl, sym, ap, subst, ◌∙◌, arith}
 use Rattle.std.proofs.Math.Bool.{or-false, or-true}
@@ -70,7 +70,7 @@ operating_once once file round old a b first second =
     first.turned second.turned first.turns.turns first.turns.over_then second.turns.turns second.turns.over_then)
     ∙ sym second.after
 
--- one company more takes its turn
+-- one more company takes its turn
 pub one_more_turn : (file : List ℕ) (round : Round) (companies : List Company) (company : Company)
     (old mid new : Game) →
     TakeTurns file round companies old mid → TakesTurn file round company mid new →
@@ -177,7 +177,7 @@ says_no_turn company event says =
     (turn_said company (operated_by event))) says.round
     ∙ ap (λ (turn : Option Company). option_map Some (turn_said company turn)) says.turn
 
--- nobody has operated where a round has begun, and then events stand aside
+-- nobody has operated once a round has begun, and then events stand aside
 no_one_yet : (events new : List Event) (round : Round) (company : Company) →
     Grows (events ++ event.Round round ∷ []) new → has_operated new company ≡ false
 no_one_yet events new round company grows =

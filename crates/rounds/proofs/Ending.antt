@@ -1,5 +1,5 @@
--- Each round played leaves fewer places in the order of rounds, and a file that is not refused has players: so play
--- reaches an end.
+-- Each round played leaves fewer places in the order of rounds, and a file that is not refused has
+-- players: so play reaches an end.
 use Rattle.std.proofs.Common.{◌≡◌, ◌⊎◌, ℕ, zero, suc, ◌+◌, ◌<◌, true, false, List, length, refl, ap, inl, inr, arith}
 use Rattle.std.proofs.lemmas.Bool.{cases_Bool}
 use Rattle.totals.specs.LookBack.{Game}

@@ -1,4 +1,5 @@
--- The sequence goes forward in the order of all rounds, and no sheet is past the last of them: so play reaches an end.
+-- The sequence goes forward in the order of all rounds, and no sheet is past the last of them: so
+-- play reaches an end.
 use Rattle.std.proofs.Common.{◌≡◌, ℕ, ◌+◌, ◌<◌, ◌≤◌, Bool, true, false, List, length, is_some, refl, ap, arith, rules}
 use Rattle.std.proofs.lemmas.Bool.{lt-ltb}
 use Rattle.events.specs.declared.event.Event.{Event}
@@ -98,7 +99,7 @@ fewer_to_come numbered file old new some within_set round =
     let fewer = fewer_than_before numbered file old new some round (within_set round.round round.comes) new.next refl in
     omega (arith, is, fewer)
 
--- what a round asks holds before the next, if it holds after the one that was played
+-- what a round needs holds before the next, if it holds after the one that was played
 gifts_next : (round : Round) (in_set : ℕ) (all_sold broken : Bool) (events : List Event) →
     GiftsWait round events → OfNext (λ later. GiftsWait later events) (following round in_set all_sold broken)
 gifts_next (Opening number) in_set true broken events waits = tt

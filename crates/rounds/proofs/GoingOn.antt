@@ -19,7 +19,7 @@ pub record GoesOn (old new : List Event) : Type 0 where
   pub longer : new ≡ old ++ more
   pub quiet : rounds_begun more ≡ []
 
--- a round in front of rounds of two lists
+-- a round before rounds of two lists
 round_in_front : (round : Option Round) (prefix back : List Round)
     → with_round round (prefix ++ back) ≡ with_round round prefix ++ back
 round_in_front None prefix back = refl

@@ -1,7 +1,8 @@
--- A list of events grows, and its new events stand aside: they begin no round and no phase, lay no tile, place no
--- token, move no train, sell nothing to a company and are no company's turn. So the list says of the map, of trains,
--- and of who has operated, what it said before. Those of stock rounds, and of operating rounds before and after the
--- turns of companies, also say nothing of bids, and name no owner of a private.
+-- A list of events grows, and its new events stand aside. They begin no round and no phase, lay no
+-- tile, place no token, move no train, sell nothing to a company and are no company's turn. So the
+-- list says the same of the map, of trains, and of who has operated as before. Those of stock
+-- rounds, and of operating rounds before and after the turns of companies, also say nothing of
+-- bids, and name no owner of a private.
 use Rattle.std.proofs.Common.{◌≡◌, ℕ, zero, suc, Bool, true, false, ◌&&◌, not, if◌then◌else◌, List, [], ◌∷◌, ◌++◌}
 use Rattle.std.proofs.Common.{Option, Some, None, is_none, refl, sym, ap, ◌∙◌}
 use Rattle.std.proofs.lemmas.Bool.{and_parts}

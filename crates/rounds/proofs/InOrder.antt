@@ -1,5 +1,5 @@
--- The rounds of a game follow one another in the order of all rounds, since each round tells its own
--- beginning first, begins no other, and comes before the next.
+-- The rounds of a game follow one another in the order of all rounds, since each round first says
+-- its own beginning, begins no other, and comes before the next.
 use Rattle.std.proofs.Common.{◌≡◌, ℕ, zero, suc, ◌<◌, List, [], ◌∷◌, ◌++◌, length, refl, sym, ap, subst, ◌∙◌, arith}
 use Rattle.std.specs.Prelude.{⊤}
 use Rattle.std.proofs.lemmas.Bool.{lt-ltb}
@@ -53,8 +53,8 @@ still_begins : (events : List Event) (round : Round) (more : List Event) → Beg
 still_begins [] round more begins = refl
 still_begins (first ∷ events) round more begins = begins
 
--- what a game between rounds tells: it begins with a round, and its rounds are in order and before the next, if one
--- comes
+-- what a game between rounds says: it begins with a round, and its rounds are in order and before
+-- the next, if one comes
 record TellsInOrder (there : Between) : Type 0 where
   begins : BeginWithRound there.game.events
   order : AreInOrder (rounds_begun there.game.events)

@@ -18,7 +18,8 @@ use Rattle.tables.specs.declared.rolling_stock.Kind.TheVariants.{Two, Three, Fou
 use Rattle.tables.specs.declared.round.Round.{Round}
 use Rattle.tables.specs.declared.round.Round.TheVariants.{Opening, Stock, Operating}
 
--- the set has one to three operating rounds, and if the round is one of them it is not past the last
+-- the set has one to three operating rounds, and if the round is one of them it is not past the
+-- last
 pub record IsInSet (round : Round) (in_set : ℕ) : Type 0 where
   pub some : 1 ≤ in_set
   pub few : in_set ≤ operating_most

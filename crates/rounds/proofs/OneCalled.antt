@@ -21,11 +21,12 @@ use Rattle.tables.specs.declared.roster.Company.{Company}
 use Rattle.tables.specs.declared.round.Round.{Round}
 use Rattle.tables.specs.declared.round.Round.TheVariants.{Opening, Stock, Operating}
 
--- a fault of play tells why a call was not answered, and for whom
+-- a fault of play says why a call failed, and for whom
 abbrev TellsOf : PlayFault → RunnerFault → Call → Type 0
 TellsOf fault why call = fault ≡ fault_in_turn why call.round call.company
 
--- from each place such a course leads to one end by one list of calls, and by a prefix of them where it is broken off
+-- from each place such a course leads to one end by one list of calls, and by a prefix of them if
+-- it is broken off
 abbrev IsOne : {A B : Type 0} → Course A B PlayFault → Type 0
 IsOne course = Agree Memory TellsOf course course
 

@@ -5,6 +5,7 @@ use Rattle.std.proofs.lemmas.List.{append_assoc}
 use Rattle.events.specs.declared.event.Bid.{Bid}
 use Rattle.events.specs.declared.event.Event.{Event}
 use Rattle.events.specs.declared.event.Event.TheVariants as event
+use Rattle.events.specs.declared.ruling.Refusal.TheVariants as refusal
 use Rattle.events.specs.declared.ruling.Ruling.{Ruling}
 use Rattle.events.specs.declared.ruling.Ruling.TheVariants as ruling
 use Rattle.totals.specs.Bids.{bids_on}
@@ -14,14 +15,14 @@ use Rattle.order_grammar.specs.declared.condition.Condition.{Condition}
 use Rattle.order_grammar.specs.declared.order.Order.{Order}
 use Rattle.order_grammar.specs.declared.order.Order.TheVariants as order
 use Rattle.privates.specs.Closing.{after_fall, after_passing, all_sold, closed, given_away}
-use Rattle.privates.specs.Judgement.{price_of, refusal_of}
+use Rattle.privates.specs.Judgement.{judgement_of, price_of, refusal_of}
 use Rattle.privates.specs.Opening.{IsOpeningRound}
 use Rattle.privates.specs.Sale.{after_sale, gifts, settle_auctions, settled, settled_by, settled_of}
-use Rattle.privates.specs.Standing.{has_place_before, standing_refusal, standing_ruling}
+use Rattle.privates.specs.Standing.{has_place_before, standing_judgement, standing_refusal, standing_ruling}
 use Rattle.privates.specs.Turn.{InTurn, acted, after_act, after_opening_line, after_ruling, opening_rules, ruling_in}
 use Rattle.rounds.proofs.Growing.{Grows, GrowsPlainly, and_plain, by_steps, further, in_either, is_aside, passes_plain}
 use Rattle.rounds.proofs.Growing.{by_one_event, passes_test, revenues_grow, stays, still_is_plain}
-use Rattle.rounds.proofs.PlainLines.{recorded_plain, ruled_plain, ruling_plain}
+use Rattle.rounds.proofs.PlainLines.{of_mapped, recorded_plain, ruled_plain, ruling_plain}
 use Rattle.rounds.proofs.PlainTurns.{AddsPlain}
 use Rattle.sheets.specs.Part.{Numbered}
 use Rattle.tables.specs.Roster.{privates}
@@ -49,7 +50,7 @@ sale_grows : (events : List Event) (private : Private) (buyer : Seat) (price : �
 sale_grows events private buyer price =
     record { more = _; longer = refl; aside = gifts_aside events private buyer }
 
--- by the sale that the bids on a private bring
+-- by the sale that follows from the bids on a private
 bids_grow : (seats : ℕ) (events : List Event) (private : Private) (bids : List Bid) →
     GrowsPlainly is_aside events (settled_by seats events private bids)
 bids_grow seats events private [] = stays events
@@ -141,12 +142,14 @@ opening_adds =
     record {
       standing = λ seat events line plain.
           recorded_plain seat line.number (standing_ruling events line) events
-          (ruling_plain has_place_before (standing_refusal events) events line plain);
+          (ruling_plain has_place_before (standing_refusal events) events line plain
+          (λ its. of_mapped refusal.Opening (λ rule. tt) (standing_judgement events its)));
       line = λ seats seat turn line plain.
           ruled_plain (acted seats seat)
           (λ at done. passes_plain is_aside at.events (after_act seats seat at.events done)
           (act_grows seats seat at.events done))
           seat turn line.number (ruling_in seats seat turn line)
-          (ruling_plain has_place_in_turn (refusal_of seats turn.events seat turn.actions) turn.events line plain);
+          (ruling_plain has_place_in_turn (refusal_of seats turn.events seat turn.actions) turn.events line plain
+          (λ its. of_mapped refusal.Opening (λ rule. tt) (judgement_of seats turn.events seat turn.actions its)));
       closed = λ seats events. passes_plain is_aside events (closed seats events) (close_grows seats events);
     }

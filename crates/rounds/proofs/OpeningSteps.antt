@@ -1,5 +1,6 @@
--- An opening round, event by event: a private is sold while it is unsold, a bid is made by a seat that takes a turn,
--- and what else is recorded is still. What holds of each such event, and of one after the other, holds of the round.
+-- An opening round, event by event. A private is sold while it is unsold, a bid is made by a seat
+-- that takes a turn, and what else is recorded is still. What holds of each such event, and of one
+-- after the other, holds of the round.
 use Rattle.std.proofs.Common.{◌≡◌, ℕ, zero, suc, ◌-◌, ◌==◌, Bool, true, false, if◌then◌else◌, List, [], ◌∷◌, ◌++◌}
 use Rattle.std.proofs.Common.{Option, Some, None, refl, sym, subst, ◌∙◌}
 use Rattle.std.proofs.lemmas.Bool.{and_parts}
@@ -35,7 +36,8 @@ use Rattle.tables.specs.declared.seat.Seat.{Seat}
 use Rattle.turns.proofs.Ruled.{none_as_refusal, of_ruled}
 use Rattle.turns.specs.Ruling.{has_place_in_turn, obeyed_by}
 
--- what is to be shown so that it holds of the parts of an opening round in which these seats take turns
+-- what is to be shown so that it holds of the parts of an opening round in which these seats take
+-- turns
 pub record OfOpening (Sits : Seat → Type 0) (R : List Event → List Event → Type 0) : Type 0 where
   pub same : (events : List Event) → R events events
   pub both : (a b c : List Event) → R a b → R b c → R a c
@@ -97,7 +99,7 @@ module _ (Sits : Seat → Type 0) (R : List Event → List Event → Type 0) (of
       (of.both events next (next ++ gifts events private buyer) (of.sold events private buyer price unsold)
       (of_still next (gifts events private buyer) (gifts_still events private buyer)))
 
-  -- of the sale that the bids on a private bring
+  -- of the sale that follows from the bids on a private
   of_bids : (seats : ℕ) (events : List Event) (private : Private) (bids : List Bid) → is_sold events private ≡ false →
       R events (settled_by seats events private bids)
   of_bids seats events private [] unsold = of.same events

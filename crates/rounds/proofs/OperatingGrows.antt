@@ -1,18 +1,32 @@
--- Before the first company of an operating round, and after its last, the new events are still, and so stand aside.
-use Rattle.std.proofs.Common.{◌≡◌, ℕ, ◌==◌, true, List, [], ◌∷◌, ◌++◌, refl}
+-- Before the first company of an operating round, and after its last, the new events are still, and
+-- so stand aside.
+use Rattle.std.proofs.Common.{◌≡◌, ℕ, ◌==◌, ◌||◌, not, Bool, true, false, List, [], ◌∷◌, ◌++◌, Some, refl}
 use Rattle.std.specs.List.{list_all, range_with_len}
 use Rattle.events.specs.declared.event.Event.{Event}
 use Rattle.events.specs.declared.event.Event.TheVariants as event
-use Rattle.totals.specs.LookBack.{Game}
+use Rattle.events.specs.declared.ruling.PrivateRule.TheVariants as private_rule
+use Rattle.events.specs.declared.ruling.Refusal.{Refusal}
+use Rattle.events.specs.declared.ruling.Refusal.TheVariants as refusal
+use Rattle.events.specs.declared.ruling.TrainRule.TheVariants as train_rule
+use Rattle.totals.specs.LookBack.{Game, owner_of}
+use Rattle.totals.specs.Shares.{president_of}
+use Rattle.order_grammar.specs.declared.order.Offer.{Offer}
+use Rattle.order_grammar.specs.declared.order.Offer.TheVariants as offer
+use Rattle.order_grammar.specs.declared.order.Order.{Order}
+use Rattle.order_grammar.specs.declared.order.Order.TheVariants as order
+use Rattle.purchases.specs.Discards.{discard_judgement, is_president}
+use Rattle.purchases.specs.Offers.{is_seats, offer_judgement}
 use Rattle.purchases.specs.Standing.{after_standing, after_standing_line, has_place_before, standing_judgement}
 use Rattle.purchases.specs.Standing.{standing_ruling}
 use Rattle.rounds.proofs.Growing.{Grows, GrowsPlainly, GrowsStill, and_plain, count_aside, further, is_still}
 use Rattle.rounds.proofs.Growing.{passes_plain, passes_test, revenues_grow, stays, still_is_aside}
-use Rattle.rounds.proofs.PlainLines.{GrowsPlain, SheetsArePlain, recorded_plain, ruling_plain, standing_plain}
+use Rattle.rounds.proofs.PlainLines.{GrowsPlain, IsOfFamily, SheetsArePlain, of_mapped, recorded_plain, ruling_plain}
+use Rattle.rounds.proofs.PlainLines.{standing_plain}
 use Rattle.rounds.specs.OperatingRound.{finished, left_events, lines_left, opened}
 use Rattle.sheets.specs.Part.{Numbered, parts_for}
 use Rattle.sheets.specs.Taken.{after_all_before, after_each, after_lines_before}
 use Rattle.tables.specs.Roster.{privates}
+use Rattle.tables.specs.Rules.{Rule, first_broken}
 use Rattle.tables.specs.Seat.{seat_at}
 use Rattle.tables.specs.declared.round.Round.{Round}
 use Rattle.tables.specs.declared.seat.Seat.{Seat}
@@ -70,6 +84,29 @@ pub opened_grows : (file : List ℕ) (round : Round) (old : Game) →
 opened_grows file round old =
     still_is_aside (old.events ++ event.Round round ∷ []) (opened file round old).events (opened_still file round old)
 
+-- an offer is refused by its rule, or not
+abbrev one_rule : Refusal → Bool → List (Rule Refusal)
+one_rule code broken = record { code = code; broken = broken } ∷ []
+
+offered_of_family : (code : Refusal) (broken : Bool) → IsOfFamily (Some code)
+    → IsOfFamily (first_broken (one_rule code broken))
+offered_of_family code true of = of
+offered_of_family code false of = tt
+
+offer_of_family : (events : List Event) (seat : Seat) (sale : Offer) → IsOfFamily (offer_judgement events seat sale)
+offer_of_family events seat (offer.Train kind seller buyer price) =
+    offered_of_family (refusal.Train train_rule.NoConsent)
+    (price == 0 || not (is_president (president_of events seller) seat)) tt
+offer_of_family events seat (offer.Private private buyer price) =
+    offered_of_family (refusal.Private private_rule.NoConsent) (not (is_seats seat (owner_of events private))) tt
+
+-- so are standing lines
+standing_of_family : (events : List Event) (seat : Seat) (its : Order) → IsOfFamily (standing_judgement events seat its)
+standing_of_family events seat (order.Discard company kind) =
+    of_mapped refusal.Train (λ rule. tt) (discard_judgement events seat company kind)
+standing_of_family events seat (order.Offer sale) = offer_of_family events seat sale
+standing_of_family events seat other = tt
+
 -- where no sheet has a condition, the events before the first company are plain
 pub opened_adds : (file : List ℕ) (round : Round) (old : Game) → SheetsArePlain file round →
     GrowsPlain (old.events ++ event.Round round ∷ []) (opened file round old).events
@@ -79,7 +116,7 @@ opened_adds file round old sheets =
     further begun ruled (opened file round old).events
     (standing_plain after_standing_line
     (λ seat events line plain. recorded_plain seat line.number (standing_ruling events seat line) events
-    (ruling_plain has_place_before (standing_judgement events seat) events line plain))
+    (ruling_plain has_place_before (standing_judgement events seat) events line plain (standing_of_family events seat)))
     file round sheets begun (range_with_len 0 old.seats))
     (passes_plain is_still ruled (opened file round old).events (revenues_grow old.seats ruled privates))
 

@@ -1,5 +1,5 @@
 -- A company's turn adds but plain events, where none of its orders has a condition.
-use Rattle.std.proofs.Common.{◌≡◌, ℕ, ◌==◌, Bool, true, false, if◌then◌else◌, List, [], ◌∷◌, Option, Some, None}
+use Rattle.std.proofs.Common.{◌≡◌, ℕ, ◌==◌, ◌&&◌, Bool, true, false, if◌then◌else◌, List, [], ◌∷◌, Option, Some, None}
 use Rattle.std.proofs.Common.{is_none, option_map, Result, Ok, Err, inl, inr, pos, refl, sym, subst, ap}
 use Rattle.std.specs.Int.RustNames.{unsigned_abs}
 use Rattle.std.specs.Int.Signed.{lt_z}
@@ -12,6 +12,7 @@ use Rattle.events.specs.declared.event.Shareholder.TheVariants as place
 use Rattle.events.specs.declared.ruling.Refusal.{Refusal}
 use Rattle.events.specs.declared.ruling.Refusal.TheVariants as refusal
 use Rattle.events.specs.declared.ruling.Ruling.{Ruling}
+use Rattle.events.specs.declared.ruling.StockRule.TheVariants.{NotOfStock}
 use Rattle.events.specs.declared.ruling.Ruling.TheVariants.{Obeyed, Refused, Faulty}
 use Rattle.totals.specs.LookBack.{Game, owner_of, with_event}
 use Rattle.totals.specs.Shares.{president_of, square_of}
@@ -34,6 +35,7 @@ use Rattle.operating.specs.Dividend.{all_paid, paid_for, paid_out, paid_to, paid
 use Rattle.operating.specs.Dividend.{withhold_judgement}
 use Rattle.operating.specs.Ending.{EndLeads}
 use Rattle.forced_purchase.specs.Forced.{after_forced, after_raise_line, after_raises, cheapest, concluded, falls_short}
+use Rattle.forced_purchase.specs.Forced.{needed_rule, sale_rule}
 use Rattle.forced_purchase.specs.Forced.{lack_of, next_to_sell, one_share, raise_rule, raise_ruled, sold_further}
 use Rattle.forced_purchase.specs.Forced.{sold_singly, with_aid, with_one_sold, with_ruling, with_sale}
 use Rattle.operating.specs.InTurn.{InTurn, in_turn, is_unpaid, line_recorded, pay_done, ruled}
@@ -44,7 +46,7 @@ use Rattle.purchases.specs.Trains.{cost_of, purchase_of, train_judgement}
 use Rattle.operating.specs.Turn.{AskedLeads, CompanyOrdersEnd, CompanyOrdersLead, IsCompanyTurn, LayLeads, LinesLead}
 use Rattle.operating.specs.Turn.{OrderLeads}
 use Rattle.operating.specs.Turn.{ReadingLeads, TokenLeads, begun, is_held, lay_answered, withheld_if_unpaid}
-use Rattle.operating.specs.Turn.{token_answered}
+use Rattle.operating.specs.Turn.{is_ruled_there, token_answered}
 use Rattle.order_grammar.specs.declared.condition.Condition.{Condition}
 use Rattle.order_grammar.specs.declared.fault.Fault.{Fault}
 use Rattle.order_grammar.specs.declared.fault.Fault.TheVariants.{OutOfPlace}
@@ -54,9 +56,10 @@ use Rattle.order_grammar.specs.declared.order.TrainSource.{TrainSource}
 use Rattle.order_grammar.specs.declared.order.TrainSource.TheVariants as source
 use Rattle.rounds.proofs.Growing.{broken_grows, further, is_still, passes_plain, stays}
 use Rattle.rounds.proofs.Growing as growing
-use Rattle.rounds.proofs.PlainLines.{ArePlain, GrowsPlain, IsPlain, SheetsArePlain, company_orders_plain}
+use Rattle.rounds.proofs.PlainLines.{ArePlain, GrowsPlain, IsOfFamily, IsPlain, SheetsArePlain, company_orders_plain}
+use Rattle.rounds.proofs.PlainLines.{not_held, of_mapped, refused_plain}
 use Rattle.rounds.proofs.StockGrows.{sale_grows, token_grows}
-use Rattle.rounds.specs.Plain.{condition_ruled, is_plain}
+use Rattle.rounds.specs.Plain.{is_plain, is_ruled_plainly}
 use Rattle.sheets.specs.CompanyOrders.{company_orders_for}
 use Rattle.sheets.specs.Part.{Numbered}
 use Rattle.tables.specs.Seat.{all_seats}
@@ -196,27 +199,30 @@ module _ (company : Company) where
       (on.both all (with_event all phase) followed (by_event all phase refl) later)) first
 
 module _ (company : Company) (seat : Seat) (line : Numbered) (plain : IsPlain line) where
-  -- by a ruling of the line
-  by_ruling : (turn : InTurn) (ruling : Ruling) → condition_ruled ruling ≡ None →
-      TurnAdds turn (line_recorded (operator company seat) turn line ruling)
-  by_ruling turn ruling none =
-      by_event turn.game (event.Ruled seat line.number ruling)
-      (ap (λ (condition : Option Condition). is_none condition) none)
+  -- a rule that is not of conditions refuses it plainly, and so it is obeyed
+  clear : is_none line.condition && true ≡ true
+  clear = ap (λ (condition : Option Condition). is_none condition && true) plain
 
-  -- by that it is obeyed, and what this brings
+  -- by a ruling of the line
+  by_ruling : (turn : InTurn) (ruling : Ruling) → is_ruled_plainly ruling ≡ true →
+      TurnAdds turn (line_recorded (operator company seat) turn line ruling)
+  by_ruling turn ruling is = by_event turn.game (event.Ruled seat line.number ruling) is
+
+  -- by that it is obeyed, and what follows from this
   by_obeyed : (turn : InTurn) (its : Order) (new : Game) →
       AddsPlainly (line_recorded (operator company seat) turn line (Obeyed line.condition its)).game new →
       AddsPlainly turn.game new
   by_obeyed turn its new brings =
       on.both turn.game (line_recorded (operator company seat) turn line (Obeyed line.condition its)).game new
-      (by_ruling turn (Obeyed line.condition its) plain) brings
+      (by_ruling turn (Obeyed line.condition its) clear) brings
 
   -- by that it breaks this rule first, or none
   by_ruled : (turn : InTurn) (its : Order) (broken : Option Refusal) (act : InTurn → InTurn) →
-      ((after : InTurn) → TurnAdds after (act after)) →
+      IsOfFamily broken → ((after : InTurn) → TurnAdds after (act after)) →
       TurnAdds turn (ruled (operator company seat) turn line its broken act)
-  by_ruled turn its (Some rule) act acts = by_ruling turn (Refused rule line.condition its) plain
-  by_ruled turn its None act acts =
+  by_ruled turn its (Some rule) act of acts =
+      by_ruling turn (Refused rule line.condition its) (refused_plain rule line.condition its plain of)
+  by_ruled turn its None act of acts =
       let obeyed : InTurn = line_recorded (operator company seat) turn line (Obeyed line.condition its) in
       by_obeyed turn its (act obeyed).game (acts obeyed)
 
@@ -227,7 +233,7 @@ module _ (company : Company) (seat : Seat) (line : Numbered) (plain : IsPlain li
       let obeyed : InTurn = line_recorded (operator company seat) turn line (Obeyed line.condition (order.Lay lay)) in
       subst (TurnAdds turn) (sym leads.after)
       (elim (leads.answer) as (λ answer. TurnAdds turn (lay_answered (operator company seat) turn line lay answer)) [
-        | Err rule ↦ by_ruling turn (Refused (refusal.Lay rule) line.condition (order.Lay lay)) plain
+        | Err rule ↦ by_ruling turn (Refused (refusal.Lay rule) line.condition (order.Lay lay)) clear
         | Ok cost ↦
             let laid : Event = event.Laid company lay (unsigned_abs cost) in
             by_obeyed turn (order.Lay lay) (with_event obeyed.game laid) (by_event obeyed.game laid refl)
@@ -240,7 +246,7 @@ module _ (company : Company) (seat : Seat) (line : Numbered) (plain : IsPlain li
       let obeyed : InTurn = line_recorded (operator company seat) turn line (Obeyed line.condition (order.Token at)) in
       subst (TurnAdds turn) (sym leads.after)
       (elim (leads.answer) as (λ answer. TurnAdds turn (token_answered (operator company seat) turn line at answer)) [
-        | Err rule ↦ by_ruling turn (Refused (refusal.Token rule) line.condition (order.Token at)) plain
+        | Err rule ↦ by_ruling turn (Refused (refusal.Token rule) line.condition (order.Token at)) clear
         | Ok cost ↦
             let token : Event = event.Token company at (unsigned_abs cost) in
             by_obeyed turn (order.Token at) (with_event obeyed.game token) (by_event obeyed.game token refl)
@@ -254,7 +260,7 @@ module _ (company : Company) (seat : Seat) (line : Numbered) (plain : IsPlain li
       (Obeyed line.condition (order.Run kind run)) in
       elim (judged_run turn company kind run) as (λ judged. TurnAdds turn
       (run_ruled (operator company seat) turn line (order.Run kind run) judged)) [
-        | Err rule ↦ by_ruling turn (Refused (refusal.Run rule) line.condition (order.Run kind run)) plain
+        | Err rule ↦ by_ruling turn (Refused (refusal.Run rule) line.condition (order.Run kind run)) clear
         | Ok ran ↦
             let runs : Event = event.Runs company ran.earned in
             by_obeyed turn (order.Run kind run) (with_event obeyed.game runs) (by_event obeyed.game runs refl)
@@ -266,7 +272,7 @@ module _ (company : Company) (seat : Seat) (line : Numbered) (plain : IsPlain li
       TurnAdds turn new
   by_best turn (Some rule) new leads =
       subst (TurnAdds turn) (sym leads)
-      (by_ruling turn (Refused (refusal.Run rule) line.condition order.RunBest) plain)
+      (by_ruling turn (Refused (refusal.Run rule) line.condition order.RunBest) clear)
   by_best turn None new leads =
       subst (TurnAdds turn) (sym leads.2)
       (by_obeyed turn order.RunBest (best_earned (operator company seat) turn line leads.0).game
@@ -285,12 +291,14 @@ module _ (company : Company) (seat : Seat) (line : Numbered) (plain : IsPlain li
       let act : InTurn → InTurn = λ after. in_turn (paid_out after.game company revenue) (pay_done after.progress) in
       subst (TurnAdds turn) (sym leads)
       (by_ruled turn order.Pay (option_map refusal.Pay (pay_judgement turn.progress)) act
+      (of_mapped refusal.Pay (λ rule. tt) (pay_judgement turn.progress))
       (λ after. by_paid_out company after.game revenue))
   by_order turn order.Withhold new leads =
       let revenue : ℕ = turn.progress.runs.revenue in
       let act : InTurn → InTurn = λ after. in_turn (withheld after.game company revenue) (pay_done after.progress) in
       subst (TurnAdds turn) (sym leads)
       (by_ruled turn order.Withhold (option_map refusal.Pay (withhold_judgement turn.progress)) act
+      (of_mapped refusal.Pay (λ rule. tt) (withhold_judgement turn.progress))
       (λ after. by_withheld company after.game revenue))
   by_order turn (order.BuyTrain kind from) new leads =
       let paid : InTurn = withheld_if_unpaid company turn in
@@ -300,53 +308,74 @@ module _ (company : Company) (seat : Seat) (line : Numbered) (plain : IsPlain li
       subst (TurnAdds turn) (sym leads)
       (on.both turn.game paid.game (ruled (operator company seat) paid line (order.BuyTrain kind from) rule act).game
       (by_withholding company turn)
-      (by_ruled paid (order.BuyTrain kind from) rule act (λ after. by_train company after.game kind from)))
+      (by_ruled paid (order.BuyTrain kind from) rule act
+      (of_mapped refusal.Train (λ rule. tt) (train_judgement paid.game company purchase))
+      (λ after. by_train company after.game kind from)))
   by_order turn (order.BuyOwnedPrivate private price) new leads =
       let rule : Option Refusal = option_map refusal.Private (private_judgement turn.game company private price) in
       let act : InTurn → InTurn =
       λ after. in_turn (private_bought after.game company private price) after.progress in
       subst (TurnAdds turn) (sym leads)
       (by_ruled turn (order.BuyOwnedPrivate private price) rule act
+      (of_mapped refusal.Private (λ rule. tt) (private_judgement turn.game company private price))
       (λ after. by_private company after.game private price (owner_of after.game.events private)))
   by_order turn (order.Raise its shares) new leads =
       subst (TurnAdds turn) (sym leads) (on.same turn.game)
   by_order turn other new leads = subst (TurnAdds turn) (sym leads) (by_ruling turn (Faulty OutOfPlace) refl)
 
-  -- one that is asked for its condition
-  by_asked : (turn : InTurn) (its : Order) (held : Bool) (new : InTurn) →
+  -- one whose condition is checked
+  by_asked : (turn : InTurn) (its : Order) (held : Bool) (new : InTurn) → held ≡ false →
       AskedLeads (operator company seat) turn line its held new →
       TurnAdds turn new
-  by_asked turn its true new leads =
-      subst (TurnAdds turn) (sym leads)
-      (by_ruling turn (Refused refusal.Condition line.condition its) plain)
-  by_asked turn its false new leads = by_order turn its new leads
+  by_asked turn its true new free leads = absurd (let wrong : true ≡ false = free in cc)
+  by_asked turn its false new free leads = by_order turn its new leads
+
+  -- which does not hold it up
+  is_free : (events : List Event) (its : Order) → is_held events line.condition its ≡ false
+  is_free events its =
+      subst (λ (condition : Option Condition). is_held events condition its ≡ false) (sym plain)
+      (not_held (is_ruled_there its))
 
   -- the line
   by_line : (turn : InTurn) (reading : Result Order Fault) (new : InTurn) →
       ReadingLeads (operator company seat) turn line reading new →
       TurnAdds turn new
   by_line turn (Err fault) new leads = subst (TurnAdds turn) (sym leads) (by_ruling turn (Faulty fault) refl)
-  by_line turn (Ok its) new leads = by_asked turn its (is_held turn.game.events line.condition its) new leads
+  by_line turn (Ok its) new leads =
+      by_asked turn its (is_held turn.game.events line.condition its) new (is_free turn.game.events its) leads
 
-  -- a RAISE
-  by_raise_ruled : (game : Game) (sale : Sale) (broken : Option Refusal) →
+  -- a RAISE is refused by the rules of a sale, or as not needed
+  raise_of_family : (due : Bool) (game : Game) (sale : Sale) →
+      IsOfFamily (raise_rule due (operator company seat) game line.condition sale)
+  unfolding raise_rule
+  raise_of_family due game sale =
+      let by = operator company seat in
+      elim (due && falls_short by game) as (λ (needed : Bool). IsOfFamily (if needed
+      then needed_rule by game line.condition sale else Some (refusal.Stock NotOfStock))) [
+        | true ↦
+            subst (λ (condition : Option Condition). IsOfFamily (needed_rule by game condition sale)) (sym plain)
+            (of_mapped refusal.Stock (λ rule. tt) (sale_rule by game sale))
+        | false ↦ tt
+      ]
+
+  by_raise_ruled : (game : Game) (sale : Sale) (broken : Option Refusal) → IsOfFamily broken →
       AddsPlainly game (raise_ruled (operator company seat) game line sale broken)
-  by_raise_ruled game sale (Some rule) =
-      let refused : Ruling = Refused rule line.condition (order.Raise sale.company sale.shares) in
-      by_event game (event.Ruled seat line.number refused)
-      (ap (λ (condition : Option Condition). is_none condition) plain)
-  by_raise_ruled game sale None =
+  by_raise_ruled game sale (Some rule) of =
+      let its : Order = order.Raise sale.company sale.shares in
+      by_event game (event.Ruled seat line.number (Refused rule line.condition its))
+      (refused_plain rule line.condition its plain of)
+  by_raise_ruled game sale None of =
       let obeyed : Ruling = Obeyed line.condition (order.Raise sale.company sale.shares) in
       let ruled : Game = with_ruling (operator company seat) game line obeyed in
       on.both game ruled (with_sale (operator company seat) ruled sale)
-      (by_event game (event.Ruled seat line.number obeyed)
-      (ap (λ (condition : Option Condition). is_none condition) plain)) (by_sale company seat ruled sale)
+      (by_event game (event.Ruled seat line.number obeyed) clear) (by_sale company seat ruled sale)
 
   by_raise : (due : Bool) (game : Game) (reading : Result Order Fault) →
       AddsPlainly game (after_raise_line due (operator company seat) game line reading)
   by_raise due game (Ok (order.Raise its shares)) =
       let sale : Sale = record { company = its; shares = shares } in
       by_raise_ruled game sale (raise_rule due (operator company seat) game line.condition sale)
+      (raise_of_family due game sale)
   by_raise due game other = on.same game
 
 module _ (company : Company) (seat : Seat) where
@@ -448,7 +477,7 @@ module _ (file : List ℕ) (round : Round) (sheets : SheetsArePlain file round) 
       by_lines company seat turn (company_orders_for file round seat.0 company) new
       (company_orders_plain file round sheets seat.0 company) leads
 
-  -- what it brings at the end of the turn
+  -- what follows from it at the end of the turn
   by_orders_end : (game : Game) (president : Option Seat) (new : Game) →
       CompanyOrdersEnd file round company game president new →
       AddsPlainly game new

@@ -1,18 +1,21 @@
 -- The lines of a sheet of version 1 are under no condition, and so does what becomes of them.
-use Rattle.std.proofs.Common.{◌≡◌, ℕ, ◌+◌, Bool, true, false, if◌then◌else◌, List, [], ◌∷◌, Option, Some, None, is_none}
-use Rattle.std.proofs.Common.{map, Result, Ok, Err, unwrap_or, refl, sym, subst, ap}
+use Rattle.std.proofs.Common.{◌≡◌, ℕ, ◌+◌, ◌&&◌, not, Bool, true, false, if◌then◌else◌, List, [], ◌∷◌, Option, Some, None, is_none}
+use Rattle.std.proofs.Common.{map, option_map, Result, Ok, Err, unwrap_or, refl, sym, subst, ap}
 use Rattle.std.specs.List.{AllByRecursion}
 use Rattle.events.specs.declared.event.Event.{Event}
 use Rattle.events.specs.declared.event.Event.TheVariants as event
 use Rattle.events.specs.declared.ruling.Refusal.{Refusal}
+use Rattle.events.specs.declared.ruling.Refusal.TheVariants as refusal
 use Rattle.events.specs.declared.ruling.Ruling.{Ruling}
+use Rattle.events.specs.declared.ruling.Ruling.TheVariants.{Refused}
 use Rattle.order_grammar.specs.declared.condition.Condition.{Condition}
 use Rattle.order_grammar.specs.declared.condition.Version.TheVariants.{One}
 use Rattle.order_grammar.specs.declared.fault.Fault.{Fault}
 use Rattle.order_grammar.specs.declared.fault.Fault.TheVariants.{OutOfPlace}
 use Rattle.order_grammar.specs.declared.order.Order.{Order}
 use Rattle.rounds.proofs.Growing.{GrowsBy, by_one_event, further, stays}
-use Rattle.rounds.specs.Plain.{condition_ruled, is_plain}
+use Rattle.operating.specs.Turn.{is_ruled_there}
+use Rattle.rounds.specs.Plain.{FamilyAloneJudges, is_plain, is_ruled_plainly}
 use Rattle.sheets.specs.CompanyOrders.{company_orders_for, company_orders_in, opens_orders_of}
 use Rattle.sheets.specs.File.{sheet_of, version_of}
 use Rattle.sheets.specs.Laws.{VersionOneIsPlain, plain, plain_parts}
@@ -25,6 +28,18 @@ use Rattle.tables.specs.declared.seat.Seat.{Seat}
 use Rattle.turns.specs.RoundOfTurns.{InTurn, in_turn}
 use Rattle.turns.specs.Ruling.{after_ruling, done, judged, line_ruling, obeyed_by, placed_ruling, recorded, ruling_of}
 use Rattle.turns.specs.Ruling.{under}
+
+-- a line without a condition is judged by its family alone
+pub not_held : (there : Bool) → (there && not true) ≡ false
+not_held true = refl
+not_held false = refl
+
+pub family_alone : FamilyAloneJudges
+family_alone = record {
+  turns = λ events judgement order. refl;
+  companies = λ events order. not_held (is_ruled_there order);
+  raises = λ by game sale. refl;
+}
 
 -- the list grows, and what is new is plain
 abbrev pub GrowsPlain : List Event → List Event → Type 0
@@ -46,7 +61,7 @@ WrittenTurnsArePlain written_turns = AllByRecursion ArePlain written_turns
 abbrev pub PartsArePlain : Parts → Type 0
 PartsArePlain parts = ArePlain parts.before × WrittenTurnsArePlain (written_turns_of parts)
 
--- a line in front of parts
+-- a line before parts
 with_plain : (head : Bool) (line : Numbered) (parts : Parts) → IsPlain line → PartsArePlain parts →
     PartsArePlain (if head then after_head line parts else after_line line parts)
 with_plain true line parts is others = (tt, (others.0, others.1))
@@ -91,50 +106,70 @@ pub company_orders_plain : (file : List ℕ) (round : Round) → SheetsArePlain 
 company_orders_plain file round sheets seat company =
     orders_plain company (parts_for file round seat).opened (sheets seat).1
 
--- an order without a condition is ruled without one
+-- what refuses an order, if anything does, is a rule of its family, and not that its condition does not hold
+abbrev pub IsOfFamily : Option Refusal → Type 0
+IsOfFamily None = Unit {0}
+IsOfFamily (Some refusal.Condition) = ⊥
+IsOfFamily (Some other) = Unit {0}
+
+-- so is a rule that bears such a name
+pub of_mapped : {Rule : Type 0} (name : Rule → Refusal) → ((rule : Rule) → IsOfFamily (Some (name rule))) →
+    (rule : Option Rule) → IsOfFamily (option_map name rule)
+of_mapped name each None = tt
+of_mapped name each (Some rule) = each rule
+
+-- an order without a condition that its family refuses is ruled plainly
+pub refused_plain : (rule : Refusal) (condition : Option Condition) (order : Order) → condition ≡ None →
+    IsOfFamily (Some rule) → is_ruled_plainly (Refused rule condition order) ≡ true
+refused_plain refusal.Condition condition order is of = absurd of
+refused_plain other condition order is of = ap (λ (its : Option Condition). is_none its && true) is
+
+-- so is one that its family judges
 judged_plain : (condition : Option Condition) (order : Order) (broken : Option Refusal) → condition ≡ None →
-    condition_ruled (judged condition order broken) ≡ None
-judged_plain condition order None is = is
-judged_plain condition order (Some rule) is = is
+    IsOfFamily broken → is_ruled_plainly (judged condition order broken) ≡ true
+judged_plain condition order None is of = ap (λ (its : Option Condition). is_none its && true) is
+judged_plain condition order (Some rule) is of = refused_plain rule condition order is of
 
 -- whether it has a place or not
 placed_plain : (has : Bool) (judgement : Order → Option Refusal) (condition : Option Condition) (order : Order) →
-    condition ≡ None →
-    condition_ruled (placed_ruling judgement condition (if has then Ok order else Err OutOfPlace)) ≡ None
-placed_plain true judgement condition order is = judged_plain condition order (judgement order) is
-placed_plain false judgement condition order is = refl
+    condition ≡ None → ((its : Order) → IsOfFamily (judgement its)) →
+    is_ruled_plainly (placed_ruling judgement condition (if has then Ok order else Err OutOfPlace)) ≡ true
+placed_plain true judgement condition order is of = judged_plain condition order (judgement order) is (of order)
+placed_plain false judgement condition order is of = refl
 
 -- a line by its reading
 reading_plain : (has_place : Order → Bool) (judgement : Order → Option Refusal) (condition : Option Condition)
-    (reading : Result Order Fault) → condition ≡ None →
-    condition_ruled (ruling_of has_place judgement condition reading) ≡ None
-reading_plain has_place judgement condition (Err fault) is = refl
-reading_plain has_place judgement condition (Ok order) is = placed_plain (has_place order) judgement condition order is
+    (reading : Result Order Fault) → condition ≡ None → ((its : Order) → IsOfFamily (judgement its)) →
+    is_ruled_plainly (ruling_of has_place judgement condition reading) ≡ true
+reading_plain has_place judgement condition (Err fault) is of = refl
+reading_plain has_place judgement condition (Ok order) is of =
+    placed_plain (has_place order) judgement condition order is of
 
 -- so is a line without one
 pub ruling_plain : (has_place : Order → Bool) (judgement : Order → Option Refusal) (events : List Event)
-    (line : Numbered) →
-    IsPlain line → condition_ruled (line_ruling has_place judgement events line) ≡ None
-ruling_plain has_place judgement events line is =
+    (line : Numbered) → IsPlain line → ((its : Order) → IsOfFamily (judgement its)) →
+    is_ruled_plainly (line_ruling has_place judgement events line) ≡ true
+ruling_plain has_place judgement events line is of =
     reading_plain has_place (under events line.condition judgement) line.condition line.reading is
+    (λ its. subst (λ (condition : Option Condition). IsOfFamily (under events condition judgement its)) (sym is)
+    (of its))
 
 -- such a ruling is plain
 pub recorded_plain : (seat : Seat) (number : ℕ) (ruling : Ruling) (events : List Event) →
-    condition_ruled ruling ≡ None →
+    is_ruled_plainly ruling ≡ true →
     GrowsPlain events (recorded seat number ruling events)
-recorded_plain seat number ruling events is =
-    by_one_event events (event.Ruled seat number ruling) (ap (λ (condition : Option Condition). is_none condition) is)
+recorded_plain seat number ruling events is = by_one_event events (event.Ruled seat number ruling) is
 
 module _ {TurnActions : Type 0} (act : InTurn TurnActions → Order → InTurn TurnActions)
     (acts : (turn : InTurn TurnActions) (order : Order) → GrowsPlain turn.events (act turn order).events) where
-  -- what an order brings that is done, if there is one
+  -- what follows from an order that is done, if there is one
   done_plain : (turn : InTurn TurnActions) (found : Option Order) → GrowsPlain turn.events (done act turn found).events
   done_plain turn None = stays turn.events
   done_plain turn (Some order) = acts turn order
 
   -- in a turn, after a line without a condition
   pub ruled_plain : (seat : Seat) (turn : InTurn TurnActions) (number : ℕ) (ruling : Ruling)
-      → condition_ruled ruling ≡ None →
+      → is_ruled_plainly ruling ≡ true →
       GrowsPlain turn.events (after_ruling act seat turn number ruling).events
   ruled_plain seat turn number ruling is =
       let ruled : List Event = recorded seat number ruling turn.events in

@@ -1,5 +1,5 @@
--- Where no sheet has a condition, and a kind of round of turns adds but plain events by a line without one and by its
--- close, the round adds but plain events.
+-- No sheet has a condition, and a kind of round of turns adds only plain events by a line without
+-- one and by its close. Then the round adds only plain events.
 use Rattle.std.proofs.Common.{◌≡◌, ℕ, zero, suc, ◌+◌, ◌==◌, Bool, true, false, if◌then◌else◌, List, [], ◌∷◌, ◌++◌, map}
 use Rattle.std.proofs.Common.{drop, slice_set, refl, sym, subst}
 use Rattle.std.specs.List.{AllByRecursion, list_all, range_with_len}
@@ -67,7 +67,8 @@ left_plain seat (its ∷ written_turns) =
     let count : ℕ = lines_in_written_turns its in
     count_plain (seat_at seat) count (count == 0) (left_from (seat + 1) written_turns) (left_plain (seat + 1) written_turns)
 
--- what is to be shown of a kind of round: a line without a condition adds but plain events, and so does the close
+-- what is to be shown of a kind of round: a line without a condition adds but plain events, and so
+-- does the close
 pub record AddsPlain {TurnActions : Type 0} (rules : RoundRules TurnActions) : Type 0 where
   pub standing : (seat : Seat) (events : List Event) (line : Numbered) → IsPlain line →
       GrowsPlain events (rules.standing seat events line)

@@ -1,5 +1,5 @@
--- A round is played from the parts of its own sheets alone: in two files whose sheets for it are read alike, it is
--- played alike.
+-- A round is played only from the parts of its own sheets: in two files whose sheets for it are
+-- read the same, it is played the same.
 use Rattle.std.proofs.Common.{◌≡◌, ℕ, ◌-◌, List, [], length, map, refl, sym, ap, subst, ◌∙◌, ◌∷◌, ◌++◌, Option, Some}
 use Rattle.std.proofs.Common.{None}
 use Rattle.std.specs.List.{list_all, range_with_len}
@@ -120,7 +120,7 @@ module _ (first second : List ℕ) where
       (company_orders_in company parts.opened) game new)
       (same.parts seat.0) ends
 
-  -- a company takes its turn alike
+  -- a company takes the same turn
   same_turn : (round : Round) (company : Company) (old new : Game) → ReadAlikeFor round first second
       → IsCompanyTurn first round company old new → IsCompanyTurn second round company old new
   same_turn round company old new same turn =

@@ -1,6 +1,7 @@
--- What holds between a list and itself, of one after the other, of each event that stands aside and of each company's
--- turn, holds of a round from its ROUND event on; what is shown of opening rounds by themselves has to hold only of
--- each event that is still. What these and a ROUND event keep, each round of a game keeps.
+-- What holds of a round from its ROUND event on. It has to hold between a list and itself, of one
+-- after the other, of each event that stands aside and of each company's turn. What is shown of
+-- opening rounds by themselves has to hold only of each event that is still. What these and a ROUND
+-- event keep, each round of a game keeps.
 use Rattle.std.proofs.Common.{◌≡◌, ℕ, zero, suc, Bool, true, false, ◌&&◌, not, List, [], ◌∷◌, ◌++◌, Option, Some, None}
 use Rattle.std.proofs.Common.{is_none, refl, sym, subst}
 use Rattle.std.proofs.lemmas.Bool.{and_parts}
@@ -120,7 +121,8 @@ module _ (R : List Event → List Event → Type 0) (on : IsPassedOn R) where
   pub of_growing : (old new : List Event) → Grows old new → R old new
   of_growing old new grows = subst (R old) (sym grows.longer) (of_aside old grows.more grows.aside)
 
--- it holds between a list and itself, of one after the other, of each event that is still and of each company's turn
+-- it holds between a list and itself, of one after the other, of each event that is still and of
+-- each company's turn
 pub record IsPassedStill (R : List Event → List Event → Type 0) : Type 0 where
   pub same : (events : List Event) → R events events
   pub both : (a b c : List Event) → R a b → R b c → R a c

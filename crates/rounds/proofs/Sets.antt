@@ -1,4 +1,5 @@
--- A set keeps the number of operating rounds with which it began, since only a stock round that comes sets it.
+-- A set keeps the number of operating rounds with which it began, since only a stock round that
+-- comes sets it.
 use Rattle.std.proofs.Common.{◌≡◌, ℕ, zero, suc, ◌+◌, ◌≤◌, Bool, List, refl, sym, ap, subst, ◌∙◌, arith}
 use Rattle.std.proofs.lemmas.Bool.{ltb-false}
 use Rattle.events.specs.declared.event.Event.{Event}

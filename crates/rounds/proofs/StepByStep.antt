@@ -1,4 +1,5 @@
--- A play, step by step: what its steps lead to is the game of its file, and the calls of a step are those of its round.
+-- A play, step by step: what its steps lead to is the game of its file, and the calls of a step are
+-- those of its round.
 use Rattle.std.proofs.Common.{◌≡◌, ℕ, zero, suc, ◌<◌, ◌≤◌, true, false, List, [], length, Result, Ok, Err, refl, sym}
 use Rattle.std.proofs.Common.{ap, subst, ◌∙◌, inl, inr, arith}
 use Rattle.std.specs.Prelude.{Option, Some, None}
@@ -119,7 +120,7 @@ module _ {Runner : Type 0} (earns : Earns Runner) where
       (subst (λ (later : Result Between PlayFault). Makes earns before (CallsBetween old.file old.there later) after)
       there made)))
 
--- a step that answers why play stopped says of which game
+-- a step that returns why play stopped says of which game
 pub stops_here : (file : List ℕ) (here : Between) (old new : Underway) (end : End) (game : Game) → old.file ≡ file
     → old.there ≡ Ok here →
     Stays old end new → game_so_far new ≡ Some game → Stops file here (record { file = file; game = game; end = end })
@@ -152,7 +153,7 @@ module _ {Runner : Type 0} (earns : Earns Runner) where
         | inr none ↦ none_made before after made.0 none.1 made.2
       ]
 
-  -- and with a step that answers why play stopped
+  -- and with a step that returns why play stopped
   pub silent_stop :
       (file : List ℕ) (here : Between) (old new : Underway) (before after : Runner) → old.file ≡ file
       → old.there ≡ Ok here →

@@ -14,7 +14,8 @@ use Rattle.rounds.specs.declared.fault.PlayFault.{PlayFault}
 use Rattle.rounds.specs.declared.fault.PlayFault.TheVariants.{Memory}
 use Rattle.tables.specs.declared.round.Round.{Round}
 
--- where steps have led, with their calls: what follows the calls from there on makes the calls of a game with them
+-- where steps have led, with their calls: what follows the calls from there on makes the calls of a
+-- game with them
 record HasCome (file : List ℕ) (play : Underway) (calls : List Call) : Type 0 where
   of_file : play.file ≡ file
   here : Between
@@ -24,7 +25,7 @@ record HasCome (file : List ℕ) (play : Underway) (calls : List Call) : Type 0 
       → SomeTimesThen (RoundCalls file) (Unasked Memory (Stops file)) here outcome later →
       GameCalls file outcome (calls ++ later)
 
--- one step more
+-- one more step
 one_more :
     (file : List ℕ) (mid play : Underway) (round : Round) (before its : List Call) → HasCome file mid before
     → PlaysNext mid round play → StepCalls mid play its →

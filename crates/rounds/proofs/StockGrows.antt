@@ -6,6 +6,7 @@ use Rattle.certs.specs.Purchase.{market_price_of}
 use Rattle.certs.specs.SaleAct.{after_sale, sold, with_president, with_successor}
 use Rattle.events.specs.declared.event.Event.{Event}
 use Rattle.events.specs.declared.event.Event.TheVariants as event
+use Rattle.events.specs.declared.ruling.Refusal.TheVariants as refusal
 use Rattle.events.specs.declared.ruling.Ruling.{Ruling}
 use Rattle.events.specs.declared.ruling.Ruling.TheVariants as ruling
 use Rattle.totals.specs.LookBack.{Game}
@@ -19,13 +20,13 @@ use Rattle.order_grammar.specs.declared.order.Order.TheVariants as order
 use Rattle.order_grammar.specs.declared.order.ShareSource.{ShareSource}
 use Rattle.rounds.proofs.Growing.{Grows, GrowsPlainly, GrowsStill, broken_grows, further, in_either, is_still}
 use Rattle.rounds.proofs.Growing.{by_one_event, passes_plain, passes_test, stays, still_is_aside}
-use Rattle.rounds.proofs.PlainLines.{recorded_plain, ruled_plain, ruling_plain}
+use Rattle.rounds.proofs.PlainLines.{of_mapped, recorded_plain, ruled_plain, ruling_plain}
 use Rattle.rounds.proofs.PlainTurns.{AddsPlain}
 use Rattle.sheets.specs.Part.{Numbered}
 use Rattle.stock_round.specs.Act.{after_act, after_exchange, after_purchase, bought, exchanged, floated_at, is_to_float}
 use Rattle.stock_round.specs.Act.{with_float}
 use Rattle.stock_round.specs.Closing.{all_risen, is_sold_out, risen}
-use Rattle.stock_round.specs.Judgement.{exchange_source, refusal_of}
+use Rattle.stock_round.specs.Judgement.{exchange_source, judgement_of, refusal_of}
 use Rattle.stock_round.specs.Standing.{fault_of_standing}
 use Rattle.stock_round.specs.StockRound.{IsStockRound}
 use Rattle.stock_round.specs.Turn.{InTurn, acted, after_stock_line, after_ruling, ruling_in, stock_rules}
@@ -187,7 +188,8 @@ stock_adds =
           (act_grows seats seat at.events done))
           seat turn line.number (ruling_in seats seat turn line)
           (ruling_plain has_place_in_turn (refusal_of seats turn.events seat turn.actions.bought) turn.events line
-          plain);
+          plain (λ its. of_mapped refusal.Stock (λ rule. tt)
+          (judgement_of seats turn.events seat turn.actions.bought its)));
       closed = λ seats events.
           let order : List Company = operating_order_of events in
           passes_plain is_still events (all_risen events order) (rises_grow events order);

@@ -1,4 +1,5 @@
--- The tiles on the map and in the stock are as many as the manifest has, after each round of each game.
+-- The tiles on the map and in the stock are as many as the manifest has, after each round of each
+-- game.
 use Rattle.std.proofs.Common.{refl}
 use Rattle.events.specs.declared.event.Event.TheVariants as event
 use Rattle.operating.specs.TileLaws.{OthersKeepTiles, TilesAreAll, TilesAreAllAtFirst, TurnsKeepTiles}

@@ -10,7 +10,7 @@ use Rattle.sheets.specs.File.{IsAccepted}
 use Rattle.tables.specs.Round.{is_before}
 use Rattle.tables.specs.declared.round.Round.{Round}
 
--- a round in front of others, if there is one
+-- a round before others, if there is one
 abbrev pub with_round : Option Round → List Round → List Round
 with_round None rounds = rounds
 with_round (Some round) rounds = round ∷ rounds
@@ -35,8 +35,8 @@ abbrev pub AreInOrder : List Round → Type 0
 AreInOrder [] = ⊤
 AreInOrder (round ∷ rounds) = IsBeforeEach round rounds × AreInOrder rounds
 
--- the events of a file's game begin with a round, and the rounds that they begin are in order, so they
--- all differ
+-- the events of a file's game begin with a round, and the rounds that they begin are in order, so
+-- they all differ
 abbrev pub RoundsFollowInOrder : Type 0
 RoundsFollowInOrder =
     (file : List ℕ) (last : Between)
@@ -50,7 +50,8 @@ pub record AddsRound (round : Round) (old new : Game) : Type 0 where
   pub added : new ≡ record { seats = old.seats; events = old.events ++ event.Round round ∷ more }
   pub no_round : BeginsNoRound more
 
--- so does each round that is played
+-- each round that is played adds its own ROUND event to the list, and then events none of which
+-- begins a round
 abbrev pub RoundsOnlyAdd : Type 0
 RoundsOnlyAdd =
     (file : List ℕ) (old new : Between) (played : IsRound file old new) → AddsRound played.round old.game new.game

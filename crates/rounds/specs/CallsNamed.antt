@@ -1,6 +1,6 @@
--- The calls of a game are for rounds that a line can name. Their numbers begin with 1, and no set has more than three
--- operating rounds: that is the sequence. None is past 99,999 only because a round is played once every seat has a sheet
--- for it, and no line can name a later one.
+-- The calls of a game are for rounds that a line can name. By the sequence their numbers begin with
+-- 1, and no set has more than three operating rounds. None is past 99,999, because a round is
+-- played once every seat has a sheet for it, and no line can name a later one.
 use Rattle.std.specs.Prelude.{ℕ, List, Ok}
 use Rattle.std.specs.List.{AllByRecursion}
 use Rattle.operating.specs.Calls.{Call}

@@ -7,7 +7,7 @@ use Rattle.sheets.specs.File.{IsAccepted, players_of}
 use Rattle.tables.specs.Round.{rank_of}
 use Rattle.tables.specs.declared.round.Round.{Round}
 
--- the files have the same players, and their sheets for each round up to this one are read alike
+-- the files have the same players, and their sheets for each round up to this one are read the same
 pub record AgreeUpTo (last : Round) (first second : List ℕ) : Type 0 where
   pub players : players_of first ≡ players_of second
   pub sheets : (round : Round) → rank_of round ≤ rank_of last → ReadAlikeFor round first second
@@ -19,7 +19,7 @@ pub record PlaysRound (file : List ℕ) (round : Round) (old new : Between) : Ty
   pub comes : old.next ≡ next.Round round
   pub step : IsRound file old new
 
--- where two files agree up to a round, and the first plays it, the second plays it too, and the same
+-- if two files agree up to a round, and the first plays it, the second plays it too, and the same
 -- has happened before it and in it
 abbrev pub LaterSheetsChangeNothing : Type 0
 LaterSheetsChangeNothing =

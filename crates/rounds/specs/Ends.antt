@@ -1,5 +1,6 @@
--- How games end: by the bankruptcy of a president at once, and by a broken bank once the operating rounds of a set
--- are over, be it that they were under way as it broke or came next. After its end nothing follows.
+-- How games end. The bankruptcy of a president ends a game at once. A broken bank ends it once the
+-- operating rounds of a set are over, whether they were under way as it broke or came next. Nothing
+-- follows the end.
 use Rattle.std.specs.Prelude.{◌≡◌, ◌⊎◌, ℕ, true, List}
 use Rattle.totals.specs.LookBack.{Game, bankrupt_in, broken_in}
 use Rattle.rounds.specs.OperatingRound.{TakesTurn}
@@ -11,7 +12,7 @@ use Rattle.tables.specs.declared.roster.Company.{Company}
 use Rattle.tables.specs.declared.round.Round.{Round}
 use Rattle.tables.specs.declared.round.Round.TheVariants.{Operating}
 
--- where a game has ended, no round follows, whatever the sheets say, and it is the game of its file
+-- if a game has ended, no round follows, whatever the sheets say, and it is the game of its file
 abbrev pub GamesEndOnce : Type 0
 GamesEndOnce =
     (file : List ℕ) (rounds later : ℕ) (ended after : Between)
@@ -24,8 +25,8 @@ NoTurnAfterBankruptcy =
     (file : List ℕ) (round : Round) (company : Company) (old new : Game)
     → bankrupt_in old.events ≡ true → ¬ TakesTurn file round company old new
 
--- a round in which a president goes bankrupt is the last, and it is for this that play stops, whether the bank is
--- broken or not
+-- a round in which a president goes bankrupt is the last, and play stops for this, whether or not
+-- the bank is broken
 abbrev pub BankruptcyEndsGames : Type 0
 BankruptcyEndsGames =
     (file : List ℕ) (old new : Between)
@@ -39,15 +40,15 @@ NoSetAfterBroken =
     → broken_in broken.game.events ≡ true → broken.next ≡ next.Round round → IsOfSet set round
     → AreRounds file later broken there → there.next ≡ next.Round upcoming → IsOfSet set upcoming
 
--- and where it is broken after the last operating round of a set, nothing follows
+-- if the bank is broken after the last operating round of a set, nothing follows
 abbrev pub BrokenBankEndsSets : Type 0
 BrokenBankEndsSets =
     (file : List ℕ) (set : ℕ) (old new : Between)
     → IsRound file old new → old.next ≡ next.Round (Operating set old.in_set) → broken_in new.game.events ≡ true
     → new.next ≡ next.Ended
 
--- nothing else ends a game: what was played last left a president bankrupt, or was the last operating round of a
--- set and left the bank broken
+-- nothing else ends a game: what was played last left a president bankrupt, or was the last
+-- operating round of a set and left the bank broken
 abbrev pub NothingElseEndsGames : Type 0
 NothingElseEndsGames =
     (file : List ℕ) (rounds : ℕ) (old new : Between)

@@ -1,7 +1,8 @@
--- Two small games, computed from the definitions. In the first, ANN buys SV in the first opening round, the others
--- pass, and the second round is awaited. In the second all privates are sold in one opening round; in the stock round
--- ANN starts PRR and BOB buys a share of it, which leaves ANN president, since CA brought him one before; then all
--- pass, and the first operating round is awaited.
+-- Two small games, computed from the definitions. In the first, ANN buys SV in the first opening
+-- round, the others pass, and the second round is awaited. In the second all privates are sold in
+-- one opening round. In its stock round ANN starts PRR and BOB buys a share of it, which leaves ANN
+-- president, since CA came with one before. Then all pass, and the first operating round is
+-- awaited.
 use Rattle.std.specs.Prelude.{ℕ, List, [], ◌∷◌, ◌++◌, None, codes}
 use Rattle.events.specs.declared.event.Event.{Event}
 use Rattle.events.specs.declared.event.Event.TheVariants as event
@@ -64,7 +65,7 @@ second_opening =
     ∷ event.President company.BaltimoreOhio (seat_at 2)
     ∷ []
 
--- and in its stock round
+-- what happens in the stock round of the second game
 abbrev pub second_stock_round : List Event
 second_stock_round =
     event.Round (Stock 1)

@@ -1,4 +1,4 @@
--- Why a game was not played: memory was refused, or the runner refused to answer in a company's turn.
+-- Why a game was not played: allocation failed, or the runner refused in a company's turn.
 use Rattle.std.specs.Prelude.{⊤}
 use Rattle.legal_runs.specs.declared.runner.RunnerFault.{RunnerFault}
 use Rattle.legal_runs.specs.declared.runner.RunnerFault.TheVariants as runner_fault
@@ -12,7 +12,7 @@ abbrev pub fault_in_turn : RunnerFault → Round → Company → PlayFault
 fault_in_turn runner_fault.Memory round company = play_fault.Memory
 fault_in_turn runner_fault.Refused round company = play_fault.Refused round company
 
--- the runner refused to answer
+-- the runner refused
 abbrev pub IsRefused : PlayFault → Type 0
 IsRefused play_fault.Memory = ⊥
 IsRefused (play_fault.Refused round company) = ⊤

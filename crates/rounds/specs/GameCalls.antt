@@ -1,5 +1,6 @@
--- The calls that play makes of a runner, over the one game of a file: those of the turns of companies, in order. The
--- other steps of a round ask nothing of it. Once a call is not answered, or memory is refused, play is broken off.
+-- The calls that play makes of a runner, over the one game of a file: those of the turns of
+-- companies, in order. The other steps of a round do not call it. Once a call fails, or allocation
+-- fails, play is broken off.
 use Rattle.std.specs.Prelude.{◌≡◌, ℕ, false, List, Some, None, Result, Ok, Err}
 use Rattle.totals.specs.LookBack.{Game}
 use Rattle.operating.specs.Calls.{Call, Course, IsPrefix, Named, SomeTimesThen, Then, Unasked}
@@ -19,7 +20,7 @@ use Rattle.tables.specs.declared.round.Round.TheVariants.{Opening, Stock, Operat
 abbrev pub CompanyCalls : List ℕ → Round → Company → Course Game Game PlayFault
 CompanyCalls file round company = Named (λ fault. fault_in_turn fault round company) (TurnCalls file round company)
 
--- that of the turn of the next company
+-- the course of the turn of the next company
 abbrev pub NextCalls : List ℕ → Round → Course Game Game PlayFault
 NextCalls file round old outcome calls =
     (company : Company) × (next_company old.events ≡ Some company) × CompanyCalls file round company old outcome calls
@@ -29,7 +30,7 @@ pub record AreOver (old new : Game) : Type 0 where
   pub none : next_company old.events ≡ None
   pub stays : new ≡ old
 
--- that of the turns of companies, until there is no next
+-- the course of the turns of companies, until there is no next
 abbrev pub TurnsCall : List ℕ → Round → Course Game Game PlayFault
 TurnsCall file round = SomeTimesThen (NextCalls file round) (Unasked Memory AreOver)
 
@@ -47,7 +48,7 @@ abbrev pub OperatingCalls : List ℕ → Round → Course Game Game PlayFault
 OperatingCalls file round =
     Then (Unasked Memory (IsOpened file round)) (Then (TurnsCall file round) (Unasked Memory (IsFinished file round)))
 
--- that of a round, by its kind
+-- the course of a round, by its kind
 abbrev pub PlayedCalls : List ℕ → Round → Course Game Game PlayFault
 PlayedCalls file (Opening number) = Unasked Memory (IsPlayed file (Opening number))
 PlayedCalls file (Stock set) = Unasked Memory (IsPlayed file (Stock set))
@@ -62,7 +63,7 @@ between_after round in_set game =
       next = coming round in_set game.events;
     }
 
--- that of the next round, for which every seat has a sheet
+-- the course of the next round, for which every seat has a sheet
 abbrev pub RoundCalls : List ℕ → Course Between Between PlayFault
 RoundCalls file old outcome calls =
     (round : Round) × IsToPlay file old.next round ×
@@ -84,9 +85,9 @@ CallsAreOfTheGame =
     (file : List ℕ) (played : Played) (calls : List Call) → GameCalls file (Ok played) calls
     → (played.file ≡ file) × IsTheGame played
 
--- the calls of play that was broken off for this fault are a prefix of all calls of a game: the first of them, where
--- memory was refused; or those up to one that was not answered, whose round and company the fault names if the runner
--- refused it
+-- The calls of play that was broken off for this fault are a prefix of all calls of a game. If
+-- allocation failed, they are the first of them. Otherwise they are those up to one that failed,
+-- and the fault names its round and company if the runner refused it.
 abbrev pub ArePrefix : PlayFault → List Call → List Call → Type 0
 ArePrefix = IsPrefix Memory (λ fault why call. fault ≡ fault_in_turn why call.round call.company)
 
@@ -96,16 +97,16 @@ OneListOfCalls =
     (file : List ℕ) (a b : Played) (some others : List Call) →
     GameCalls file (Ok a) some → GameCalls file (Ok b) others → (a ≡ b) × (some ≡ others)
 
--- each game makes some
+-- each game makes some list of calls
 abbrev pub EachGameCalls : Type 0
 EachGameCalls = (played : Played) → IsTheGame played → (calls : List Call) × GameCalls played.file (Ok played) calls
 
--- so does that of each file that is not refused
+-- each file that is not refused makes some list of calls
 abbrev pub SomeCalls : Type 0
 SomeCalls = (file : List ℕ) → IsAccepted file → (played : Played) × (calls : List Call)
     × GameCalls file (Ok played) calls
 
--- where play is broken off, it has made a prefix of the calls of the one game
+-- if play is broken off, it has made a prefix of the calls of the one game
 abbrev pub RefusedCallsAreAPrefix : Type 0
 RefusedCallsAreAPrefix =
     (file : List ℕ) (fault : PlayFault) (played : Played) (refused whole : List Call) →

@@ -1,5 +1,6 @@
--- What a round asks of the list before it, beside that it is sound: before an opening round PRR and BO wait for the
--- privates that bring their shares. Once all privates are sold, no opening comes any more.
+-- What a round needs of the list before it, besides that it is sound: before an opening round PRR
+-- and BO wait for the privates that come with their shares. Once all privates are sold, no opening
+-- comes any more.
 use Rattle.std.specs.Prelude.{List, ⊤}
 use Rattle.events.specs.declared.event.Event.{Event}
 use Rattle.privates.specs.Underway.{BaltimoreWaits, PennsylvaniaWaits}

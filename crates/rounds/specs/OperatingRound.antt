@@ -1,7 +1,8 @@
--- An operating round, from a list to a list: the ROUND event, the standing lines seat by seat, and the revenues
--- of the privates in roster order; then the companies take their turns, and at the end it tells how many lines
--- of each sheet were not taken up. The next company is the first in operating order, as that is at the time, of
--- those that have not operated in the round; it is over once there is none, or a president is bankrupt.
+-- An operating round, from a list to a list: the ROUND event, the standing lines seat by seat, and
+-- the revenues of the privates in roster order. Then the companies take their turns, and at the end
+-- it says how many lines of each sheet were not taken up. The next company is the first in
+-- operating order, as that is at the time, of those that have not operated in the round. The round
+-- is over once there is none, or a president is bankrupt.
 use Rattle.std.specs.Prelude.{◌≡◌, ℕ, ◌-◌, ◌≤◌, not, true, false, if◌then◌else◌, List, [], ◌∷◌, ◌++◌, length, find}
 use Rattle.std.specs.Prelude.{Option, Some, None}
 use Rattle.std.specs.List.{range_with_len}
@@ -53,7 +54,7 @@ pub record TurnsLead (file : List ℕ) (round : Round) (old new : Game) : Type 0
   pub turns : TakeTurns file round companies old new
   pub over_then : next_company new.events ≡ None
 
--- the lines of a seat's sheet that were not taken up, heads of companies' orders not counted
+-- the lines of a seat's sheet that were not taken up; heads of companies' orders do not count
 abbrev pub lines_left : List ℕ → Round → List Event → Seat → ℕ
 lines_left file round events seat = lines_in (parts_for file round seat.0) - rulings_in_round events seat
 
@@ -63,7 +64,7 @@ left_events file round events [] = []
 left_events file round events (seat ∷ seats) =
     with_left (seat_at seat) (lines_left file round events (seat_at seat)) (left_events file round events seats)
 
--- the list at the end of the round, where the turns have led to these events
+-- the list at the end of the round, if the turns have led to these events
 abbrev pub finished : List ℕ → Round → ℕ → List Event → List Event
 finished file round seats events = events ++ left_events file round events (range_with_len 0 seats)
 
@@ -84,15 +85,15 @@ pub record EndsSoon (file : List ℕ) (round : Round) (old : Game) : Type 0 wher
   pub new : Game
   pub played : IsOperatingRound file round old new
 
--- in an operating round at most eight companies take turns, none of them twice, and all take one that have
--- floated by its end and whose tokens have a square, unless a president is bankrupt
+-- In an operating round at most eight companies take turns, none of them twice. All take one that
+-- have floated by its end and whose tokens have a square, unless a president is bankrupt.
 pub record OperateOnceEach (companies : List Company) (turned : List Event) : Type 0 where
   pub at_most_eight : length companies ≤ 8
   pub no_second : (company : Company) → times company companies ≤ 1
   pub no_one_missed : bankrupt_in turned ≡ false → (company : Company) → operates turned company ≡ true
       → times company companies ≡ 1
 
--- so it is in each operating round
+-- in each operating round companies operate once each
 abbrev pub CompaniesOperateOnce : Type 0
 CompaniesOperateOnce =
     (file : List ℕ) (round : Round) (old new : Game) (played : IsOperatingRound file round old new)

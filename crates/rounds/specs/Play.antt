@@ -1,5 +1,6 @@
--- The one game of a file: whole rounds in their sequence, each with a sheet of every seat, until a seat has none
--- for the next round, the sequence has ended since the bank is broken, or a president is bankrupt.
+-- The one game of a file: whole rounds in their sequence, each with a sheet of every seat. It goes
+-- on until a seat has none for the next round, the sequence has ended since the bank is broken, or
+-- a president is bankrupt.
 use Rattle.std.specs.Prelude.{◌≡◌, ℕ, zero, suc, Bool, true, false, if◌then◌else◌, List, [], length, is_some}
 use Rattle.std.specs.List.{list_all, range_with_len}
 use Rattle.events.specs.declared.event.Event.{Event}
@@ -19,24 +20,24 @@ use Rattle.tables.specs.Train.{rounds_in_set_of}
 use Rattle.tables.specs.declared.round.Round.{Round}
 use Rattle.tables.specs.declared.round.Round.TheVariants.{Opening, Stock, Operating}
 
--- a game between two rounds, or past its last: what has happened, how many operating rounds its set has, and the
--- round that comes next, if one does
+-- a game between two rounds, or past its last: what has happened, how many operating rounds its set
+-- has, and the round that comes next, if one does
 pub record Between : Type 0 where
   pub game : Game
   pub in_set : ℕ
   pub next : Next
 
--- how many operating rounds a set has that begins now: that goes by the phase
+-- how many operating rounds a set has that begins now; the phase decides
 abbrev pub rounds_of_new_set : List Event → ℕ
 rounds_of_new_set events = rounds_in_set_of (phase_of events)
 
--- how many the set has where this comes next: its number is fixed as its stock round comes
+-- how many the set has, given what comes next: its number is fixed as its stock round comes
 abbrev pub in_set_before : Next → List Event → ℕ → ℕ
 in_set_before (next.Round (Stock set)) events in_set = rounds_of_new_set events
 in_set_before other events in_set = in_set
 
--- what comes after a round that has led to these events: nothing once a president is bankrupt, else what the
--- sequence says
+-- what comes after a round that has led to these events: nothing once a president is bankrupt,
+-- otherwise what the sequence says
 abbrev pub coming : Round → ℕ → List Event → Next
 coming round in_set events = if bankrupt_in events then next.Ended else following round in_set (all_sold events)
     (broken_in events)
@@ -91,7 +92,7 @@ pub record Plays (file : List ℕ) (last : Between) : Type 0 where
   pub reached : AreRounds file rounds (before_play file) last
   pub stopped : goes_on file last.next ≡ false
 
--- why play stopped after these events where this comes next
+-- why play stopped after these events, given what comes next
 abbrev pub end_of : Next → List Event → End
 end_of (next.Round round) events = Awaiting round
 end_of next.Ended events = if bankrupt_in events then Bankrupt else Bank

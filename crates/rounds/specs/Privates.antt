@@ -7,8 +7,8 @@ use Rattle.rounds.specs.Play.{AreRounds, Between, before_play}
 use Rattle.sheets.specs.File.{IsAccepted}
 use Rattle.tables.specs.declared.roster.Private.{Private}
 
--- in the game of a file that is not refused, however many rounds were played, each bid is at least 5 over every earlier
--- bid on its private
+-- in the game of a file that is not refused, however many rounds were played, each bid is at least
+-- 5 over every earlier bid on its private
 abbrev pub BidsRiseInEachGame : Type 0
 BidsRiseInEachGame =
     (file : List ℕ) (rounds : ℕ) (there : Between) →
@@ -20,8 +20,8 @@ ClosedForGood =
     (file : List ℕ) (rounds : ℕ) (old new : Between) (private : Private) →
     AreRounds file rounds old new → is_closed old.game.events private ≡ true → is_closed new.game.events private ≡ true
 
--- in the game of a file, however many rounds were played, whoever sold a train or a private to a company had agreed to
--- exactly that sale, by the list of events before it
+-- However many rounds of a file's game were played, whoever sold a train or a private to a company
+-- had agreed to exactly that sale. The list of events before it says so.
 abbrev pub SellersAgreeInEachGame : Type 0
 SellersAgreeInEachGame =
     (file : List ℕ) (rounds : ℕ) (there : Between) →

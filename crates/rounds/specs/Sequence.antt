@@ -1,5 +1,5 @@
--- What comes after a round: opening rounds until all privates are sold, then sets of a stock round and
--- some operating rounds, until a set has ended with the bank broken.
+-- What comes after a round. Opening rounds come until all privates are sold, then sets of a stock
+-- round and some operating rounds, until a set has ended with the bank broken.
 use Rattle.std.specs.Prelude.{◌≡◌, ℕ, ◌+◌, ◌-◌, ◌≤◌, Bool, true, false, nat_lt, if◌then◌else◌}
 use Rattle.rounds.specs.declared.following.Next.{Next}
 use Rattle.rounds.specs.declared.following.Next.TheVariants as next
@@ -39,7 +39,7 @@ BankAloneEndsIt =
 abbrev pub places_left : Round → ℕ
 places_left round = stock_rank (number_most + 1) - rank_of round
 
--- how many are left where this comes next
+-- how many are left, given what comes next
 abbrev pub places_to_come : Next → ℕ
 places_to_come (next.Round round) = places_left round
 places_to_come next.Ended = 0

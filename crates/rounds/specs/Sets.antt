@@ -12,9 +12,9 @@ IsOfSet set (Opening number) = ⊥
 IsOfSet set (Stock its) = its ≡ set
 IsOfSet set (Operating its number) = its ≡ set
 
--- where a set has begun, and a game has reached a round of it: the set has as many operating rounds as the phase gave
--- it in which it began; the round is not past the last of them; and if a round of another set comes next, it is the
--- last
+-- A set has begun, and a game has reached a round of it. The set has as many operating rounds as
+-- the phase in which it began gave it. The round is not past the last of them. If a round of
+-- another set comes next, it is the last.
 pub record KeepsItsNumber (file : List ℕ) (set : ℕ) (begun there : Between) (round : Round) : Type 0 where
   pub number : there.in_set ≡ rounds_of_new_set begun.game.events
   pub within : turn_in_set round ≤ rounds_of_new_set begun.game.events
@@ -23,8 +23,8 @@ pub record KeepsItsNumber (file : List ℕ) (set : ℕ) (begun there : Between) 
       → ¬ IsOfSet set later →
       round ≡ Operating set (rounds_of_new_set begun.game.events)
 
--- so it is in each game of a file, wherever it has reached a stock round, and this many rounds later is still in its
--- set
+-- in each game of a file a set keeps its number of operating rounds, from its stock round on as
+-- long as the game is in that set
 abbrev pub SetsKeepTheirNumber : Type 0
 SetsKeepTheirNumber =
     (file : List ℕ) (set rounds later : ℕ) (begun there : Between) (round : Round)

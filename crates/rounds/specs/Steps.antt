@@ -1,5 +1,6 @@
--- A game that is played a round at a time. Each step plays the round that comes next, where one does and every seat has
--- a sheet for it; else it answers why play stopped. Once a fault has broken play off, each step answers that fault.
+-- A game that is played a round at a time. Each step plays the round that comes next, if one does
+-- and every seat has a sheet for it; otherwise it returns why play stopped. Once a fault has broken
+-- play off, each step returns that fault.
 use Rattle.std.specs.Prelude.{◌≡◌, ◌⊎◌, ℕ, zero, suc, ◌<◌, ◌≤◌, true, false, List, [], length, Option, Some, None}
 use Rattle.std.specs.Prelude.{Result, Ok, Err, IsOk, ⊤}
 use Rattle.totals.specs.LookBack.{Game}
@@ -17,15 +18,15 @@ use Rattle.rounds.specs.declared.steps.Step.TheVariants.{Played, Ended}
 use Rattle.sheets.specs.File.{IsAccepted, players_of}
 use Rattle.tables.specs.declared.round.Round.{Round}
 
--- a play: its file; between which rounds it is, or the fault that broke it off; the round that was played last; and why
--- play stopped, once a step has answered that
+-- A play: its file, the two rounds that it is between or the fault that broke it off, and the round
+-- that was played last. It also has why play stopped, once a step has returned that.
 pub record Underway : Type 0 where
   pub file : List ℕ
   pub there : Result Between PlayFault
   pub last_round : Option Round
   pub outcome : Option End
 
--- where no step was taken
+-- a play in which no step was taken
 abbrev pub started : List ℕ → Underway
 started file = record { file = file; there = Ok (before_play file); last_round = None; outcome = None }
 
@@ -68,18 +69,18 @@ pub record IsOver (play : Underway) : Type 0 where
   pub there : play.there ≡ Ok last
   pub stopped : goes_on play.file last.next ≡ false
 
--- why play stopped where no round can be played next
+-- why play stopped if no round can be played next
 abbrev pub end_there : Result Between PlayFault → Option End
 end_there (Ok last) = Some (end_of last.next last.game.events)
 end_there (Err fault) = None
 
--- it is answered that play has stopped, and why; all else stays
+-- a step returns that play has stopped, and why; all else stays
 pub record Stays (old : Underway) (end : End) (new : Underway) : Type 0 where
   pub over : IsOver old
   pub why : Some end ≡ end_there old.there
   pub after : new ≡ record { file = old.file; there = old.there; last_round = old.last_round; outcome = Some end }
 
--- a step has answered that play has stopped, and why
+-- a step has returned that play has stopped, and why
 pub record HasEnded (play : Underway) : Type 0 where
   pub before : Underway
   pub end : End
@@ -92,13 +93,14 @@ BreaksOff old fault new =
     ⊎ ((round : Round) × ComesNext old round
     × (new ≡ record { file = old.file; there = Err fault; last_round = old.last_round; outcome = old.outcome }))
 
--- a step leads from one play to another, with this answer
+-- a step leads from one play to another, with this result
 abbrev pub StepLeads : Underway → Result Step PlayFault → Underway → Type 0
 StepLeads old (Ok (Played round)) new = PlaysNext old round new
 StepLeads old (Ok (Ended end)) new = Stays old end new
 StepLeads old (Err fault) new = BreaksOff old fault new
 
--- the calls of a step from here to there: those of the round that comes next, if one can be played; else none
+-- the calls of a step from here to there: those of the round that comes next, if one can be played,
+-- otherwise none
 abbrev pub CallsBetween : List ℕ → Result Between PlayFault → Result Between PlayFault → List Call → Type 0
 CallsBetween file (Ok from) to calls =
     ((goes_on file from.next ≡ true) × RoundCalls file from to calls)
@@ -124,7 +126,8 @@ abbrev pub StepsPlay : ℕ → Underway → Underway → Type 0
 StepsPlay zero old new = new ≡ old
 StepsPlay (suc steps) old new = (mid : Underway) × StepsPlay steps old mid × (round : Round) × PlaysNext mid round new
 
--- this is between two rounds of the one game of a file, after this many of its rounds; some more lead on to its end
+-- this is between two rounds of the one game of a file, after this many of its rounds; some more
+-- lead on to its end
 pub record IsUpTo (file : List ℕ) (rounds : ℕ) (there : Between) : Type 0 where
   pub reached : AreRounds file rounds (before_play file) there
   pub later : ℕ
@@ -132,7 +135,8 @@ pub record IsUpTo (file : List ℕ) (rounds : ℕ) (there : Between) : Type 0 wh
   pub ahead : AreRounds file later there last
   pub plays : Plays file last
 
--- after this many steps from the start the list is that of the file's one game up to this many rounds
+-- after this many steps from the start the list is that of the file's one game up to this many
+-- rounds
 abbrev pub StepsPlayTheGame : Type 0
 StepsPlayTheGame =
     (file : List ℕ) (steps : ℕ) (play : Underway) → IsAccepted file → StepsPlay steps (started file) play
@@ -147,7 +151,7 @@ pub record HasComeTo (file : List ℕ) (there : Between) : Type 0 where
   pub seats : there.game.seats ≡ length (players_of file)
   pub gifts : (round : Round) → there.next ≡ next.Round round → GiftsWait round there.game.events
 
--- between which rounds a play is where there is no fault
+-- between which rounds a play is if there is no fault
 abbrev pub there_unless : Option PlayFault → Between → Result Between PlayFault
 there_unless None there = Ok there
 there_unless (Some fault) there = Err fault

@@ -1,5 +1,5 @@
--- The calls that the steps of a play make of a runner, up to the step that a fault breaks off, joined, are those of a
--- game that this fault breaks off.
+-- The calls that the steps of a play make of a runner, up to the step that a fault breaks off.
+-- Joined, they are those of a game that this fault breaks off.
 use Rattle.std.specs.Prelude.{ℕ, List, ◌++◌, Err}
 use Rattle.operating.specs.Calls.{Call}
 use Rattle.rounds.specs.GameCalls.{GameCalls}

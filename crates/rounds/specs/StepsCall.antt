@@ -1,5 +1,6 @@
--- The calls that the steps of a play make of a runner: those of one step after those of the other, until play stops,
--- are the calls of the game. Each of them is answered, since one that is not breaks play off.
+-- The calls that the steps of a play make of a runner. Those of one step after those of the other,
+-- until play stops, are the calls of the game. Each of them succeeds, since one that fails breaks
+-- play off.
 use Rattle.std.specs.Prelude.{◌≡◌, ℕ, zero, suc, List, [], ◌++◌, Ok}
 use Rattle.operating.specs.Answered.{AreAnswered}
 use Rattle.operating.specs.Calls.{Call}
@@ -22,12 +23,12 @@ StepsCallTheGame =
     (file : List ℕ) (steps : ℕ) (last ended : Underway) (end : End) (calls : List Call) →
     StepsCall steps file last calls → Stays last end ended → (played : Played) × GameCalls file (Ok played) calls
 
--- each call that leads to a game was answered
+-- each call that leads to a game succeeded
 abbrev pub GamesAreAnswered : Type 0
 GamesAreAnswered =
     (file : List ℕ) (played : Played) (calls : List Call) → GameCalls file (Ok played) calls → AreAnswered calls
 
--- and each call of a step that plays a round
+-- each call of a step that plays a round succeeded
 abbrev pub StepsAreAnswered : Type 0
 StepsAreAnswered =
     (old new : Underway) (round : Round) (calls : List Call) →

@@ -3,8 +3,8 @@ use Rattle.std.specs.Prelude.{ℕ, List}
 use Rattle.operating.specs.TileLaws.{TilesAreAll}
 use Rattle.rounds.specs.Play.{AreRounds, Between, before_play}
 
--- in the game of a file, however many rounds were played, the tiles of a number on the map and those in the stock are
--- as many as the manifest has, and the stock owes none
+-- However many rounds of a file's game were played, the tiles of a number on the map and those in
+-- the stock are as many as the manifest has. The stock is short of none.
 abbrev pub AllTilesAreThereInEachGame : Type 0
 AllTilesAreThereInEachGame =
     (file : List ℕ) (rounds : ℕ) (there : Between) →

@@ -5,9 +5,9 @@ use Rattle.purchases.specs.TrainLaws.{AllTrainsAreThere}
 use Rattle.rounds.specs.Play.{AreRounds, Between, IsRound, before_play}
 use Rattle.tables.specs.Train.{place_of_kind}
 
--- in the game of a file, however many rounds were played, the trains of a kind that are with the bank, in its pool and
--- with the companies are as many as there were at first until they rust, and none after; and nobody has fewer
--- than none
+-- After any rounds of a file's game, the trains of a kind in the bank, its pool and the companies
+-- are as many as at first, until they rust. After that there are none. Nobody has a negative number
+-- of them.
 abbrev pub AllTrainsAreThereInEachGame : Type 0
 AllTrainsAreThereInEachGame =
     (file : List ℕ) (rounds : ℕ) (there : Between) →

@@ -1,10 +1,11 @@
-//! Laws of the calls that play makes of its runner, each the contract of a function that does nothing.
+//! The laws of the calls that play makes of its runner. Each is the contract of a function that
+//! does nothing.
 ghost use Rattle.rounds.specs.CallsNamed.{CallsAreNamed};
 ghost use Rattle.rounds.specs.StepsBroken.{BrokenStepsCallABrokenGame};
 
-/// Each call by which play leads to a game is for a round that a line can name: PR, SR or OR with a
-/// number from 1 to 99,999, an operating round also with its number in its set, from 1 to 3. No later
-/// round is played, since no sheet can name it.
+/// States that each call by which play leads to a game is for a round that a line can name. That is
+/// PR, SR or OR with a number from 1 to 99,999, an operating round also with its number in its set,
+/// from 1 to 3. No later round is played, since no sheet can name it.
 pub fn calls_are_named()
     ensures { CallsAreNamed }
 {
@@ -12,8 +13,8 @@ pub fn calls_are_named()
     sheets::laws::three_to_six_play()
 }
 
-/// The calls of the steps of a play, one step after the other up to one that a fault breaks off, are
-/// those of a game that this fault breaks off.
+/// States that the calls of the steps of a play are those of a game that a fault breaks off. The
+/// steps come one after the other, up to one that the same fault breaks off.
 pub fn broken_steps_call_a_broken_game()
     ensures { BrokenStepsCallABrokenGame }
 {}

@@ -22,8 +22,8 @@ use tables::Round;
 pub enum End {
     /// This round comes next, and some seat has no sheet for it.
     Awaiting(Round),
-    /// The game is over: the bank is broken, and the operating rounds of the set are over in which
-    /// it broke, or of the next where it broke in an opening or a stock round.
+    /// The game is over: the bank is broken, and the operating rounds of a set are over. It is the
+    /// set in which it broke, or the next if it broke in an opening or a stock round.
     Bank,
     /// The game is over: a president is bankrupt.
     Bankrupt,
@@ -37,7 +37,7 @@ pub struct Game<'a> {
     end: End,
 }
 
-/// To a contract it is its file, its events and its end. It has a seat for each player of its file.
+/// In a contract it is its file, its events and its end. It has a seat for each player of its file.
 impl<'a> Model for Game<'a> {
     ghost use Rattle.std.specs.Prelude.{◌≡◌, length};
     ghost use Rattle.rounds.specs.Play.{Played};
@@ -51,7 +51,7 @@ impl<'a> Model for Game<'a> {
 }
 
 impl<'a> Game<'a> {
-    /// Its events.
+    /// Returns its events.
     pub fn history(&self) -> &History
         ensures events { result.now ≡ self.now.game }
         ensures seats { self.now.game.seats ≡ length (players_of self.now.file) }
@@ -59,14 +59,14 @@ impl<'a> Game<'a> {
         &self.history
     }
 
-    /// Why play stopped.
+    /// Returns why play stopped.
     pub fn outcome(&self) -> End
         ensures { result ≡ self.now.end }
     {
         self.end
     }
 
-    /// The sheets that it was played from.
+    /// Returns the sheets that it was played from.
     pub fn sheets(&self) -> &'a Sheets<'a>
         ensures { result.now ≡ self.now.file }
     {
@@ -74,8 +74,8 @@ impl<'a> Game<'a> {
     }
 }
 
-/// Plays the game of the sheets: companies that are ordered to run their best are credited the
-/// greatest revenue, which is searched for. It fails only if memory is refused.
+/// Plays the game of the sheets. Companies that are ordered to run their best are credited the
+/// greatest revenue, which is searched for. Fails only if allocation fails.
 pub fn play<'a>(alloc: Global, sheets: &'a Sheets<'a>) -> Result<Game<'a>, AllocError>
     ensures file { IfOk result (λ game. game.file ≡ sheets.now) }
     ensures game { IfOk result IsTheGame }
@@ -88,9 +88,9 @@ pub fn play<'a>(alloc: Global, sheets: &'a Sheets<'a>) -> Result<Game<'a>, Alloc
     }
 }
 
-/// Plays the game of the sheets: a runner gives the greatest revenue of each company that is
-/// ordered to run its best. The errors are refused memory, and that the runner refuses to answer,
-/// with the round and the company for which it does.
+/// Plays the game of the sheets. A runner finds the greatest revenue of each company that is
+/// ordered to run its best. The error is a failed allocation, or `Refused` with the round and the
+/// company for which the runner refuses.
 pub fn play_with<'a, R: Runner>(
     alloc: Global,
     sheets: &'a Sheets<'a>,

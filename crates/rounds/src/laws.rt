@@ -1,4 +1,4 @@
-//! Laws of the definitions, each the contract of a function that does nothing.
+//! The laws of the definitions. Each is the contract of a function that does nothing.
 ghost use Rattle.std.specs.Prelude.{◌≡◌, ℕ, List, [], Err};
 ghost use Rattle.totals.specs.LookBack.{Game};
 ghost use Rattle.rounds.specs.Arrival.{ArrivalChangesNoGame};
@@ -10,7 +10,7 @@ ghost use Rattle.rounds.specs.Example.{first_end, first_file, second_end, second
 ghost use Rattle.rounds.specs.GameCalls.{CallsAreOfTheGame, EachGameCalls, OneListOfCalls, RefusedCallsAreAPrefix};
 ghost use Rattle.rounds.specs.GameCalls.{SomeCalls};
 ghost use Rattle.rounds.specs.OperatingRound.{CompaniesOperateOnce, EndsSoon, OneOperatingRound};
-ghost use Rattle.rounds.specs.Plain.{VersionOneIsRuledPlainly};
+ghost use Rattle.rounds.specs.Plain.{FamilyAloneJudges, VersionOneIsRuledPlainly};
 ghost use Rattle.rounds.specs.Play.{OneGame, Plays, SomeGame};
 ghost use Rattle.rounds.specs.Privates.{BidsRiseInEachGame, ClosedForGood, SellersAgreeInEachGame};
 ghost use Rattle.rounds.specs.ReadAlike.{SamePartsSameGame, SameSheetsAreReadAlike};
@@ -26,15 +26,15 @@ ghost use Rattle.tables.specs.declared.round.Round.{Round};
 
 pub use crate::call_laws::{broken_steps_call_a_broken_game, calls_are_named};
 
-/// An operating round has at most one outcome: the sheets and the game before it say what the game
-/// after it is.
+/// States that an operating round has at most one outcome: the sheets and the game before it say
+/// what the game after it is.
 pub fn one_operating_round()
     ensures { OneOperatingRound }
 {
     operating::laws::one_company_turn()
 }
 
-/// An operating round has an outcome, whatever the sheets say.
+/// States that an operating round has an outcome, whatever the sheets say.
 pub fn operating_round_ends()
     ensures { (file : List ℕ) (round : Round) (old : Game) → EndsSoon file round old }
 {
@@ -43,8 +43,9 @@ pub fn operating_round_ends()
     operating::laws::company_turn_ends()
 }
 
-/// In an operating round at most eight companies take turns, none of them a second, and none is
-/// missed that has floated by its end and whose token has a square, unless a president is bankrupt.
+/// States that in an operating round at most eight companies take turns, and none of them a second
+/// one. None is missed that has floated by its end and whose token has a square, unless a president
+/// is bankrupt.
 pub fn companies_operate_once()
     ensures { CompaniesOperateOnce }
 {
@@ -52,7 +53,7 @@ pub fn companies_operate_once()
     operating::laws::company_operates()
 }
 
-/// A file has at most one game.
+/// States that a file has at most one game.
 pub fn one_game()
     ensures { OneGame }
 {
@@ -61,8 +62,8 @@ pub fn one_game()
     one_operating_round()
 }
 
-/// Each file that is not refused has a game: each of its rounds reaches an end, and so does their
-/// sequence.
+/// States that each file that is not refused has a game: each of its rounds reaches an end, and so
+/// does their sequence.
 pub fn some_game()
     ensures { SomeGame }
 {
@@ -73,8 +74,8 @@ pub fn some_game()
     operating_round_ends()
 }
 
-/// The steps of a play play the one game of its file: after this many that played a round, from the
-/// start, the list is that of the game up to this many of its rounds.
+/// States that the steps of a play play the one game of its file. After this many steps that played
+/// a round, from the start, the list is that of the game up to this many of its rounds.
 pub fn steps_play_the_game()
     ensures { StepsPlayTheGame }
 {
@@ -84,20 +85,21 @@ pub fn steps_play_the_game()
     some_game()
 }
 
-/// A round adds to the list its own ROUND event, and behind it events that begin no round.
+/// States that a round adds to the list its own ROUND event, and after it events that begin no
+/// round.
 pub fn rounds_only_add()
     ensures { RoundsOnlyAdd }
 {
     operating::laws::turn_only_adds()
 }
 
-/// The round that follows a round comes later in the order of all rounds.
+/// States that the round that follows a round comes later in the order of all rounds.
 pub fn sequence_goes_forward()
     ensures { SequenceGoesForward }
 {}
 
-/// The events of a game begin with a round, and the rounds that they begin follow one another in
-/// the order of all rounds, so they all differ.
+/// States that the events of a game begin with a round, and the rounds that they begin follow one
+/// another in the order of all rounds, so they all differ.
 pub fn rounds_follow_in_order()
     ensures { RoundsFollowInOrder }
 {
@@ -106,15 +108,15 @@ pub fn rounds_follow_in_order()
     sheets::laws::three_to_six_play()
 }
 
-/// A set has as many operating rounds as the phase lets it have in which it began, whatever phases
-/// begin within it.
+/// States that a set keeps the number of operating rounds that the phase in which it began gave it,
+/// whatever phases begin within it.
 pub fn sets_keep_their_number()
     ensures { SetsKeepTheirNumber }
 {}
 
-/// Whenever a round ends, the trains of a kind that are with the bank, in its pool and with the
-/// companies are as many as there were at first until they rust, and none after; and nobody has
-/// fewer than none.
+/// States that whenever a round ends, the trains of a kind with the bank, in its pool and with the
+/// companies are as many as at first until they rust. After that there are none. Nobody has a
+/// negative number of them.
 pub fn all_trains_are_there_in_each_game()
     ensures { AllTrainsAreThereInEachGame }
 {
@@ -122,22 +124,23 @@ pub fn all_trains_are_there_in_each_game()
     operating::laws::turns_keep_all_trains()
 }
 
-/// Whenever a round ends, the tiles of a number that lie on the map and those in the stock are as
-/// many as the manifest has, and the stock never owes one.
+/// States that whenever a round ends, the tiles of a number that lie on the map and those in the
+/// stock are as many as the manifest has. The stock is never short of one.
 pub fn all_tiles_are_there_in_each_game()
     ensures { AllTilesAreThereInEachGame }
 {
     operating::laws::all_tiles_are_there()
 }
 
-/// No round leads back to an earlier phase.
+/// States that no round leads back to an earlier phase.
 pub fn phases_go_on_in_rounds()
     ensures { PhasesGoOnInRounds }
 {
     operating::laws::phases_go_on_in_turns()
 }
 
-/// Whenever a round ends, each bid was at least 5 over every earlier bid on its private.
+/// States that whenever a round ends, each bid was at least 5 over every earlier bid on its
+/// private.
 pub fn bids_rise_in_each_game()
     ensures { BidsRiseInEachGame }
 {
@@ -146,7 +149,7 @@ pub fn bids_rise_in_each_game()
     operating::laws::turns_say_no_bid()
 }
 
-/// A private that is closed has no owner ever after, whatever rounds are played.
+/// States that a private that is closed has no owner ever after, whatever rounds are played.
 pub fn closed_for_good_in_each_game()
     ensures { ClosedForGood }
 {
@@ -154,8 +157,9 @@ pub fn closed_for_good_in_each_game()
     operating::laws::closed_for_good_in_turns()
 }
 
-/// Whoever sold a train or a private to a company had agreed to exactly that sale, as the list of
-/// events before it says: he presided over the buyer too, or had offered it in the same round.
+/// States that whoever sold a train or a private to a company had agreed to exactly that sale, as
+/// the list of events before it says. They presided over the buyer too, or had offered it in the
+/// same round.
 pub fn sellers_agree_in_each_game()
     ensures { SellersAgreeInEachGame }
 {
@@ -163,35 +167,42 @@ pub fn sellers_agree_in_each_game()
     operating::laws::sellers_agree_in_turns()
 }
 
-/// No ruling in the game of a file of version 1 is of an order under a condition, however many rounds
-/// were played.
+/// States that no ruling in the game of a file of version 1 is of an order under a condition, and
+/// none refuses an order because its condition does not hold, however many rounds were played.
 pub fn version_one_is_ruled_plainly()
     ensures { VersionOneIsRuledPlainly }
 {
     sheets::laws::version_one_is_plain()
 }
 
-/// While the bank is not broken, some round follows each round in the sequence.
+/// States that a line without a condition is judged by the rules of its family alone, as if there
+/// were no conditions. Each line of a file of version 1 is such a line.
+pub fn lines_without_condition_are_judged_alone()
+    ensures { FamilyAloneJudges }
+{}
+
+/// States that while the bank is not broken, some round follows each round in the sequence.
 pub fn bank_alone_ends_it()
     ensures { BankAloneEndsIt }
 {}
 
-/// Each game ends at most once, and nothing follows its end, whatever the sheets say. Nothing ends
-/// it but a bankruptcy, and a bank that is broken after the last operating round of a set.
+/// States that each game ends at most once, and nothing follows its end, whatever the sheets say.
+/// Nothing ends it but a bankruptcy, and a bank that is broken after the last operating round of a
+/// set.
 pub fn games_end_once()
     ensures once { GamesEndOnce }
     ensures only { NothingElseEndsGames }
 {}
 
-/// The bankruptcy of a president ends the game at once: no company takes a turn after it, and no
-/// round is played after its own.
+/// States that the bankruptcy of a president ends the game at once: no company takes a turn after
+/// it, and no round is played after its own.
 pub fn bankruptcy_ends_games()
     ensures turns { NoTurnAfterBankruptcy }
     ensures rounds { BankruptcyEndsGames }
 {}
 
-/// A broken bank ends the game once the operating rounds of a set are over, be it that they were
-/// under way as it broke or came next: no round of another set is played.
+/// States that a broken bank ends the game once the operating rounds of a set are over, whether
+/// they were under way as it broke or came next. No round of another set is played.
 pub fn broken_bank_ends_games()
     ensures sets { NoSetAfterBroken }
     ensures rounds { BrokenBankEndsSets }
@@ -199,28 +210,29 @@ pub fn broken_bank_ends_games()
     operating::laws::turn_only_adds()
 }
 
-/// In files of one version the same sheets of a round are read alike.
+/// States that in files of one version the same sheets of a round are read the same.
 pub fn same_sheets_are_read_alike()
     ensures { SameSheetsAreReadAlike }
 {}
 
-/// Two files of the same players have the same game, where each seat has a sheet for a round in both
-/// files or in none, and its lines are read alike.
+/// States that two files of the same players have the same game under two conditions. Each seat has
+/// a sheet for a round in both files or in none, and its lines are read the same.
 pub fn same_parts_same_game()
     ensures { SamePartsSameGame }
 {}
 
-/// In which order the sheets of different players arrive changes nothing in the game: of two files
-/// of one version and the same players each player sent the same sheets in the same order.
+/// States that the order in which the sheets of different players arrive changes nothing in the
+/// game. It compares two files of one version and the same players, in which each player sent the
+/// same sheets in the same order.
 pub fn arrival_changes_no_game()
     ensures { ArrivalChangesNoGame }
 {
     sheets::laws::arrival_changes_nothing()
 }
 
-/// Sheets for later rounds change nothing: where two files, the first of which is not refused, have
-/// the same players, and their sheets for the rounds up to one are read alike, and the first plays
-/// that round, the second plays it too, and all is the same up to its end.
+/// States that sheets for later rounds change nothing. Two files, the first of which is not
+/// refused, have the same players. Their sheets for the rounds up to one are read the same, and the
+/// first plays that round. Then the second plays it too, and all is the same up to its end.
 pub fn later_sheets_change_nothing()
     ensures { LaterSheetsChangeNothing }
 {
@@ -228,41 +240,41 @@ pub fn later_sheets_change_nothing()
     sheets::laws::three_to_six_play()
 }
 
-/// The definitions play the small file of `specs/Example.antt` as its events say: computed from
-/// them.
+/// States that the definitions play the small file of `specs/Example.antt` as its events say; this
+/// is computed from them.
 pub fn first_example()
     ensures { Plays first_file first_end }
 {}
 
-/// The definitions play the second small file as its events say, through a stock round.
+/// States that the definitions play the second small file as its events say, through a stock round.
 pub fn second_example()
     ensures { Plays second_file second_end }
 {}
 
-/// An empty file is refused for its header: computed from the definitions.
+/// States that an empty file is refused for its header; this is computed from the definitions.
 pub fn empty_example()
     ensures { content_of [] ≡ Err Header }
 {}
 
-/// The calls that play makes of its runner are those of the one game of the file.
+/// States that the calls that play makes of its runner are those of the one game of the file.
 pub fn calls_are_of_the_game()
     ensures { CallsAreOfTheGame }
 {}
 
-/// Each call by which play leads to a game, and each of a step that plays a round, is answered: one
-/// that is not breaks play off.
+/// States that each call by which play leads to a game, and each of a step that plays a round,
+/// succeeds: one that fails breaks play off.
 pub fn calls_are_answered()
     ensures games { GamesAreAnswered }
     ensures steps { StepsAreAnswered }
 {}
 
-/// The calls of the steps of a play, one step after the other until play stops, are those of the one
-/// game of the file.
+/// States that the calls of the steps of a play, one step after the other until play stops, are
+/// those of the one game of the file.
 pub fn steps_call_the_game()
     ensures { StepsCallTheGame }
 {}
 
-/// The one game of a file makes one list of calls of its runner.
+/// States that the one game of a file makes one list of calls of its runner.
 pub fn one_list_of_calls()
     ensures { OneListOfCalls }
 {
@@ -271,7 +283,7 @@ pub fn one_list_of_calls()
     operating::laws::one_list_of_turn_calls()
 }
 
-/// Each game makes such a list, and so there is one for each file that is not refused.
+/// States that each game makes such a list, and so there is one for each file that is not refused.
 pub fn some_calls()
     ensures each { EachGameCalls }
     ensures accepted { SomeCalls }
@@ -280,9 +292,9 @@ pub fn some_calls()
     operating::laws::one_list_of_turn_calls()
 }
 
-/// Where memory is refused, or the runner refuses to answer, the calls made of it by then are a
-/// prefix of those of the one game: they end with the call that was not answered, if one was not,
-/// and that asks what the game's next call asks.
+/// States that if allocation fails, or the runner refuses, the calls made by then are a prefix of
+/// those of the one game. They end with the call that failed, if one did, and that has the
+/// arguments of the game's next call.
 pub fn refused_calls_are_a_prefix()
     ensures { RefusedCallsAreAPrefix }
 {

@@ -23,10 +23,10 @@ use sheets::Sheets;
 use std::alloc::{AllocError, Global};
 use tables::{Company, Round, Seat};
 
-/// Plays an operating round with the sheets for it: the standing lines and the revenues of the
-/// privates, and then the turn of each company, in operating order as it is at the time. The list
-/// of events must be sound, and its seats those of the sheets' players. An `Err` comes from refused
-/// memory, or from a runner that refuses to answer, and the game is dropped.
+/// Plays an operating round with the sheets for it. The standing lines and the revenues of the
+/// privates come first, and then the turn of each company, in operating order as it is at the time.
+/// The list of events must be sound, and its seats must be those of the sheets' players. The error
+/// is a failed allocation, or that the runner refuses, and the game is dropped.
 pub(crate) fn play_operating<R: Runner>(
     alloc: Global,
     history: History,
@@ -62,8 +62,7 @@ fn begin(history: &mut History, round: Round) -> Result<(), AllocError>
     Ok(())
 }
 
-/// The companies take their turns, until each that operates has had one, or a president is
-/// bankrupt.
+/// Plays the turns of companies, until each that operates has had one, or a president is bankrupt.
 fn take_turns<R: Runner>(
     alloc: Global,
     history: History,
@@ -91,7 +90,7 @@ fn take_turns<R: Runner>(
     Ok(table.history)
 }
 
-/// A company takes its turn, with a board that has the first of the tiles and tokens.
+/// Plays the turn of a company, with a board that has the first of the tiles and tokens.
 fn take_turn<R: Runner>(
     alloc: Global,
     table: Table,
@@ -117,8 +116,8 @@ fn take_turn<R: Runner>(
     }
 }
 
-/// The company whose turn it is: the first in operating order that has not operated in the round;
-/// none once a president is bankrupt.
+/// Returns the company whose turn it is: the first in operating order that has not operated in the
+/// round; `None` once a president is bankrupt.
 fn next_company(history: &History) -> Option<Company>
     ensures { result ≡ next_company history.now.events }
 {
@@ -128,7 +127,7 @@ fn next_company(history: &History) -> Option<Company>
     first_idle(history)
 }
 
-/// The first company in operating order that has not operated in the round.
+/// Returns the first company in operating order that has not operated in the round.
 fn first_idle(history: &History) -> Option<Company>
     ensures { result ≡ first_idle history.now.events }
 {
@@ -139,7 +138,7 @@ fn first_idle(history: &History) -> Option<Company>
         .find(|company| !history.now().has_operated(*company))
 }
 
-/// Records how many lines of each sheet were not taken up, heads of companies' orders not counted.
+/// Records how many lines of each sheet were not taken up; heads of companies' orders do not count.
 fn record_all_left(history: &mut History, sheets: &Sheets, round: Round) -> Result<(), AllocError>
     requires { IsSound history.old }
     ensures seats { OnOk result (history.new.seats ≡ history.old.seats) }

@@ -6,8 +6,8 @@ ghost use Rattle.tables.specs.Round.{number_most, operating_most};
 use crate::following::Next;
 use tables::Round;
 
-/// What comes after a round: opening rounds until all privates are sold, then sets of a stock round
-/// and one to three operating rounds, until a set has ended with the bank broken.
+/// Returns what comes after a round. Opening rounds come until all privates are sold, then sets of
+/// a stock round and one to three operating rounds, until a set has ended with the bank broken.
 ///
 /// `in_set` is the number of operating rounds of the set. Rounds are numbered up to `NUMBER_MOST`,
 /// as those of every sheet are.

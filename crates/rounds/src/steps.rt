@@ -34,7 +34,7 @@ use tables::{Round, Seat, rounds_in_set};
 pub enum Step {
     /// This round was played.
     Played(Round),
-    /// No round can be played: play has stopped, for this.
+    /// No round can be played: play has stopped, for this reason.
     Ended(End),
 }
 
@@ -43,7 +43,7 @@ pub enum Step {
 pub struct Play<'a> {
     alloc: Global,
     sheets: &'a Sheets<'a>,
-    /// The game so far; one in which nothing has happened, once play was broken off.
+    /// The game so far; a game in which nothing has happened, once play was broken off.
     history: History,
     /// How many operating rounds the set has.
     in_set: u8,
@@ -52,12 +52,12 @@ pub struct Play<'a> {
     fault: Option<PlayFault>,
     /// The round that was played last.
     last_round: Option<Round>,
-    /// Why play stopped, once a step has said so.
+    /// Why play stopped, once a step has returned that.
     outcome: Option<End>,
 }
 
-/// To a contract it is its file; between which rounds it is, or the fault that broke it off; the
-/// round that was played last; and why play stopped.
+/// In a contract it is its file, the two rounds that it is between or the fault that broke it off,
+/// the round played last, and why play stopped.
 impl<'a> Model for Play<'a> {
     ghost use Rattle.std.specs.Prelude.{◌≡◌, None};
     ghost use Rattle.rounds.specs.Steps.{HasComeTo, Underway, there_unless};
@@ -77,8 +77,8 @@ impl<'a> Model for Play<'a> {
 }
 
 impl<'a> Play<'a> {
-    /// The game of these sheets, before its first round. What it needs further comes from the
-    /// allocator as it is played.
+    /// Returns the game of these sheets, before its first round. It allocates from the allocator as
+    /// it is played. Fails only if allocation fails.
     pub fn start(alloc: Global, sheets: &'a Sheets<'a>) -> Result<Play<'a>, AllocError>
         ensures { IfOk result (λ play. play ≡ started sheets.now) }
     {
@@ -96,10 +96,10 @@ impl<'a> Play<'a> {
         })
     }
 
-    /// Plays the round that comes next, where one does and every seat has a sheet for it; else it
-    /// answers why play stopped, and so does each later step. A runner gives the greatest revenue
-    /// of each company that is ordered to run its best. An `Err` comes from refused memory, or from
-    /// a runner that refuses to answer: it breaks play off, and each later step answers it again.
+    /// Plays the round that comes next, if one does and every seat has a sheet for it; otherwise
+    /// returns why play stopped, and so does each later step. A runner finds the greatest revenue
+    /// of each company that is ordered to run its best. The error is a failed allocation, or that
+    /// the runner refuses. It breaks play off, and each later step returns it again.
     pub fn step<R: Runner>(&mut self, runner: &mut R) -> Result<Step, PlayFault>
         ensures step { StepLeads self.old result self.new }
         ensures calls { Makes R.earns runner.old (StepCalls self.old self.new) runner.new }
@@ -142,7 +142,7 @@ impl<'a> Play<'a> {
         }
     }
 
-    /// Answers that play has stopped, and why.
+    /// Returns that play has stopped, and why.
     fn stop(&mut self) -> Step
         requires { IsOver self.old }
         ensures { StepLeads self.old (Ok result) self.new }
@@ -152,7 +152,7 @@ impl<'a> Play<'a> {
         Step::Ended(end)
     }
 
-    /// The game so far; `None` once play was broken off.
+    /// Returns the game so far; `None` once play was broken off.
     pub fn history(&self) -> Option<&History>
         ensures game { option_map (λ history. history.now) result ≡ game_so_far self.now }
         ensures seats { ForSome result
@@ -165,29 +165,29 @@ impl<'a> Play<'a> {
         }
     }
 
-    /// The sheets that it is played from.
+    /// Returns the sheets that it is played from.
     pub fn sheets(&self) -> &'a Sheets<'a>
         ensures { result.now ≡ self.now.file }
     {
         self.sheets
     }
 
-    /// The round that was played last; `None` before the first. One in which play was broken off
-    /// was not played.
+    /// Returns the round that was played last; `None` before the first. A round in which play was
+    /// broken off was not played.
     pub fn last_round(&self) -> Option<Round>
         ensures { result ≡ self.now.last_round }
     {
         self.last_round
     }
 
-    /// Why play stopped; `None` until a step has answered that.
+    /// Returns why play stopped; `None` until a step has returned that.
     pub fn outcome(&self) -> Option<End>
         ensures { result ≡ self.now.outcome }
     {
         self.outcome
     }
 
-    /// The game so far, where play was not broken off.
+    /// Returns the game so far; play must not have been broken off.
     pub(crate) fn into_history(self) -> History
         requires { IsUnbroken self }
         ensures game { game_so_far self.entry ≡ Some result }
@@ -198,7 +198,7 @@ impl<'a> Play<'a> {
     }
 }
 
-/// The round that comes next, where one does and every seat has a sheet for it.
+/// Returns the round that comes next, if one does and every seat has a sheet for it.
 fn round_to_play(sheets: &Sheets, upcoming: Next) -> Option<Round>
     ensures { MatchOption result (goes_on sheets.now upcoming ≡ false)
         (λ round. IsToPlay sheets.now upcoming round) }
@@ -209,7 +209,8 @@ fn round_to_play(sheets: &Sheets, upcoming: Next) -> Option<Round>
     }
 }
 
-/// What comes after a round: nothing once a president is bankrupt, else what the sequence says.
+/// Returns what comes after a round: nothing once a president is bankrupt, otherwise what the
+/// sequence says.
 fn coming(history: &History, round: Round, in_set: u8) -> Next
     requires number { number_of round ≤ number_most }
     requires least { 1 ≤ in_set }
@@ -224,7 +225,7 @@ fn coming(history: &History, round: Round, in_set: u8) -> Next
     next(round, in_set, all_sold, history.broken())
 }
 
-/// Why play stops where this comes next.
+/// Returns why play stops, given what comes next.
 fn end_after(history: &History, upcoming: Next) -> End
     ensures { result ≡ end_of upcoming history.now.events }
 {
@@ -235,8 +236,8 @@ fn end_after(history: &History, upcoming: Next) -> End
     }
 }
 
-/// Plays a round, by its kind. An `Err` comes from refused memory, or from a runner that refuses to
-/// answer, and the game is dropped.
+/// Plays a round, by its kind. The error is a failed allocation, or that the runner refuses, and
+/// the game is dropped.
 fn play_round<R: Runner>(
     alloc: Global,
     history: History,
@@ -256,21 +257,21 @@ fn play_round<R: Runner>(
     ensures refuses { IfErr result (λ fault. IsRefused fault → R.may_refuse ≡ true) }
 {
     match round {
-        Round::Opening(_) => Ok(play_opening(history, sheets, round)?),
-        Round::Stock(_) => Ok(play_stock(history, sheets, round)?),
+        Round::Opening(_) => Ok(play_opening(alloc, history, sheets, round)?),
+        Round::Stock(_) => Ok(play_stock(alloc, history, sheets, round)?),
         Round::Operating { .. } => play_operating(alloc, history, sheets, round, runner),
     }
 }
 
-/// How many operating rounds a set has that begins now: that goes by the phase.
+/// Returns how many operating rounds a set has that begins now; the phase decides.
 fn rounds_of_new_set(history: &History) -> u8
     ensures { result ≡ rounds_of_new_set history.now.events }
 {
     rounds_in_set(history.phase())
 }
 
-/// How many operating rounds the set has where this comes next: the number is fixed as the stock
-/// round of the set comes.
+/// Returns how many operating rounds the set has, given what comes next. The number is fixed as the
+/// stock round of the set comes.
 fn in_set_before(history: &History, upcoming: Next, in_set: u8) -> u8
     ensures { result ≡ in_set_before upcoming history.now.events in_set }
 {
@@ -280,7 +281,7 @@ fn in_set_before(history: &History, upcoming: Next, in_set: u8) -> u8
     }
 }
 
-/// Whether every seat has a sheet for a round.
+/// Returns whether every seat has a sheet for a round.
 fn are_all_posted(sheets: &Sheets, round: Round) -> bool
     ensures { result ≡ all_posted sheets.now round }
 {

@@ -7,7 +7,8 @@ use Rattle.rounds.specs.declared.fault.PlayFault.{PlayFault}
 use Rattle.rounds.specs.declared.fault.PlayFault.TheVariants.{Memory}
 use Rattle.rounds.proofs.game.play_with.Given as goal
 
--- some rounds have led here; the calls of the rounds from here, after those so far, are those of the game
+-- some rounds have led here; the calls of the rounds from here, after those so far, are those of
+-- the game
 pub record Playing (g : goal.Over) (l : goal.Live-loop-play g) : Type 0 where
   pub file : l.play.file ≡ l.sheets
   pub here : Between

@@ -9,7 +9,8 @@ use Rattle.rounds.specs.declared.fault.PlayFault.{PlayFault}
 use Rattle.tables.specs.declared.roster.Company.{Company}
 use Rattle.rounds.proofs.operating_round.take_turns.Given as goal
 
--- some companies have taken their turns; the calls of the turns from here, after those so far, are those of all turns
+-- some companies have taken their turns; the calls of the turns from here, after those so far, are
+-- those of all turns
 abbrev pub invariant-loop-company : goal.invariant-loop-company
 invariant-loop-company g l = record {
   companies : List Company;
